@@ -1,0 +1,162 @@
+//! The selectors' names.
+
+ghost use Rattle.std.specs.Prelude.{◌≡◌, ℕ, ◌+◌, ◌<◌, ◌≤◌, ◌↔◌, [], Some, length, map, string_bytes, IfOk, IfSome, IsErrOf, IsTrue, OnErr, OnOk, true, false, option_map};
+ghost use Rattle.std.specs.List.{list_any};
+ghost use Rattle.std.specs.Str.{bytes_eq};
+ghost use Rattle.msg_names.specs.Name as spec;
+ghost use Rattle.msg_names.specs.Number.{selector_number};
+ghost use Rattle.msg_names.specs.Numbering.{number_of, name_at, with_name, AreNames};
+
+use crate::name::{colon_count, is_selector_name};
+use crate::value::Selector;
+use indexmap::IndexSet;
+use std::alloc::Global;
+use std::marker::Model;
+use thiserror::Error;
+
+/// How many names fit.
+pub const MAX_NAMES: usize = 4096;
+
+/// Why a text was not interned.
+#[derive(Clone, Copy, Debug, PartialEq, Eq, Error)]
+pub enum NameFault {
+    #[error("not a selector name")]
+    BadName,
+    #[error("too many selectors")]
+    TooMany,
+    #[error("out of memory")]
+    Memory,
+}
+
+/// Interned selector names: the list of them, in which each has its place as its number, from 1.
+///
+/// `find` and `intern` hash the text once; `text` and `colons` index.
+#[derive(Drop)]
+pub struct Names {
+    set: IndexSet<String>,
+}
+
+impl Model for Names {
+    ghost use Rattle.std.specs.Prelude.{ℕ, List, map, string_bytes};
+    ghost use Rattle.msg_names.specs.Numbering.{AreNames};
+
+    ghost Value = { List (List ℕ) };
+
+    ghost view = { λ n. map string_bytes n.set.keys };
+
+    ghost invariant = { λ n. AreNames (map string_bytes n.set.keys) };
+}
+
+impl Names {
+    /// No names yet.
+    pub fn new(alloc: Global) -> Names
+        ensures { result ≡ [] }
+    {
+        Names {
+            set: IndexSet::new(alloc),
+        }
+    }
+
+    /// How many names there are.
+    pub fn len(&self) -> usize
+        ensures len { result ≡ length self.now }
+        ensures names { AreNames self.now }
+    {
+        self.set.len()
+    }
+
+    pub fn is_empty(&self) -> bool
+        ensures { IsTrue result ↔ (self.now ≡ []) }
+    {
+        self.set.is_empty()
+    }
+
+    /// The selector of a name.
+    pub fn find(&self, text: &str) -> Option<Selector>
+        ensures { option_map selector_number result ≡ number_of self.now text.now }
+    {
+        find_in(&self.set, text)
+    }
+
+    /// The name of a selector. Only a selector whose number is above [`len`](Self::len) has none.
+    pub fn text(&self, selector: Selector) -> Option<&str>
+        ensures text { option_map (λ s. s.now) result ≡ name_at self.now (selector_number selector) }
+        ensures numbered { IfSome result (λ s. number_of self.now s.now ≡ Some (selector_number selector)) }
+    {
+        text_in(&self.set, selector)
+    }
+
+    /// How many arguments a selector takes: the colons of its name.
+    pub fn colons(&self, selector: Selector) -> Option<u8>
+        ensures colons { result ≡ option_map spec.colons_of (name_at self.now (selector_number selector)) }
+        ensures few { IfSome result (λ n. n ≤ 4) }
+    {
+        let text = text_in(&self.set, selector)?;
+        Some(colon_count(text.as_bytes()) as u8)
+    }
+
+    /// The selector of a name. A name that is new gets the next number.
+    pub fn intern(&mut self, text: &str) -> Result<Selector, NameFault>
+        ensures ok { IfOk result (λ s. number_of self.new text.now ≡ Some (selector_number s)) }
+        ensures names { OnOk result (self.new ≡ with_name self.old text.now) }
+        ensures bad { IsErrOf result NameFault.BadName ↔ (spec.is_selector_name text.now ≡ false) }
+        ensures many { IsErrOf result NameFault.TooMany
+            ↔ ((spec.is_selector_name text.now ≡ true) × (length self.old ≡ 4096) × (list_any (bytes_eq text.now) self.old ≡ false)) }
+        ensures err { OnErr result (self.new ≡ self.old) }
+    {
+        if !is_selector_name(text) {
+            return Err(NameFault::BadName);
+        }
+        intern_in(&mut self.set, text)
+    }
+}
+
+fn selector_at(index: usize) -> Selector
+    requires { index < 4096 }
+    ensures { selector_number result ≡ index + 1 }
+{
+    Selector::of(index as u32 + 1).unwrap()
+}
+
+fn find_in(set: &IndexSet<String>, text: &str) -> Option<Selector>
+    requires { length set.now.keys ≤ 4096 }
+    ensures { option_map selector_number result ≡ number_of (map string_bytes set.now.keys) text.now }
+{
+    let index = set.get_index_of(text)?;
+    Some(selector_at(index))
+}
+
+fn text_in(set: &IndexSet<String>, selector: Selector) -> Option<&str>
+    ensures { option_map (λ s. s.now) result ≡ name_at (map string_bytes set.now.keys) (selector_number selector) }
+{
+    let name = set.get_index(selector.number() as usize - 1)?;
+    Some(name.as_str())
+}
+
+// The selector of a selector name.
+fn intern_in(set: &mut IndexSet<String>, text: &str) -> Result<Selector, NameFault>
+    requires few { length set.old.keys ≤ 4096 }
+    ensures ok { IfOk result (λ s. number_of (map string_bytes set.new.keys) text.now ≡ Some (selector_number s)) }
+    ensures names { OnOk result (map string_bytes set.new.keys ≡ with_name (map string_bytes set.old.keys) text.now) }
+    ensures few { length set.new.keys ≤ 4096 }
+    ensures bad { IsErrOf result NameFault.BadName → ⊥ }
+    ensures many { IsErrOf result NameFault.TooMany
+        ↔ ((length set.old.keys ≡ 4096) × (list_any (bytes_eq text.now) (map string_bytes set.old.keys) ≡ false)) }
+    ensures err { OnErr result (set.new.keys ≡ set.old.keys) }
+{
+    if let Some(selector) = find_in(set, text) {
+        return Ok(selector);
+    }
+    if set.len() >= MAX_NAMES {
+        return Err(NameFault::TooMany);
+    }
+    let index = set.len();
+    let alloc = *set.allocator();
+    let Ok(name) = String::from_str(alloc, text) else {
+        return Err(NameFault::Memory);
+    };
+    let Ok(_) = set.insert(name) else {
+        return Err(NameFault::Memory);
+    };
+    Ok(selector_at(index))
+}
