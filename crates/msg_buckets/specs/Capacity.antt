@@ -1,0 +1,32 @@
+-- How many buckets an array has, and how many entries it may have.
+use Rattle.std.specs.Prelude.{ℕ, ◌+◌, ◌*◌, ◌/◌, List, [], ◌∷◌, Bool, ◌==◌, nat_le, min, if◌then◌else◌, IsTrue}
+use Rattle.std.specs.List.{list_any}
+use Rattle.msg_buckets.specs.declared.capacity.Plan.{Plan}
+use Rattle.msg_buckets.specs.declared.capacity.Plan.TheVariants.{Use, Take}
+
+-- how many buckets an array may have: the powers of two from 4 to 1,024
+abbrev pub capacities : List ℕ
+capacities = 4 ∷ 8 ∷ 16 ∷ 32 ∷ 64 ∷ 128 ∷ 256 ∷ 512 ∷ 1024 ∷ []
+
+abbrev pub is_capacity : ℕ → Bool
+is_capacity n = list_any (λ c. c == n) capacities
+
+abbrev pub IsCapacity : ℕ → Type 0
+IsCapacity n = IsTrue (is_capacity n)
+
+-- how many entries an array may have: three for four buckets
+abbrev pub fill_limit : ℕ → ℕ
+fill_limit capacity = capacity / 4 * 3
+
+-- twice the capacity, up to the largest; the smallest where there is no array
+abbrev pub next_capacity : ℕ → ℕ
+next_capacity capacity = if capacity == 0 then 4 else min (capacity * 2) 1024
+
+-- one more entry goes into the array while it stays within its limit, else into an empty array of the next capacity
+abbrev pub plan_of : ℕ → ℕ → Plan
+plan_of capacity occupied = if nat_le (occupied + 1) (fill_limit capacity) then Use else Take (next_capacity capacity)
+
+-- a fact about the capacity of the array to take, where one is to be taken
+abbrev pub IfTake : Plan → (ℕ → Type 0) → Type 0
+IfTake Use P = Unit {0}
+IfTake (Take capacity) P = P capacity

@@ -1,0 +1,4 @@
+pub mod Word
+pub mod Capacity
+pub mod Probing
+pub mod Array

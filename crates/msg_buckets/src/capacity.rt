@@ -1,0 +1,35 @@
+//! How many buckets an array has, and how many entries it may have.
+
+ghost use Rattle.std.specs.Prelude.{◌≡◌, ◌≤◌, ◌⊎◌};
+ghost use Rattle.msg_buckets.specs.Capacity.{IsCapacity, IfTake, is_capacity, fill_limit, plan_of};
+
+/// Where a new entry goes: into the array that is there, or into an empty one of this capacity, which then has that entry alone.
+#[derive(Clone, Copy, Debug, PartialEq, Eq)]
+pub enum Plan {
+    Use,
+    Take(u32),
+}
+
+/// How many buckets an array may have.
+pub const CAPACITIES: [u32; 9] = [4, 8, 16, 32, 64, 128, 256, 512, 1024];
+
+/// Whether an array may have so many buckets.
+pub fn is_capacity(buckets: u32) -> bool
+    ensures { result ≡ is_capacity buckets }
+{
+    CAPACITIES.contains(&buckets)
+}
+
+/// Where an entry goes that isn't in the array yet. Capacity 0 says that there is no array.
+pub fn fill_plan(capacity: u32, occupied: u32) -> Plan
+    requires capacity { (capacity ≡ 0) ⊎ IsCapacity capacity }
+    requires occupied { occupied ≤ fill_limit capacity }
+    ensures plan { result ≡ plan_of capacity occupied }
+    ensures capacity { IfTake result IsCapacity }
+{
+    if occupied + 1 <= capacity / 4 * 3 {
+        Plan::Use
+    } else {
+        Plan::Take((capacity * 2).clamp(4, 1024))
+    }
+}

@@ -1,0 +1,16 @@
+//! The buckets of a method cache, in the manner of objc4: an array of words, each of which is a selector with its
+//! implementation, or 0.
+//!
+//! Nothing here takes memory or is shared. A cache that threads read without a lock is built on these definitions.
+#![tactic(auto)]
+
+mod array;
+mod capacity;
+pub mod laws;
+mod places;
+mod word;
+
+pub use array::{Placed, Probe, find, put};
+pub use capacity::{CAPACITIES, Plan, fill_plan, is_capacity};
+pub use places::{first_place, next_place};
+pub use word::{Look, look_at, pack, unpack};
