@@ -1,0 +1,183 @@
+//! The image.
+
+ghost use Rattle.std.specs.Prelude.{◌≡◌, ◌<◌, ◌≤◌, ◌-◌, length, slice_get, All, Some, IfSome, option_map};
+ghost use Rattle.msg_names.specs.Number.{selector_number, imp_number};
+
+use crate::expr::Expr;
+use crate::methods::MethodList;
+use msg_names::{ClassRef, ImpRef, Names, ObjectRef, Selector};
+use std::marker::Model;
+
+/// An implementation.
+#[derive(Drop)]
+pub struct Imp {
+    /// The class in whose source the implementation stands, or its metaclass. A super send looks up above it.
+    pub home: ClassRef,
+    /// How many arguments it takes.
+    pub args: u8,
+    pub body: Expr,
+}
+
+/// A category as it is listed.
+#[derive(Drop)]
+pub struct Category {
+    pub class: u32,
+    pub methods: MethodList,
+    pub class_methods: MethodList,
+}
+
+#[derive(Drop)]
+pub(crate) struct Class {
+    pub(crate) name: String,
+    pub(crate) superclass: Option<u32>,
+    pub(crate) methods: MethodList,
+    pub(crate) class_methods: MethodList,
+}
+
+#[derive(Drop)]
+pub(crate) struct Object {
+    pub(crate) name: String,
+    pub(crate) class: u32,
+}
+
+/// What a document says of classes, categories, objects and implementations.
+///
+/// Contracts see the parts without their pointers. The reading calls take no memory, and each indexes once.
+#[derive(Drop)]
+pub struct Image {
+    names: Names,
+    classes: Vec<Class>,
+    categories: Vec<Category>,
+    objects: Vec<Object>,
+    imps: Vec<Imp>,
+}
+
+impl Model for Image {
+    ghost use Rattle.msg_image.specs.Parts.{ImageParts};
+
+    ghost Value = { ImageParts };
+
+    ghost use Rattle.std.specs.Coded.{codes};
+    ghost use Rattle.msg_image.specs.Coding.{coded_expression};
+
+    ghost coded = { Prim.hlevel (codes, coded_expression) };
+
+    ghost use Rattle.msg_image.specs.Plain.{image_parts};
+    ghost use Rattle.msg_image.specs.Sound.{IsSound};
+
+    ghost view = { image_parts };
+
+    ghost invariant = { λ i. IsSound (image_parts i) };
+}
+
+impl Image {
+    ghost use Rattle.msg_image.specs.Methods.{method_numbers};
+    ghost use Rattle.msg_image.specs.Parts.{ObjectParts, forwarding_selector, superclass_in, methods_of};
+    ghost use Rattle.msg_image.specs.Plain.{plain, imp_parts};
+    ghost use Rattle.msg_image.specs.Sound.{IsSound, IsSoundCategory, IsSoundImp, AreListed};
+
+    /// The selectors' names.
+    pub fn names(&self) -> &Names
+        ensures { result.now ≡ self.now.names }
+    {
+        &self.names
+    }
+
+    /// How many classes there are.
+    pub fn class_count(&self) -> u32
+        ensures count { result ≡ length self.now.classes }
+        ensures sound { IsSound self.now }
+    {
+        self.classes.len() as u32
+    }
+
+    pub fn object_count(&self) -> u32
+        ensures { result ≡ length self.now.objects }
+    {
+        self.objects.len() as u32
+    }
+
+    pub fn imp_count(&self) -> u32
+        ensures { result ≡ length self.now.imps }
+    {
+        self.imps.len() as u32
+    }
+
+    pub fn class_name(&self, class: u32) -> &str
+        requires { class < length self.now.classes }
+        ensures { option_map (λ c. c.name) (slice_get self.now.classes class) ≡ Some result.now }
+    {
+        self.classes[class as usize].name.as_str()
+    }
+
+    /// The superclass, or for a metaclass the superclass's metaclass, and for a root metaclass the root class itself.
+    pub fn superclass(&self, class: ClassRef) -> Option<ClassRef>
+        requires { class.class < length self.now.classes }
+        ensures value { result ≡ superclass_in self.now class }
+        ensures listed { IfSome result (λ above. above.class < length self.now.classes) }
+    {
+        match self.classes[class.class as usize].superclass {
+            Some(above) => Some(ClassRef {
+                class: above,
+                meta: class.meta,
+            }),
+            None if class.meta => Some(ClassRef {
+                class: class.class,
+                meta: false,
+            }),
+            None => None,
+        }
+    }
+
+    /// The methods that the class itself lists, without those of categories.
+    pub fn methods(&self, class: ClassRef) -> &[(Selector, ImpRef)]
+        requires { class.class < length self.now.classes }
+        ensures methods { option_map (methods_of class) (slice_get self.now.classes class.class) ≡ Some (method_numbers result.now) }
+        ensures listed { AreListed self.now (method_numbers result.now) }
+    {
+        let listed = &self.classes[class.class as usize];
+        if class.meta {
+            listed.class_methods.as_slice()
+        } else {
+            listed.methods.as_slice()
+        }
+    }
+
+    pub fn categories(&self) -> &[Category]
+        ensures categories { result.now ≡ self.now.categories }
+        ensures sound { All (IsSoundCategory self.now) result.now }
+    {
+        self.categories.as_slice()
+    }
+
+    pub fn object_name(&self, object: ObjectRef) -> &str
+        requires { object.object < length self.now.objects }
+        ensures { option_map (λ o. o.name) (slice_get self.now.objects object.object) ≡ Some result.now }
+    {
+        self.objects[object.object as usize].name.as_str()
+    }
+
+    pub fn object_class(&self, object: ObjectRef) -> u32
+        requires { object.object < length self.now.objects }
+        ensures class { option_map (λ o. o.class) (slice_get self.now.objects object.object) ≡ Some result }
+        ensures listed { result < length self.now.classes }
+    {
+        self.objects[object.object as usize].class
+    }
+
+    pub fn imp(&self, imp: ImpRef) -> &Imp
+        requires real { 0 < imp_number imp }
+        requires listed { imp_number imp ≤ length self.now.imps }
+        ensures imp { slice_get self.now.imps (imp_number imp - 1) ≡ Some (imp_parts result.now) }
+        ensures sound { IsSoundImp self.now (imp_parts result.now) }
+    {
+        &self.imps[imp.number() as usize - 1]
+    }
+
+    /// The selector `forwardingTargetForSelector:`, which every image has as its first.
+    pub fn forwarding_selector(&self) -> Selector
+        ensures { result ≡ forwarding_selector }
+    {
+        Selector::of(1).unwrap()
+    }
+}

@@ -1,0 +1,92 @@
+-- Methods that are attached.
+use Rattle.std.proofs.Common.{◌≡◌, ℕ, ◌+◌, List, [], ◌∷◌, ◌++◌, length, length-append, map, Some, None, Bool, true, false, refl, sym, ap, ◌∙◌, arith}
+use Rattle.std.specs.Prelude.{◌||◌, ◌&&◌, ◌==◌, nat_lt, nat_le}
+use Rattle.std.specs.List.{list_any}
+use Rattle.std.proofs.lemmas.Bool.Decides.{nat_tests}
+use Rattle.std.proofs.lemmas.List.{length-map}
+use Rattle.std.proofs.lemmas.List.Folds.{list_any-append}
+use Rattle.msg_names.specs.declared.value.Selector.{Selector}
+use Rattle.msg_names.specs.declared.value.ImpRef.{ImpRef}
+use Rattle.msg_names.specs.Number.{selector_number, imp_number}
+use Rattle.msg_image.specs.Methods.{method_numbers}
+use Rattle.msg_image.specs.declared.change.Change.TheVariants.{Attach}
+use Rattle.msg_tables.specs.declared.fault.ChangeFault.{ChangeFault}
+use Rattle.msg_tables.specs.declared.fault.ChangeFault.TheVariants.{NoClass, Limit}
+use Rattle.msg_tables.specs.After.{of_class}
+use Rattle.msg_tables.specs.History.{History}
+use Rattle.msg_tables.specs.Refusal.{least, unfit_methods, no_class, no_imp, misfits, is_full, refusal}
+use Rattle.msg_tables.specs.Stands.{StandsAt}
+use Rattle.msg_tables.specs.View.{TablesView, lacks_imp, misfits_in, are_listed}
+use Rattle.msg_tables.proofs.JudgeLemmas.{least-first, least-next}
+use Rattle.msg_tables.proofs.StandsLemmas.{imp_count, colons-stand, args-stand}
+
+list_any-map : {A B : Type 0} (p : B → Bool) (f : A → B) (xs : List A) → list_any p (map f xs) ≡ list_any (λ x. p (f x)) xs
+list_any-map p f [] = refl
+list_any-map p f (x ∷ xs) = ap (λ r. p (f x) || r) (list_any-map p f xs)
+
+list_any-same : {A : Type 0} (p q : A → Bool) → ((x : A) → p x ≡ q x) → (xs : List A) → list_any p xs ≡ list_any q xs
+list_any-same p q same [] = refl
+list_any-same p q same (x ∷ xs) = rw (same x, list_any-same p q same xs) refl
+
+pub neither : (a b : Bool) → (a || b) ≡ false → (a ≡ false) × (b ≡ false)
+neither true b e = cc
+neither false b e = (refl, e)
+
+abbrev numbers : Selector × ImpRef → ℕ × ℕ
+numbers m = (selector_number m.0, imp_number m.1)
+
+module _ (t : TablesView) (h : History) (stands : StandsAt t h) where
+  imp-stands : (i : ℕ) → lacks_imp t i ≡ no_imp h i
+  unfolding no_imp
+  imp-stands i = ap (λ n. (i == 0) || nat_lt n i) (imp_count t h stands)
+
+  misfits-stand : (s i : ℕ) → misfits_in t s i ≡ misfits h s i
+  unfolding misfits
+  misfits-stand s i = rw (colons-stand t h stands s, args-stand t h stands i) refl
+
+  -- two lists, tested one after the other
+  pub no_imp-both : (own meta : List (Selector × ImpRef)) → (list_any (λ m. lacks_imp t (imp_number m.1)) own || list_any (λ m. lacks_imp t (imp_number m.1)) meta) ≡ list_any (λ (m : ℕ × ℕ). no_imp h m.1) (method_numbers own ++ method_numbers meta)
+  no_imp-both own meta =
+      sym (list_any-append (λ (m : ℕ × ℕ). no_imp h m.1) (method_numbers own) (method_numbers meta) ∙ rw (one own, one meta) refl)
+    where
+      one : (ms : List (Selector × ImpRef)) → list_any (λ (m : ℕ × ℕ). no_imp h m.1) (method_numbers ms) ≡ list_any (λ m. lacks_imp t (imp_number m.1)) ms
+      one ms = list_any-map (λ (m : ℕ × ℕ). no_imp h m.1) numbers ms ∙ list_any-same _ _ (λ m. sym (imp-stands (imp_number m.1))) ms
+
+  pub misfits-both : (own meta : List (Selector × ImpRef)) → (list_any (λ m. misfits_in t (selector_number m.0) (imp_number m.1)) own || list_any (λ m. misfits_in t (selector_number m.0) (imp_number m.1)) meta) ≡ list_any (λ (m : ℕ × ℕ). misfits h m.0 m.1) (method_numbers own ++ method_numbers meta)
+  misfits-both own meta =
+      sym (list_any-append (λ (m : ℕ × ℕ). misfits h m.0 m.1) (method_numbers own) (method_numbers meta) ∙ rw (one own, one meta) refl)
+    where
+      one : (ms : List (Selector × ImpRef)) → list_any (λ (m : ℕ × ℕ). misfits h m.0 m.1) (method_numbers ms) ≡ list_any (λ m. misfits_in t (selector_number m.0) (imp_number m.1)) ms
+      one ms = list_any-map (λ (m : ℕ × ℕ). misfits h m.0 m.1) numbers ms ∙ list_any-same _ _ (λ m. sym (misfits-stand (selector_number m.0) (imp_number m.1))) ms
+
+-- methods of which none lacks its implementation are listed
+pub listed : (t : TablesView) (ms : List (Selector × ImpRef)) → list_any (λ m. lacks_imp t (imp_number m.1)) ms ≡ false → are_listed (length t.args) (method_numbers ms) ≡ true
+listed t [] e = refl
+listed t (m ∷ ms) e = step (imp_number m.1) (list_any (λ x. lacks_imp t (imp_number x.1)) ms) e (listed t ms)
+  where
+    step : (i : ℕ) (rest : Bool) → (lacks_imp t i || rest) ≡ false → (rest ≡ false → are_listed (length t.args) (method_numbers ms) ≡ true) → (nat_le i (length t.args) && are_listed (length t.args) (method_numbers ms)) ≡ true
+    step i rest h more =
+        let (first, others) = neither (lacks_imp t i) rest h in
+        let within : nat_le i (length t.args) ≡ true = inside (i == 0) (nat_lt (length t.args) i) first refl in
+        rw (within, more others) refl
+      where
+        inside : (a b : Bool) → (a || b) ≡ false → nat_lt (length t.args) i ≡ b → nat_le i (length t.args) ≡ true
+        inside true b g k = cc
+        inside false true g k = cc
+        inside false false g k = grind (arith, nat_tests)
+
+-- the faults of an attached category, by what each test says
+pub attach-absent : (h : History) (k : ℕ) (ms cs : List (ℕ × ℕ)) → no_class h (of_class k) ≡ true → refusal h (Attach k ms cs) ≡ Some NoClass
+unfolding refusal
+attach-absent h k ms cs e = rw e refl
+
+pub attach-unfit : (h : History) (k : ℕ) (ms cs : List (ℕ × ℕ)) (f : ChangeFault) → no_class h (of_class k) ≡ false → least (unfit_methods h (ms ++ cs)) ≡ Some f → refusal h (Attach k ms cs) ≡ Some f
+unfolding refusal
+attach-unfit h k ms cs f e u = rw e (least-first (unfit_methods h (ms ++ cs)) ((is_full h (length (ms ++ cs)), Limit) ∷ []) f u)
+
+pub attach-fit : (h : History) (k : ℕ) (ms cs : List (ℕ × ℕ)) (full : Bool) → no_class h (of_class k) ≡ false → least (unfit_methods h (ms ++ cs)) ≡ None → is_full h (length (ms ++ cs)) ≡ full → refusal h (Attach k ms cs) ≡ least ((full, Limit) ∷ [])
+unfolding refusal
+attach-fit h k ms cs full e u f = rw e (least-next (unfit_methods h (ms ++ cs)) ((is_full h (length (ms ++ cs)), Limit) ∷ []) u ∙ rw f refl)
+
+pub count-both : (own meta : List (Selector × ImpRef)) (ms cs : List (ℕ × ℕ)) → method_numbers own ≡ ms → method_numbers meta ≡ cs → length (ms ++ cs) ≡ length own + length meta
+count-both own meta ms cs e f = omega (arith, length-append ms cs, ap length e, ap length f, length-map own numbers, length-map meta numbers)

@@ -1,0 +1,81 @@
+-- Lookups in lists that hold the rows.
+use Rattle.std.proofs.Common.{◌≡◌, ◌<◌, ℕ, zero, suc, List, [], ◌∷◌, Option, Some, None, option_map, Bool, true, false, cond, refl, sym, ◌∙◌, ap}
+use Rattle.std.specs.Prelude.{◌==◌, ◌&&◌, unwrap_or, is_some}
+use Rattle.std.specs.Option.{option_map_or}
+use Rattle.msg_names.specs.declared.value.ClassRef.{ClassRef}
+use Rattle.msg_tables.specs.Chain.{chain_up, chain_of, super_of, steps_of, same_class}
+use Rattle.msg_tables.specs.Rows.{Row, own, or_else, holder_in, lookup_in}
+use Rattle.msg_tables.specs.RowList.{own_in}
+use Rattle.msg_tables.specs.History.{History, table, lookup, holder, superclass}
+use Rattle.msg_tables.specs.Stands.{Holds, StandsAt, pairs_at}
+use Rattle.msg_tables.specs.View.{TablesView, kept, kept_method}
+use Rattle.msg_tables.proofs.ChainLemmas.{chain_from, Suffices, chain_up-step}
+
+or_else_none : (o : Option ℕ) → or_else o None ≡ o
+or_else_none None = refl
+or_else_none (Some i) = refl
+
+-- the own row is the last of the pairs
+pub own-pairs_at : (c : ClassRef) (s : ℕ) (rows : List Row) → own rows c s ≡ own_in s (pairs_at c rows)
+own-pairs_at c s [] = refl
+own-pairs_at c s (r ∷ rs) = step (same_class r.class c) (own-pairs_at c s rs)
+  where
+    step : (b : Bool) → own rs c s ≡ own_in s (pairs_at c rs) → or_else (own rs c s) (cond (b && (r.sel == s)) (Some r.imp) None) ≡ own_in s (cond b ((r.sel, r.imp) ∷ pairs_at c rs) (pairs_at c rs))
+    step true e = ap (λ o. or_else o (cond (r.sel == s) (Some r.imp) None)) e
+    step false e = or_else_none (own rs c s) ∙ e
+
+-- where the first with the method stands
+pub holder_in-kept : (lists : List (List (ℕ × ℕ))) (rows : List Row) → Holds lists rows → (cs : List ClassRef) (s : ℕ) → holder_in rows cs s ≡ option_map (λ m. m.0) (kept_method lists cs s)
+holder_in-kept lists rows holds [] s = refl
+holder_in-kept lists rows holds (c ∷ cs) s =
+    rw (own-pairs_at c s rows, ← holds.at c) (step (own_in s (kept lists c)) (holder_in-kept lists rows holds cs s))
+  where
+    step : (o : Option ℕ) → holder_in rows cs s ≡ option_map (λ m. m.0) (kept_method lists cs s) → cond (is_some o) (Some c) (holder_in rows cs s) ≡ option_map (λ (m : ClassRef × ℕ). m.0) (option_map_or (λ i. Some (c, i)) o (kept_method lists cs s))
+    step None e = e
+    step (Some i) e = refl
+
+-- and what it has
+pub lookup_in-kept : (lists : List (List (ℕ × ℕ))) (rows : List Row) → Holds lists rows → (cs : List ClassRef) (s : ℕ) → lookup_in rows cs s ≡ option_map_or (λ m. m.1) (kept_method lists cs s) 0
+lookup_in-kept lists rows holds [] s = refl
+lookup_in-kept lists rows holds (c ∷ cs) s =
+    rw (own-pairs_at c s rows, ← holds.at c) (step (own_in s (kept lists c)) (lookup_in-kept lists rows holds cs s))
+  where
+    step : (o : Option ℕ) → lookup_in rows cs s ≡ option_map_or (λ m. m.1) (kept_method lists cs s) 0 → unwrap_or o (lookup_in rows cs s) ≡ option_map_or (λ (m : ClassRef × ℕ). m.1) (option_map_or (λ i. Some (c, i)) o (kept_method lists cs s)) 0
+    step None e = e
+    step (Some i) e = refl
+
+-- the method that the kept rows have
+abbrev pub method_of : TablesView → ClassRef → ℕ → Option (ClassRef × ℕ)
+method_of t c s = kept_method t.lists (chain_of t.supers c) s
+
+module _ (t : TablesView) (h : History) (stands : StandsAt t h) (c : ClassRef) where
+  pub superclass-stands : super_of t.supers c ≡ superclass h c
+  unfolding superclass
+  superclass-stands = ap (λ supers. super_of supers c) stands.supers
+
+  pub holder-stands : (s : ℕ) → holder h c s ≡ option_map (λ m. m.0) (method_of t c s)
+  unfolding holder
+  holder-stands s = holder_in-kept t.lists (table h).rows stands.rows (chain_of (table h).supers c) s ∙ ap (λ supers. option_map (λ (m : ClassRef × ℕ). m.0) (kept_method t.lists (chain_of supers c) s)) (sym stands.supers)
+
+  pub lookup-stands : (s : ℕ) → lookup h c s ≡ option_map_or (λ m. m.1) (method_of t c s) 0
+  unfolding lookup
+  lookup-stands s = lookup_in-kept t.lists (table h).rows stands.rows (chain_of (table h).supers c) s ∙ ap (λ supers. option_map_or (λ (m : ClassRef × ℕ). m.1) (kept_method t.lists (chain_of supers c) s) 0) (sym stands.supers)
+
+-- one turn up the chain
+module _ (lists : List (List (ℕ × ℕ))) (supers : List (Option ℕ)) (s n : ℕ) (at : Option ClassRef) (here : ClassRef) (whole : Option (ClassRef × ℕ)) (is : at ≡ Some here) where
+  pub stops : (i : ℕ) → own_in s (kept lists here) ≡ Some i → kept_method lists (chain_from n supers at) s ≡ whole → Some (here, i) ≡ whole
+  stops i found so_far = sym (answer n) ∙ (rw is at so_far)
+    where
+      answer : (m : ℕ) → kept_method lists (chain_up m supers here) s ≡ Some (here, i)
+      answer zero = rw found refl
+      answer (suc m) = rw found refl
+
+  pub goes_on : (up : Option ClassRef) → Suffices n at → own_in s (kept lists here) ≡ None → up ≡ super_of supers here → ((d : ClassRef) → up ≡ Some d → steps_of d < steps_of here) → kept_method lists (chain_from n supers at) s ≡ whole
+      → (m : ℕ) × Suffices m up × (kept_method lists (chain_from m supers up) s ≡ whole)
+  goes_on up enough none above fewer so_far =
+      let (m, more, split) = chain_up-step n supers here up (sym above) (rw is at enough) fewer in
+      (m, more, sym (ap (λ cs. kept_method lists cs s) split ∙ rw none refl) ∙ (rw is at so_far))
+
+pub is_some-map : {A B : Type 0} (f : A → B) (o : Option A) → is_some (option_map f o) ≡ is_some o
+is_some-map f None = refl
+is_some-map f (Some x) = refl

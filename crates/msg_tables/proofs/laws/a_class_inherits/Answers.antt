@@ -1,0 +1,5 @@
+use Rattle.msg_tables.proofs.LawLemmas.{inherits}
+use Rattle.msg_tables.proofs.laws.a_class_inherits.Goals as goal
+
+pub returns : goal.returns
+returns c = inherits

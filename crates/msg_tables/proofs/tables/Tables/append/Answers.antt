@@ -1,0 +1,44 @@
+use Rattle.std.proofs.Common.{◌≡◌, ◌<◌, ℕ, List, [], ◌∷◌, ◌++◌, length, refl, sym, ap, ◌∙◌, subst, arith}
+use Rattle.std.specs.Prelude.{slice_set, slice_index_or}
+use Rattle.std.proofs.lemmas.Bool.Decides.{nat_tests}
+use Rattle.msg_names.specs.Number.{selector_number, imp_number}
+use Rattle.msg_tables.specs.RowList.{rows_of}
+use Rattle.msg_tables.specs.After.{rows_at}
+use Rattle.msg_tables.specs.Stands.{Holds}
+use Rattle.msg_tables.specs.View.{place_of, kept}
+use Rattle.msg_tables.proofs.ListedLemmas.{listed-append}
+use Rattle.msg_tables.proofs.PlaceLemmas.{place_of-inside}
+use Rattle.msg_tables.proofs.PutLemmas.{put-length, put-listed, length-rows_of}
+use Rattle.msg_tables.proofs.HoldsLemmas.{holds-append}
+use Rattle.msg_tables.proofs.tables.Tables.append.Goals as goal
+
+pub invariant_of-self-2 : goal.invariant_of-self-2
+invariant_of-self-2 c =
+    let fits = rw (← c.self.view_is) at c.requires in
+    let now = c.in_ok-append_row.ensures.ok in
+    let row : List (ℕ × ℕ) = (selector_number c.args.row.sel, imp_number c.args.row.imp) ∷ [] in
+    record {
+      before = c.self.invariant.before;
+      lists = put-length c.self.inside.lists.items c.append_row.new.lists.items c.place.result _ now ∙ c.self.invariant.lists;
+      listed = put-listed (length c.self.inside.args.items) c.self.inside.lists.items c.append_row.new.lists.items c.place.result (λ ms. ms ++ row) now c.self.invariant.listed
+          (λ ms all. listed-append (length c.self.inside.args.items) ms row all (grind (arith, nat_tests, fits.named.1)));
+      few_classes = c.self.invariant.few_classes;
+      few_rows = fits.rows;
+      few_changes = c.self.invariant.few_changes;
+    }
+
+pub returns-clause-ok : goal.returns-clause-ok
+returns-clause-ok c =
+    let fits = rw (← c.self.view_is) at c.requires in
+    let was = c.self.inside.lists.items in
+    let class = c.args.row.class in
+    let row : List (ℕ × ℕ) = (selector_number c.args.row.sel, imp_number c.args.row.imp) ∷ [] in
+    let is : rows_of c.append_row.new.lists.items ≡ slice_set (rows_of was) (place_of class) (kept (rows_of was) class ++ row) =
+    c.in_ok-append_row.ensures.ok ∙ ap (λ p. slice_set (rows_of was) p (slice_index_or (rows_of was) p [] ++ row)) c.place.ensures in
+    let inside = place_of-inside class (length c.self.inside.supers.items) (length was) c.self.invariant.lists fits.named.0 in
+    let room : place_of class < length (rows_of was) = omega (arith, length-rows_of was, inside) in
+    rw (← c.self.view_is) record {
+      rows = λ rows holds. subst (λ lists. Holds lists (rows ++ rows_at class row)) (sym is) (holds-append (rows_of was) rows class row room holds);
+      row_count = refl;
+      rest = refl;
+    }

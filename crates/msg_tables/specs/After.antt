@@ -1,0 +1,69 @@
+-- What the changes do to the rows.
+use Rattle.std.specs.Prelude.{ℕ, ◌+◌, ◌&&◌, true, false, List, [], ◌∷◌, ◌++◌, Option, Some, None, if◌then◌else◌, is_some, is_none, map, reverse}
+use Rattle.msg_names.specs.declared.value.ClassRef.{ClassRef}
+use Rattle.msg_names.specs.declared.value.Selector.{Selector}
+use Rattle.msg_names.specs.declared.value.ImpRef.{ImpRef}
+use Rattle.msg_names.specs.Number.{selector_number, imp_number}
+use Rattle.msg_image.specs.Parts.{ImageParts, ClassParts}
+use Rattle.msg_image.specs.declared.image.Category.{Category}
+use Rattle.msg_image.specs.declared.change.Change.{Change}
+use Rattle.msg_image.specs.declared.change.Change.TheVariants.{Add, Replace, SetImp, Exchange, Attach}
+use Rattle.msg_tables.specs.Rows.{Row, ClassTable, is_at, own, holder_at, lookup_at}
+
+-- the class itself, and its metaclass
+abbrev pub of_class : ℕ → ClassRef
+of_class k = record { class = k; meta = false }
+
+abbrev pub of_meta : ℕ → ClassRef
+of_meta k = record { class = k; meta = true }
+
+-- the rows of a method list
+abbrev pub rows_at : ClassRef → List (ℕ × ℕ) → List Row
+rows_at c methods = map (λ m. record { class = c; sel = m.0; imp = m.1 }) methods
+
+-- the rows of listed classes, numbered from k
+abbrev pub class_rows : ℕ → List ClassParts → List Row
+class_rows k [] = []
+class_rows k (c ∷ cs) = rows_at (of_class k) c.methods ++ rows_at (of_meta k) c.class_methods ++ class_rows (k + 1) cs
+
+-- the rows of listed categories, which are attached one after another
+abbrev pub category_rows : List Category → List Row
+category_rows [] = []
+category_rows (c ∷ cs) = rows_at (of_class c.class) c.methods ++ rows_at (of_meta c.class) c.class_methods ++ category_rows cs
+
+-- the tables as an image is opened
+unfoldable pub opening : ImageParts → ClassTable
+opening image = record {
+  supers = map (λ (c : ClassParts). c.superclass) image.classes;
+  rows = class_rows 0 image.classes ++ category_rows image.categories;
+}
+
+-- another implementation in the own row
+abbrev pub set_own : ClassRef → ℕ → ℕ → List Row → List Row
+set_own c s i [] = []
+set_own c s i (r ∷ rs) = (if is_at c s r && is_none (own rs c s) then record { class = c; sel = s; imp = i } else r) ∷ set_own c s i rs
+
+-- another implementation in the method, where it stands
+abbrev pub set_method : Option ClassRef → ℕ → ℕ → List Row → List Row
+set_method None s i rows = rows
+set_method (Some holder) s i rows = set_own holder s i rows
+
+abbrev pub row : ClassRef → Selector → ImpRef → Row
+row c s i = record { class = c; sel = selector_number s; imp = imp_number i }
+
+-- The rows after a change. Attached methods go last, each list from its last entry to its first, so that the earlier of two entries counts.
+abbrev pub rows_after : ClassTable → Change → List Row
+rows_after t (Add c s i) = t.rows ++ row c s i ∷ []
+rows_after t (Replace c s i) =
+    if is_some (own t.rows c (selector_number s)) then set_own c (selector_number s) (imp_number i) t.rows else t.rows ++ row c s i ∷ []
+rows_after t (SetImp c s i) = set_method (holder_at t c (selector_number s)) (selector_number s) (imp_number i) t.rows
+rows_after t (Exchange c s d u) =
+    let first = lookup_at t c (selector_number s) in
+    let second = lookup_at t d (selector_number u) in
+    set_method (holder_at t c (selector_number s)) (selector_number s) second (set_method (holder_at t d (selector_number u)) (selector_number u) first t.rows)
+rows_after t (Attach k methods class_methods) =
+    t.rows ++ rows_at (of_class k) (reverse methods) ++ rows_at (of_meta k) (reverse class_methods)
+
+-- the tables after a change
+unfoldable pub after : ClassTable → Change → ClassTable
+after t x = record { supers = t.supers; rows = rows_after t x }

@@ -1,0 +1,67 @@
+-- What an accepted change writes.
+use Rattle.std.specs.Prelude.{◌≡◌, ◌<◌, ◌≤◌, ℕ, ◌+◌, List, [], ◌∷◌, ◌++◌, Some, None, Result, Ok, Err, IsSome, length, reverse, true}
+use Rattle.msg_names.specs.Number.{selector_number, imp_number}
+use Rattle.msg_image.specs.declared.change.Change.{Change}
+use Rattle.msg_tables.specs.declared.edit.MethodRow.{MethodRow}
+use Rattle.msg_tables.specs.declared.edit.Edit.{Edit}
+use Rattle.msg_tables.specs.declared.edit.Edit.TheVariants.{Append, Rewrite, RewriteBoth, Attach}
+use Rattle.msg_tables.specs.declared.fault.ChangeFault.{ChangeFault}
+use Rattle.msg_tables.specs.Rows.{Row}
+use Rattle.msg_tables.specs.RowList.{own_in}
+use Rattle.msg_tables.specs.After.{row, rows_at, of_class, of_meta, set_own, rows_after}
+use Rattle.msg_tables.specs.History.{History, table}
+use Rattle.msg_tables.specs.Refusal.{refusal}
+use Rattle.msg_tables.specs.Stands.{Holds}
+use Rattle.msg_tables.specs.View.{TablesView, kept, are_listed}
+
+-- another implementation in the own row
+abbrev pub rewritten : MethodRow → List Row → List Row
+rewritten r rows = set_own r.class (selector_number r.sel) (imp_number r.imp) rows
+
+-- the rows after an edit
+abbrev pub edited : Edit → List Row → List Row
+edited (Append r) rows = rows ++ row r.class r.sel r.imp ∷ []
+edited (Rewrite r) rows = rewritten r rows
+edited (RewriteBoth first second) rows = rewritten first (rewritten second rows)
+edited (Attach k methods class_methods) rows = rows ++ rows_at (of_class k) (reverse methods.now) ++ rows_at (of_meta k) (reverse class_methods.now)
+
+-- how many rows it adds
+abbrev pub added : Edit → ℕ
+added (Append r) = 1
+added (Rewrite r) = 0
+added (RewriteBoth first second) = 0
+added (Attach k methods class_methods) = length methods.now + length class_methods.now
+
+-- there is such an own row, and the implementation is listed
+pub record IsOwn (t : TablesView) (r : MethodRow) : Type 0 where
+  pub class : r.class.class < length t.supers
+  pub own : IsSome (own_in (selector_number r.sel) (kept t.lists r.class))
+  pub imp : imp_number r.imp ≤ length t.args
+
+-- the edit names what there is
+abbrev pub IsOfTables : TablesView → Edit → Type 0
+IsOfTables t (Append r) = (r.class.class < length t.supers) × (imp_number r.imp ≤ length t.args)
+IsOfTables t (Rewrite r) = IsOwn t r
+IsOfTables t (RewriteBoth first second) = IsOwn t first × IsOwn t second
+IsOfTables t (Attach k methods class_methods) = (k < length t.supers) × (are_listed (length t.args) methods.now ≡ true) × (are_listed (length t.args) class_methods.now ≡ true)
+
+-- there is room for it, and it names what there is
+pub record Fits (t : TablesView) (e : Edit) : Type 0 where
+  pub named : IsOfTables t e
+  pub rows : t.row_count + added e ≤ 16384
+  pub changes : t.change_count < 65536
+
+-- a change was judged at a history
+abbrev pub Judges : History → Change → Result Edit ChangeFault → Type 0
+Judges h x (Ok e) = (refusal h x ≡ None) × (rows_after (table h) x ≡ edited e (table h).rows)
+Judges h x (Err f) = refusal h x ≡ Some f
+
+-- the tables' rows were changed by an edit, and nothing else
+pub record Writes (old new : TablesView) (e : Edit) : Type 0 where
+  pub rows : (rows : List Row) → Holds old.lists rows → Holds new.lists (edited e rows)
+  pub row_count : new.row_count ≡ old.row_count + added e
+  pub rest : new ≡ record old { lists = new.lists; row_count = new.row_count }
+
+-- more rows stand after a change than before
+abbrev pub AddsRows : History → Change → Type 0
+AddsRows h x = length (table h).rows < length (rows_after (table h) x)

@@ -1,0 +1,50 @@
+-- Histories of the class tables.
+use Rattle.std.specs.Prelude.{◌≡◌, ℕ, List, [], ◌∷◌, ◌++◌, Option}
+use Rattle.msg_names.specs.declared.value.ClassRef.{ClassRef}
+use Rattle.msg_image.specs.Parts.{ImageParts}
+use Rattle.msg_image.specs.declared.change.Change.{Change}
+use Rattle.msg_tables.specs.Chain.{super_of}
+use Rattle.msg_tables.specs.Rows.{ClassTable, chain, holder_at, lookup_at}
+use Rattle.msg_tables.specs.After.{opening, after}
+
+-- an image and the changes that were accepted, oldest first
+pub record History : Type 0 where
+  pub image : ImageParts
+  pub changes : List Change
+
+-- the history of an image that was just opened
+abbrev pub empty : ImageParts → History
+empty image = record { image = image; changes = [] }
+
+-- the history longer by a change
+abbrev pub and_then : History → Change → History
+and_then h x = record { image = h.image; changes = h.changes ++ x ∷ [] }
+
+abbrev pub after_all : ClassTable → List Change → ClassTable
+after_all t [] = t
+after_all t (x ∷ xs) = after_all (after t x) xs
+
+-- the tables at a history
+unfoldable pub table : History → ClassTable
+table h = after_all (opening h.image) h.changes
+
+-- the implementation that a lookup finds at a history, by number, or 0 for forwarding
+unfoldable pub lookup : History → ClassRef → ℕ → ℕ
+lookup h c s = lookup_at (table h) c s
+
+-- the class reference at which the method that it finds stands
+unfoldable pub holder : History → ClassRef → ℕ → Option ClassRef
+holder h c s = holder_at (table h) c s
+
+-- the superclass of a class reference
+unfoldable pub superclass : History → ClassRef → Option ClassRef
+superclass h c = super_of (table h).supers c
+
+-- a class reference and those above it
+unfoldable pub chain_at : History → ClassRef → List ClassRef
+chain_at h c = chain (table h) c
+
+-- p begins with g: g is a prefix of p
+pub record BeginsWith (p g : History) : Type 0 where
+  pub same : p.image ≡ g.image
+  pub rest : (more : List Change) × (p.changes ≡ g.changes ++ more)

@@ -1,0 +1,14 @@
+pub mod Affected
+pub mod After
+pub mod Chain
+pub mod Edits
+pub mod History
+pub mod Indexed
+pub mod Inside
+pub mod Marking
+pub mod Opening
+pub mod Refusal
+pub mod RowList
+pub mod Rows
+pub mod Stands
+pub mod View

@@ -1,0 +1,27 @@
+-- The rows of one class reference, as pairs of a selector and an implementation.
+use Rattle.std.specs.Prelude.{ℕ, suc, ◌==◌, ◌&&◌, List, [], ◌∷◌, Option, Some, None, option_map, map, if◌then◌else◌, is_none}
+use Rattle.msg_tables.specs.Rows.{or_else}
+
+-- the rows, oldest first, and how many more there is room for
+pub record RowList : Type 0 where
+  pub rows : List (ℕ × ℕ)
+  pub room : ℕ
+
+-- the rows alone
+abbrev pub rows_of : List RowList → List (List (ℕ × ℕ))
+rows_of lists = map (λ (r : RowList). r.rows) lists
+
+-- the implementation in the last row of a selector
+abbrev pub own_in : ℕ → List (ℕ × ℕ) → Option ℕ
+own_in s [] = None
+own_in s (m ∷ ms) = or_else (own_in s ms) (if m.0 == s then Some m.1 else None)
+
+-- the place of the last row of a selector
+abbrev pub last_place : ℕ → List (ℕ × ℕ) → Option ℕ
+last_place s [] = None
+last_place s (m ∷ ms) = or_else (option_map suc (last_place s ms)) (if m.0 == s then Some 0 else None)
+
+-- another implementation in the last row of a selector
+abbrev pub set_last : ℕ → ℕ → List (ℕ × ℕ) → List (ℕ × ℕ)
+set_last s i [] = []
+set_last s i (m ∷ ms) = (if (m.0 == s) && is_none (own_in s ms) then (s, i) else m) ∷ set_last s i ms

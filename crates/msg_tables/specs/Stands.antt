@@ -1,0 +1,29 @@
+-- Where tables stand.
+use Rattle.std.specs.Prelude.{◌≡◌, ℕ, List, [], ◌∷◌, map, length, if◌then◌else◌}
+use Rattle.msg_names.specs.declared.value.ClassRef.{ClassRef}
+use Rattle.msg_names.specs.Name.{colons_of}
+use Rattle.msg_image.specs.Parts.{ImpParts}
+use Rattle.msg_tables.specs.Chain.{same_class}
+use Rattle.msg_tables.specs.Rows.{Row}
+use Rattle.msg_tables.specs.History.{History, table}
+use Rattle.msg_tables.specs.Refusal.{IsHistory}
+use Rattle.msg_tables.specs.View.{TablesView, kept}
+
+-- the rows of a class reference, as pairs
+abbrev pub pairs_at : ClassRef → List Row → List (ℕ × ℕ)
+pairs_at c [] = []
+pairs_at c (r ∷ rs) = if same_class r.class c then (r.sel, r.imp) ∷ pairs_at c rs else pairs_at c rs
+
+-- the lists have, for each class reference, its rows, in their order
+pub record Holds (lists : List (List (ℕ × ℕ))) (rows : List Row) : Type 0 where
+  pub at : (c : ClassRef) → kept lists c ≡ pairs_at c rows
+
+-- The tables stand at a history: they hold its rows and count its changes.
+pub record StandsAt (t : TablesView) (h : History) : Type 0 where
+  pub history : IsHistory h
+  pub supers : t.supers ≡ (table h).supers
+  pub rows : Holds t.lists (table h).rows
+  pub row_count : t.row_count ≡ length (table h).rows
+  pub changes : t.change_count ≡ length h.changes
+  pub colons : t.colons ≡ map colons_of h.image.names
+  pub args : t.args ≡ map (λ (m : ImpParts). m.args) h.image.imps

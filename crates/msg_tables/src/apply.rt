@@ -1,0 +1,110 @@
+//! Making changes.
+
+ghost use Rattle.std.specs.Prelude.{◌≡◌, ◌≢◌, ◌<◌, ◌≤◌, Option, Some, None, OnOk, OnErr, IfErr, IsErrOf, length, ◌+◌};
+ghost use Rattle.msg_tables.specs.declared.fault.ChangeFault.{ChangeFault};
+ghost use Rattle.msg_tables.specs.declared.edit.Edit.{Edit};
+ghost use Rattle.msg_tables.specs.declared.edit.MethodRow.{MethodRow};
+ghost use Rattle.msg_tables.specs.Edits.{Fits, IsOwn, Writes, AddsRows, added};
+ghost use Rattle.msg_tables.specs.History.{History, and_then};
+ghost use Rattle.msg_tables.specs.Refusal.{refusal};
+ghost use Rattle.msg_tables.specs.Stands.{StandsAt};
+
+use crate::edit::{Edit, MethodRow};
+use crate::fault::ChangeFault;
+use crate::lists::{append_row, attach_rows, rewrite_row};
+use crate::tables::{Tables, place};
+use msg_image::{Change, MethodList};
+use msg_names::ClassRef;
+use std::alloc::AllocError;
+
+impl Tables {
+    fn append(&mut self, row: MethodRow) -> Result<(), AllocError>
+        requires { Fits self.old (Edit.Append row) }
+        ensures ok { OnOk result (Writes self.old self.new (Edit.Append row)) }
+        ensures err { OnErr result (self.new ≡ self.old) }
+    {
+        append_row(&mut self.lists, place(row.class), row.sel, row.imp)?;
+        self.row_count += 1;
+        Ok(())
+    }
+
+    fn rewrite(&mut self, row: MethodRow)
+        requires { IsOwn self.old row }
+        ensures writes { Writes self.old self.new (Edit.Rewrite row) }
+        ensures own { (other : MethodRow) → IsOwn self.old other → IsOwn self.new other }
+    {
+        rewrite_row(&mut self.lists, place(row.class), row.sel, row.imp);
+    }
+
+    fn rewrite_both(&mut self, first: MethodRow, second: MethodRow)
+        requires first { IsOwn self.old first }
+        requires second { IsOwn self.old second }
+        ensures { Writes self.old self.new (Edit.RewriteBoth first second) }
+    {
+        self.rewrite(second);
+        self.rewrite(first);
+    }
+
+    fn attach(
+        &mut self,
+        class: u32,
+        methods: &MethodList,
+        class_methods: &MethodList,
+    ) -> Result<(), AllocError>
+        requires { Fits self.old (Edit.Attach class methods class_methods) }
+        ensures ok { OnOk result (Writes self.old self.new (Edit.Attach class methods.entry class_methods.entry)) }
+        ensures err { OnErr result ((self.new ≡ self.old) × (0 < length methods.now + length class_methods.now)) }
+    {
+        let own = methods.as_slice();
+        let meta = class_methods.as_slice();
+        let at = place(ClassRef { class, meta: false });
+        attach_rows(&mut self.lists, at, own, meta)?;
+        self.row_count += (own.len() + meta.len()) as u32;
+        Ok(())
+    }
+
+    fn write(&mut self, edit: Edit) -> Result<(), AllocError>
+        requires { Fits self.old edit }
+        ensures ok { OnOk result (Writes self.old self.new edit.entry) }
+        ensures err { OnErr result ((self.new ≡ self.old) × (0 < added edit.entry)) }
+    {
+        match edit {
+            Edit::Append(row) => self.append(row),
+            Edit::Rewrite(row) => {
+                self.rewrite(row);
+                Ok(())
+            }
+            Edit::RewriteBoth(first, second) => {
+                self.rewrite_both(first, second);
+                Ok(())
+            }
+            Edit::Attach {
+                class,
+                methods,
+                class_methods,
+            } => self.attach(class, methods, class_methods),
+        }
+    }
+
+    /// The fault for which the change would be refused, and none where it would be made. No memory is taken.
+    pub fn refusal(&self, change: &Change) -> Option<ChangeFault>
+        ensures { (h : History) → StandsAt self.now h → result ≡ refusal h change.now }
+    {
+        self.judge(change).err()
+    }
+
+    /// Makes a change, or says why not and changes nothing.
+    ///
+    /// A method is looked up once. All growths come first; only `Attach` goes over more than one row.
+    pub fn apply(&mut self, change: &Change) -> Result<(), ChangeFault>
+        ensures ok { OnOk result ((h : History) → StandsAt self.old h → (refusal h change.now ≡ None) × StandsAt self.new (and_then h change.now)) }
+        ensures err { OnErr result (self.new ≡ self.old) }
+        ensures fault { IfErr result (λ f. f ≢ ChangeFault.Memory → (h : History) → StandsAt self.old h → refusal h change.now ≡ Some f) }
+        ensures memory { IsErrOf result ChangeFault.Memory → (h : History) → StandsAt self.old h → (refusal h change.now ≡ None) × AddsRows h change.now }
+    {
+        let edit = self.judge(change)?;
+        self.write(edit)?;
+        self.change_count += 1;
+        Ok(())
+    }
+}

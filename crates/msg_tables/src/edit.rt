@@ -1,0 +1,25 @@
+//! What an accepted change writes.
+
+use msg_image::MethodList;
+use msg_names::{ClassRef, ImpRef, Selector};
+
+// A row: at the class reference the selector has the implementation.
+#[derive(Clone, Copy)]
+pub(crate) struct MethodRow {
+    pub(crate) class: ClassRef,
+    pub(crate) sel: Selector,
+    pub(crate) imp: ImpRef,
+}
+
+// What a change writes. An own row that is rewritten is there already.
+#[derive(Clone, Copy)]
+pub(crate) enum Edit<'c> {
+    Append(MethodRow),
+    Rewrite(MethodRow),
+    RewriteBoth(MethodRow, MethodRow),
+    Attach {
+        class: u32,
+        methods: &'c MethodList,
+        class_methods: &'c MethodList,
+    },
+}

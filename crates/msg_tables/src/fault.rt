@@ -1,0 +1,41 @@
+//! Why changes are refused.
+
+ghost use Rattle.std.specs.Prelude.{◌≡◌};
+ghost use Rattle.msg_tables.specs.declared.fault.ChangeFault.TheVariants.{Memory};
+
+use std::alloc::AllocError;
+use thiserror::Error;
+
+/// Why a change was not made. Where several hold, the first is answered; memory is wanted only after all others were excluded.
+#[derive(Clone, Copy, Debug, PartialEq, Eq, Error)]
+pub enum ChangeFault {
+    /// A class number isn't the image's.
+    #[error("no class")]
+    NoClass,
+    /// An implementation is forwarding, or isn't the image's.
+    #[error("no implementation")]
+    NoImp,
+    /// A selector isn't the image's, or takes another number of arguments than the implementation, or than the other selector.
+    #[error("argument count")]
+    ArgumentCount,
+    /// The class itself has the method already.
+    #[error("method present")]
+    MethodPresent,
+    /// Neither the class nor a superclass has the method.
+    #[error("no method")]
+    NoMethod,
+    /// 65,536 changes were accepted, or more than 16,384 rows would stand.
+    #[error("limit")]
+    Limit,
+    /// A growth was refused.
+    #[error("out of memory")]
+    Memory,
+}
+
+impl From<AllocError> for ChangeFault {
+    ghost from_gives = { λ _ fault. fault ≡ Memory };
+
+    fn from(_refused: AllocError) -> ChangeFault {
+        ChangeFault::Memory
+    }
+}

@@ -1,0 +1,307 @@
+//! Judging changes: each fault is a test of its own, they come in their order, and a method is looked up once.
+
+ghost use Rattle.std.specs.Prelude.{◌≡◌, ◌<◌, ◌≤◌, ◌+◌, ◌-◌, ◌++◌, ◌||◌, length, true, false, if◌then◌else◌, slice_get, IfOk, IfSome, IsSome, Option, Some, None, option_map, nat_lt};
+ghost use Rattle.std.specs.List.{list_any};
+ghost use Rattle.msg_names.specs.Number.{selector_number, imp_number};
+ghost use Rattle.msg_image.specs.declared.change.Change.{Change};
+ghost use Rattle.msg_tables.specs.History.{History};
+ghost use Rattle.msg_tables.specs.Refusal as spec;
+ghost use Rattle.msg_tables.specs.Edits.{Fits, Judges};
+ghost use Rattle.msg_tables.specs.Stands.{StandsAt};
+ghost use Rattle.msg_tables.specs.RowList.{own_in};
+ghost use Rattle.msg_tables.specs.View.{kept, are_listed, lacks_imp, misfits_in};
+
+use crate::edit::{Edit, MethodRow};
+use crate::fault::ChangeFault;
+use crate::tables::{MAX_CHANGES, MAX_ROWS, Tables};
+use msg_image::{Change, MethodList};
+use msg_names::{ClassRef, ImpRef, Selector};
+
+// Two counts that aren't known to be one.
+fn differ(a: Option<u8>, b: Option<u8>) -> bool
+    ensures { result ≡ spec.differ a b }
+{
+    match (a, b) {
+        (Some(a), Some(b)) => a != b,
+        _ => true,
+    }
+}
+
+fn row(class: ClassRef, sel: Selector, imp: ImpRef) -> MethodRow
+    ensures { result ≡ record { class = class; sel = sel; imp = imp } }
+{
+    MethodRow { class, sel, imp }
+}
+
+impl Tables {
+    fn no_class(&self, class: ClassRef) -> bool
+        ensures meaning { (h : History) → StandsAt self.now h → result ≡ spec.no_class h class }
+        ensures listed { result ≡ false → class.class < length self.now.supers }
+    {
+        class.class as usize >= self.supers.len()
+    }
+
+    fn no_imp(&self, imp: ImpRef) -> bool
+        ensures value { result ≡ lacks_imp self.now (imp_number imp) }
+        ensures meaning { (h : History) → StandsAt self.now h → result ≡ spec.no_imp h (imp_number imp) }
+        ensures listed { result ≡ false → imp_number imp ≤ length self.now.args }
+    {
+        imp.number() == 0 || imp.number() as usize > self.args.len()
+    }
+
+    // How many arguments a selector takes, if it is the image's.
+    fn colons(&self, sel: Selector) -> Option<u8>
+        ensures { result ≡ slice_get self.now.colons (selector_number sel - 1) }
+    {
+        self.colons.get(sel.number() as usize - 1).copied()
+    }
+
+    // How many arguments an implementation takes.
+    fn args(&self, imp: ImpRef) -> Option<u8>
+        ensures { result ≡ slice_get self.now.args (imp_number imp - 1) }
+    {
+        self.args
+            .get((imp.number() as usize).saturating_sub(1))
+            .copied()
+    }
+
+    fn misfits(&self, sel: Selector, imp: ImpRef) -> bool
+        ensures value { result ≡ misfits_in self.now (selector_number sel) (imp_number imp) }
+        ensures meaning { (h : History) → StandsAt self.now h → result ≡ spec.misfits h (selector_number sel) (imp_number imp) }
+    {
+        differ(self.colons(sel), self.args(imp))
+    }
+
+    fn unlike(&self, sel: Selector, other: Selector) -> bool
+        ensures { (h : History) → StandsAt self.now h → result ≡ spec.unlike h (selector_number sel) (selector_number other) }
+    {
+        differ(self.colons(sel), self.colons(other))
+    }
+
+    fn has_own(&self, class: ClassRef, sel: Selector) -> bool
+        requires { class.class < length self.now.supers }
+        ensures meaning { (h : History) → StandsAt self.now h → result ≡ spec.has_own h class (selector_number sel) }
+        ensures own { result ≡ true → IsSome (own_in (selector_number sel) (kept self.now.lists class)) }
+    {
+        self.rows(class).find(sel).is_some()
+    }
+
+    // Whether there is no room for so many more rows, or for one more change.
+    fn is_full(&self, more: usize) -> bool
+        ensures meaning { (h : History) → StandsAt self.now h → result ≡ spec.is_full h more }
+        ensures room { result ≡ false → (self.now.row_count + more ≤ 16384) × (self.now.change_count < 65536) }
+    {
+        self.change_count >= MAX_CHANGES || more > (MAX_ROWS - self.row_count) as usize
+    }
+
+    // Why the row could not stand, whatever stands there.
+    fn unfit(&self, row: MethodRow) -> Option<ChangeFault>
+        ensures meaning { (h : History) → StandsAt self.now h → result ≡ spec.least (spec.unfit h row.class row.sel row.imp) }
+        ensures class { result ≡ None → row.class.class < length self.now.supers }
+        ensures imp { result ≡ None → imp_number row.imp ≤ length self.now.args }
+    {
+        if self.no_class(row.class) {
+            Some(ChangeFault::NoClass)
+        } else if self.no_imp(row.imp) {
+            Some(ChangeFault::NoImp)
+        } else if self.misfits(row.sel, row.imp) {
+            Some(ChangeFault::ArgumentCount)
+        } else {
+            None
+        }
+    }
+
+    fn judge_add<'c>(&self, row: MethodRow) -> Result<Edit<'c>, ChangeFault>
+        ensures meaning { (h : History) → StandsAt self.now h → Judges h (Change.Add row.class row.sel row.imp) result }
+        ensures fits { IfOk result (Fits self.now) }
+    {
+        if let Some(fault) = self.unfit(row) {
+            return Err(fault);
+        }
+        if self.has_own(row.class, row.sel) {
+            return Err(ChangeFault::MethodPresent);
+        }
+        if self.is_full(1) {
+            return Err(ChangeFault::Limit);
+        }
+        Ok(Edit::Append(row))
+    }
+
+    fn judge_replace<'c>(&self, row: MethodRow) -> Result<Edit<'c>, ChangeFault>
+        ensures meaning { (h : History) → StandsAt self.now h → Judges h (Change.Replace row.class row.sel row.imp) result }
+        ensures fits { IfOk result (Fits self.now) }
+    {
+        if let Some(fault) = self.unfit(row) {
+            return Err(fault);
+        }
+        if self.has_own(row.class, row.sel) {
+            if self.is_full(0) {
+                return Err(ChangeFault::Limit);
+            }
+            return Ok(Edit::Rewrite(row));
+        }
+        if self.is_full(1) {
+            return Err(ChangeFault::Limit);
+        }
+        Ok(Edit::Append(row))
+    }
+
+    fn judge_set<'c>(&self, row: MethodRow) -> Result<Edit<'c>, ChangeFault>
+        ensures meaning { (h : History) → StandsAt self.now h → Judges h (Change.SetImp row.class row.sel row.imp) result }
+        ensures fits { IfOk result (Fits self.now) }
+    {
+        if let Some(fault) = self.unfit(row) {
+            return Err(fault);
+        }
+        let Some(found) = self.method(row.class, row.sel) else {
+            return Err(ChangeFault::NoMethod);
+        };
+        if self.is_full(0) {
+            return Err(ChangeFault::Limit);
+        }
+        Ok(Edit::Rewrite(MethodRow {
+            class: found.holder,
+            sel: row.sel,
+            imp: row.imp,
+        }))
+    }
+
+    fn no_class_of_two(&self, class: ClassRef, other: ClassRef) -> bool
+        ensures meaning { (h : History) → StandsAt self.now h → result ≡ (spec.no_class h class || spec.no_class h other) }
+        ensures class { result ≡ false → class.class < length self.now.supers }
+        ensures other { result ≡ false → other.class < length self.now.supers }
+    {
+        self.no_class(class) || self.no_class(other)
+    }
+
+    fn judge_exchange<'c>(
+        &self,
+        class: ClassRef,
+        sel: Selector,
+        other: ClassRef,
+        other_sel: Selector,
+    ) -> Result<Edit<'c>, ChangeFault>
+        ensures meaning { (h : History) → StandsAt self.now h → Judges h (Change.Exchange class sel other other_sel) result }
+        ensures fits { IfOk result (Fits self.now) }
+    {
+        if self.no_class_of_two(class, other) {
+            return Err(ChangeFault::NoClass);
+        }
+        if self.unlike(sel, other_sel) {
+            return Err(ChangeFault::ArgumentCount);
+        }
+        let Some(first) = self.method(class, sel) else {
+            return Err(ChangeFault::NoMethod);
+        };
+        let Some(second) = self.method(other, other_sel) else {
+            return Err(ChangeFault::NoMethod);
+        };
+        if self.is_full(0) {
+            return Err(ChangeFault::Limit);
+        }
+        Ok(Edit::RewriteBoth(
+            MethodRow {
+                class: first.holder,
+                sel,
+                imp: second.imp,
+            },
+            MethodRow {
+                class: second.holder,
+                sel: other_sel,
+                imp: first.imp,
+            },
+        ))
+    }
+
+    fn any_no_imp(&self, methods: &[(Selector, ImpRef)]) -> bool
+        ensures { result ≡ list_any (λ m. lacks_imp self.now (imp_number m.1)) methods.now }
+    {
+        methods.iter().any(|m| self.no_imp(m.1))
+    }
+
+    fn any_no_imp_of_two(&self, own: &[(Selector, ImpRef)], meta: &[(Selector, ImpRef)]) -> bool
+        ensures { result ≡ (list_any (λ m. lacks_imp self.now (imp_number m.1)) own.now || list_any (λ m. lacks_imp self.now (imp_number m.1)) meta.now) }
+    {
+        self.any_no_imp(own) || self.any_no_imp(meta)
+    }
+
+    fn any_misfits(&self, methods: &[(Selector, ImpRef)]) -> bool
+        ensures { result ≡ list_any (λ m. misfits_in self.now (selector_number m.0) (imp_number m.1)) methods.now }
+    {
+        methods.iter().any(|m| self.misfits(m.0, m.1))
+    }
+
+    fn any_misfits_of_two(&self, own: &[(Selector, ImpRef)], meta: &[(Selector, ImpRef)]) -> bool
+        ensures { result ≡ (list_any (λ m. misfits_in self.now (selector_number m.0) (imp_number m.1)) own.now
+            || list_any (λ m. misfits_in self.now (selector_number m.0) (imp_number m.1)) meta.now) }
+    {
+        self.any_misfits(own) || self.any_misfits(meta)
+    }
+
+    // Why the methods could not be attached, whatever stands there.
+    fn unfit_methods(&self, methods: &MethodList, class_methods: &MethodList) -> Option<ChangeFault>
+        ensures meaning { (h : History) → StandsAt self.now h → result ≡ spec.least (spec.unfit_methods h (methods.now ++ class_methods.now)) }
+        ensures methods { result ≡ None → are_listed (length self.now.args) methods.now ≡ true }
+        ensures class_methods { result ≡ None → are_listed (length self.now.args) class_methods.now ≡ true }
+    {
+        let own = methods.as_slice();
+        let meta = class_methods.as_slice();
+        if self.any_no_imp_of_two(own, meta) {
+            return Some(ChangeFault::NoImp);
+        }
+        if self.any_misfits_of_two(own, meta) {
+            return Some(ChangeFault::ArgumentCount);
+        }
+        None
+    }
+
+    fn judge_attach<'c>(
+        &self,
+        class: u32,
+        methods: &'c MethodList,
+        class_methods: &'c MethodList,
+    ) -> Result<Edit<'c>, ChangeFault>
+        ensures meaning { (h : History) → StandsAt self.now h → Judges h (Change.Attach class methods.now class_methods.now) result }
+        ensures fits { IfOk result (Fits self.now) }
+    {
+        if self.no_class(ClassRef { class, meta: false }) {
+            return Err(ChangeFault::NoClass);
+        }
+        if let Some(fault) = self.unfit_methods(methods, class_methods) {
+            return Err(fault);
+        }
+        let own = methods.as_slice().len();
+        let meta = class_methods.as_slice().len();
+        if self.is_full(own + meta) {
+            return Err(ChangeFault::Limit);
+        }
+        Ok(Edit::Attach {
+            class,
+            methods,
+            class_methods,
+        })
+    }
+
+    // What the change would write, or the least fault for which it is refused.
+    pub(crate) fn judge<'c>(&self, change: &'c Change) -> Result<Edit<'c>, ChangeFault>
+        ensures meaning { (h : History) → StandsAt self.now h → Judges h change.now result }
+        ensures fits { IfOk result (Fits self.now) }
+    {
+        match change {
+            Change::Add { class, sel, imp } => self.judge_add(row(*class, *sel, *imp)),
+            Change::Replace { class, sel, imp } => self.judge_replace(row(*class, *sel, *imp)),
+            Change::SetImp { class, sel, imp } => self.judge_set(row(*class, *sel, *imp)),
+            Change::Exchange {
+                class,
+                sel,
+                other,
+                other_sel,
+            } => self.judge_exchange(*class, *sel, *other, *other_sel),
+            Change::Attach {
+                class,
+                methods,
+                class_methods,
+            } => self.judge_attach(*class, methods, class_methods),
+        }
+    }
+}

@@ -1,0 +1,17 @@
+//! The class tables: method lists, lookup along the superclasses, and changes.
+#![tactic(auto)]
+
+mod apply;
+mod edit;
+mod fault;
+mod judge;
+pub mod laws;
+mod lists;
+mod marks;
+mod opening;
+mod rows;
+mod tables;
+
+pub use fault::ChangeFault;
+pub use marks::Marks;
+pub use tables::{MAX_CHANGES, MAX_ROWS, Tables};

@@ -1,0 +1,74 @@
+//! The lists of rows, one for each class reference.
+
+ghost use Rattle.std.specs.Prelude.{◌≡◌, ◌<◌, ◌≤◌, ◌+◌, [], ◌∷◌, ◌++◌, length, reverse, OnOk, OnErr, IsSome, slice_set, slice_index_or};
+ghost use Rattle.msg_names.specs.Number.{selector_number, imp_number};
+ghost use Rattle.msg_image.specs.Methods.{method_numbers};
+ghost use Rattle.msg_tables.specs.RowList.{rows_of, own_in, set_last};
+
+use crate::rows::MethodRows;
+use msg_names::{ImpRef, Selector};
+use std::alloc::AllocError;
+
+// One more row in one of the lists.
+pub(crate) fn append_row(
+    lists: &mut Vec<MethodRows>,
+    at: usize,
+    sel: Selector,
+    imp: ImpRef,
+) -> Result<(), AllocError>
+    requires { at < length lists.old.items }
+    ensures ok { OnOk result (rows_of lists.new.items ≡ slice_set (rows_of lists.old.items) at (slice_index_or (rows_of lists.old.items) at [] ++ (selector_number sel, imp_number imp) ∷ [])) }
+    ensures err { OnErr result (rows_of lists.new.items ≡ rows_of lists.old.items) }
+{
+    let rows = &mut lists[at];
+    rows.reserve(1)?;
+    rows.push(sel, imp);
+    Ok(())
+}
+
+// Another implementation in the last row of a selector in one of the lists.
+pub(crate) fn rewrite_row(lists: &mut Vec<MethodRows>, at: usize, sel: Selector, imp: ImpRef)
+    requires at { at < length lists.old.items }
+    requires own { IsSome (own_in (selector_number sel) (slice_index_or (rows_of lists.old.items) at [])) }
+    ensures { rows_of lists.new.items ≡ slice_set (rows_of lists.old.items) at (set_last (selector_number sel) (imp_number imp) (slice_index_or (rows_of lists.old.items) at [])) }
+{
+    let rows = &mut lists[at];
+    rows.set(sel, imp);
+}
+
+// Methods at the end of one of the lists.
+pub(crate) fn append_rows(
+    lists: &mut Vec<MethodRows>,
+    at: usize,
+    methods: &[(Selector, ImpRef)],
+) -> Result<(), AllocError>
+    requires { at < length lists.old.items }
+    ensures ok { OnOk result (rows_of lists.new.items ≡ slice_set (rows_of lists.old.items) at (slice_index_or (rows_of lists.old.items) at [] ++ method_numbers methods.now)) }
+    ensures err { OnErr result (rows_of lists.new.items ≡ rows_of lists.old.items) }
+{
+    let rows = &mut lists[at];
+    rows.reserve(methods.len())?;
+    rows.append(methods);
+    Ok(())
+}
+
+// Methods at the end of the lists of a class and of its metaclass, each from its last to its first. Room is made in both before either is written.
+pub(crate) fn attach_rows(
+    lists: &mut Vec<MethodRows>,
+    at: usize,
+    methods: &[(Selector, ImpRef)],
+    class_methods: &[(Selector, ImpRef)],
+) -> Result<(), AllocError>
+    requires { at + 1 < length lists.old.items }
+    ensures ok { OnOk result (rows_of lists.new.items ≡ slice_set
+        (slice_set (rows_of lists.old.items) at (slice_index_or (rows_of lists.old.items) at [] ++ reverse (method_numbers methods.now)))
+        (at + 1) (slice_index_or (rows_of lists.old.items) (at + 1) [] ++ reverse (method_numbers class_methods.now))) }
+    ensures err { OnErr result (rows_of lists.new.items ≡ rows_of lists.old.items) }
+    ensures refused { OnErr result (0 < length methods.now + length class_methods.now) }
+{
+    lists[at].reserve(methods.len())?;
+    lists[at + 1].reserve(class_methods.len())?;
+    lists[at].append_reversed(methods);
+    lists[at + 1].append_reversed(class_methods);
+    Ok(())
+}

@@ -1,0 +1,138 @@
+//! Marks on class references, and the descendants of one.
+
+ghost use Rattle.std.specs.Option.{option_map_or};
+ghost use Rattle.std.specs.Prelude.{◌≡◌, ◌<◌, ◌+◌, ◌*◌, ◌||◌, ℕ, IfOk, length, count_by, replicate, slice_index_or, false};
+ghost use Rattle.msg_names.specs.declared.value.ClassRef.{ClassRef};
+ghost use Rattle.msg_tables.specs.Chain.{same_class, super_of, is_among};
+ghost use Rattle.msg_tables.specs.History.{History, chain_at};
+ghost use Rattle.msg_tables.specs.Marking.{Before, is_marked, AreNoted};
+ghost use Rattle.msg_tables.specs.Stands.{StandsAt};
+ghost use Rattle.msg_tables.specs.View.{place_of};
+
+use crate::tables::{Tables, place};
+use msg_names::ClassRef;
+use std::alloc::{AllocError, Global};
+use std::marker::Model;
+
+/// Which class references of an image are marked.
+///
+/// The room for what is noted while descendants are sought is made with the marks, so that none is taken later.
+#[derive(Drop)]
+pub struct Marks {
+    marked: Vec<bool>,
+    descending: Vec<bool>,
+}
+
+impl Model for Marks {
+    ghost use Rattle.std.specs.Prelude.{List, Bool};
+
+    ghost Value = { List Bool };
+
+    ghost use Rattle.msg_tables.specs.Marking.{marks_of, IsSound};
+
+    ghost view = { marks_of };
+
+    ghost invariant = { IsSound };
+}
+
+impl Marks {
+    /// Whether a class reference is marked.
+    pub fn has(&self, class: ClassRef) -> bool
+        requires { place_of class < length self.now }
+        ensures { result ≡ is_marked self.now class }
+    {
+        self.marked[place(class)]
+    }
+
+    /// How many class references are marked, classes and metaclasses together. Each place is looked at.
+    pub fn count(&self) -> usize
+        ensures { result ≡ count_by (λ mark. mark) self.now }
+    {
+        self.marked.iter().filter(|mark| **mark).count()
+    }
+
+    /// Takes all marks away.
+    pub fn clear(&mut self)
+        ensures { self.new ≡ replicate (length self.old) false }
+    {
+        self.marked.fill(false);
+    }
+}
+
+// Marks what was noted.
+fn mark_noted(marked: &mut [bool], noted: &[bool])
+    requires { length noted.now ≡ length marked.old }
+    ensures marks { (k : ℕ) → slice_index_or marked.new k false ≡ (slice_index_or marked.old k false || slice_index_or noted.now k false) }
+    ensures length { length marked.new ≡ length marked.old }
+{
+    for place in 0..marked.len() {
+        marked[place] |= noted[place];
+    }
+}
+
+impl Tables {
+    /// Marks for the class references of these tables' image, none of them marked.
+    pub fn marks(&self, alloc: Global) -> Result<Marks, AllocError>
+        ensures { IfOk result (λ marks. marks ≡ replicate (2 * length self.now.supers) false) }
+    {
+        let places = self.lists.len();
+        Ok(Marks {
+            marked: vec![in alloc; false; places]?,
+            descending: vec![in alloc; false; places]?,
+        })
+    }
+
+    // Whether a class reference is the origin, or its superclass is noted.
+    fn is_below(&self, origin: ClassRef, class: ClassRef, noted: &[bool]) -> bool
+        requires class { class.class < length self.now.supers }
+        requires room { length noted.now ≡ 2 * length self.now.supers }
+        ensures { result ≡ (same_class origin class || option_map_or (is_marked noted.now) (super_of self.now.supers class) false) }
+    {
+        if origin == class {
+            return true;
+        }
+        match self.above(class) {
+            Some(above) => noted[place(above)],
+            None => false,
+        }
+    }
+
+    // Notes a class and its metaclass, where they descend from the origin. Those before them are noted already.
+    fn note_class(&self, origin: ClassRef, class: u32, noted: &mut [bool])
+        requires before { Before self.now.supers }
+        requires class { class < length self.now.supers }
+        requires room { length noted.old ≡ 2 * length self.now.supers }
+        ensures room { length noted.new ≡ length noted.old }
+        ensures before { AreNoted self.now.supers origin class noted.old → AreNoted self.now.supers origin (class + 1) noted.new }
+    {
+        let own = ClassRef { class, meta: false };
+        noted[place(own)] = self.is_below(origin, own, noted);
+        let meta = ClassRef { class, meta: true };
+        noted[place(meta)] = self.is_below(origin, meta, noted);
+    }
+
+    // Notes the descendants of a class reference. Superclasses come first, so one pass suffices.
+    fn note_descendants(&self, origin: ClassRef, noted: &mut [bool])
+        requires { length noted.old ≡ 2 * length self.now.supers }
+        ensures room { length noted.new ≡ length noted.old }
+        ensures noted { AreNoted self.now.supers origin (length self.now.supers) noted.new }
+    {
+        for class in 0..self.supers.len() as u32 {
+            self.note_class(origin, class, noted);
+        }
+    }
+
+    /// Marks a class reference and all below it, beside those that are marked.
+    ///
+    /// Below a root class stand its metaclass and all metaclasses of its subclasses too. Each class is looked at once, and no memory is taken.
+    pub fn descendants(&self, class: ClassRef, marks: &mut Marks)
+        requires class { class.class < length self.now.supers }
+        requires marks { length marks.old ≡ 2 * length self.now.supers }
+        ensures marks { (h : History) → StandsAt self.now h → (c : ClassRef) → c.class < length self.now.supers
+            → is_marked marks.new c ≡ (is_marked marks.old c || is_among class (chain_at h c)) }
+        ensures room { length marks.new ≡ length marks.old }
+    {
+        self.note_descendants(class, &mut marks.descending);
+        mark_noted(&mut marks.marked, &marks.descending);
+    }
+}
