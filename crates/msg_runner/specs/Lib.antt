@@ -1,0 +1,5 @@
+pub mod CommandLine
+pub mod Decimal
+pub mod Device
+pub mod Reading
+pub mod Writing
