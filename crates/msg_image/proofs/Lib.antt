@@ -1,1 +1,11 @@
+pub mod NumberingLemmas
 pub mod PartLemmas
+pub mod NoneLemmas
+pub mod KnownLemmas
+pub mod ExpressionLemmas
+pub mod ResolveLemmas
+pub mod FaultlessLemmas
+pub mod SoundLemmas
+pub mod ItemLemmas
+pub mod AnswerLemmas
+pub mod ImageLemmas

@@ -1,8 +1,9 @@
 -- A code for expressions, by which a proof tells them apart. No clause cites it.
 use Rattle.std.specs.Prelude.{◌≡◌, ◌<◌, ℕ, zero, suc, ℤ, pos, negsuc, refl}
-use Rattle.std.proofs.Common.{ap, arith, lit<, zero-le, suc-le-suc}
+use Rattle.std.proofs.Common.{ap, arith, zero-le, suc-le-suc}
 use Rattle.std.specs.Coded.{le_prop}
 use Rattle.msg_names.specs.declared.value.Selector.{Selector}
+use Rattle.msg_names.specs.Number.{selector_of}
 use Rattle.std.specs.Coded.{Coded, code_by}
 use base.Stored.{Gv, gnil, gnum, gcons}
 use Rattle.msg_names.specs.declared.value.Value.{Value}
@@ -33,12 +34,7 @@ op_back Mul = refl
 op_back Eq = refl
 op_back Lt = refl
 
--- a selector of a number; of 0 there is none
-abbrev pub selector_from : ℕ → Selector
-selector_from zero = record { number = 1; positive = lit< tt }
-selector_from (suc k) = record { number = suc k; positive = suc-le-suc zero-le }
-
-pub selector_back : (n : ℕ) (h : 0 < n) → selector_from n ≡ record { number = n; positive = h }
+pub selector_back : (n : ℕ) (h : 0 < n) → selector_of n ≡ record { number = n; positive = h }
 selector_back zero h = absurd (omega arith)
 selector_back (suc k) h = λ i. record { number = suc k; positive = le_prop (suc-le-suc zero-le) h i }
 
@@ -55,7 +51,7 @@ value_from (gcons (gnum zero) (gnum n)) = Number (pos n)
 value_from (gcons (gnum (suc zero)) (gnum n)) = Number (negsuc n)
 value_from (gcons (gnum (suc (suc zero))) (gnum n)) = Object (record { object = n })
 value_from (gcons (gnum (suc (suc (suc zero)))) (gnum n)) = Class n
-value_from (gcons (gnum (suc (suc (suc (suc zero))))) (gnum n)) = Sel (selector_from n)
+value_from (gcons (gnum (suc (suc (suc (suc zero))))) (gnum n)) = Sel (selector_of n)
 value_from _ = Nil
 
 pub value_back : (v : Value) → value_from (value_to v) ≡ v
@@ -86,8 +82,8 @@ abbrev mutual
   from (gcons (gnum (suc (suc zero))) (gnum k)) = Arg k
   from (gcons (gnum (suc (suc (suc zero)))) (gcons o (gcons a b))) = Two (op_from o) (from a) (from b)
   from (gcons (gnum (suc (suc (suc (suc zero))))) (gcons c (gcons a b))) = If (from c) (from a) (from b)
-  from (gcons (gnum (suc (suc (suc (suc (suc zero)))))) (gcons a (gcons (gnum s) es))) = Send (from a) (selector_from s) (all_from es)
-  from (gcons (gnum (suc (suc (suc (suc (suc (suc zero))))))) (gcons (gnum s) es)) = Super (selector_from s) (all_from es)
+  from (gcons (gnum (suc (suc (suc (suc (suc zero)))))) (gcons a (gcons (gnum s) es))) = Send (from a) (selector_of s) (all_from es)
+  from (gcons (gnum (suc (suc (suc (suc (suc (suc zero))))))) (gcons (gnum s) es)) = Super (selector_of s) (all_from es)
   from _ = Me
 
   pub all_from : Gv → Expressions

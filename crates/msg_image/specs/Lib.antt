@@ -1,6 +1,11 @@
 pub mod Coding
+pub mod Document
+pub mod Items
 pub mod Methods
+pub mod Numbers
 pub mod Parts
 pub mod Plain
 pub mod Sizes
 pub mod Sound
+pub mod Answer
+pub mod DocumentParts

@@ -1,7 +1,7 @@
 -- The parts of an image, with no pointers.
-use Rattle.std.specs.Prelude.{ℕ, List, Option, Some, None, Bool, true, false, slice_get, if◌then◌else◌}
-use Rattle.std.proofs.Common.{lit<}
+use Rattle.std.specs.Prelude.{ℕ, List, [], ◌∷◌, Option, Some, None, Bool, true, false, slice_get, if◌then◌else◌}
 use Rattle.msg_names.specs.declared.value.Selector.{Selector}
+use Rattle.msg_names.specs.Number.{selector_of}
 use Rattle.msg_names.specs.declared.value.Value.{Value}
 use Rattle.msg_names.specs.declared.value.ClassRef.{ClassRef}
 use Rattle.msg_image.specs.declared.image.Category.{Category}
@@ -25,6 +25,11 @@ mutual
   pub data Expressions : Type 0 where
     NoMore : Expressions
     More : Expression → Expressions → Expressions
+
+-- those of a list
+abbrev pub in_row : List Expression → Expressions
+in_row [] = NoMore
+in_row (e ∷ es) = More e (in_row es)
 
 pub record ClassParts : Type 0 where
   pub name : List ℕ
@@ -52,7 +57,7 @@ pub record ImageParts : Type 0 where
 
 -- the selector of `forwardingTargetForSelector:`
 abbrev pub forwarding_selector : Selector
-forwarding_selector = record { number = 1; positive = lit< tt }
+forwarding_selector = selector_of 1
 
 -- What stands above a class reference whose class has this superclass: the superclass or its metaclass, and above a root metaclass the root class itself (Objective-C Runtime Reference).
 abbrev pub above : ClassRef → Option ℕ → Option ClassRef

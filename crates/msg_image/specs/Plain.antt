@@ -2,32 +2,38 @@
 use Rattle.std.specs.Prelude.{ℕ, List, map, string_bytes}
 use Rattle.std.specs.declared.vec.Vec.{Vec}
 use Rattle.std.specs.declared.alloc.Global.{Global}
-use Rattle.msg_image.specs.Parts.{Op, Add, Sub, Mul, Eq, Lt, Expression, Expressions, Const, Me, Arg, Two, If, Send, Super, NoMore, More, ClassParts, ObjectParts, ImpParts, ImageParts}
-use Rattle.msg_image.specs.declared.expr.Expr.{Expr, Row_of-Expr, end_of-Expr, more_of-Expr}
-use Rattle.msg_image.specs.declared.expr.Expr.TheVariants as code
+use Rattle.msg_image.specs.Items.{ItemParts, SendItem, ChangeItem}
+use Rattle.msg_image.specs.Parts.{Op, Add, Sub, Mul, Eq, Lt, Expression, Expressions, Const, Me, Arg, Two, If, Send, Super, in_row, ClassParts, ObjectParts, ImpParts, ImageParts}
+use Rattle.msg_image.specs.declared.expr.Expr.{Expr, fold-Expr}
+use Rattle.msg_image.specs.declared.expr.Expr.TheOpen.{Expr-F}
 use Rattle.msg_image.specs.declared.image.Imp.{Imp}
+use Rattle.msg_image.specs.declared.change.Item.{Item}
+use Rattle.msg_image.specs.declared.change.Item.TheVariants as items
 use Rattle.msg_image.specs.declared.image.Class.{Class}
 use Rattle.msg_image.specs.declared.image.Object.{Object}
 use Rattle.msg_image.specs.declared.image.Image.TheInside.{Inside}
 
-abbrev mutual
-  -- an expression without its pointers
-  pub plain : Expr → Expression
-  plain (code.Const v) = Const v
-  plain code.Me = Me
-  plain (code.Arg k) = Arg k
-  plain (code.Add' p a q b) = Two Add (plain a) (plain b)
-  plain (code.Sub' p a q b) = Two Sub (plain a) (plain b)
-  plain (code.Mul' p a q b) = Two Mul (plain a) (plain b)
-  plain (code.Eq' p a q b) = Two Eq (plain a) (plain b)
-  plain (code.Lt' p a q b) = Two Lt (plain a) (plain b)
-  plain (code.If' p a q b r c) = If (plain a) (plain b) (plain c)
-  plain (code.Send' p a s shape row) = Send (plain a) s (plain_row row)
-  plain (code.Super' s shape row) = Super s (plain_row row)
+-- one level of an expression, with each expression inside already seen
+abbrev pub expr_step : Expr-F Expression → Expression
+expr_step (Expr-F.Const v) = Const v
+expr_step Expr-F.Me = Me
+expr_step (Expr-F.Arg k) = Arg k
+expr_step (Expr-F.Add a b) = Two Add a.value b.value
+expr_step (Expr-F.Sub a b) = Two Sub a.value b.value
+expr_step (Expr-F.Mul a b) = Two Mul a.value b.value
+expr_step (Expr-F.Eq a b) = Two Eq a.value b.value
+expr_step (Expr-F.Lt a b) = Two Lt a.value b.value
+expr_step (Expr-F.If c a b) = If c.value a.value b.value
+expr_step (Expr-F.Send a s args) = Send a.value s (in_row args.items)
+expr_step (Expr-F.Super s args) = Super s (in_row args.items)
 
-  pub plain_row : {m : _} → Row_of-Expr m → Expressions
-  plain_row end_of-Expr = NoMore
-  plain_row (more_of-Expr e rest) = More (plain e) (plain_row rest)
+-- an expression without its pointers
+abbrev pub plain : Expr → Expression
+plain = fold-Expr Expression expr_step
+
+-- several
+abbrev pub plain_all : List Expr → Expressions
+plain_all es = in_row (map plain es)
 
 abbrev pub class_parts : Class → ClassParts
 class_parts c = record { name = string_bytes c.name; superclass = c.superclass; methods = c.methods; class_methods = c.class_methods }
@@ -46,3 +52,7 @@ image_parts i = record {
   objects = map object_parts i.objects.items;
   imps = map imp_parts i.imps.items;
 }
+
+abbrev pub item_parts : Item → ItemParts
+item_parts (items.Send r s args) = SendItem r s args.items
+item_parts (items.Change x) = ChangeItem x

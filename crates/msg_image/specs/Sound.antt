@@ -1,8 +1,13 @@
 -- What holds of every image.
-use Rattle.std.specs.Prelude.{◌≡◌, ◌<◌, ◌≤◌, ◌+◌, ℕ, List, Option, Some, slice_get, length, sum_by, All}
+use Rattle.std.specs.Prelude.{◌≡◌, ◌<◌, ◌≤◌, ◌+◌, ℕ, List, Option, Some, option_map, slice_get, length, sum_by, All}
+use Rattle.msg_names.specs.Name.{colons_of}
+use Rattle.msg_names.specs.Number.{selector_number}
+use Rattle.msg_names.specs.Numbering.{name_at}
+use Rattle.msg_names.specs.declared.value.Selector.{Selector}
 use Rattle.msg_names.specs.declared.value.Value.{Value}
 use Rattle.msg_names.specs.declared.value.Value.TheVariants.{Number, Object, Class, Sel, Nil}
 use Rattle.msg_image.specs.declared.image.Category.{Category}
+use Rattle.msg_image.specs.Items.{ItemParts, SendItem, ChangeItem}
 use Rattle.msg_image.specs.Parts.{ImageParts, ClassParts, ObjectParts, ImpParts, Expression, Expressions, Const, Me, Arg, Two, If, Send, Super, NoMore, More}
 use Rattle.msg_image.specs.Sizes.{count, depth, arity}
 
@@ -68,3 +73,12 @@ pub record IsSound (image : ImageParts) : Type 0 where
   pub few_objects : length image.objects ≤ 4096
   pub few_imps : length image.imps ≤ 4096
   pub few_rows : row_count image ≤ 16384
+
+-- the image has the selector, and that takes so many arguments
+abbrev pub Takes : ImageParts → Selector → ℕ → Type 0
+Takes image s n = option_map colons_of (name_at image.names (selector_number s)) ≡ Some n
+
+-- a send is of the image's selectors, objects and classes, with as many arguments as its selector takes
+abbrev pub IsSoundItem : ImageParts → ItemParts → Type 0
+IsSoundItem image (SendItem r s args) = IsOf image r × All (IsOf image) args × Takes image s (length args)
+IsSoundItem image (ChangeItem c) = Unit {0}

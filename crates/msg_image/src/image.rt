@@ -1,11 +1,19 @@
 //! The image.
 
-ghost use Rattle.std.specs.Prelude.{◌≡◌, ◌<◌, ◌≤◌, ◌-◌, length, slice_get, All, Some, IfSome, option_map};
+ghost use Rattle.std.specs.Prelude.{◌≡◌, ◌<◌, ◌≤◌, ◌-◌, length, slice_get, All, None, Some, IfSome, IfOk, option_map};
+ghost use Rattle.msg_form.specs.Faults.{fault_of};
+ghost use Rattle.msg_form.specs.Views.{form_view};
+ghost use Rattle.msg_image.specs.Document.{image_of};
+ghost use Rattle.msg_image.specs.Numbers.{numbers_of};
 ghost use Rattle.msg_names.specs.Number.{selector_number, imp_number};
 
 use crate::expr::Expr;
 use crate::methods::MethodList;
+use crate::numbers::{Numbers, forwarding_selector};
+use crate::resolve::each;
+use msg_form::Form;
 use msg_names::{ClassRef, ImpRef, Names, ObjectRef, Selector};
+use std::alloc::{AllocError, Global};
 use std::marker::Model;
 
 /// An implementation.
@@ -71,6 +79,21 @@ impl Model for Image {
 }
 
 impl Image {
+    // The image of a form without fault.
+    pub(crate) fn of(alloc: Global, form: &Form, numbers: Numbers) -> Result<Image, AllocError>
+        requires fault { fault_of (form_view form.now) ≡ None }
+        requires numbers { numbers ≡ numbers_of (form_view form.now) }
+        ensures { IfOk result (λ i. i ≡ image_of (form_view form.now)) }
+    {
+        Ok(Image {
+            classes: each(alloc, &numbers, &form.classes)?,
+            categories: each(alloc, &numbers, &form.categories)?,
+            objects: each(alloc, &numbers, &form.objects)?,
+            imps: each(alloc, &numbers, &form.imps)?,
+            names: numbers.selectors,
+        })
+    }
+
     ghost use Rattle.msg_image.specs.Methods.{method_numbers};
     ghost use Rattle.msg_image.specs.Parts.{ObjectParts, forwarding_selector, superclass_in, methods_of};
     ghost use Rattle.msg_image.specs.Plain.{plain, imp_parts};
@@ -178,6 +201,6 @@ impl Image {
     pub fn forwarding_selector(&self) -> Selector
         ensures { result ≡ forwarding_selector }
     {
-        Selector::of(1).unwrap()
+        forwarding_selector()
     }
 }

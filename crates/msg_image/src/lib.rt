@@ -2,11 +2,16 @@
 #![tactic(auto)]
 
 mod change;
+mod document;
 mod expr;
 mod image;
 mod methods;
+mod numbers;
+mod resolve;
 
 pub use change::{Change, Item};
+pub use document::{Document, MOST_BYTES, one_answer, read_document};
 pub use expr::Expr;
 pub use image::{Category, Image, Imp};
 pub use methods::MethodList;
+pub use msg_form::DocumentFault;

@@ -23,9 +23,9 @@ found false n len r e = at_test (nat_lt n len) refl
     at_test false h = let k : nat_lt (1 + n) (suc len) ≡ false = grind (arith, nat_tests) in rw (e, h, k)
 
 -- a text's number is one more than its place in the set
-pub number_of-position : (keys : List (String Global)) (text : List ℕ) → number_of (map string_bytes keys) text ≡ option_map suc (position (λ k. bytes_eq text (string_bytes k)) keys)
-number_of-position [] text = refl
-number_of-position (k ∷ keys) text = found (bytes_eq text (string_bytes k)) _ (length keys) _ (number_of-position keys text)
+pub number_of-position : {K : Type 0} (text_of : K → List ℕ) (keys : List K) (text : List ℕ) → number_of (map text_of keys) text ≡ option_map suc (position (λ k. bytes_eq text (text_of k)) keys)
+number_of-position text_of [] text = refl
+number_of-position text_of (k ∷ keys) text = found (bytes_eq text (text_of k)) _ (length keys) _ (number_of-position text_of keys text)
 
 list_any-map : {A B : Type 0} (p : B → Bool) (f : A → B) (xs : List A) → list_any p (map f xs) ≡ list_any (λ x. p (f x)) xs
 list_any-map p f [] = refl

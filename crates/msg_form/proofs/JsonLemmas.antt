@@ -1,0 +1,32 @@
+-- Going over the values of a list.
+use Rattle.std.proofs.Common.{◌≡◌, ℕ, suc, ◌+◌, ◌<◌, List, [], ◌∷◌, ◌++◌, map, drop, get_or, length, Option, None, Some, option_map, refl, sym, ap, ◌∙◌, append_assoc, drop-cons, add-one}
+use Rattle.std.proofs.lemmas.List.{map_push}
+use Rattle.serde_json.specs.Data.{Data}
+use Rattle.serde_json.specs.View.{view, items_view}
+use Rattle.serde_json.specs.declared.value.Value.{Value}
+use Rattle.msg_form.specs.Json.{each, values_of}
+
+pub values_of-items_view : (vs : List Value) → values_of (items_view vs) ≡ map view vs
+values_of-items_view [] = refl
+values_of-items_view (v ∷ vs) = ap (λ ds. view v ∷ ds) (values_of-items_view vs)
+
+-- what has been read, before what is still to be read
+abbrev pub with_front : {B : Type 0} → List B → Option (List B) → Option (List B)
+with_front front rest = option_map (λ xs. front ++ xs) rest
+
+pub starts : {B : Type 0} (rest : Option (List B)) → with_front [] rest ≡ rest
+starts None = refl
+starts (Some xs) = refl
+
+regroup : {B : Type 0} (front : List B) (x : B) (rest : Option (List B)) → with_front front (option_map (λ xs. x ∷ xs) rest) ≡ with_front (front ++ x ∷ []) rest
+regroup front x None = refl
+regroup front x (Some xs) = ap Some (sym (append_assoc front (x ∷ []) xs))
+
+-- a turn of a loop that reads each value by f, and pushes what it read
+pub each_on : {A B : Type 0} (g : A → B) (f : Data → Option B) (vs : List Value) (i : ℕ) (v : Value) (old new : List A) (x : A) (whole : Option (List B)) → i < length vs → v ≡ get_or vs i v → f (view v) ≡ Some (g x) → new ≡ old ++ x ∷ []
+    → with_front (map g old) (each f (map view (drop i vs))) ≡ whole → with_front (map g new) (each f (map view (drop (i + 1) vs))) ≡ whole
+each_on g f vs i v old new x whole lt at read pushed so_far =
+    let left : drop i vs ≡ v ∷ drop (i + 1) vs = rw add-one (drop-cons vs i v lt ∙ ap (λ y. y ∷ drop (suc i) vs) (sym at)) in
+    let here : with_front (map g old) (each f (map view (drop i vs))) ≡ with_front (map g old ++ g x ∷ []) (each f (map view (drop (i + 1) vs))) = rw (left, read) (regroup (map g old) (g x) (each f (map view (drop (i + 1) vs)))) in
+    let grown : map g new ≡ map g old ++ g x ∷ [] = rw pushed (map_push g old x) in
+    rw grown (sym here ∙ so_far)

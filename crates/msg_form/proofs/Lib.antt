@@ -1,0 +1,13 @@
+pub mod JsonLemmas
+pub mod ExprShapeLemmas
+pub mod NameSetLemmas
+pub mod TextLemmas
+pub mod WalkLemmas
+pub mod ListsLemmas
+pub mod AnyLemmas
+pub mod CitedLemmas
+pub mod ClassLemmas
+pub mod CountLemmas
+pub mod SelectorLemmas
+pub mod BodyLemmas
+pub mod LimitLemmas

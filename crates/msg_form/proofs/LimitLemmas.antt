@@ -1,0 +1,21 @@
+-- What a form within the limits has.
+use Rattle.std.proofs.Common.{◌≡◌, ◌≤◌, Bool, true, false, ◌||◌, List, length, sym, ◌∙◌, arith}
+use Rattle.std.specs.Prelude.{nat_lt}
+use Rattle.std.proofs.lemmas.Bool.Decides.{nat_tests}
+use Rattle.msg_form.specs.Faults.{is_over_limit, has_long_list, has_many_entries, has_many_selectors}
+use Rattle.msg_form.specs.Form.{Form}
+use Rattle.msg_form.specs.Text.{Text, distinct, AreDistinct}
+use Rattle.msg_form.specs.Walk.{selector_texts}
+
+third : (a b c : Bool) → (a || b || c) ≡ false → c ≡ false
+third true b c h = cc
+third false true c h = cc
+third false false c h = h
+
+-- the names are all the different texts at places of selectors
+pub all_selectors : (f : Form) (names : List Text) (r : Bool) → AreDistinct names (selector_texts f) → r ≡ is_over_limit f → r ≡ false → names ≡ distinct (selector_texts f)
+unfolding is_over_limit has_many_selectors
+all_selectors f names r are is within =
+    let few : nat_lt 4096 (length names) ≡ false = are.many ∙ third (has_long_list f) (has_many_entries f) (has_many_selectors f) (sym is ∙ within) in
+    let le : length names ≤ 4096 = grind (arith, nat_tests) in
+    are.all le

@@ -1,0 +1,25 @@
+-- Tests of the texts and lists of a form.
+use Rattle.std.proofs.Common.{◌≡◌, Bool, List, [], ◌∷◌, length, map, Bor, refl, sym, ap, ◌∙◌, length-append, arith}
+use Rattle.std.specs.List.{flat_map, list_any}
+use Rattle.std.proofs.lemmas.List.{length-map}
+use Rattle.std.proofs.lemmas.Simd.{map-map}
+use Rattle.msg_form.specs.Form.{PairForm}
+use Rattle.msg_form.specs.Text.{Text, has_duplicate, texts_view}
+use Rattle.msg_form.specs.Views.{pair_view, lists_view}
+use Rattle.msg_form.specs.Walk.{list_texts}
+use Rattle.msg_form.specs.declared.form.Pair.{Pair}
+use Rattle.msg_form.proofs.AnyLemmas.{list_any-map}
+
+pub any_text : (p : Text → Bool) (ts us : List (Bor Text)) (all : List Text) (r : Bool) → us ≡ ts → texts_view ts ≡ all → r ≡ list_any (λ t. p t.now) us → r ≡ list_any p all
+any_text p ts us all r same is e = e ∙ ap (list_any (λ t. p t.now)) same ∙ sym (list_any-map p (λ t. t.now) ts) ∙ ap (list_any p) is
+
+-- a selector stands twice in one of the lists
+pub list_repeats : (lists : List (Bor (List Pair))) (all : List (List PairForm)) → lists_view lists ≡ all → list_any (λ l. has_duplicate (map (λ p. p.selector.now) l.now)) lists ≡ list_any (λ l. has_duplicate (list_texts l)) all
+list_repeats lists all is =
+    let inside : list_any (λ l. has_duplicate (list_texts (map pair_view l.now))) lists ≡ list_any (λ l. has_duplicate (map (λ p. p.selector.now) l.now)) lists = λ i. list_any (λ l. has_duplicate (map-map (λ p. p.selector) pair_view l.now i)) lists in
+    sym inside ∙ sym (list_any-map (λ l. has_duplicate (list_texts l)) (λ l. map pair_view l.now) lists) ∙ ap (list_any (λ l. has_duplicate (list_texts l))) is
+
+-- as many entries in the lists as there are in what they stand for
+pub length-lists_view : (lists : List (Bor (List Pair))) → length (flat_map (λ l. l) (lists_view lists)) ≡ length (flat_map (λ l. l.now) lists)
+length-lists_view [] = refl
+length-lists_view (l ∷ lists) = omega (arith, length-append (map pair_view l.now) (flat_map (λ ps. ps) (lists_view lists)), length-append l.now (flat_map (λ ps. ps.now) lists), length-map l.now pair_view, length-lists_view lists)

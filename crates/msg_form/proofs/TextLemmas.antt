@@ -1,0 +1,169 @@
+-- Texts among texts.
+use Rattle.std.proofs.Common.{◌≡◌, ℕ, suc, ◌+◌, ◌<◌, ◌≤◌, Bool, true, false, cond, not, ◌||◌, List, [], ◌∷◌, ◌++◌, length, map, drop, get_or, bytes_eq, Bor, refl, sym, ap, ◌∙◌, drop-cons, add-one, length-append, arith}
+use Rattle.std.specs.Prelude.{fold, nat_lt}
+use Rattle.std.proofs.lemmas.Bool.Decides.{nat_tests}
+use Rattle.std.specs.List.{list_any}
+use Rattle.std.proofs.lemmas.List.{drop_all}
+use Rattle.std.proofs.lemmas.List.Folds.{list_any-append}
+use Rattle.std.proofs.lemmas.Simd.{map-map}
+use Rattle.std.proofs.lemmas.Slice.Eq.{bytes_eq-Decides}
+use Rattle.msg_names.specs.Numbering.{with_name}
+use Rattle.msg_form.specs.Text.{AreDistinct, Text, is_among, is_unknown, has_duplicate, distinct, texts_view}
+
+pub or-false : (b : Bool) → (b || false) ≡ b
+or-false true = refl
+or-false false = refl
+
+pub bytes_eq-sym : (s t : Text) → bytes_eq s t ≡ bytes_eq t s
+bytes_eq-sym s t = at_test (bytes_eq s t) (bytes_eq t s) refl refl
+  where
+    at_test : (a b : Bool) → bytes_eq s t ≡ a → bytes_eq t s ≡ b → a ≡ b
+    at_test true true e f = refl
+    at_test false false e f = refl
+    at_test true false e f = sym ((bytes_eq-Decides t s).1 (sym ((bytes_eq-Decides s t).0 e))) ∙ f
+    at_test false true e f = sym e ∙ (bytes_eq-Decides s t).1 (sym ((bytes_eq-Decides t s).0 f))
+
+pub among_last : (q : Text) (names : List Text) (t : Text) → is_among q (names ++ t ∷ []) ≡ (is_among q names || bytes_eq q t)
+among_last q names t = list_any-append (bytes_eq q) names (t ∷ []) ∙ ap (λ r. is_among q names || r) (or-false (bytes_eq q t))
+
+-- a name that is added is among the names, with those before
+pub is_among-with_name : (q : Text) (names : List Text) (t : Text) → is_among q (with_name names t) ≡ (is_among q names || bytes_eq q t)
+is_among-with_name q names t = at_test (is_among t names) (bytes_eq q t) refl refl
+  where
+    at_test : (present same : Bool) → is_among t names ≡ present → bytes_eq q t ≡ same → is_among q (cond present names (names ++ t ∷ [])) ≡ (is_among q names || bytes_eq q t)
+    at_test false same e f = among_last q names t
+    at_test true false e f = rw f (sym (or-false (is_among q names)))
+    at_test true true e f = let is : is_among q names ≡ true = ap (λ u. is_among u names) ((bytes_eq-Decides q t).0 f) ∙ e in rw is
+
+pub or-assoc : (a b c : Bool) → ((a || b) || c) ≡ (a || (b || c))
+or-assoc true b c = refl
+or-assoc false b c = refl
+
+is_among-fold : (q : Text) (names texts : List Text) → is_among q (fold with_name names texts) ≡ (is_among q names || is_among q texts)
+is_among-fold q names [] = sym (or-false (is_among q names))
+is_among-fold q names (t ∷ texts) = is_among-fold q (with_name names t) texts ∙ ap (λ b. b || is_among q texts) (is_among-with_name q names t) ∙ or-assoc (is_among q names) (bytes_eq q t) (is_among q texts)
+
+-- the different texts are the texts
+pub is_among-distinct : (q : Text) (texts : List Text) → is_among q (distinct texts) ≡ is_among q texts
+unfolding distinct
+is_among-distinct q texts = is_among-fold q [] texts
+
+-- ---- a text that stands twice, or among those that were seen
+
+abbrev pub repeats : List Text → List Text → Bool
+repeats seen texts = list_any (λ t. is_among t seen) texts || has_duplicate texts
+
+any_among : (seen : List Text) (t : Text) (texts : List Text) → list_any (λ u. is_among u (with_name seen t)) texts ≡ (list_any (λ u. is_among u seen) texts || is_among t texts)
+any_among seen t [] = refl
+any_among seen t (u ∷ texts) =
+    (λ i. is_among-with_name u seen t i || any_among seen t texts i) ∙ ap (λ b. (is_among u seen || b) || (list_any (λ v. is_among v seen) texts || is_among t texts)) (bytes_eq-sym u t)
+    ∙ regroup (is_among u seen) (bytes_eq t u) (list_any (λ v. is_among v seen) texts) (is_among t texts)
+  where
+    regroup : (a b c d : Bool) → ((a || b) || (c || d)) ≡ ((a || c) || (b || d))
+    regroup true b c d = refl
+    regroup false true true d = refl
+    regroup false true false d = refl
+    regroup false false true d = refl
+    regroup false false false d = refl
+
+-- a text repeats where it was seen, or where a later one does
+pub repeats-step : (seen : List Text) (t : Text) (texts : List Text) → repeats seen (t ∷ texts) ≡ (is_among t seen || repeats (with_name seen t) texts)
+repeats-step seen t texts = or-assoc (is_among t seen) (list_any (λ u. is_among u seen) texts) (is_among t texts || has_duplicate texts) ∙ ap (λ b. is_among t seen || b) (sym later)
+  where
+    later : repeats (with_name seen t) texts ≡ (list_any (λ u. is_among u seen) texts || (is_among t texts || has_duplicate texts))
+    later = ap (λ b. b || has_duplicate texts) (any_among seen t texts) ∙ or-assoc (list_any (λ u. is_among u seen) texts) (is_among t texts) (has_duplicate texts)
+
+pub repeats-none : (texts : List Text) → repeats [] texts ≡ has_duplicate texts
+repeats-none texts = ap (λ b. b || has_duplicate texts) (none texts)
+  where
+    none : (ts : List Text) → list_any (λ t. is_among t []) ts ≡ false
+    none [] = refl
+    none (t ∷ ts) = none ts
+
+was_absent : (b a : Bool) → b ≡ not a → b ≡ true → a ≡ false
+was_absent b false e f = refl
+was_absent b true e f = cc
+
+-- a turn of the loop over the parts with the keys f, where the key is a new one
+pub repeats_on : {A : Type 0} (f : A → Text) (xs : List A) (i : ℕ) (x : A) (t : Text) (added : Bool) (seen after : List Text) (whole : Bool) → i < length xs → x ≡ get_or xs i x → t ≡ f x
+    → added ≡ not (is_among t seen) → added ≡ true → after ≡ with_name seen t → repeats seen (map f (drop i xs)) ≡ whole → repeats after (map f (drop (i + 1) xs)) ≡ whole
+repeats_on f xs i x t added seen after whole lt at is put new grown so_far =
+    let left : map f (drop i xs) ≡ t ∷ map f (drop (i + 1) xs) = rw (add-one, is) (ap (map f) (drop-cons xs i x lt ∙ ap (λ y. y ∷ drop (suc i) xs) (sym at))) in
+    let rest = map f (drop (i + 1) xs) in
+    let step : repeats seen (map f (drop i xs)) ≡ repeats (with_name seen t) rest = ap (repeats seen) left ∙ repeats-step seen t rest ∙ ap (λ b. b || repeats (with_name seen t) rest) (was_absent added (is_among t seen) put new) in
+    ap (λ ns. repeats ns rest) grown ∙ sym step ∙ so_far
+
+-- some cited name is none of the set's, which are the names f of the parts xs as g shows them
+pub unknown-distinct : {A B : Type 0} (f : B → Text) (g : A → B) (xs ys : List A) (set cited : List Text) (r : Bool) → xs ≡ ys → set ≡ distinct (map (λ x. f (g x)) xs) → r ≡ list_any (is_unknown set) cited → r ≡ list_any (is_unknown (map f (map g ys))) cited
+unknown-distinct f g xs ys set cited r same is e =
+    let names = map f (map g ys) in
+    let given : set ≡ distinct names = is ∙ ap (λ zs. distinct (map (λ x. f (g x)) zs)) same ∙ ap distinct (sym (map-map f g ys)) in
+    let tests : is_unknown (distinct names) ≡ is_unknown names = λ i n. not (is_among-distinct n names i) in
+    e ∙ ap (λ s. list_any (is_unknown s) cited) given ∙ ap (λ p. list_any p cited) tests
+
+-- names that are added take none away
+pub fold_grows : (names texts : List Text) → length names ≤ length (fold with_name names texts)
+fold_grows names [] = omega arith
+fold_grows names (t ∷ texts) = let more : length names ≤ length (with_name names t) = at_test (is_among t names) in omega (arith, fold_grows (with_name names t) texts)
+  where
+    at_test : (b : Bool) → length names ≤ length (cond b names (names ++ t ∷ []))
+    at_test true = omega arith
+    at_test false = simp length-append (omega arith)
+
+-- the loop that puts texts into a set, and stops at more than 4,096
+module _ (ts : List (Bor Text)) (i : ℕ) (d : Bor Text) (old new : List Text) (lt : i < length ts) (grown : new ≡ with_name old (get_or ts i d).now) where
+  gathered : (all : List Text) → fold with_name old (texts_view (drop i ts)) ≡ all → fold with_name new (texts_view (drop (i + 1) ts)) ≡ all
+  gathered all is =
+      let left : drop i ts ≡ get_or ts i d ∷ drop (i + 1) ts = rw add-one (drop-cons ts i d lt) in
+      ap (λ ns. fold with_name ns (texts_view (drop (i + 1) ts))) grown ∙ sym (ap (λ xs. fold with_name old (texts_view xs)) left) ∙ is
+
+  pub many_so_far : (n : ℕ) → n ≡ length new → 4096 < n → fold with_name old (texts_view (drop i ts)) ≡ fold with_name [] (texts_view ts) → AreDistinct new (texts_view ts)
+  unfolding distinct
+  many_so_far n len many is =
+      let more : 4096 < length (fold with_name [] (texts_view ts)) = omega (arith, fold_grows new (texts_view (drop (i + 1) ts)), ap length (gathered (fold with_name [] (texts_view ts)) is)) in
+      record {
+        many = grind (arith, nat_tests);
+        all = λ few. absurd (omega arith);
+      }
+
+pub few_gathered : (ts : List (Bor Text)) (i : ℕ) (names : List Text) → length ts ≤ i → fold with_name names (texts_view (drop i ts)) ≡ fold with_name [] (texts_view ts) → AreDistinct names (texts_view ts)
+unfolding distinct
+few_gathered ts i names le is =
+    let same : names ≡ fold with_name [] (texts_view ts) = sym (ap (λ xs. fold with_name names (texts_view xs)) (drop_all i ts le)) ∙ is in
+    record {
+      many = ap (λ ns. nat_lt 4096 (length ns)) same;
+      all = λ few. same;
+    }
+
+-- ---- a test of texts is a test of the different ones
+
+present : (p : Text → Bool) (t : Text) (names : List Text) → is_among t names ≡ true → list_any p names ≡ (list_any p names || p t)
+present p t [] h = cc
+present p t (n ∷ names) h = at_test (bytes_eq t n) refl (list_any p names) (present p t names)
+  where
+    regroup : (a b c : Bool) → b ≡ (b || c) → (a || b) ≡ ((a || b) || c)
+    regroup true b c e = refl
+    regroup false b c e = e
+
+    same : (a b : Bool) → (a || b) ≡ ((a || b) || a)
+    same true b = refl
+    same false b = sym (or-false b)
+
+    at_test : (b : Bool) → bytes_eq t n ≡ b → (r : Bool) → (is_among t names ≡ true → r ≡ (r || p t)) → (p n || r) ≡ ((p n || r) || p t)
+    at_test true e r rest = rw ((bytes_eq-Decides t n).0 e) (same (p n) r)
+    at_test false e r rest = regroup (p n) r (p t) (rest (sym (ap (λ b. b || is_among t names) e) ∙ h))
+
+any_with_name : (p : Text → Bool) (names : List Text) (t : Text) → list_any p (with_name names t) ≡ (list_any p names || p t)
+any_with_name p names t = at_test (is_among t names) refl
+  where
+    at_test : (b : Bool) → is_among t names ≡ b → list_any p (cond b names (names ++ t ∷ [])) ≡ (list_any p names || p t)
+    at_test true e = present p t names e
+    at_test false e = list_any-append p names (t ∷ []) ∙ ap (λ b. list_any p names || b) (or-false (p t))
+
+any_fold : (p : Text → Bool) (names texts : List Text) → list_any p (fold with_name names texts) ≡ (list_any p names || list_any p texts)
+any_fold p names [] = sym (or-false (list_any p names))
+any_fold p names (t ∷ texts) = any_fold p (with_name names t) texts ∙ ap (λ b. b || list_any p texts) (any_with_name p names t) ∙ or-assoc (list_any p names) (p t) (list_any p texts)
+
+pub any_distinct : (p : Text → Bool) (texts : List Text) → list_any p (distinct texts) ≡ list_any p texts
+unfolding distinct
+any_distinct p texts = any_fold p [] texts

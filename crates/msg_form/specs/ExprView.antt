@@ -1,0 +1,46 @@
+-- The expression that a tree of the program stands for.
+use Rattle.std.specs.Prelude.{List, map}
+use Rattle.msg_form.specs.Expression as plain
+use Rattle.msg_form.specs.Expression.{Expression, Expressions, expressions}
+use Rattle.msg_form.specs.declared.form.Constant.{Constant}
+use Rattle.msg_form.specs.declared.form.Constant.TheVariants.{Whole, Nil, Object, Class, Selector}
+use Rattle.msg_form.specs.declared.form.Expr.{Expr, fold-Expr}
+use Rattle.msg_form.specs.declared.form.Expr.TheOpen.{Expr-F, BinaryExpr-F, IfExpr-F, SendExpr-F, SuperExpr-F}
+
+abbrev pub constant_view : Constant → plain.Constant
+constant_view (Whole z) = plain.whole z
+constant_view Nil = plain.nil
+constant_view (Object n) = plain.object_named n.now
+constant_view (Class n) = plain.class_named n.now
+constant_view (Selector s) = plain.selector_named s.now
+
+-- ---- one level, with each expression inside already seen
+
+abbrev pub expr_step : Expr-F Expression Expression Expression Expression Expression → Expression
+expr_step (Expr-F.Const c) = plain.constant (constant_view c)
+expr_step Expr-F.Me = plain.me
+expr_step (Expr-F.Arg k) = plain.arg k
+expr_step (Expr-F.Binary b) = b.value
+expr_step (Expr-F.If c) = c.value
+expr_step (Expr-F.Send s) = s.value
+expr_step (Expr-F.Super s) = s.value
+
+abbrev pub binary_step : BinaryExpr-F Expression Expression Expression Expression Expression → Expression
+binary_step b = plain.binary b.operator b.left b.right
+
+abbrev pub if_step : IfExpr-F Expression Expression Expression Expression Expression → Expression
+if_step c = plain.choice c.condition c.then c.otherwise
+
+abbrev pub send_step : SendExpr-F Expression Expression Expression Expression Expression → Expression
+send_step s = plain.send s.receiver s.selector.now (expressions s.args.items)
+
+abbrev pub super_step : SuperExpr-F Expression Expression Expression Expression Expression → Expression
+super_step s = plain.super_send s.selector.now (expressions s.args.items)
+
+-- ---- the whole
+
+abbrev pub expr_view : Expr → Expression
+expr_view = fold-Expr Expression Expression Expression Expression Expression expr_step binary_step if_step send_step super_step
+
+abbrev pub exprs_view : List Expr → Expressions
+exprs_view es = expressions (map expr_view es)

@@ -1,0 +1,185 @@
+-- What is wrong with a form: a condition for each fault, and the least fault.
+use Rattle.std.specs.Prelude.{ℕ, ◌==◌, ◌&&◌, ◌||◌, not, pos, List, [], ◌∷◌, ◌++◌, length, map, Bool, true, false, nat_le, nat_lt, if◌then◌else◌, Option, None, Some, option_map}
+use Rattle.std.specs.List.{find, list_any}
+use Rattle.std.specs.Ordering.{int_eq}
+use Rattle.std.specs.Str.{bytes_eq}
+use Rattle.msg_names.specs.Name.{colons_of, is_selector_name}
+use Rattle.msg_form.specs.declared.faults.DocumentFault.{DocumentFault}
+use Rattle.msg_form.specs.declared.faults.DocumentFault.TheVariants as faults
+use Rattle.msg_form.specs.Expression.{Expression}
+use Rattle.msg_form.specs.Form.{PairForm, ClassForm, ImpForm, Form}
+use Rattle.msg_form.specs.Lists.{class_names, root_names, object_names, imp_names, method_entries, all_lists, sends, classes_named, objects_named, imps_named}
+use Rattle.msg_form.specs.Parts.{parts, depth, indices_in, is_super_send}
+use Rattle.msg_form.specs.Text.{Text, is_among, is_unknown, has_duplicate, distinct}
+use Rattle.msg_form.specs.Walk.{selector_texts, list_texts}
+
+-- ---- Version
+
+-- `version` isn't 1
+unfoldable pub is_other_version : Form → Bool
+is_other_version f = not (int_eq f.version (pos 1))
+
+-- ---- Limit
+
+-- `classes`, `categories`, `objects`, `imps` or `items` is too long
+unfoldable pub has_long_list : Form → Bool
+has_long_list f =
+    nat_lt 1024 (length f.classes) || nat_lt 1024 (length f.categories) || nat_lt 4096 (length f.objects) || nat_lt 4096 (length f.imps) || nat_lt 65536 (length f.items)
+
+-- the method entries of classes and categories together are too many
+unfoldable pub has_many_entries : Form → Bool
+has_many_entries f = nat_lt 16384 (length (method_entries f))
+
+-- the different texts at places of selectors are too many
+unfoldable pub has_many_selectors : Form → Bool
+has_many_selectors f = nat_lt 4096 (length (distinct (selector_texts f)))
+
+unfoldable pub is_over_limit : Form → Bool
+is_over_limit f = has_long_list f || has_many_entries f || has_many_selectors f
+
+-- ---- DuplicateClass
+
+-- two classes have one name
+unfoldable pub has_duplicate_class : Form → Bool
+has_duplicate_class f = has_duplicate (class_names f)
+
+-- ---- UnknownSuperclass
+
+-- a superclass that is none of the names
+abbrev pub is_late : List Text → Option Text → Bool
+is_late names None = false
+is_late names (Some name) = is_unknown names name
+
+-- a class's `super` isn't the name of a class before it, where those before these have the names
+abbrev pub has_late_superclass : List Text → List ClassForm → Bool
+has_late_superclass names [] = false
+has_late_superclass names (c ∷ cs) = is_late names c.superclass || has_late_superclass (names ++ c.name ∷ []) cs
+
+-- an implementation whose home class is one of the roots, and not a metaclass, has a super send
+abbrev pub sends_above : List Text → ImpForm → Bool
+sends_above roots i = not i.meta && is_among i.class roots && list_any is_super_send (parts i.body)
+
+unfoldable pub has_unknown_superclass : Form → Bool
+has_unknown_superclass f = has_late_superclass [] f.classes || list_any (sends_above (root_names f)) f.imps
+
+-- ---- UnknownClass
+
+-- a category, object, implementation, change or constant names no listed class
+unfoldable pub has_unknown_class : Form → Bool
+has_unknown_class f = list_any (is_unknown (class_names f)) (classes_named f)
+
+-- ---- DuplicateObject
+
+-- two objects have one name
+unfoldable pub has_duplicate_object : Form → Bool
+has_duplicate_object f = has_duplicate (object_names f)
+
+-- ---- UnknownObject
+
+-- a constant names no listed object
+unfoldable pub has_unknown_object : Form → Bool
+has_unknown_object f = list_any (is_unknown (object_names f)) (objects_named f)
+
+-- ---- DuplicateImp
+
+-- two implementations have one name
+unfoldable pub has_duplicate_imp : Form → Bool
+has_duplicate_imp f = has_duplicate (imp_names f)
+
+-- ---- UnknownImp
+
+-- a list L or a change names no listed implementation
+unfoldable pub has_unknown_imp : Form → Bool
+has_unknown_imp f = list_any (is_unknown (imp_names f)) (imps_named f)
+
+-- ---- BadSelector
+
+-- a text at a selector's place isn't a selector name
+unfoldable pub has_bad_selector : Form → Bool
+has_bad_selector f = list_any (λ t. not (is_selector_name t)) (selector_texts f)
+
+-- ---- DuplicateSelector
+
+-- one list L has a selector twice
+unfoldable pub has_duplicate_selector : Form → Bool
+has_duplicate_selector f = list_any (λ l. has_duplicate (list_texts l)) (all_lists f)
+
+-- ---- ArgumentCount
+
+-- how many arguments the implementation of a name takes
+abbrev pub args_named : List ImpForm → Text → Option ℕ
+args_named imps name = option_map (λ i. i.args) (find (λ i. bytes_eq name i.name) imps)
+
+-- a number of arguments, where it is given, is another than the selector's colons
+abbrev pub differs : Option ℕ → Text → Bool
+differs None selector = false
+differs (Some n) selector = not (n == colons_of selector)
+
+-- the pair's implementation takes another number of arguments than its selector has colons
+abbrev pub is_miscounted : List ImpForm → PairForm → Bool
+is_miscounted imps p = differs (args_named imps p.imp) p.selector
+
+-- a send has another number of arguments than its selector has colons
+abbrev pub is_miscounted_send : Text × ℕ → Bool
+is_miscounted_send s = differs (Some s.1) s.0
+
+-- a pair in a class's or category's list is miscounted, or a send or super send is
+unfoldable pub has_wrong_argument_count : Form → Bool
+has_wrong_argument_count f = list_any (is_miscounted f.imps) (method_entries f) || list_any is_miscounted_send (sends f)
+
+-- ---- ArgumentIndex
+
+-- an `["arg",k]` has k not below the implementation's `args`
+abbrev pub reads_beyond : ImpForm → Bool
+reads_beyond i = list_any (nat_le i.args) (indices_in i.body)
+
+unfoldable pub has_wrong_argument_index : Form → Bool
+has_wrong_argument_index f = list_any reads_beyond f.imps
+
+-- ---- BodyTooDeep
+
+-- a body has a depth above 32 or more than 256 expressions
+abbrev pub is_too_deep : Expression → Bool
+is_too_deep body = nat_lt 32 (depth body) || nat_lt 256 (length (parts body))
+
+unfoldable pub has_too_deep_body : Form → Bool
+has_too_deep_body f = list_any (λ i. is_too_deep i.body) f.imps
+
+-- ---- the least fault
+
+-- a fault, and when a form has it
+abbrev pub Condition : Type 0
+Condition = DocumentFault × (Form → Bool)
+
+-- the conditions that are judged on a form with good names of classes and objects
+abbrev pub later_conditions : List Condition
+later_conditions =
+    (faults.DuplicateImp, has_duplicate_imp) ∷
+    (faults.UnknownImp, has_unknown_imp) ∷
+    (faults.BadSelector, has_bad_selector) ∷
+    (faults.DuplicateSelector, has_duplicate_selector) ∷
+    (faults.ArgumentCount, has_wrong_argument_count) ∷
+    (faults.ArgumentIndex, has_wrong_argument_index) ∷
+    (faults.BodyTooDeep, has_too_deep_body) ∷
+    []
+
+-- all conditions, in the order of the faults' numbers
+abbrev pub conditions : List Condition
+conditions =
+    (faults.Version, is_other_version) ∷
+    (faults.Limit, is_over_limit) ∷
+    (faults.DuplicateClass, has_duplicate_class) ∷
+    (faults.UnknownSuperclass, has_unknown_superclass) ∷
+    (faults.UnknownClass, has_unknown_class) ∷
+    (faults.DuplicateObject, has_duplicate_object) ∷
+    (faults.UnknownObject, has_unknown_object) ∷
+    later_conditions
+
+-- the fault of the first condition that the form meets
+abbrev pub first_of : List Condition → Form → Option DocumentFault
+first_of [] f = None
+first_of (c ∷ cs) f = if c.1 f then Some c.0 else first_of cs f
+
+-- the least fault
+unfoldable pub fault_of : Form → Option DocumentFault
+fault_of f = first_of conditions f

@@ -1,0 +1,59 @@
+-- The parts of a document, with names as texts.
+use Rattle.std.specs.Prelude.{ℕ, ℤ, List, Bool, Option}
+use Rattle.msg_form.specs.Expression.{Constant, Expression}
+use Rattle.msg_form.specs.Text.{Text}
+
+-- an entry of a method list: a selector and the name of its implementation
+pub record PairForm : Type 0 where
+  pub selector : Text
+  pub imp : Text
+
+pub record ClassForm : Type 0 where
+  pub name : Text
+  pub superclass : Option Text
+  pub methods : List PairForm
+  pub class_methods : List PairForm
+
+pub record CategoryForm : Type 0 where
+  pub class : Text
+  pub methods : List PairForm
+  pub class_methods : List PairForm
+
+pub record ObjectForm : Type 0 where
+  pub name : Text
+  pub class : Text
+
+-- an implementation; its home class is the class, or the metaclass of that where meta is true
+pub record ImpForm : Type 0 where
+  pub name : Text
+  pub class : Text
+  pub meta : Bool
+  pub args : ℕ
+  pub body : Expression
+
+-- the name of a method, `-[class selector]`, or `+[class selector]` where meta is true
+pub record MethodForm : Type 0 where
+  pub class : Text
+  pub meta : Bool
+  pub selector : Text
+
+pub data ChangeForm : Type 0 where
+  add : MethodForm → Text → ChangeForm
+  replace : MethodForm → Text → ChangeForm
+  set_imp : MethodForm → Text → ChangeForm
+  exchange : MethodForm → MethodForm → ChangeForm
+  -- class, its methods, its class methods
+  attach : Text → List PairForm → List PairForm → ChangeForm
+
+pub data ItemForm : Type 0 where
+  -- receiver, selector, arguments
+  send_item : Constant → Text → List Constant → ItemForm
+  change_item : ChangeForm → ItemForm
+
+pub record Form : Type 0 where
+  pub version : ℤ
+  pub classes : List ClassForm
+  pub categories : List CategoryForm
+  pub objects : List ObjectForm
+  pub imps : List ImpForm
+  pub items : List ItemForm

@@ -1,0 +1,57 @@
+-- Looking into a JSON value for what it spells.
+use Rattle.std.specs.Prelude.{ℕ, ◌==◌, ℤ, List, [], ◌∷◌, Bool, true, false, if◌then◌else◌, Option, Some, None, option_map, option_and_then, slice_get, ⊤}
+use Rattle.serde_json.specs.Data.{Data, null, boolean, number, string, array, object, Items, no_items, item}
+use Rattle.serde_json.specs.Events.{members_len}
+use Rattle.serde_json.specs.Find.{get, as_array, as_number, as_str, as_i64}
+use Rattle.msg_names.specs.Name.{is_identifier}
+use Rattle.msg_form.specs.Text.{Text}
+
+infixl 10 ◌>>=◌
+abbrev pub ◌>>=◌ : {A B : Type 0} → Option A → (A → Option B) → Option B
+o >>= f = option_and_then f o
+
+abbrev pub only_if : Bool → Option ⊤
+only_if true = Some tt
+only_if false = None
+
+-- the values of a list
+abbrev pub values_of : Items → List Data
+values_of no_items = []
+values_of (item d ds) = d ∷ values_of ds
+
+abbrev pub list_at : Data → Option (List Data)
+list_at d = option_map values_of (as_array d)
+
+-- what the values spell, where each spells something
+abbrev pub each : {A B : Type 0} → (A → Option B) → List A → Option (List B)
+each f [] = Some []
+each f (d ∷ ds) = f d >>= λ x. option_map (λ xs. x ∷ xs) (each f ds)
+
+-- what the values of a list spell
+abbrev pub list_of : {B : Type 0} → (Data → Option B) → Data → Option (List B)
+list_of f d = list_at d >>= each f
+
+-- what the value at a place spells
+abbrev pub value_of : {B : Type 0} → (Data → Option B) → ℕ → List Data → Option B
+value_of f i ds = slice_get ds i >>= f
+
+-- an object with n keys
+abbrev pub has_keys : ℕ → Data → Bool
+has_keys n null = false
+has_keys n (boolean b) = false
+has_keys n (number x) = false
+has_keys n (string s) = false
+has_keys n (array ds) = false
+has_keys n (object ms) = members_len ms == n
+
+-- what the value at a key spells
+abbrev pub field_of : {B : Type 0} → (Data → Option B) → Text → Data → Option B
+field_of f key d = get key d >>= f
+
+-- a number that `as_i64` answers
+unfoldable pub whole_of : Data → Option ℤ
+whole_of d = as_number d >>= as_i64
+
+-- a class's, an object's or an implementation's name
+unfoldable pub name_of : Data → Option Text
+name_of d = as_str d >>= λ s. if is_identifier s then Some s else None

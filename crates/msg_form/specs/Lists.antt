@@ -1,0 +1,128 @@
+-- What stands in a form: the names that it gives, its lists, its sends and the names that it cites.
+use Rattle.std.specs.Prelude.{ℕ, List, [], ◌∷◌, ◌++◌, length, map, filter, is_none}
+use Rattle.std.specs.List.{flat_map}
+use Rattle.msg_form.specs.Expression.{Constant}
+use Rattle.msg_form.specs.Form.{PairForm, ClassForm, CategoryForm, ObjectForm, ImpForm, ChangeForm, add, replace, set_imp, exchange, attach, ItemForm, send_item, change_item, Form}
+use Rattle.msg_form.specs.Parts.{classes_in, objects_in, sends_in, own_class, own_object}
+use Rattle.msg_form.specs.Text.{Text}
+
+-- ---- names that are given
+
+abbrev pub class_names : Form → List Text
+class_names f = map (λ c. c.name) f.classes
+
+-- the names of the classes whose `super` is null
+abbrev pub root_names : Form → List Text
+root_names f = map (λ c. c.name) (filter (λ c. is_none c.superclass) f.classes)
+
+abbrev pub object_names : Form → List Text
+object_names f = map (λ o. o.name) f.objects
+
+abbrev pub imp_names : Form → List Text
+imp_names f = map (λ i. i.name) f.imps
+
+-- ---- lists of pairs
+
+abbrev pub class_lists : ClassForm → List (List PairForm)
+class_lists c = c.methods ∷ c.class_methods ∷ []
+
+abbrev pub category_lists : CategoryForm → List (List PairForm)
+category_lists c = c.methods ∷ c.class_methods ∷ []
+
+-- the method lists of classes and categories
+abbrev pub method_lists : Form → List (List PairForm)
+method_lists f = flat_map class_lists f.classes ++ flat_map category_lists f.categories
+
+abbrev pub change_lists : ChangeForm → List (List PairForm)
+change_lists (add m i) = []
+change_lists (replace m i) = []
+change_lists (set_imp m i) = []
+change_lists (exchange m o) = []
+change_lists (attach c ms cs) = ms ∷ cs ∷ []
+
+abbrev pub item_lists : ItemForm → List (List PairForm)
+item_lists (send_item r s args) = []
+item_lists (change_item c) = change_lists c
+
+-- all lists L
+abbrev pub all_lists : Form → List (List PairForm)
+all_lists f = method_lists f ++ flat_map item_lists f.items
+
+-- the entries of the method lists of classes and categories
+abbrev pub method_entries : Form → List PairForm
+method_entries f = flat_map (λ l. l) (method_lists f)
+
+-- the entries of all lists L
+abbrev pub all_entries : Form → List PairForm
+all_entries f = flat_map (λ l. l) (all_lists f)
+
+-- ---- sends
+
+abbrev pub body_sends : Form → List (Text × ℕ)
+body_sends f = flat_map (λ i. sends_in i.body) f.imps
+
+abbrev pub item_sends : ItemForm → List (Text × ℕ)
+item_sends (send_item r s args) = (s, length args) ∷ []
+item_sends (change_item c) = []
+
+-- each send and super send, as its selector and how many arguments it has
+abbrev pub sends : Form → List (Text × ℕ)
+sends f = body_sends f ++ flat_map item_sends f.items
+
+-- ---- names that are cited
+
+abbrev pub change_classes : ChangeForm → List Text
+change_classes (add m i) = m.class ∷ []
+change_classes (replace m i) = m.class ∷ []
+change_classes (set_imp m i) = m.class ∷ []
+change_classes (exchange m o) = m.class ∷ o.class ∷ []
+change_classes (attach c ms cs) = c ∷ []
+
+abbrev pub item_classes : ItemForm → List Text
+item_classes (send_item r s args) = flat_map own_class (r ∷ args)
+item_classes (change_item c) = change_classes c
+
+abbrev pub body_classes : Form → List Text
+body_classes f = flat_map (λ i. classes_in i.body) f.imps
+
+-- the classes of categories, objects and implementations
+abbrev pub part_classes : Form → List Text
+part_classes f = map (λ c. c.class) f.categories ++ map (λ o. o.class) f.objects ++ map (λ i. i.class) f.imps
+
+-- the classes that are named outside of bodies
+abbrev pub other_classes : Form → List Text
+other_classes f = part_classes f ++ flat_map item_classes f.items
+
+-- the classes that bodies, categories, objects, implementations and items name
+abbrev pub classes_named : Form → List Text
+classes_named f = body_classes f ++ other_classes f
+
+abbrev pub item_objects : ItemForm → List Text
+item_objects (send_item r s args) = flat_map own_object (r ∷ args)
+item_objects (change_item c) = []
+
+abbrev pub body_objects : Form → List Text
+body_objects f = flat_map (λ i. objects_in i.body) f.imps
+
+-- the objects that bodies and items name
+abbrev pub objects_named : Form → List Text
+objects_named f = body_objects f ++ flat_map item_objects f.items
+
+abbrev pub change_imps : ChangeForm → List Text
+change_imps (add m i) = i ∷ []
+change_imps (replace m i) = i ∷ []
+change_imps (set_imp m i) = i ∷ []
+change_imps (exchange m o) = []
+change_imps (attach c ms cs) = []
+
+abbrev pub item_imps : ItemForm → List Text
+item_imps (send_item r s args) = []
+item_imps (change_item c) = change_imps c
+
+-- the implementations that lists of pairs and changes name
+abbrev pub imps_cited : List (List PairForm) → List ItemForm → List Text
+imps_cited lists items = map (λ p. p.imp) (flat_map (λ l. l) lists) ++ flat_map item_imps items
+
+-- the implementations that lists L and changes name
+abbrev pub imps_named : Form → List Text
+imps_named f = imps_cited (all_lists f) f.items

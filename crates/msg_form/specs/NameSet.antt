@@ -1,0 +1,7 @@
+-- Sets of names.
+use Rattle.std.specs.Prelude.{ℕ, ◌≤◌, length}
+use Rattle.msg_form.specs.declared.name_set.NameSet.TheInside.{Inside}
+
+-- numbers of 32 bits suffice
+pub record HasRoom (s : Inside) : Type 0 where
+  pub few : length s.names.keys ≤ 4294967295

@@ -1,0 +1,9 @@
+-- What the program's JSON values spell as expressions.
+use Rattle.std.specs.Prelude.{List, Option, map}
+use Rattle.serde_json.specs.View.{view}
+use Rattle.serde_json.specs.declared.value.Value.{Value}
+use Rattle.msg_form.specs.Expression.{Expression}
+use Rattle.msg_form.specs.ExprShape.{expression_of}
+
+abbrev pub readings : List Value → List (Option Expression)
+readings vs = map expression_of (map view vs)

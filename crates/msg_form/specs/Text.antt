@@ -1,0 +1,36 @@
+-- Texts, and lists of them.
+use Rattle.std.specs.Prelude.{◌≡◌, ℕ, ◌≤◌, nat_lt, List, [], ◌∷◌, length, Bool, false, ◌||◌, not, map, fold}
+use Rattle.std.specs.Borrow.{Bor}
+use Rattle.std.specs.List.{list_any}
+use Rattle.std.specs.Str.{bytes_eq}
+use Rattle.msg_names.specs.Numbering.{with_name}
+
+-- the bytes of a text
+abbrev pub Text : Type 0
+Text = List ℕ
+
+-- the text is one of the texts
+abbrev pub is_among : Text → List Text → Bool
+is_among text texts = list_any (bytes_eq text) texts
+
+-- the name is none of the names
+abbrev pub is_unknown : List Text → Text → Bool
+is_unknown names name = not (is_among name names)
+
+-- some text stands twice
+abbrev pub has_duplicate : List Text → Bool
+has_duplicate [] = false
+has_duplicate (text ∷ texts) = is_among text texts || has_duplicate texts
+
+-- the different texts, each where it first stands
+unfoldable pub distinct : List Text → List Text
+distinct texts = fold with_name [] texts
+
+-- the names are the different texts, or more than 4,096 of them
+pub record AreDistinct (names texts : List Text) : Type 0 where
+  pub many : nat_lt 4096 (length names) ≡ nat_lt 4096 (length (distinct texts))
+  pub all : length names ≤ 4096 → names ≡ distinct texts
+
+-- what the references point to
+abbrev pub texts_view : List (Bor Text) → List Text
+texts_view ts = map (λ t. t.now) ts

@@ -1,0 +1,161 @@
+//! The parts of a document. Their texts are those of the JSON value that they were read from.
+
+ghost use Rattle.std.specs.Prelude.{◌≤◌};
+
+/// A document of version 1, when `version` is 1.
+#[derive(Drop)]
+pub struct Form<'v> {
+    pub version: i64,
+    pub classes: Vec<Class<'v>>,
+    pub categories: Vec<Category<'v>>,
+    pub objects: Vec<Object<'v>>,
+    pub imps: Vec<Imp<'v>>,
+    pub items: Vec<Item<'v>>,
+}
+
+/// An entry of a method list: a selector and the name of its implementation.
+#[derive(Clone, Copy, Debug)]
+pub struct Pair<'v> {
+    pub selector: &'v str,
+    pub imp: &'v str,
+}
+
+#[derive(Drop)]
+pub struct Class<'v> {
+    pub name: &'v str,
+    pub superclass: Option<&'v str>,
+    pub methods: Vec<Pair<'v>>,
+    pub class_methods: Vec<Pair<'v>>,
+}
+
+#[derive(Drop)]
+pub struct Category<'v> {
+    pub class: &'v str,
+    pub methods: Vec<Pair<'v>>,
+    pub class_methods: Vec<Pair<'v>>,
+}
+
+#[derive(Clone, Copy, Debug)]
+pub struct Object<'v> {
+    pub name: &'v str,
+    pub class: &'v str,
+}
+
+/// An implementation. Its home class is `class`, or the metaclass of that where `meta` is true.
+#[derive(Drop)]
+pub struct Imp<'v> {
+    pub name: &'v str,
+    pub class: &'v str,
+    pub meta: bool,
+    pub args: u8,
+    pub body: Expr<'v>,
+    pub ghost few_args: { args ≤ 4 },
+}
+
+#[derive(Drop)]
+pub enum Item<'v> {
+    Send {
+        receiver: Constant<'v>,
+        selector: &'v str,
+        args: Vec<Constant<'v>>,
+    },
+    Change(Change<'v>),
+}
+
+/// The name of a method, `-[class selector]`, or `+[class selector]` where `meta` is true.
+#[derive(Clone, Copy, Debug)]
+pub struct MethodName<'v> {
+    pub class: &'v str,
+    pub meta: bool,
+    pub selector: &'v str,
+}
+
+#[derive(Drop)]
+pub enum Change<'v> {
+    Add {
+        method: MethodName<'v>,
+        imp: &'v str,
+    },
+    Replace {
+        method: MethodName<'v>,
+        imp: &'v str,
+    },
+    SetImp {
+        method: MethodName<'v>,
+        imp: &'v str,
+    },
+    Exchange {
+        method: MethodName<'v>,
+        other: MethodName<'v>,
+    },
+    Attach {
+        class: &'v str,
+        methods: Vec<Pair<'v>>,
+        class_methods: Vec<Pair<'v>>,
+    },
+}
+
+#[derive(Clone, Copy, Debug)]
+pub enum Constant<'v> {
+    Whole(i64),
+    Nil,
+    Object(&'v str),
+    Class(&'v str),
+    Selector(&'v str),
+}
+
+#[derive(Clone, Copy, Debug, PartialEq, Eq)]
+pub enum Operator {
+    Add,
+    Sub,
+    Mul,
+    Eq,
+    Lt,
+}
+
+/// An expression. What is large stands behind one `Box`, so that an `Expr` has 32 bytes.
+#[cycle(expr)]
+#[derive(Drop)]
+pub enum Expr<'v> {
+    Const(Constant<'v>),
+    /// The receiver, `self`.
+    Me,
+    /// The argument of a number, from 0.
+    Arg(u64),
+    Binary(Box<BinaryExpr<'v>>),
+    If(Box<IfExpr<'v>>),
+    Send(Box<SendExpr<'v>>),
+    /// A super send, whose receiver is `self`.
+    Super(Box<SuperExpr<'v>>),
+}
+
+#[cycle(expr)]
+#[derive(Drop)]
+pub struct BinaryExpr<'v> {
+    pub operator: Operator,
+    pub left: Expr<'v>,
+    pub right: Expr<'v>,
+}
+
+#[cycle(expr)]
+#[derive(Drop)]
+pub struct IfExpr<'v> {
+    pub condition: Expr<'v>,
+    pub then: Expr<'v>,
+    pub otherwise: Expr<'v>,
+}
+
+#[cycle(expr)]
+#[derive(Drop)]
+pub struct SendExpr<'v> {
+    pub receiver: Expr<'v>,
+    pub selector: &'v str,
+    pub args: Vec<Expr<'v>>,
+}
+
+#[cycle(expr)]
+#[derive(Drop)]
+pub struct SuperExpr<'v> {
+    pub selector: &'v str,
+    pub args: Vec<Expr<'v>>,
+}

@@ -1,0 +1,181 @@
+//! What is wrong with bodies.
+//!
+//! Bodies are most of a large document. They are judged body by body, each for all faults in turn,
+//! so that each is fetched from memory once.
+
+ghost use Rattle.std.specs.Prelude.{◌≡◌, ◌||◌, nat_le, IfOk};
+ghost use Rattle.std.specs.List.{list_any};
+ghost use Rattle.msg_form.specs.ExprView.{expr_view};
+ghost use Rattle.msg_form.specs.Faults as spec;
+ghost use Rattle.msg_form.specs.Lists.{class_names, object_names, root_names};
+ghost use Rattle.msg_form.specs.Parts.{classes_in, indices_in, is_super_send, objects_in, own_indices, sends_in};
+ghost use Rattle.msg_form.specs.Text.{distinct, is_unknown};
+ghost use Rattle.msg_form.specs.Views.{imp_view, imps_view, form_view};
+
+use super::classes::root_set;
+use super::constants::{ClassOutside, ObjectOutside, any_in_body};
+use super::counts::has_miscounted_send;
+use super::depth::is_too_deep;
+use super::keyed::key_set;
+use super::part::{PartTest, any_part};
+use crate::form::{Expr, Form, Imp};
+use crate::name_set::NameSet;
+use std::alloc::{AllocError, Global};
+
+/// Which faults some body has.
+#[derive(Clone, Copy, Debug)]
+pub(super) struct BodyFaults {
+    /// A super send in a method of a root class.
+    pub(super) sends_above: bool,
+    pub(super) unknown_class: bool,
+    pub(super) unknown_object: bool,
+    /// A send with too few or too many arguments.
+    pub(super) argument_count: bool,
+    pub(super) argument_index: bool,
+    pub(super) too_deep: bool,
+}
+
+impl BodyFaults {
+    ghost use Rattle.msg_form.specs.BodyFaults.{AreBodyFaults};
+
+    pub(super) fn of(alloc: Global, form: &Form) -> Result<BodyFaults, AllocError>
+        ensures { IfOk result (λ b. AreBodyFaults b (form_view form.now)) }
+    {
+        let known = Known::of(alloc, form)?;
+        Ok(known.body_faults(&form.imps))
+    }
+}
+
+/// The names that bodies may use.
+#[derive(Drop)]
+struct Known<'v> {
+    classes: NameSet<'v>,
+    roots: NameSet<'v>,
+    objects: NameSet<'v>,
+}
+
+impl<'v> Known<'v> {
+    #[tactic(auto, using(crate::proofs::AnyLemmas::maps))]
+    fn of(alloc: Global, form: &Form<'v>) -> Result<Known<'v>, AllocError>
+        ensures classes { IfOk result (λ k. k.classes ≡ distinct (class_names (form_view form.now))) }
+        ensures roots { IfOk result (λ k. k.roots ≡ distinct (root_names (form_view form.now))) }
+        ensures objects { IfOk result (λ k. k.objects ≡ distinct (object_names (form_view form.now))) }
+    {
+        let classes = key_set(alloc, &form.classes)?;
+        let roots = root_set(alloc, &form.classes)?;
+        let objects = key_set(alloc, &form.objects)?;
+        Ok(Known {
+            classes,
+            roots,
+            objects,
+        })
+    }
+
+    fn body_faults(&self, imps: &[Imp]) -> BodyFaults
+        ensures sends_above { result.sends_above
+            ≡ list_any (spec.sends_above self.now.roots) (imps_view imps.now) }
+        ensures unknown_class { result.unknown_class
+            ≡ list_any (λ i. list_any (is_unknown self.now.classes) (classes_in i.body)) (imps_view imps.now) }
+        ensures unknown_object { result.unknown_object
+            ≡ list_any (λ i. list_any (is_unknown self.now.objects) (objects_in i.body)) (imps_view imps.now) }
+        ensures argument_count { result.argument_count
+            ≡ list_any (λ i. list_any spec.is_miscounted_send (sends_in i.body)) (imps_view imps.now) }
+        ensures argument_index { result.argument_index
+            ≡ list_any spec.reads_beyond (imps_view imps.now) }
+        ensures too_deep { result.too_deep
+            ≡ list_any (λ i. spec.is_too_deep i.body) (imps_view imps.now) }
+    {
+        let mut faults = BodyFaults {
+            sends_above: false,
+            unknown_class: false,
+            unknown_object: false,
+            argument_count: false,
+            argument_index: false,
+            too_deep: false,
+        };
+        for imp in imps {
+            faults = self.with_body(faults, imp);
+        }
+        faults
+    }
+
+    fn with_body(&self, faults: BodyFaults, imp: &Imp) -> BodyFaults
+        ensures sends_above { result.sends_above
+            ≡ (faults.sends_above || spec.sends_above self.now.roots (imp_view imp.now)) }
+        ensures unknown_class { result.unknown_class
+            ≡ (faults.unknown_class || list_any (is_unknown self.now.classes) (classes_in (imp_view imp.now).body)) }
+        ensures unknown_object { result.unknown_object
+            ≡ (faults.unknown_object || list_any (is_unknown self.now.objects) (objects_in (imp_view imp.now).body)) }
+        ensures argument_count { result.argument_count
+            ≡ (faults.argument_count || list_any spec.is_miscounted_send (sends_in (imp_view imp.now).body)) }
+        ensures argument_index { result.argument_index
+            ≡ (faults.argument_index || spec.reads_beyond (imp_view imp.now)) }
+        ensures too_deep { result.too_deep
+            ≡ (faults.too_deep || spec.is_too_deep (imp_view imp.now).body) }
+    {
+        let body = &imp.body;
+        BodyFaults {
+            sends_above: faults.sends_above | sends_above(&self.roots, imp),
+            unknown_class: faults.unknown_class | names_class_outside(&self.classes, body),
+            unknown_object: faults.unknown_object | names_object_outside(&self.objects, body),
+            argument_count: faults.argument_count | has_miscounted_send(body),
+            argument_index: faults.argument_index | reads_beyond(u64::from(imp.args), body),
+            too_deep: faults.too_deep | is_too_deep(body),
+        }
+    }
+}
+
+fn sends_above(roots: &NameSet, imp: &Imp) -> bool
+    ensures { result ≡ spec.sends_above roots.now (imp_view imp.now) }
+{
+    !imp.meta && roots.has(imp.class) && any_part(&IsSuperSend, &imp.body)
+}
+
+#[derive(Drop)]
+struct IsSuperSend;
+
+impl PartTest for IsSuperSend {
+    ghost passes = { λ _. is_super_send };
+
+    fn passes(&self, part: &Expr) -> bool {
+        matches!(part, Expr::Super(_))
+    }
+}
+
+#[tactic(auto, using(crate::proofs::AnyLemmas::anys))]
+fn names_class_outside(classes: &NameSet, body: &Expr) -> bool
+    ensures { result ≡ list_any (is_unknown classes.now) (classes_in (expr_view body.now)) }
+{
+    any_in_body(&ClassOutside { classes }, body)
+}
+
+#[tactic(auto, using(crate::proofs::AnyLemmas::anys))]
+fn names_object_outside(objects: &NameSet, body: &Expr) -> bool
+    ensures { result ≡ list_any (is_unknown objects.now) (objects_in (expr_view body.now)) }
+{
+    any_in_body(&ObjectOutside { objects }, body)
+}
+
+#[tactic(auto, using(crate::proofs::AnyLemmas::anys))]
+fn reads_beyond(args: u64, body: &Expr) -> bool
+    ensures { result ≡ list_any (nat_le args) (indices_in (expr_view body.now)) }
+{
+    any_part(&ReadsBeyond { args }, body)
+}
+
+/// The test of an expression that reads an argument past so many.
+#[derive(Drop)]
+struct ReadsBeyond {
+    args: u64,
+}
+
+impl PartTest for ReadsBeyond {
+    ghost passes = { λ t e. list_any (nat_le t.args) (own_indices e) };
+
+    fn passes(&self, part: &Expr) -> bool {
+        match part {
+            Expr::Arg(index) => self.args <= *index,
+            _ => false,
+        }
+    }
+}

@@ -1,0 +1,83 @@
+//! The version, and whether a document has too much of something.
+
+ghost use Rattle.std.specs.Prelude.{◌≡◌, length, nat_lt, IfOk};
+ghost use Rattle.std.specs.List.{flat_map};
+ghost use Rattle.msg_form.specs.Faults as spec;
+ghost use Rattle.msg_form.specs.Text.{AreDistinct};
+ghost use Rattle.msg_form.specs.Views.{form_view};
+ghost use Rattle.msg_form.specs.Walk.{selector_texts};
+
+use super::lists::method_lists;
+use crate::form::{Form, Pair};
+use crate::name_set::NameSet;
+use msg_names::MAX_NAMES;
+use std::alloc::{AllocError, Global};
+
+/// The most classes, and the most categories.
+const MAX_CLASSES: usize = 1024;
+
+/// The most objects, and the most implementations.
+const MAX_OBJECTS: usize = 4096;
+
+/// The most items.
+const MAX_ITEMS: usize = 65536;
+
+/// The most method entries of classes and categories together.
+const MAX_ENTRIES: usize = 16384;
+
+#[tactic(auto, unfolding(crate::specs::Faults::is_other_version))]
+pub(super) fn is_other_version(form: &Form) -> bool
+    ensures { result ≡ spec.is_other_version (form_view form.now) }
+{
+    form.version != 1
+}
+
+#[tactic(auto, unfolding(crate::specs::Faults::is_over_limit, crate::specs::Faults::has_many_selectors))]
+pub(super) fn is_over_limit(
+    alloc: Global,
+    form: &Form,
+    selectors: &NameSet,
+) -> Result<bool, AllocError>
+    requires { AreDistinct selectors.now (selector_texts (form_view form.now)) }
+    ensures { IfOk result (λ b. b ≡ spec.is_over_limit (form_view form.now)) }
+{
+    if has_long_list(form) {
+        return Ok(true);
+    }
+    if has_many_entries(alloc, form)? {
+        return Ok(true);
+    }
+    Ok(selectors.len() > MAX_NAMES)
+}
+
+#[tactic(auto, unfolding(crate::specs::Faults::has_long_list))]
+fn has_long_list(form: &Form) -> bool
+    ensures { result ≡ spec.has_long_list (form_view form.now) }
+{
+    form.classes.len() > MAX_CLASSES
+        || form.categories.len() > MAX_CLASSES
+        || form.objects.len() > MAX_OBJECTS
+        || form.imps.len() > MAX_OBJECTS
+        || form.items.len() > MAX_ITEMS
+}
+
+#[tactic(auto, unfolding(crate::specs::Faults::has_many_entries))]
+fn has_many_entries(alloc: Global, form: &Form) -> Result<bool, AllocError>
+    ensures { IfOk result (λ b. b ≡ spec.has_many_entries (form_view form.now)) }
+{
+    let lists = method_lists(alloc, form)?;
+    Ok(are_many(&lists))
+}
+
+fn are_many(lists: &[&[Pair]]) -> bool
+    ensures { result ≡ nat_lt 16384 (length (flat_map (λ l. l.now) lists.now)) }
+{
+    let mut room = MAX_ENTRIES;
+    for list in lists {
+        match room.checked_sub(list.len()) {
+            Some(left) => room = left,
+            None => return true,
+        }
+    }
+    false
+}

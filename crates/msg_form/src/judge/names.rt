@@ -1,0 +1,197 @@
+//! What is wrong with the names that a document gives and cites.
+//!
+//! Each check makes one set of names and goes once over the parts that cite such names. What bodies
+//! cite was looked up before.
+
+ghost use Rattle.std.specs.Prelude.{◌≡◌, ◌++◌, map, not, IfOk};
+ghost use Rattle.std.specs.List.{list_any};
+ghost use Rattle.msg_form.specs.BodyFaults.{AreBodyFaults};
+ghost use Rattle.msg_form.specs.Faults as spec;
+ghost use Rattle.msg_form.specs.Lists.{imps_cited, other_classes};
+ghost use Rattle.msg_form.specs.Lists.{change_classes, item_classes, item_imps, item_objects};
+ghost use Rattle.msg_form.specs.Text.{is_unknown};
+ghost use Rattle.msg_form.specs.Views.{change_view, item_view, items_view, lists_view, form_view};
+
+use super::bodies::BodyFaults;
+use super::constants::{ClassOutside, ObjectOutside, any_in_send};
+use super::keyed::{has_duplicate, key_set};
+use super::lists::all_lists;
+use crate::form::{Change, Form, Item, Pair};
+use crate::name_set::NameSet;
+use std::alloc::{AllocError, Global};
+
+#[tactic(auto, using(crate::proofs::AnyLemmas::maps), unfolding(crate::specs::Faults::has_duplicate_class))]
+pub(super) fn has_duplicate_class(alloc: Global, form: &Form) -> Result<bool, AllocError>
+    ensures { IfOk result (λ b. b ≡ spec.has_duplicate_class (form_view form.now)) }
+{
+    has_duplicate(alloc, &form.classes)
+}
+
+#[tactic(auto, using(crate::proofs::AnyLemmas::maps), unfolding(crate::specs::Faults::has_duplicate_object))]
+pub(super) fn has_duplicate_object(alloc: Global, form: &Form) -> Result<bool, AllocError>
+    ensures { IfOk result (λ b. b ≡ spec.has_duplicate_object (form_view form.now)) }
+{
+    has_duplicate(alloc, &form.objects)
+}
+
+#[tactic(auto, using(crate::proofs::AnyLemmas::maps), unfolding(crate::specs::Faults::has_duplicate_imp))]
+pub(super) fn has_duplicate_imp(alloc: Global, form: &Form) -> Result<bool, AllocError>
+    ensures { IfOk result (λ b. b ≡ spec.has_duplicate_imp (form_view form.now)) }
+{
+    has_duplicate(alloc, &form.imps)
+}
+
+pub(super) fn has_unknown_class(
+    alloc: Global,
+    form: &Form,
+    bodies: BodyFaults,
+) -> Result<bool, AllocError>
+    requires { AreBodyFaults bodies (form_view form.now) }
+    ensures { IfOk result (λ b. b ≡ spec.has_unknown_class (form_view form.now)) }
+{
+    if bodies.unknown_class {
+        return Ok(true);
+    }
+    let classes = key_set(alloc, &form.classes)?;
+    Ok(names_class_outside(&classes, form))
+}
+
+/// Whether a class beyond the set is named outside of bodies.
+fn names_class_outside(classes: &NameSet, form: &Form) -> bool
+    ensures { result ≡ list_any (is_unknown classes.now) (other_classes (form_view form.now)) }
+{
+    any_part_outside(classes, form) || any_item_outside(classes, &form.items)
+}
+
+/// Whether a category, an object or an implementation has a class beyond the set.
+fn any_part_outside(classes: &NameSet, form: &Form) -> bool
+    ensures { result
+        ≡ list_any (λ n. is_unknown classes.now n.now)
+        (map (λ c. c.class) form.now.categories.items
+        ++ map (λ o. o.class) form.now.objects.items
+        ++ map (λ i. i.class) form.now.imps.items) }
+{
+    let categories = form.categories.iter().map(|category| category.class);
+    let objects = form.objects.iter().map(|object| object.class);
+    let imps = form.imps.iter().map(|imp| imp.class);
+    categories
+        .chain(objects)
+        .chain(imps)
+        .any(|class| classes.lacks(class))
+}
+
+fn any_item_outside(classes: &NameSet, items: &[Item]) -> bool
+    ensures { result
+        ≡ list_any (λ i. list_any (is_unknown classes.now) (item_classes (item_view i))) items.now }
+{
+    items
+        .iter()
+        .any(|item| item_names_class_outside(classes, item))
+}
+
+#[tactic(auto, using(crate::proofs::AnyLemmas::anys))]
+fn item_names_class_outside(classes: &NameSet, item: &Item) -> bool
+    ensures { result ≡ list_any (is_unknown classes.now) (item_classes (item_view item.now)) }
+{
+    match item {
+        Item::Send { receiver, args, .. } => any_in_send(&ClassOutside { classes }, receiver, args),
+        Item::Change(change) => change_names_class_outside(classes, change),
+    }
+}
+
+fn change_names_class_outside(classes: &NameSet, change: &Change) -> bool
+    ensures { result ≡ list_any (is_unknown classes.now) (change_classes (change_view change.now)) }
+{
+    match change {
+        Change::Add { method, .. }
+        | Change::Replace { method, .. }
+        | Change::SetImp { method, .. } => classes.lacks(method.class),
+        Change::Exchange { method, other } => {
+            classes.lacks(method.class) || classes.lacks(other.class)
+        }
+        Change::Attach { class, .. } => classes.lacks(*class),
+    }
+}
+
+pub(super) fn has_unknown_object(
+    alloc: Global,
+    form: &Form,
+    bodies: BodyFaults,
+) -> Result<bool, AllocError>
+    requires { AreBodyFaults bodies (form_view form.now) }
+    ensures { IfOk result (λ b. b ≡ spec.has_unknown_object (form_view form.now)) }
+{
+    if bodies.unknown_object {
+        return Ok(true);
+    }
+    let objects = key_set(alloc, &form.objects)?;
+    Ok(any_object_outside(&objects, &form.items))
+}
+
+fn any_object_outside(objects: &NameSet, items: &[Item]) -> bool
+    ensures { result
+        ≡ list_any (λ i. list_any (is_unknown objects.now) (item_objects (item_view i))) items.now }
+{
+    items
+        .iter()
+        .any(|item| item_names_object_outside(objects, item))
+}
+
+#[tactic(auto, using(crate::proofs::AnyLemmas::anys))]
+fn item_names_object_outside(objects: &NameSet, item: &Item) -> bool
+    ensures { result ≡ list_any (is_unknown objects.now) (item_objects (item_view item.now)) }
+{
+    match item {
+        Item::Send { receiver, args, .. } => {
+            any_in_send(&ObjectOutside { objects }, receiver, args)
+        }
+        Item::Change(_) => false,
+    }
+}
+
+pub(super) fn has_unknown_imp(alloc: Global, form: &Form) -> Result<bool, AllocError>
+    ensures { IfOk result (λ b. b ≡ spec.has_unknown_imp (form_view form.now)) }
+{
+    let imps = key_set(alloc, &form.imps)?;
+    let lists = all_lists(alloc, form)?;
+    Ok(names_imp_outside(&imps, &lists, &form.items))
+}
+
+#[tactic(auto, using(crate::proofs::AnyLemmas::anys))]
+fn names_imp_outside(imps: &NameSet, lists: &[&[Pair]], items: &[Item]) -> bool
+    ensures { result
+        ≡ list_any (is_unknown imps.now) (imps_cited (lists_view lists.now) (items_view items.now)) }
+{
+    any_list_outside(imps, lists) || any_change_outside(imps, items)
+}
+
+fn any_list_outside(imps: &NameSet, lists: &[&[Pair]]) -> bool
+    ensures { result
+        ≡ list_any (λ l. list_any (λ p. is_unknown imps.now p.imp.now) l.now) lists.now }
+{
+    lists.iter().any(|list| any_pair_outside(imps, list))
+}
+
+fn any_pair_outside(imps: &NameSet, list: &[Pair]) -> bool
+    ensures { result ≡ list_any (λ p. is_unknown imps.now p.imp.now) list.now }
+{
+    list.iter().any(|pair| imps.lacks(pair.imp))
+}
+
+fn any_change_outside(imps: &NameSet, items: &[Item]) -> bool
+    ensures { result
+        ≡ list_any (λ i. list_any (is_unknown imps.now) (item_imps (item_view i))) items.now }
+{
+    items.iter().any(|item| item_names_imp_outside(imps, item))
+}
+
+fn item_names_imp_outside(imps: &NameSet, item: &Item) -> bool
+    ensures { result ≡ list_any (is_unknown imps.now) (item_imps (item_view item.now)) }
+{
+    match item {
+        Item::Change(
+            Change::Add { imp, .. } | Change::Replace { imp, .. } | Change::SetImp { imp, .. },
+        ) => imps.lacks(*imp),
+        _ => false,
+    }
+}

@@ -1,0 +1,138 @@
+//! Reading changes and items.
+
+ghost use Rattle.std.specs.Prelude.{◌≡◌, ◌+◌, ◌≤◌, map, length};
+ghost use Rattle.serde_json.specs.View.{view};
+ghost use Rattle.msg_form.specs.Form.{ChangeForm, ItemForm};
+ghost use Rattle.msg_form.specs.Gives.{Gives};
+ghost use Rattle.msg_form.specs.Shape as spec;
+ghost use Rattle.msg_form.specs.Views.{method_view, change_view, item_view};
+
+use super::json::{field, keys, list, name, text, truth};
+use super::{FromValue, each, list_of};
+use crate::faults::ReadFault;
+use crate::form::{Change, Constant, Item, MethodName};
+use serde_json::Value;
+use std::alloc::Global;
+
+/// A method's name, which takes three values from a place on.
+#[tactic(auto, unfolding(crate::specs::Shape::method_of))]
+fn method(values: &[Value], place: usize) -> Result<MethodName<'_>, ReadFault>
+    requires { place + 3 ≤ length values.now }
+    ensures { Gives method_view result (spec.method_of place (map view values.now)) }
+{
+    Ok(MethodName {
+        class: name(&values[place])?,
+        meta: truth(&values[place + 1])?,
+        selector: text(&values[place + 2])?,
+    })
+}
+
+/// What `add`, `replace` and `set` say of a method.
+#[tactic(auto, unfolding(crate::specs::Shape::edit_of))]
+fn edit(values: &[Value]) -> Result<(MethodName<'_>, &str), ReadFault>
+    ensures { Gives (λ e. (method_view e.0, e.1.now)) result (spec.edit_of (map view values.now)) }
+{
+    if values.len() != 5 {
+        return Err(ReadFault::Shape);
+    }
+    let method = method(values, 1)?;
+    let imp = name(&values[4])?;
+    Ok((method, imp))
+}
+
+#[tactic(auto, unfolding(crate::specs::Shape::exchange_of))]
+fn exchange(values: &[Value]) -> Result<Change<'_>, ReadFault>
+    ensures { Gives change_view result (spec.exchange_of (map view values.now)) }
+{
+    if values.len() != 7 {
+        return Err(ReadFault::Shape);
+    }
+    Ok(Change::Exchange {
+        method: method(values, 1)?,
+        other: method(values, 4)?,
+    })
+}
+
+#[tactic(auto, unfolding(crate::specs::Shape::attach_of))]
+fn attach(alloc: Global, values: &[Value]) -> Result<Change<'_>, ReadFault>
+    ensures { Gives change_view result (spec.attach_of (map view values.now)) }
+{
+    if values.len() != 4 {
+        return Err(ReadFault::Shape);
+    }
+    Ok(Change::Attach {
+        class: name(&values[1])?,
+        methods: list_of(alloc, &values[2])?,
+        class_methods: list_of(alloc, &values[3])?,
+    })
+}
+
+#[tactic(auto, unfolding(crate::specs::Shape::worded_change_of))]
+fn worded_change<'v>(
+    alloc: Global,
+    word: &str,
+    values: &'v [Value],
+) -> Result<Change<'v>, ReadFault>
+    ensures { Gives change_view result (spec.worded_change_of word.now (map view values.now)) }
+{
+    match word {
+        "add" => {
+            let (method, imp) = edit(values)?;
+            Ok(Change::Add { method, imp })
+        }
+        "replace" => {
+            let (method, imp) = edit(values)?;
+            Ok(Change::Replace { method, imp })
+        }
+        "set" => {
+            let (method, imp) = edit(values)?;
+            Ok(Change::SetImp { method, imp })
+        }
+        "exchange" => exchange(values),
+        "attach" => attach(alloc, values),
+        _ => Err(ReadFault::Shape),
+    }
+}
+
+#[tactic(auto, unfolding(crate::specs::Shape::change_of))]
+fn change(alloc: Global, value: &Value) -> Result<Change<'_>, ReadFault>
+    ensures { Gives change_view result (spec.change_of (view value.now)) }
+{
+    let values = list(value)?;
+    if values.is_empty() {
+        return Err(ReadFault::Shape);
+    }
+    worded_change(alloc, text(&values[0])?, values)
+}
+
+#[tactic(auto, unfolding(crate::specs::Shape::send_item_of))]
+fn send_item(alloc: Global, value: &Value) -> Result<Item<'_>, ReadFault>
+    ensures { Gives item_view result (spec.send_item_of (view value.now)) }
+{
+    let values = list(value)?;
+    if values.len() < 2 {
+        return Err(ReadFault::Shape);
+    }
+    Ok(Item::Send {
+        receiver: Constant::from_value(alloc, &values[0])?,
+        selector: text(&values[1])?,
+        args: each(alloc, &values[2..])?,
+    })
+}
+
+impl<'v> FromValue<'v> for Item<'v> {
+    ghost Plain = { ItemForm };
+
+    ghost plain = { item_view };
+
+    ghost spelled = { spec.item_of };
+
+    #[tactic(auto, unfolding(crate::specs::Shape::item_of))]
+    fn from_value(alloc: Global, value: &'v Value) -> Result<Item<'v>, ReadFault> {
+        keys(value, 1)?;
+        match value.get("send") {
+            Some(send) => send_item(alloc, send),
+            None => Ok(Item::Change(change(alloc, field(value, "change")?)?)),
+        }
+    }
+}

@@ -1,0 +1,227 @@
+//! Reading constants and expressions. A body is read once, from the outside in.
+
+ghost use Rattle.std.specs.Prelude.{◌≡◌, ◌≤◌, map, length};
+ghost use Rattle.serde_json.specs.View.{view};
+ghost use Rattle.msg_form.specs.Expression as plain;
+ghost use Rattle.msg_form.specs.ExprShape as spec;
+ghost use Rattle.msg_form.specs.ExprShape.{expression_of};
+ghost use Rattle.msg_form.specs.ExprView.{constant_view, expr_view};
+ghost use Rattle.msg_form.specs.Gives.{Gives};
+ghost use Rattle.msg_form.specs.Readings.{readings};
+
+use super::FromValue;
+use super::json::{name, text, whole};
+use crate::faults::ReadFault;
+use crate::form::{BinaryExpr, Constant, Expr, IfExpr, Operator, SendExpr, SuperExpr};
+use serde_json::Value;
+use std::alloc::Global;
+
+impl<'v> FromValue<'v> for Constant<'v> {
+    ghost Plain = { plain.Constant };
+
+    ghost plain = { constant_view };
+
+    ghost spelled = { spec.constant_of };
+
+    fn from_value(_alloc: Global, value: &'v Value) -> Result<Constant<'v>, ReadFault> {
+        constant(value)
+    }
+}
+
+#[tactic(auto, unfolding(crate::specs::ExprShape::constant_of, crate::specs::ExprShape::whole_constant_of))]
+fn constant(value: &Value) -> Result<Constant<'_>, ReadFault>
+    ensures { Gives constant_view result (spec.constant_of (view value.now)) }
+{
+    match value {
+        Value::Null => Ok(Constant::Nil),
+        Value::Number(_) => Ok(Constant::Whole(whole(value)?)),
+        Value::Array(values) => listed_constant(values),
+        _ => Err(ReadFault::Shape),
+    }
+}
+
+#[tactic(auto, unfolding(crate::specs::ExprShape::listed_constant_of))]
+fn listed_constant(values: &[Value]) -> Result<Constant<'_>, ReadFault>
+    ensures { Gives constant_view result (spec.listed_constant_of (map view values.now)) }
+{
+    if values.is_empty() {
+        return Err(ReadFault::Shape);
+    }
+    named(text(&values[0])?, values)
+}
+
+#[tactic(auto, unfolding(crate::specs::ExprShape::named_of))]
+fn named<'v>(word: &str, values: &'v [Value]) -> Result<Constant<'v>, ReadFault>
+    ensures { Gives constant_view result (spec.named_of word.now (map view values.now)) }
+{
+    if values.len() != 2 {
+        return Err(ReadFault::Shape);
+    }
+    match word {
+        "obj" => Ok(Constant::Object(name(&values[1])?)),
+        "class" => Ok(Constant::Class(name(&values[1])?)),
+        "sel" => Ok(Constant::Selector(text(&values[1])?)),
+        _ => Err(ReadFault::Shape),
+    }
+}
+
+#[tactic(auto, unfolding(crate::specs::ExprShape::operator_of))]
+fn operator(word: &str) -> Option<Operator>
+    ensures { result ≡ spec.operator_of word.now }
+{
+    match word {
+        "add" => Some(Operator::Add),
+        "sub" => Some(Operator::Sub),
+        "mul" => Some(Operator::Mul),
+        "eq" => Some(Operator::Eq),
+        "lt" => Some(Operator::Lt),
+        _ => None,
+    }
+}
+
+#[tactic(auto, unfolding(crate::specs::ExprShape::arg_of))]
+fn arg(values: &[Value]) -> Result<Expr<'_>, ReadFault>
+    ensures { Gives expr_view result (spec.arg_of (map view values.now)) }
+{
+    if values.len() != 2 {
+        return Err(ReadFault::Shape);
+    }
+    let number = whole(&values[1])?;
+    if number < 0 {
+        return Err(ReadFault::Shape);
+    }
+    Ok(Expr::Arg(number as u64))
+}
+
+impl<'v> FromValue<'v> for Expr<'v> {
+    ghost Plain = { plain.Expression };
+
+    ghost plain = { expr_view };
+
+    ghost spelled = { expression_of };
+
+    fn from_value(alloc: Global, value: &'v Value) -> Result<Expr<'v>, ReadFault> {
+        expr(alloc, value)
+    }
+}
+
+#[cycle(expr)]
+fn expr(alloc: Global, value: &Value) -> Result<Expr<'_>, ReadFault>
+    ensures { Gives expr_view result (expression_of (view value.now)) }
+{
+    match value {
+        Value::Array(values) => listed(alloc, values),
+        _ => Ok(Expr::Const(constant(value)?)),
+    }
+}
+
+#[cycle(expr)]
+#[tactic(auto, unfolding(crate::specs::ExprShape::listed_of, crate::specs::ExprShape::worded_of, crate::specs::ExprShape::me_of))]
+fn listed(alloc: Global, values: &[Value]) -> Result<Expr<'_>, ReadFault>
+    ensures { Gives expr_view result (spec.listed_of (map view values.now) (readings values.now)) }
+{
+    if values.is_empty() {
+        return Err(ReadFault::Shape);
+    }
+    let word = text(&values[0])?;
+    match word {
+        "self" => {
+            if values.len() == 1 {
+                Ok(Expr::Me)
+            } else {
+                Err(ReadFault::Shape)
+            }
+        }
+        "arg" => arg(values),
+        "if" => choice(alloc, values),
+        "send" => send(alloc, values),
+        "super" => super_send(alloc, values),
+        _ => match operator(word) {
+            Some(operator) => binary(alloc, operator, values),
+            None => Ok(Expr::Const(named(word, values)?)),
+        },
+    }
+}
+
+#[cycle(expr)]
+#[tactic(auto, unfolding(crate::specs::ExprShape::binary_of))]
+fn binary(alloc: Global, operator: Operator, values: &[Value]) -> Result<Expr<'_>, ReadFault>
+    ensures { Gives expr_view result (spec.binary_of operator (readings values.now)) }
+{
+    if values.len() != 3 {
+        return Err(ReadFault::Shape);
+    }
+    let left = expr(alloc, &values[1])?;
+    let right = expr(alloc, &values[2])?;
+    let binary = BinaryExpr {
+        operator,
+        left,
+        right,
+    };
+    Ok(Expr::Binary(Box::new(alloc, binary)?))
+}
+
+#[cycle(expr)]
+#[tactic(auto, unfolding(crate::specs::ExprShape::choice_of))]
+fn choice(alloc: Global, values: &[Value]) -> Result<Expr<'_>, ReadFault>
+    ensures { Gives expr_view result (spec.choice_of (readings values.now)) }
+{
+    if values.len() != 4 {
+        return Err(ReadFault::Shape);
+    }
+    let condition = expr(alloc, &values[1])?;
+    let then = expr(alloc, &values[2])?;
+    let otherwise = expr(alloc, &values[3])?;
+    let choice = IfExpr {
+        condition,
+        then,
+        otherwise,
+    };
+    Ok(Expr::If(Box::new(alloc, choice)?))
+}
+
+#[cycle(expr)]
+#[tactic(auto, unfolding(crate::specs::ExprShape::send_of))]
+fn send(alloc: Global, values: &[Value]) -> Result<Expr<'_>, ReadFault>
+    ensures { Gives expr_view result (spec.send_of (map view values.now) (readings values.now)) }
+{
+    if values.len() < 3 {
+        return Err(ReadFault::Shape);
+    }
+    let receiver = expr(alloc, &values[1])?;
+    let selector = text(&values[2])?;
+    let args = exprs(alloc, values, 3)?;
+    let send = SendExpr {
+        receiver,
+        selector,
+        args,
+    };
+    Ok(Expr::Send(Box::new(alloc, send)?))
+}
+
+#[cycle(expr)]
+#[tactic(auto, unfolding(crate::specs::ExprShape::super_of))]
+fn super_send(alloc: Global, values: &[Value]) -> Result<Expr<'_>, ReadFault>
+    ensures { Gives expr_view result (spec.super_of (map view values.now) (readings values.now)) }
+{
+    if values.len() < 2 {
+        return Err(ReadFault::Shape);
+    }
+    let selector = text(&values[1])?;
+    let args = exprs(alloc, values, 2)?;
+    let send = SuperExpr { selector, args };
+    Ok(Expr::Super(Box::new(alloc, send)?))
+}
+
+/// The expressions from a place on.
+#[cycle(expr)]
+fn exprs(alloc: Global, values: &[Value], from: usize) -> Result<Vec<Expr<'_>>, ReadFault>
+    requires { from ≤ length values.now }
+    ensures { Gives (λ v. map expr_view v.items) result (spec.all_from from (readings values.now)) }
+{
+    let mut exprs = Vec::new(alloc);
+    for value in &values[from..] {
+        exprs.push(expr(alloc, value)?)?;
+    }
+    Ok(exprs)
+}

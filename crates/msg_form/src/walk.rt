@@ -1,0 +1,194 @@
+//! The walk over a document's places of selectors, which numbers them. It looks at each part once,
+//! and copies no text.
+
+ghost use Rattle.std.specs.Prelude.{◌≡◌, List, ◌++◌, IfOk, OnOk};
+ghost use Rattle.std.specs.List.{flat_map};
+ghost use Rattle.msg_form.specs.ExprView.{constant_view, expr_view, exprs_view};
+ghost use Rattle.msg_form.specs.Parts.{own_selector};
+ghost use Rattle.msg_form.specs.Text.{Text, texts_view};
+ghost use Rattle.msg_form.specs.Views.{pairs_view, class_view, category_view, imp_view};
+ghost use Rattle.msg_form.specs.Views.{change_view, item_view, form_view};
+ghost use Rattle.msg_form.specs.Walk as spec;
+
+use crate::form::{Category, Change, Class, Constant, Expr, Form, Imp, Item, Pair};
+use std::alloc::{AllocError, Global};
+
+/// The selector by which an object is asked for a forwarding target.
+pub const FORWARDING: &str = "forwardingTargetForSelector:";
+
+impl<'v> Form<'v> {
+    /// The texts at all places of selectors, in the order in which they are numbered,
+    /// [`FORWARDING`] first.
+    pub fn selector_texts(&self, alloc: Global) -> Result<Vec<&'v str>, AllocError>
+        ensures { IfOk result
+            (λ v. texts_view v.items ≡ spec.selector_texts (form_view self.now)) }
+    {
+        let mut texts = Vec::new(alloc);
+        texts.push(FORWARDING)?;
+        push_all(&self.classes, &mut texts)?;
+        push_all(&self.categories, &mut texts)?;
+        push_all(&self.imps, &mut texts)?;
+        push_all(&self.items, &mut texts)?;
+        Ok(texts)
+    }
+}
+
+/// A part with places of selectors.
+trait HasSelectors<'v> {
+    ghost selectors: { Self → List Text };
+
+    fn push_selectors(&self, texts: &mut Vec<&'v str>) -> Result<(), AllocError>
+        ensures { OnOk result
+            (texts_view texts.new.items ≡ texts_view texts.old.items ++ selectors self.now) };
+}
+
+fn push_all<'v, T: HasSelectors<'v>>(
+    parts: &[T],
+    texts: &mut Vec<&'v str>,
+) -> Result<(), AllocError>
+    ensures { OnOk result
+        (texts_view texts.new.items
+        ≡ texts_view texts.old.items ++ flat_map T.selectors parts.now) }
+{
+    for part in parts {
+        part.push_selectors(texts)?;
+    }
+    Ok(())
+}
+
+fn push_list<'v>(pairs: &[Pair<'v>], texts: &mut Vec<&'v str>) -> Result<(), AllocError>
+    ensures { OnOk result
+        (texts_view texts.new.items
+        ≡ texts_view texts.old.items ++ spec.list_texts (pairs_view pairs.now)) }
+{
+    for pair in pairs {
+        texts.push(pair.selector)?;
+    }
+    Ok(())
+}
+
+impl<'v> HasSelectors<'v> for Class<'v> {
+    ghost selectors = { λ c. spec.class_texts (class_view c) };
+
+    fn push_selectors(&self, texts: &mut Vec<&'v str>) -> Result<(), AllocError> {
+        push_list(&self.methods, texts)?;
+        push_list(&self.class_methods, texts)
+    }
+}
+
+impl<'v> HasSelectors<'v> for Category<'v> {
+    ghost selectors = { λ c. spec.category_texts (category_view c) };
+
+    fn push_selectors(&self, texts: &mut Vec<&'v str>) -> Result<(), AllocError> {
+        push_list(&self.methods, texts)?;
+        push_list(&self.class_methods, texts)
+    }
+}
+
+impl<'v> HasSelectors<'v> for Imp<'v> {
+    ghost selectors = { λ i. spec.imp_texts (imp_view i) };
+
+    fn push_selectors(&self, texts: &mut Vec<&'v str>) -> Result<(), AllocError> {
+        push_expr(&self.body, texts)
+    }
+}
+
+impl<'v> HasSelectors<'v> for Constant<'v> {
+    ghost selectors = { λ c. own_selector (constant_view c) };
+
+    fn push_selectors(&self, texts: &mut Vec<&'v str>) -> Result<(), AllocError> {
+        if let Constant::Selector(text) = self {
+            texts.push(*text)?;
+        }
+        Ok(())
+    }
+}
+
+impl<'v> HasSelectors<'v> for Change<'v> {
+    ghost selectors = { λ c. spec.change_texts (change_view c) };
+
+    fn push_selectors(&self, texts: &mut Vec<&'v str>) -> Result<(), AllocError> {
+        match self {
+            Change::Add { method, .. }
+            | Change::Replace { method, .. }
+            | Change::SetImp { method, .. } => {
+                texts.push(method.selector)?;
+                Ok(())
+            }
+            Change::Exchange { method, other } => {
+                texts.push(method.selector)?;
+                texts.push(other.selector)?;
+                Ok(())
+            }
+            Change::Attach {
+                methods,
+                class_methods,
+                ..
+            } => {
+                push_list(methods, texts)?;
+                push_list(class_methods, texts)
+            }
+        }
+    }
+}
+
+impl<'v> HasSelectors<'v> for Item<'v> {
+    ghost selectors = { λ i. spec.item_texts (item_view i) };
+
+    fn push_selectors(&self, texts: &mut Vec<&'v str>) -> Result<(), AllocError> {
+        match self {
+            Item::Send {
+                receiver,
+                selector,
+                args,
+            } => {
+                receiver.push_selectors(texts)?;
+                texts.push(*selector)?;
+                push_all(args, texts)
+            }
+            Item::Change(change) => change.push_selectors(texts),
+        }
+    }
+}
+
+#[cycle(push_expr)]
+fn push_expr<'v>(expr: &Expr<'v>, texts: &mut Vec<&'v str>) -> Result<(), AllocError>
+    ensures { OnOk result
+        (texts_view texts.new.items
+        ≡ texts_view texts.old.items ++ spec.texts_in (expr_view expr.now)) }
+{
+    match expr {
+        Expr::Const(constant) => constant.push_selectors(texts),
+        Expr::Me | Expr::Arg(_) => Ok(()),
+        Expr::Binary(binary) => {
+            push_expr(&binary.left, texts)?;
+            push_expr(&binary.right, texts)
+        }
+        Expr::If(choice) => {
+            push_expr(&choice.condition, texts)?;
+            push_expr(&choice.then, texts)?;
+            push_expr(&choice.otherwise, texts)
+        }
+        Expr::Send(send) => {
+            push_expr(&send.receiver, texts)?;
+            texts.push(send.selector)?;
+            push_exprs(&send.args, texts)
+        }
+        Expr::Super(send) => {
+            texts.push(send.selector)?;
+            push_exprs(&send.args, texts)
+        }
+    }
+}
+
+#[cycle(push_expr)]
+fn push_exprs<'v>(exprs: &[Expr<'v>], texts: &mut Vec<&'v str>) -> Result<(), AllocError>
+    ensures { OnOk result
+        (texts_view texts.new.items
+        ≡ texts_view texts.old.items ++ spec.all_texts_in (exprs_view exprs.now)) }
+{
+    for expr in exprs {
+        push_expr(expr, texts)?;
+    }
+    Ok(())
+}

@@ -1,0 +1,36 @@
+-- The one answer to bytes: the document that they spell, or what is wrong with them.
+use Rattle.std.specs.Prelude.{◌≡◌, ℕ, List, length, map, Option, Some, None, Result, Ok, Err, IsUtf8, MatchBool, nat_lt}
+use Rattle.serde_json.specs.Data.{Data}
+use Rattle.serde_json.specs.Read as json
+use Rattle.msg_form.specs.Faults.{fault_of}
+use Rattle.msg_form.specs.Form.{Form}
+use Rattle.msg_form.specs.Shape.{form_of}
+use Rattle.msg_form.specs.declared.faults.DocumentFault.{DocumentFault}
+use Rattle.msg_form.specs.declared.faults.DocumentFault.TheVariants.{NotJson, Shape, Limit}
+use Rattle.msg_image.specs.Document.{document_of}
+use Rattle.msg_image.specs.Items.{DocumentParts}
+
+-- the JSON value that bytes are the text of, or none
+abbrev pub IsJson : List ℕ → Option Data → Type 0
+IsJson bytes None = (d : Data) → IsUtf8 bytes → json.read bytes ≡ Some d → ⊥
+IsJson bytes (Some d) = IsUtf8 bytes × (json.read bytes ≡ Some d)
+
+-- a form's document, if it has no fault
+abbrev pub unless : Option DocumentFault → Form → Result DocumentParts DocumentFault
+unless None f = Ok (document_of f)
+unless (Some e) f = Err e
+
+abbrev pub judged : Option Form → Result DocumentParts DocumentFault
+judged None = Err Shape
+judged (Some f) = unless (fault_of f) f
+
+abbrev pub answer : Option Data → Result DocumentParts DocumentFault
+answer None = Err NotJson
+answer (Some d) = judged (form_of d)
+
+abbrev pub most_bytes : ℕ
+most_bytes = 16777216
+
+-- a text of more than 16,777,216 bytes is too long, whatever it says
+abbrev pub IsAnswer : List ℕ → Result DocumentParts DocumentFault → Type 0
+IsAnswer bytes r = MatchBool (nat_lt most_bytes (length bytes)) (r ≡ Err Limit) ((o : Option Data) × IsJson bytes o × (r ≡ answer o))

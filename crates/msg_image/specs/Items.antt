@@ -1,0 +1,15 @@
+-- Items and documents, with no pointers.
+use Rattle.std.specs.Prelude.{ℕ, List}
+use Rattle.msg_names.specs.declared.value.Selector.{Selector}
+use Rattle.msg_names.specs.declared.value.Value.{Value}
+use Rattle.msg_image.specs.declared.change.Change.{Change}
+use Rattle.msg_image.specs.Parts.{ImageParts}
+
+pub data ItemParts : Type 0 where
+  -- receiver, selector, arguments
+  SendItem : Value → Selector → List Value → ItemParts
+  ChangeItem : Change → ItemParts
+
+pub record DocumentParts : Type 0 where
+  pub image : ImageParts
+  pub items : List ItemParts

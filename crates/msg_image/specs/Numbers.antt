@@ -1,0 +1,34 @@
+-- The numbers that a document's names get, and what the names stand for.
+use Rattle.std.specs.Prelude.{ℕ, ◌-◌, List, unwrap_or}
+use Rattle.msg_names.specs.Number.{selector_of, imp_of}
+use Rattle.msg_names.specs.Numbering.{number_of}
+use Rattle.msg_names.specs.declared.value.ImpRef.{ImpRef}
+use Rattle.msg_names.specs.declared.value.ObjectRef.{ObjectRef}
+use Rattle.msg_names.specs.declared.value.Selector.{Selector}
+use Rattle.msg_form.specs.Form.{Form}
+use Rattle.msg_form.specs.Lists.{class_names, object_names, imp_names}
+use Rattle.msg_form.specs.Text.{Text, distinct}
+use Rattle.msg_form.specs.Walk.{selector_texts}
+use Rattle.msg_image.specs.declared.numbers.Numbers.{Numbers}
+
+-- Selectors are numbered as the walk meets them. Where no two classes, objects or implementations have one name, they are numbered as they are listed.
+abbrev pub numbers_of : Form → Numbers
+numbers_of f = record {
+  selectors = distinct (selector_texts f);
+  classes = distinct (class_names f);
+  objects = distinct (object_names f);
+  imps = distinct (imp_names f);
+}
+
+-- A name that is none of the names would stand for the first, or for forwarding; a document without fault has no such name.
+unfoldable pub selector_named : Numbers → Text → Selector
+selector_named n text = selector_of (unwrap_or (number_of n.selectors text) 1)
+
+unfoldable pub class_named : Numbers → Text → ℕ
+class_named n name = unwrap_or (number_of n.classes name) 1 - 1
+
+unfoldable pub object_named : Numbers → Text → ObjectRef
+object_named n name = record { object = unwrap_or (number_of n.objects name) 1 - 1 }
+
+unfoldable pub imp_named : Numbers → Text → ImpRef
+imp_named n name = imp_of (unwrap_or (number_of n.imps name) 0)

@@ -1,0 +1,90 @@
+//! Documents.
+
+ghost use Rattle.std.specs.Prelude.{◌≡◌, ◌≢◌, ℕ, List, map, All, Result, Some, None, Ok, Err, IfOk, IfErr};
+ghost use Rattle.serde_json.specs.View.{view};
+ghost use Rattle.msg_form.specs.Faults.{fault_of};
+ghost use Rattle.msg_form.specs.Form.{Form};
+ghost use Rattle.msg_form.specs.Shape.{form_of};
+ghost use Rattle.msg_form.specs.Views.{form_view};
+ghost use Rattle.msg_form.specs.declared.faults.DocumentFault.{DocumentFault};
+ghost use Rattle.msg_image.specs.Answer.{IsAnswer, IsJson, judged};
+ghost use Rattle.msg_image.specs.Document.{document_of};
+ghost use Rattle.msg_image.specs.DocumentParts.{document_parts};
+ghost use Rattle.msg_image.specs.Items.{DocumentParts};
+ghost use Rattle.msg_image.specs.Plain.{item_parts};
+ghost use Rattle.msg_image.specs.Sound.{IsSoundItem};
+
+use crate::change::Item;
+use crate::image::Image;
+use crate::numbers::Numbers;
+use crate::resolve::each;
+use msg_form::{DocumentFault, Form};
+use serde_json::Value;
+use std::alloc::{AllocError, Global};
+
+/// The longest document, in bytes.
+pub const MOST_BYTES: usize = 16777216;
+
+/// An image, and what is to be sent and changed.
+#[derive(Drop)]
+pub struct Document {
+    pub image: Image,
+    pub items: Vec<Item>,
+}
+
+fn parsed(alloc: Global, bytes: &[u8]) -> Result<Value, DocumentFault>
+    ensures ok { IfOk result (λ v. IsJson bytes.now (Some (view v))) }
+    ensures err { IfErr result (λ e. e ≢ DocumentFault.Memory → (e ≡ DocumentFault.NotJson) × IsJson bytes.now None) }
+{
+    match Value::from_slice(alloc, bytes) {
+        Ok(value) => Ok(value),
+        Err(e) if e.is_memory() => Err(DocumentFault::Memory),
+        Err(_) => Err(DocumentFault::NotJson),
+    }
+}
+
+// The document of a form without fault.
+fn numbered(alloc: Global, form: &Form) -> Result<Document, AllocError>
+    requires { fault_of (form_view form.now) ≡ None }
+    ensures document { IfOk result (λ d. document_parts d ≡ document_of (form_view form.now)) }
+    ensures sound { IfOk result (λ d. All (IsSoundItem d.image) (map item_parts d.items.items)) }
+{
+    let numbers = Numbers::of(alloc, form)?;
+    let items = each(alloc, &numbers, &form.items)?;
+    let image = Image::of(alloc, form, numbers)?;
+    Ok(Document { image, items })
+}
+
+fn judged(alloc: Global, value: &Value) -> Result<Document, DocumentFault>
+    ensures ok { IfOk result (λ d. judged (form_of (view value.now)) ≡ Ok (document_parts d)) }
+    ensures err { IfErr result (λ e. e ≢ DocumentFault.Memory → judged (form_of (view value.now)) ≡ Err e) }
+    ensures sound { IfOk result (λ d. All (IsSoundItem d.image) (map item_parts d.items.items)) }
+{
+    let form = Form::read(alloc, value)?;
+    match msg_form::fault(alloc, &form)? {
+        Some(fault) => Err(fault),
+        None => Ok(numbered(alloc, &form)?),
+    }
+}
+
+/// Reads a document: the image and the items that the bytes spell, or the first fault in the order of [`DocumentFault`].
+///
+/// Takes time and memory in the order of the bytes. A text that is too long isn't looked at. `Memory` may be answered wherever a growth
+/// is refused; every other fault says of the bytes what its name says.
+pub fn read_document(alloc: Global, bytes: &[u8]) -> Result<Document, DocumentFault>
+    ensures ok { IfOk result (λ d. IsAnswer bytes.now (Ok (document_parts d))) }
+    ensures err { IfErr result (λ e. e ≢ DocumentFault.Memory → IsAnswer bytes.now (Err e)) }
+    ensures sound { IfOk result (λ d. All (IsSoundItem d.image) (map item_parts d.items.items)) }
+{
+    if bytes.len() > MOST_BYTES {
+        return Err(DocumentFault::Limit);
+    }
+    let value = parsed(alloc, bytes)?;
+    judged(alloc, &value)
+}
+
+/// Bytes have one answer.
+#[tactic(auto, using(crate::proofs::AnswerLemmas::one))]
+pub fn one_answer()
+    ensures { (bytes : List ℕ) (r s : Result DocumentParts DocumentFault) → IsAnswer bytes r → IsAnswer bytes s → r ≡ s }
+{}
