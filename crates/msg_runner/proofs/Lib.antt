@@ -1,3 +1,4 @@
 pub mod ByteLemmas
 pub mod DecimalLemmas
 pub mod WordLemmas
+pub mod SerialLemmas

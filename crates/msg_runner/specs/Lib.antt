@@ -1,5 +1,9 @@
 pub mod CommandLine
+pub mod Complaint
 pub mod Decimal
 pub mod Device
+pub mod Outcome
 pub mod Reading
+pub mod Serial
+pub mod Text
 pub mod Writing

@@ -1,20 +1,28 @@
-//! What the program `msgrun` does: its devices, its command line and its text.
+//! What the program `msgrun` does: its devices, its command line, and the run from bytes to bytes.
 #![tactic(auto)]
 
+mod answers;
 mod command_line;
+mod complaint;
 mod decimal;
 mod device;
+mod fault;
 mod from_reader;
 mod gate;
 pub mod laws;
 mod reading;
+mod running;
+mod text;
 mod to_writer;
 mod writing;
 
 pub use command_line::arguments;
+pub use complaint::complain;
 pub use device::{Failed, Sink, Source};
+pub use fault::RunFault;
 pub use from_reader::FromReader;
 pub use gate::{Gate, OpenGate};
 pub use reading::{MAX_BYTES, ReadFault, read_whole};
+pub use running::{MAX_WORKERS, run};
 pub use to_writer::ToWriter;
 pub use writing::write_whole;

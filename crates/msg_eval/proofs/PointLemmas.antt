@@ -1,0 +1,118 @@
+-- Points, plain replies and lists of answers.
+use Rattle.std.proofs.Common.{◌≡◌, ◌≤◌, ◌+◌, ℕ, zero, suc, List, [], ◌∷◌, ◌++◌, length, take, Some, slice_get, refl, sym, ap, ◌∙◌, subst, arith, length-append}
+use Rattle.msg_names.specs.declared.value.ClassRef.{ClassRef}
+use Rattle.msg_tables.specs.History.{History, lookup, BeginsWith}
+use Rattle.msg_image.specs.declared.change.Change.{Change}
+use Rattle.msg_image.specs.Parts.{ImageParts}
+use Rattle.msg_eval.specs.declared.reply.Reply.{Reply}
+use Rattle.msg_eval.specs.Meaning.{Meaning, Ends, Asks}
+use Rattle.msg_eval.specs.Points.{Rise, last_of, EndsAt, RepliesFrom, plain_reply, AllAre, HasOneReply, Ended, Asking, hear, HasAnswersAt}
+use Rattle.msg_eval.specs.Step.{Leads}
+
+-- the points at which a send leads to its reply
+pub points_of : (m : Meaning) (h g : History) (r : Reply) → Leads m h g r → (points : List History) × Rise h points × EndsAt m points r × (g ≡ last_of h points)
+points_of (Ends e) h g r x = ([], tt, x.0, sym x.1)
+points_of (Asks c s go) h g r x =
+    let (points, rise, ends, last) = points_of (go (lookup x.0 c s)) x.0 g r x.2 in
+    (x.0 ∷ points, (x.1, rise), ends, last)
+
+pub replies : (stands : History → Type 0) (m : Meaning) (h g : History) (r : Reply) → Leads m h g r → stands g → RepliesFrom stands h m r
+replies stands m h g r leads there =
+    let (points, rise, ends, last) = points_of m h g r leads in
+    record { points = points; rise = rise; ends = ends; there = subst stands last there }
+
+plain_exists : (h : History) (m : Meaning) → (points : List History) × AllAre h points × EndsAt m points (plain_reply h m)
+plain_exists h (Ends e) = ([], tt, refl)
+plain_exists h (Asks c s go) =
+    let (points, all, ends) = plain_exists h (go (lookup h c s)) in
+    (h ∷ points, (refl, all), ends)
+
+pub plain_only : (h : History) (m : Meaning) (points : List History) (r : Reply) → AllAre h points → EndsAt m points r → r ≡ plain_reply h m
+plain_only h (Ends e) [] r all ends = sym ends
+plain_only h (Ends e) (p ∷ ps) r all ends = absurd ends
+plain_only h (Asks c s go) [] r all ends = absurd ends
+plain_only h (Asks c s go) (p ∷ ps) r all ends =
+    plain_only h (go (lookup h c s)) ps r all.1 (subst (λ q. EndsAt (go (lookup q c s)) ps r) all.0 ends)
+
+pub one_reply : (h : History) (m : Meaning) → HasOneReply h m
+one_reply h m = record { exists = plain_exists h m; only = plain_only h m }
+
+-- ---- points that rise no further
+
+-- no change of the longer one is more
+no_more : (p h : History) (more : List Change) → p.image ≡ h.image → p.changes ≡ h.changes ++ more → length p.changes ≤ length h.changes → p ≡ h
+no_more p h [] same rest le =
+    let is : p.changes ≡ h.changes = rest ∙ append-nil h.changes in
+    ap (λ (i : ImageParts). (let x : History = record { image = i; changes = p.changes } in x)) same ∙ ap (λ (xs : List Change). (let x : History = record { image = h.image; changes = xs } in x)) is
+  where
+    append-nil : (xs : List Change) → xs ++ [] ≡ xs
+    append-nil [] = refl
+    append-nil (x ∷ xs) = ap (λ ys. x ∷ ys) (append-nil xs)
+no_more p h (x ∷ more) same rest le =
+    let n : length p.changes ≡ length (h.changes ++ x ∷ more) = ap length rest in
+    let k : length (h.changes ++ x ∷ more) ≡ length h.changes + suc (length more) = length-append h.changes (x ∷ more) in
+    absurd (omega (arith, n, k, le))
+
+no_shorter : (p h : History) → BeginsWith p h → length h.changes ≤ length p.changes
+no_shorter p h b =
+    let n : length p.changes ≡ length (h.changes ++ b.rest.0) = ap length b.rest.1 in
+    let k : length (h.changes ++ b.rest.0) ≡ length h.changes + length b.rest.0 = length-append h.changes b.rest.0 in
+    omega (arith, n, k)
+
+last_no_shorter : (h : History) (points : List History) → Rise h points → length h.changes ≤ length (last_of h points).changes
+last_no_shorter h [] rise = omega arith
+last_no_shorter h (p ∷ ps) rise = let a = no_shorter p h rise.0 in let b = last_no_shorter p ps rise.1 in omega (arith, a, b)
+
+-- where the last point is no longer than the first history, each point is that history
+pub all_one : (h : History) (points : List History) → Rise h points → length (last_of h points).changes ≤ length h.changes → AllAre h points
+all_one h [] rise le = tt
+all_one h (p ∷ ps) rise le =
+    let up = last_no_shorter p ps rise.1 in
+    let is : p ≡ h = no_more p h rise.0.rest.0 rise.0.same rise.0.rest.1 (omega (arith, up, le)) in
+    (is, subst (λ q. AllAre q ps) is (all_one p ps rise.1 (let n = no_shorter p h rise.0 in omega (arith, n, le))))
+
+-- ---- lists of answers
+
+pub to_answers : (m : Meaning) (k : ℕ) (points : List History) (r : Reply) → EndsAt m points r → HasAnswersAt m k points r
+to_answers (Ends e) k [] r ends = record {
+  answers = [];
+  as_many = refl;
+  each = λ j p i a b. cc;
+  ended = let n : k ≡ k + 0 = omega arith in ap (λ x. Ended x k) ends ∙ ap (λ m. Ended r m) n;
+}
+to_answers (Ends e) k (p ∷ ps) r ends = absurd ends
+to_answers (Asks c s go) k [] r ends = absurd ends
+to_answers (Asks c s go) k (p ∷ ps) r ends =
+    let rest = to_answers (go (lookup p c s)) (suc k) ps r ends in
+    record {
+      answers = lookup p c s ∷ rest.answers;
+      as_many = ap suc rest.as_many;
+      each = each rest;
+      ended = let n : suc k + length rest.answers ≡ k + suc (length rest.answers) = omega arith in rest.ended ∙ ap (λ m. Ended r m) n;
+    }
+  where
+    each : (rest : HasAnswersAt (go (lookup p c s)) (suc k) ps r) (j : ℕ) (q : History) (i : ℕ) → slice_get (p ∷ ps) j ≡ Some q → slice_get (lookup p c s ∷ rest.answers) j ≡ Some i → (d : ClassRef) × (u : ℕ) × (hear (Asks c s go) (take j (lookup p c s ∷ rest.answers)) k ≡ Asking d u) × (i ≡ lookup q d u)
+    each rest zero q i a b =
+        let same : p ≡ q = cc in
+        let is : lookup p c s ≡ i = cc in
+        (c, s, refl, sym is ∙ ap (λ z. lookup z c s) same)
+    each rest (suc j) q i a b = rest.each j q i a b
+
+from_answers : (m : Meaning) (k : ℕ) (points : List History) (r : Reply) (answers : List ℕ) → length answers ≡ length points → ((j : ℕ) (p : History) (i : ℕ) → slice_get points j ≡ Some p → slice_get answers j ≡ Some i → (c : ClassRef) × (s : ℕ) × (hear m (take j answers) k ≡ Asking c s) × (i ≡ lookup p c s)) → (n : ℕ) → hear m answers k ≡ Ended r n → n ≡ k + length answers → EndsAt m points r
+from_answers (Ends e) k [] r [] many each n ended all = cc
+from_answers (Ends e) k [] r (i ∷ is) many each n ended all = absurd (omega (arith, many))
+from_answers (Ends e) k (p ∷ ps) r answers many each n ended all =
+    let same : k ≡ n = cc in absurd (omega (arith, many, same, all))
+from_answers (Asks c s go) k [] r [] many each n ended all = cc
+from_answers (Asks c s go) k [] r (i ∷ is) many each n ended all = absurd (omega (arith, many))
+from_answers (Asks c s go) k (p ∷ ps) r [] many each n ended all = absurd (omega (arith, many))
+from_answers (Asks c s go) k (p ∷ ps) r (i ∷ is) many each n ended all =
+    let (d, u, asked, is_lookup) = each zero p i refl refl in
+    let same_d : c ≡ d = cc in
+    let same_u : s ≡ u = cc in
+    let answer : i ≡ lookup p c s = is_lookup ∙ ap (λ z. lookup p z u) (sym same_d) ∙ ap (λ z. lookup p c z) (sym same_u) in
+    subst (λ z. EndsAt (go z) ps r) answer
+    (from_answers (go i) (suc k) ps r is (omega (arith, many)) (λ j q v a b. each (suc j) q v a b) n ended (omega (arith, all)))
+
+pub of_answers : (m : Meaning) (k : ℕ) (points : List History) (r : Reply) → HasAnswersAt m k points r → EndsAt m points r
+of_answers m k points r x = from_answers m k points r x.answers x.as_many x.each (k + length x.answers) x.ended refl

@@ -1,0 +1,9 @@
+use Rattle.std.proofs.Common.{◌≡◌, length, sym, ◌∙◌, arith}
+use Rattle.msg_eval.specs.Points.{last_of}
+use Rattle.msg_eval.proofs.PointLemmas.{plain_only, all_one}
+use Rattle.msg_eval.proofs.laws.tables_reply_plainly.Goals as goal
+
+pub returns : goal.returns
+returns c = λ tables h send reply stands from.
+    let same : length (last_of h from.points).changes ≡ length h.changes = sym from.there.changes ∙ stands.changes in
+    plain_only h send from.points reply (all_one h from.points from.rise (omega (arith, same))) from.ends

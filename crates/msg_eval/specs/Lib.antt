@@ -1,0 +1,12 @@
+pub mod Argument
+pub mod Evaluation
+pub mod Facts
+pub mod Finder
+pub mod Frame
+pub mod Meaning
+pub mod Message
+pub mod Operation
+pub mod Points
+pub mod Receiver
+pub mod Scope
+pub mod Step

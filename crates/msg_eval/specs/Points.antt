@@ -1,0 +1,73 @@
+-- Replies of a send whose lookups answer at points of a history.
+use Rattle.std.specs.Prelude.{◌≡◌, ℕ, suc, ◌+◌, List, [], ◌∷◌, length, Some, slice_get, take}
+use Rattle.msg_names.specs.declared.value.ClassRef.{ClassRef}
+use Rattle.msg_names.specs.declared.value.Selector.{Selector}
+use Rattle.msg_names.specs.declared.value.Value.{Value}
+use Rattle.msg_image.specs.Parts.{ImageParts}
+use Rattle.msg_tables.specs.History.{History, lookup, BeginsWith}
+use Rattle.msg_eval.specs.declared.reply.Reply.{Reply}
+use Rattle.msg_eval.specs.Evaluation.{send_of}
+use Rattle.msg_eval.specs.Meaning.{Meaning, Ends, Asks}
+
+-- points that rise from h: each begins with the one before
+abbrev pub Rise : History → List History → Type 0
+Rise h [] = Unit {0}
+Rise h (p ∷ ps) = BeginsWith p h × Rise p ps
+
+-- the last of the points, or h where there are none
+abbrev pub last_of : History → List History → History
+last_of h [] = h
+last_of h (p ∷ ps) = last_of p ps
+
+-- the send ends with the reply where each of its lookups in turn answers at its point
+abbrev pub EndsAt : Meaning → List History → Reply → Type 0
+EndsAt (Ends r) [] reply = r ≡ reply
+EndsAt (Ends r) (p ∷ ps) reply = ⊥
+EndsAt (Asks c s go) [] reply = ⊥
+EndsAt (Asks c s go) (p ∷ ps) reply = EndsAt (go (lookup p c s)) ps reply
+
+-- the send of a message ends with the reply where its lookups answer at these points
+abbrev pub SendAt : ImageParts → Value → Selector → List Value → List History → Reply → Type 0
+SendAt image receiver s xs points reply = EndsAt (send_of image receiver s xs) points reply
+
+-- There are points that rise from h at which the send ends with the reply, and the finder stands at the last of them, or at h where there are none.
+pub record RepliesFrom (stands : History → Type 0) (h : History) (send : Meaning) (reply : Reply) : Type 0 where
+  pub points : List History
+  pub rise : Rise h points
+  pub ends : EndsAt send points reply
+  pub there : stands (last_of h points)
+
+-- the reply where every lookup answers at h
+abbrev pub plain_reply : History → Meaning → Reply
+plain_reply h (Ends r) = r
+plain_reply h (Asks c s go) = plain_reply h (go (lookup h c s))
+
+-- each point is h
+abbrev pub AllAre : History → List History → Type 0
+AllAre h [] = Unit {0}
+AllAre h (p ∷ ps) = (p ≡ h) × AllAre h ps
+
+-- with every point h there is one reply and no other
+pub record HasOneReply (h : History) (send : Meaning) : Type 0 where
+  pub exists : (points : List History) × AllAre h points × EndsAt send points (plain_reply h send)
+  pub only : (points : List History) (reply : Reply) → AllAre h points → EndsAt send points reply → reply ≡ plain_reply h send
+
+-- ---- the same with lists of answers
+
+-- What the answers of a list come to: the reply and how many were used, or the question that comes next.
+pub data Heard : Type 0 where
+  Ended : Reply → (used : ℕ) → Heard
+  Asking : ClassRef → ℕ → Heard
+
+-- a send with the answers of a list, after those that were used
+abbrev pub hear : Meaning → List ℕ → ℕ → Heard
+hear (Ends r) answers used = Ended r used
+hear (Asks c s go) [] used = Asking c s
+hear (Asks c s go) (i ∷ is) used = hear (go i) is (suc used)
+
+-- There are answers, as many as points: each is the lookup at its point of what is asked after the answers before it, and with all of them the send ends with the reply.
+pub record HasAnswersAt (send : Meaning) (used : ℕ) (points : List History) (reply : Reply) : Type 0 where
+  pub answers : List ℕ
+  pub as_many : length answers ≡ length points
+  pub each : (j : ℕ) (p : History) (i : ℕ) → slice_get points j ≡ Some p → slice_get answers j ≡ Some i → (c : ClassRef) × (s : ℕ) × (hear send (take j answers) used ≡ Asking c s) × (i ≡ lookup p c s)
+  pub ended : hear send answers used ≡ Ended reply (used + length answers)

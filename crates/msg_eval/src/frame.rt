@@ -1,0 +1,51 @@
+//! What a body sees, and a message on its way to one.
+
+ghost use Rattle.std.specs.Prelude.{◌≡◌, ◌<◌, ℕ, All, length};
+ghost use Rattle.msg_image.specs.Parts.{ImageParts};
+ghost use Rattle.msg_image.specs.Sound.{IsOf};
+ghost use Rattle.msg_eval.specs.Facts.{of_image, all_of_image};
+
+use arrayvec::ArrayVec;
+use msg_image::Image;
+use msg_names::{ClassRef, Selector, Value};
+
+/// The arguments of a send.
+pub type Args = ArrayVec<Value, 4>;
+
+// What a body sees, and how many more bodies may be active in it.
+#[derive(Drop)]
+pub(crate) struct Frame<'a> {
+    pub(crate) image: &'a Image,
+    pub(crate) me: Value,
+    pub(crate) args: &'a Args,
+    pub(crate) home: ClassRef,
+    pub(crate) depth: u32,
+    ghost me_of: { IsOf image.now me } by { of_image image.now me },
+    ghost args_of: { All (IsOf image.now) args.now.items } by { all_of_image image.now args.now.items },
+    ghost home_of: { home.class < length image.now.classes },
+}
+
+// The selector and the arguments, and how many more bodies may be active.
+#[derive(Drop)]
+pub(crate) struct Message<'a> {
+    pub(crate) image: &'a Image,
+    pub(crate) sel: Selector,
+    pub(crate) args: &'a Args,
+    pub(crate) depth: u32,
+    ghost args_of: { All (IsOf image.now) args.now.items } by { all_of_image image.now args.now.items },
+}
+
+impl Frame<'_> {
+    ghost use Rattle.msg_eval.specs.Argument.{argument};
+
+    // An argument, from 0.
+    pub(crate) fn argument(&self, place: u8) -> Value
+        ensures value { result ≡ argument self.now.args.now.items place }
+        ensures listed { IsOf self.now.image.now result }
+    {
+        match self.args.as_slice().get(usize::from(place)) {
+            Some(value) => *value,
+            None => Value::Nil,
+        }
+    }
+}

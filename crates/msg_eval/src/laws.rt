@@ -1,0 +1,40 @@
+//! Laws of the meaning of sends, over every history.
+
+ghost use Rattle.std.specs.Prelude.{◌≡◌, ◌≤◌, ◌↔◌, ℕ, List, length};
+ghost use Rattle.msg_names.specs.declared.value.Selector.{Selector};
+ghost use Rattle.msg_names.specs.declared.value.Value.{Value};
+ghost use Rattle.msg_image.specs.Parts.{ImageParts};
+ghost use Rattle.msg_tables.specs.History.{History};
+ghost use Rattle.msg_tables.specs.Stands.{StandsAt};
+ghost use Rattle.msg_tables.specs.View.{TablesView};
+ghost use Rattle.msg_eval.specs.Finder.{sizes_of, table_sizes};
+ghost use Rattle.msg_eval.specs.Meaning.{Meaning};
+ghost use Rattle.msg_eval.specs.Points.{EndsAt, SendAt, RepliesFrom, HasOneReply, HasAnswersAt, plain_reply};
+ghost use Rattle.msg_eval.specs.declared.reply.Reply.{Reply};
+
+/// With every lookup at one history a send has one reply and no other.
+pub fn one_history_is_one_reply()
+    ensures { (h : History) (send : Meaning) → HasOneReply h send }
+{}
+
+/// A send makes at most 10,000 lookups.
+pub fn points_are_few()
+    ensures { (image : ImageParts) (receiver : Value) (sel : Selector) (args : List Value) (points : List History) (reply : Reply)
+        → SendAt image receiver sel args points reply → length points ≤ 10000 }
+{}
+
+/// A send ends at its points where it has a list of answers, each of them the lookup at its point.
+pub fn points_have_answers()
+    ensures { (send : Meaning) (points : List History) (reply : Reply) → (EndsAt send points reply) ↔ (HasAnswersAt send 0 points reply) }
+{}
+
+/// Tables that stay where they stand give the plain reply at their history.
+pub fn tables_reply_plainly()
+    ensures { (tables : TablesView) (h : History) (send : Meaning) (reply : Reply)
+        → StandsAt tables h → RepliesFrom (StandsAt tables) h send reply → reply ≡ plain_reply h send }
+{}
+
+/// Tables have the sizes of the image of the history at which they stand.
+pub fn tables_are_of_their_image()
+    ensures { (tables : TablesView) (h : History) → StandsAt tables h → table_sizes tables ≡ sizes_of h.image }
+{}

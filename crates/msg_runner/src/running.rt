@@ -1,0 +1,65 @@
+//! From bytes to bytes.
+
+ghost use Rattle.std.specs.Prelude.{◌≡◌, ◌≢◌, ◌<◌, ◌≤◌, ◌↔◌, ◌⊎◌, All, map, false, true, Ok, Err, IfOk, IfErr, IfSome, OnOk};
+ghost use Rattle.msg_form.specs.declared.faults.DocumentFault.{DocumentFault};
+ghost use Rattle.msg_image.specs.Answer.{IsAnswer};
+ghost use Rattle.msg_image.specs.DocumentParts.{document_parts};
+ghost use Rattle.msg_image.specs.Plain.{item_parts};
+ghost use Rattle.msg_image.specs.Sound.{IsSoundItem};
+ghost use Rattle.msg_runner.specs.Device.{Marks};
+ghost use Rattle.msg_runner.specs.Outcome.{Wrote, WroteFront, Leaves};
+
+use crate::answers::answers;
+use crate::device::{Sink, Source};
+use crate::fault::RunFault;
+use crate::gate::Gate;
+use crate::reading::read_whole;
+use crate::writing::write_whole;
+use msg_image::{Document, read_document};
+use std::alloc::Global;
+
+/// The most workers of a run.
+pub const MAX_WORKERS: u32 = 64;
+
+// The document that a source gives. The bytes and the JSON value are dropped when it is there.
+fn document<R: Source>(alloc: Global, source: &mut R) -> Result<Document, RunFault>
+    requires { R.mark source.old ≡ false }
+    ensures ok { IfOk result (λ d. IfSome (R.remaining source.old) (λ bytes. IsAnswer bytes (Ok (document_parts d)))) }
+    ensures sound { IfOk result (λ d. All (IsSoundItem d.image) (map item_parts d.items.items)) }
+    ensures fault { (f : DocumentFault) → result ≡ Err (RunFault.Document f) → IfSome (R.remaining source.old) (λ bytes. IsAnswer bytes (Err f)) }
+    ensures read { result ≡ Err RunFault.Read → R.mark source.new ≡ true }
+    ensures others { (result ≢ Err RunFault.Write) × (result ≢ Err RunFault.Workers) × (result ≢ Err RunFault.Cut) }
+{
+    let bytes = read_whole(alloc, source)?;
+    Ok(read_document(alloc, &bytes)?)
+}
+
+/// Reads a document, answers its items in their order, and writes a line for each answer.
+///
+/// The lines are those of one thread that takes the items one by one and searches the method lists, for every number of workers and every cut. The text is
+/// whole before its first byte is written.
+pub fn run<R: Source, W: Sink, G: Gate>(alloc: Global, source: &mut R, sink: &mut W, workers: u32, cut: u32, _gate: &G) -> Result<(), RunFault>
+    requires unread { R.mark source.old ≡ false }
+    requires unwritten { W.mark sink.old ≡ false }
+    ensures whole { OnOk result (IfSome (R.remaining source.old) (Wrote (W.contents sink.old) (W.contents sink.new))) }
+    ensures front { result ≡ Err RunFault.Write → IfSome (R.remaining source.old) (WroteFront (W.contents sink.old) (W.contents sink.new)) }
+    ensures nothing { Leaves (W.contents sink.old) (W.contents sink.new) result }
+    ensures workers { (result ≡ Err RunFault.Workers) ↔ ((workers ≡ 0) ⊎ (64 < workers)) }
+    ensures cut { (result ≡ Err RunFault.Cut) ↔ ((cut ≡ 0) × (0 < workers) × (workers ≤ 64)) }
+    ensures document { (f : DocumentFault) → result ≡ Err (RunFault.Document f) → IfSome (R.remaining source.old) (λ bytes. IsAnswer bytes (Err f)) }
+    ensures read { result ≡ Err RunFault.Read → R.mark source.new ≡ true }
+    ensures write { result ≡ Err RunFault.Write → W.mark sink.new ≡ true }
+{
+    if workers == 0 || workers > MAX_WORKERS {
+        return Err(RunFault::Workers);
+    }
+    if cut == 0 {
+        return Err(RunFault::Cut);
+    }
+    let document = document(alloc, source)?;
+    let text = answers(alloc, &document)?;
+    match write_whole(sink, &text) {
+        Ok(()) => Ok(()),
+        Err(_) => Err(RunFault::Write),
+    }
+}
