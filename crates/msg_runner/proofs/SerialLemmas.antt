@@ -40,9 +40,9 @@ step d old new text more item left so_far made = record {
   stands = made.1;
   image = image_after so_far.history item ∙ so_far.image;
   whole =
-    let line = line_of d.image (answer_at so_far.history item) in
-    let rest = text_of d.image (serial_from (history_after so_far.history item) left) in
-    ap (λ t. t ++ rest) made.0 ∙ append_assoc text line rest ∙ so_far.whole;
+      let line = line_of d.image (answer_at so_far.history item) in
+      let rest = text_of d.image (serial_from (history_after so_far.history item) left) in
+      ap (λ t. t ++ rest) made.0 ∙ append_assoc text line rest ∙ so_far.whole;
 }
 
 -- the item at a place is the first of those left

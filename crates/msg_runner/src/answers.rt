@@ -19,7 +19,14 @@ use msg_names::{Selector, Value};
 use msg_tables::{ChangeFault, Tables};
 use std::alloc::{AllocError, Global};
 
-fn push_sent(text: &mut Vec<u8>, image: &Image, tables: &Tables, receiver: Value, sel: Selector, args: &Args) -> Result<(), AllocError>
+fn push_sent(
+    text: &mut Vec<u8>,
+    image: &Image,
+    tables: &Tables,
+    receiver: Value,
+    sel: Selector,
+    args: &Args,
+) -> Result<(), AllocError>
     requires sizes { table_sizes tables.now ≡ sizes_of image.now }
     requires receiver { IsOf image.now receiver }
     requires args { All (IsOf image.now) args.now.items }
@@ -32,7 +39,12 @@ fn push_sent(text: &mut Vec<u8>, image: &Image, tables: &Tables, receiver: Value
     push_reply(text, image, reply)
 }
 
-fn push_changed(text: &mut Vec<u8>, image: &Image, tables: &mut Tables, change: &Change) -> Result<(), AllocError>
+fn push_changed(
+    text: &mut Vec<u8>,
+    image: &Image,
+    tables: &mut Tables,
+    change: &Change,
+) -> Result<(), AllocError>
     ensures { (h : History) → StandsAt tables.old h → OnOk result
         ((text.new.items ≡ text.old.items ++ line_of image.now (answer_at h (ChangeItem change.now))) × StandsAt tables.new (history_after h (ChangeItem change.now))) }
 {
@@ -43,14 +55,23 @@ fn push_changed(text: &mut Vec<u8>, image: &Image, tables: &mut Tables, change: 
     }
 }
 
-fn push_answer(text: &mut Vec<u8>, image: &Image, tables: &mut Tables, item: &Item) -> Result<(), AllocError>
+fn push_answer(
+    text: &mut Vec<u8>,
+    image: &Image,
+    tables: &mut Tables,
+    item: &Item,
+) -> Result<(), AllocError>
     requires sizes { table_sizes tables.old ≡ sizes_of image.now }
     requires item { IsSoundItem image.now (item_parts item.now) }
     ensures { (h : History) → StandsAt tables.old h → h.image ≡ image.now → OnOk result
         ((text.new.items ≡ text.old.items ++ line_of image.now (answer_at h (item_parts item.now))) × StandsAt tables.new (history_after h (item_parts item.now))) }
 {
     match item {
-        Item::Send { receiver, sel, args } => push_sent(text, image, tables, *receiver, *sel, args),
+        Item::Send {
+            receiver,
+            sel,
+            args,
+        } => push_sent(text, image, tables, *receiver, *sel, args),
         Item::Change(change) => push_changed(text, image, tables, change),
     }
 }

@@ -1,6 +1,6 @@
 //! What is said of a fault.
 
-ghost use Rattle.std.specs.Prelude.{◌≡◌, ◌⊎◌, option_map};
+ghost use Rattle.std.specs.Prelude.{◌≡◌, ◌⊎◌, false, option_map};
 ghost use Rattle.std.specs.Io.KnownBytes.{Appends};
 ghost use Rattle.msg_runner.specs.Complaint as spec;
 ghost use Rattle.msg_runner.specs.Writing.{AppendsFront};
@@ -62,7 +62,8 @@ fn status(fault: Option<&RunFault>) -> u8
 /// It takes no memory. A failed write ends the line and leaves the status.
 pub fn complain<W: Sink>(sink: &mut W, fault: Option<&RunFault>) -> u8
     ensures status { result ≡ spec.status_of (option_map (λ f. f.now) fault.entry) }
-    ensures line { Appends (W.contents sink.old) (W.contents sink.new) (spec.line_of (option_map (λ f. f.now) fault.entry))
+    ensures line { W.mark sink.new ≡ false → Appends (W.contents sink.old) (W.contents sink.new) (spec.line_of (option_map (λ f. f.now) fault.entry)) }
+    ensures front { Appends (W.contents sink.old) (W.contents sink.new) (spec.line_of (option_map (λ f. f.now) fault.entry))
         ⊎ AppendsFront (W.contents sink.old) (W.contents sink.new) (spec.line_of (option_map (λ f. f.now) fault.entry)) }
 {
     match write_whole(sink, line(fault).as_bytes()) {

@@ -38,7 +38,14 @@ fn document<R: Source>(alloc: Global, source: &mut R) -> Result<Document, RunFau
 ///
 /// The lines are those of one thread that takes the items one by one and searches the method lists, for every number of workers and every cut. The text is
 /// whole before its first byte is written.
-pub fn run<R: Source, W: Sink, G: Gate>(alloc: Global, source: &mut R, sink: &mut W, workers: u32, cut: u32, _gate: &G) -> Result<(), RunFault>
+pub fn run<R: Source, W: Sink, G: Gate>(
+    alloc: Global,
+    source: &mut R,
+    sink: &mut W,
+    workers: u32,
+    cut: u32,
+    _gate: &G,
+) -> Result<(), RunFault>
     requires unread { R.mark source.old ≡ false }
     requires unwritten { W.mark sink.old ≡ false }
     ensures whole { OnOk result (IfSome (R.remaining source.old) (Wrote (W.contents sink.old) (W.contents sink.new))) }

@@ -19,16 +19,17 @@ push_answer-requires-clause-sizes c =
 pub push_answer-requires-clause-item : goal.push_answer-requires-clause-item
 push_answer-requires-clause-item c =
     item_at (IsSoundItem c.args.document.now.image) c.deref-item-items.result.now c.loop-item.item-index c.item-item.result c.loop-item-test.true c.item-item.is
-      (rw c.deref-item-items.ensures.value c.requires)
+    (rw c.deref-item-items.ensures.value c.requires)
 
 pub loop-item-preserved : goal.loop-item-preserved
 loop-item-preserved c =
     let d = document_parts c.args.document.now in
     let left = left_at c.deref-item-items.result.now c.loop-item.item-index c.item-item.result c.loop-item-test.true c.item-item.is in
-    let so_far : IsSoFar d c.loop-item.tables c.loop-item.text.items (item_parts c.item-item.result ∷ map item_parts (drop (c.loop-item.item-index + 1) c.deref-item-items.result.now)) = subst (IsSoFar d c.loop-item.tables c.loop-item.text.items) left c.loop-item.invariant.1 in
-    (c.loop-item.invariant.0,
+    let so_far : IsSoFar d c.loop-item.tables c.loop-item.text.items (item_parts c.item-item.result ∷ map item_parts (drop (c.loop-item.item-index + 1) c.deref-item-items.result.now)) = subst (IsSoFar d c.loop-item.tables c.loop-item.text.items) left c.loop-item.invariant.1 in (
+      c.loop-item.invariant.0,
       step d c.loop-item.tables c.push_answer.new.tables c.loop-item.text.items c.push_answer.new.text.items (item_parts c.item-item.result) (map item_parts (drop (c.loop-item.item-index + 1) c.deref-item-items.result.now)) so_far
-        (c.in_ok-push_answer.ensures so_far.history so_far.stands so_far.image))
+          (c.in_ok-push_answer.ensures so_far.history so_far.stands so_far.image),
+    )
 
 pub returns : goal.returns
 returns c = at_end (document_parts c.args.document.now) c.loop-item.tables c.loop-item.text.items c.deref-item-items.result.now c.loop-item.item-index c.loop-item-test.false c.loop-item.invariant.1
