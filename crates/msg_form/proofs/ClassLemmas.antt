@@ -1,6 +1,5 @@
 -- Superclasses.
-use Rattle.std.proofs.Common.{◌≡◌, ℕ, suc, ◌+◌, ◌<◌, Bool, true, false, not, ◌&&◌, ◌||◌, List, [], ◌∷◌, ◌++◌, length, map, drop, get_or, Option, None, Some, option_map, bytes_eq, refl, sym, ap, ◌∙◌, drop-cons, add-one}
-use Rattle.std.specs.List.{list_any}
+use Rattle.std.proofs.Common.{◌≡◌, ℕ, suc, ◌+◌, ◌<◌, Bool, false, not, ◌||◌, List, [], ◌∷◌, ◌++◌, length, map, drop, get_or, Option, None, Some, option_map, bytes_eq, refl, sym, ap, ◌∙◌, drop-cons, add-one}
 use Rattle.msg_names.specs.Numbering.{with_name}
 use Rattle.msg_form.specs.Faults.{is_late, has_late_superclass}
 use Rattle.msg_form.specs.Form.{ClassForm}

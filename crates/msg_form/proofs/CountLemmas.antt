@@ -8,12 +8,12 @@ use Rattle.std.proofs.lemmas.Slice.Eq.{bytes_eq-Decides}
 use Rattle.msg_names.specs.Name.{colons_of}
 use Rattle.msg_form.specs.Expression.{expressions, count_of, send, super_send}
 use Rattle.msg_form.specs.ExprView.{expr_view}
-use Rattle.msg_form.specs.Faults.{args_named, differs, is_miscounted, is_miscounted_send}
+use Rattle.msg_form.specs.Faults.{differs, is_miscounted, is_miscounted_send}
 use Rattle.msg_form.specs.Form.{PairForm, ImpForm}
 use Rattle.msg_form.specs.ImpArgs.{args_at, is_miscounted_by, AreArgsOf}
 use Rattle.msg_form.specs.Parts.{own_sends}
 use Rattle.msg_form.specs.Text.{Text}
-use Rattle.msg_form.specs.Views.{pair_view, pairs_view, lists_view}
+use Rattle.msg_form.specs.Views.{pair_view, lists_view}
 use Rattle.msg_form.specs.declared.form.Expr.{Expr, Send, Super, the_lemmas}
 use Rattle.msg_form.specs.declared.form.Pair.{Pair}
 use Rattle.msg_form.specs.declared.form.SendExpr.{SendExpr, out-SendExpr}

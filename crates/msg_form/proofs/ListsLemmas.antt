@@ -1,5 +1,5 @@
 -- The lists of pairs of a form, part after part.
-use Rattle.std.proofs.Common.{◌≡◌, List, [], ◌++◌, ◌∙◌, ap}
+use Rattle.std.proofs.Common.{◌≡◌, List, [], ◌++◌}
 use Rattle.std.specs.List.{flat_map}
 use Rattle.std.proofs.lemmas.List.Folds.{flat_map-map}
 use Rattle.msg_form.specs.Form.{PairForm}

@@ -6,7 +6,7 @@ use Rattle.serde_json.specs.Find.{as_str}
 use Rattle.msg_form.specs.declared.form.Operator.{Operator}
 use Rattle.msg_form.specs.declared.form.Operator.TheVariants.{Add, Sub, Mul, Eq, Lt}
 use Rattle.msg_form.specs.Expression.{Constant, whole, nil, object_named, class_named, selector_named, Expression, constant, me, arg, binary, choice, send, super_send, expressions}
-use Rattle.msg_form.specs.Json.{◌>>=◌, only_if, each, list_at, value_of, values_of, name_of, whole_of}
+use Rattle.msg_form.specs.Json.{◌>>=◌, only_if, each, value_of, values_of, name_of, whole_of}
 use Rattle.msg_form.specs.Text.{Text}
 
 abbrev pub is_word : Text → Text → Bool

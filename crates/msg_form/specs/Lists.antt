@@ -1,8 +1,7 @@
 -- What stands in a form: the names that it gives, its lists, its sends and the names that it cites.
 use Rattle.std.specs.Prelude.{ℕ, List, [], ◌∷◌, ◌++◌, length, map, filter, is_none}
 use Rattle.std.specs.List.{flat_map}
-use Rattle.msg_form.specs.Expression.{Constant}
-use Rattle.msg_form.specs.Form.{PairForm, ClassForm, CategoryForm, ObjectForm, ImpForm, ChangeForm, add, replace, set_imp, exchange, attach, ItemForm, send_item, change_item, Form}
+use Rattle.msg_form.specs.Form.{PairForm, ClassForm, CategoryForm, ChangeForm, add, replace, set_imp, exchange, attach, ItemForm, send_item, change_item, Form}
 use Rattle.msg_form.specs.Parts.{classes_in, objects_in, sends_in, own_class, own_object}
 use Rattle.msg_form.specs.Text.{Text}
 

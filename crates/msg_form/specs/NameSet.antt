@@ -1,5 +1,5 @@
 -- Sets of names.
-use Rattle.std.specs.Prelude.{ℕ, ◌≤◌, length}
+use Rattle.std.specs.Prelude.{◌≤◌, length}
 use Rattle.msg_form.specs.declared.name_set.NameSet.TheInside.{Inside}
 
 -- numbers of 32 bits suffice

@@ -1,7 +1,7 @@
 -- The walk over a document's places of selectors, which numbers them.
 use Rattle.std.specs.Prelude.{List, [], ◌∷◌, ◌++◌, map, codes}
 use Rattle.std.specs.List.{flat_map}
-use Rattle.msg_form.specs.Expression.{Constant, Expression, Expressions, constant, me, arg, binary, choice, send, super_send, no_more, more}
+use Rattle.msg_form.specs.Expression.{Expression, Expressions, constant, me, arg, binary, choice, send, super_send, no_more, more}
 use Rattle.msg_form.specs.Form.{PairForm, ClassForm, CategoryForm, ImpForm, ChangeForm, add, replace, set_imp, exchange, attach, ItemForm, send_item, change_item, Form}
 use Rattle.msg_form.specs.Parts.{own_selector}
 use Rattle.msg_form.specs.Text.{Text}

@@ -1,6 +1,6 @@
 //! Different names, in the order in which they first came, which numbers them.
 
-ghost use Rattle.std.specs.Prelude.{◌≡◌, [], length, not, IfOk, OnOk};
+ghost use Rattle.std.specs.Prelude.{◌≡◌, [], length, not, IfOk, OnErr, OnOk};
 ghost use Rattle.msg_names.specs.Numbering.{number_of, with_name};
 ghost use Rattle.msg_form.specs.Text.{is_among, is_unknown, texts_view};
 
@@ -74,6 +74,7 @@ impl<'v> NameSet<'v> {
     pub fn insert(&mut self, name: &'v str) -> Result<bool, AllocError>
         ensures added { IfOk result (λ b. b ≡ not (is_among name.now self.old)) }
         ensures names { OnOk result (self.new ≡ with_name self.old name.now) }
+        ensures err { OnErr result (self.new ≡ self.old) }
     {
         if self.names.len() >= MAX_NAMES {
             return Err(AllocError);

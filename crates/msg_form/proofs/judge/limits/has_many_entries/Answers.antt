@@ -1,6 +1,3 @@
-use Rattle.std.proofs.Common.{◌≡◌, length, ap, ◌∙◌}
-use Rattle.std.specs.Prelude.{nat_lt}
-use Rattle.std.specs.List.{flat_map}
 use Rattle.msg_form.specs.Faults.{has_many_entries}
 use Rattle.msg_form.proofs.SelectorLemmas.{length-lists_view}
 use Rattle.msg_form.proofs.judge.limits.has_many_entries.Goals as goal

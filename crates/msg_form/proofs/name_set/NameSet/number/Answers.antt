@@ -1,4 +1,4 @@
-use Rattle.std.proofs.Common.{Some, arith, ap, refl}
+use Rattle.std.proofs.Common.{Some, arith, ap}
 use Rattle.msg_names.proofs.SetLemmas.{number_of-position}
 use Rattle.msg_form.proofs.name_set.NameSet.number.Goals as goal
 
