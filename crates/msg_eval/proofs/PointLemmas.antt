@@ -6,7 +6,7 @@ use Rattle.msg_image.specs.declared.change.Change.{Change}
 use Rattle.msg_image.specs.Parts.{ImageParts}
 use Rattle.msg_eval.specs.declared.reply.Reply.{Reply}
 use Rattle.msg_eval.specs.Meaning.{Meaning, Ends, Asks}
-use Rattle.msg_eval.specs.Points.{Rise, last_of, EndsAt, RepliesFrom, plain_reply, AllAre, HasOneReply, Ended, Asking, hear, HasAnswersAt}
+use Rattle.msg_eval.specs.Points.{Rise, last_of, EndsAt, RepliesFrom, plain_reply, AllAre, HasOneReply, Ended, Asking, with_answers, HasAnswersAt}
 use Rattle.msg_eval.specs.Step.{Leads}
 
 -- the points at which a send leads to its reply
@@ -91,14 +91,14 @@ to_answers (Asks c s go) k (p ∷ ps) r ends =
       ended = let n : suc k + length rest.answers ≡ k + suc (length rest.answers) = omega arith in rest.ended ∙ ap (λ m. Ended r m) n;
     }
   where
-    each : (rest : HasAnswersAt (go (lookup p c s)) (suc k) ps r) (j : ℕ) (q : History) (i : ℕ) → slice_get (p ∷ ps) j ≡ Some q → slice_get (lookup p c s ∷ rest.answers) j ≡ Some i → (d : ClassRef) × (u : ℕ) × (hear (Asks c s go) (take j (lookup p c s ∷ rest.answers)) k ≡ Asking d u) × (i ≡ lookup q d u)
+    each : (rest : HasAnswersAt (go (lookup p c s)) (suc k) ps r) (j : ℕ) (q : History) (i : ℕ) → slice_get (p ∷ ps) j ≡ Some q → slice_get (lookup p c s ∷ rest.answers) j ≡ Some i → (d : ClassRef) × (u : ℕ) × (with_answers (Asks c s go) (take j (lookup p c s ∷ rest.answers)) k ≡ Asking d u) × (i ≡ lookup q d u)
     each rest zero q i a b =
         let same : p ≡ q = cc in
         let is : lookup p c s ≡ i = cc in
         (c, s, refl, sym is ∙ ap (λ z. lookup z c s) same)
     each rest (suc j) q i a b = rest.each j q i a b
 
-from_answers : (m : Meaning) (k : ℕ) (points : List History) (r : Reply) (answers : List ℕ) → length answers ≡ length points → ((j : ℕ) (p : History) (i : ℕ) → slice_get points j ≡ Some p → slice_get answers j ≡ Some i → (c : ClassRef) × (s : ℕ) × (hear m (take j answers) k ≡ Asking c s) × (i ≡ lookup p c s)) → (n : ℕ) → hear m answers k ≡ Ended r n → n ≡ k + length answers → EndsAt m points r
+from_answers : (m : Meaning) (k : ℕ) (points : List History) (r : Reply) (answers : List ℕ) → length answers ≡ length points → ((j : ℕ) (p : History) (i : ℕ) → slice_get points j ≡ Some p → slice_get answers j ≡ Some i → (c : ClassRef) × (s : ℕ) × (with_answers m (take j answers) k ≡ Asking c s) × (i ≡ lookup p c s)) → (n : ℕ) → with_answers m answers k ≡ Ended r n → n ≡ k + length answers → EndsAt m points r
 from_answers (Ends e) k [] r [] many each n ended all = cc
 from_answers (Ends e) k [] r (i ∷ is) many each n ended all = absurd (omega (arith, many))
 from_answers (Ends e) k (p ∷ ps) r answers many each n ended all =

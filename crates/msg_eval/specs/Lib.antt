@@ -1,4 +1,5 @@
 pub mod Argument
+pub mod Evaluated
 pub mod Evaluation
 pub mod Facts
 pub mod Finder
@@ -8,5 +9,4 @@ pub mod Message
 pub mod Operation
 pub mod Points
 pub mod Receiver
-pub mod Scope
 pub mod Step

@@ -55,19 +55,19 @@ pub record HasOneReply (h : History) (send : Meaning) : Type 0 where
 -- ---- the same with lists of answers
 
 -- What the answers of a list come to: the reply and how many were used, or the question that comes next.
-pub data Heard : Type 0 where
-  Ended : Reply → (used : ℕ) → Heard
-  Asking : ClassRef → ℕ → Heard
+pub data Outcome : Type 0 where
+  Ended : Reply → (used : ℕ) → Outcome
+  Asking : ClassRef → ℕ → Outcome
 
 -- a send with the answers of a list, after those that were used
-abbrev pub hear : Meaning → List ℕ → ℕ → Heard
-hear (Ends r) answers used = Ended r used
-hear (Asks c s go) [] used = Asking c s
-hear (Asks c s go) (i ∷ is) used = hear (go i) is (suc used)
+abbrev pub with_answers : Meaning → List ℕ → ℕ → Outcome
+with_answers (Ends r) answers used = Ended r used
+with_answers (Asks c s go) [] used = Asking c s
+with_answers (Asks c s go) (i ∷ is) used = with_answers (go i) is (suc used)
 
 -- There are answers, as many as points: each is the lookup at its point of what is asked after the answers before it, and with all of them the send ends with the reply.
 pub record HasAnswersAt (send : Meaning) (used : ℕ) (points : List History) (reply : Reply) : Type 0 where
   pub answers : List ℕ
   pub as_many : length answers ≡ length points
-  pub each : (j : ℕ) (p : History) (i : ℕ) → slice_get points j ≡ Some p → slice_get answers j ≡ Some i → (c : ClassRef) × (s : ℕ) × (hear send (take j answers) used ≡ Asking c s) × (i ≡ lookup p c s)
-  pub ended : hear send answers used ≡ Ended reply (used + length answers)
+  pub each : (j : ℕ) (p : History) (i : ℕ) → slice_get points j ≡ Some p → slice_get answers j ≡ Some i → (c : ClassRef) × (s : ℕ) × (with_answers send (take j answers) used ≡ Asking c s) × (i ≡ lookup p c s)
+  pub ended : with_answers send answers used ≡ Ended reply (used + length answers)

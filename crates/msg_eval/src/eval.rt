@@ -11,12 +11,11 @@ ghost use Rattle.msg_image.specs.Plain.{plain, plain_all};
 ghost use Rattle.msg_image.specs.Sizes.{arity};
 ghost use Rattle.msg_image.specs.Sound.{IsOf, IsExpressionOf, AreExpressionsOf};
 ghost use Rattle.msg_tables.specs.History.{History};
-ghost use Rattle.msg_eval.specs.Evaluation.{eval, eval_all, bodies, send_of};
+ghost use Rattle.msg_eval.specs.Evaluated.{evaluated, all_evaluated, sent, sent_above, dispatched, forwarded, entered};
+ghost use Rattle.msg_eval.specs.Evaluation.{send_of};
 ghost use Rattle.msg_eval.specs.Finder.{sizes_of};
-ghost use Rattle.msg_eval.specs.Message.{message_to, super_message, dispatch, forward};
 ghost use Rattle.msg_eval.specs.Operation.{op_of};
 ghost use Rattle.msg_eval.specs.Points.{RepliesFrom};
-ghost use Rattle.msg_eval.specs.Scope.{scope_of};
 ghost use Rattle.msg_eval.specs.Step.{Gives, with_ok};
 
 use crate::finder::Finder;
@@ -48,7 +47,8 @@ pub fn send<F: Finder>(
     requires receiver_of { IsOf image.now receiver }
     requires args_of { All (IsOf image.now) args.now.items }
     ensures kept { F.kept finder.new ≡ F.kept finder.old }
-    ensures meaning { (h : History) → F.stands finder.old h → RepliesFrom (F.stands finder.new) h (send_of image.now receiver sel args.now.items) result }
+    ensures meaning { (h : History) → F.stands finder.old h
+        → RepliesFrom (F.stands finder.new) h (send_of image.now receiver sel args.now.items) result }
 {
     let message = Message {
         image,
@@ -63,6 +63,7 @@ pub fn send<F: Finder>(
     }
 }
 
+// Evaluates an expression of the body that sees this frame.
 #[cycle(eval)]
 fn eval_expr<F: Finder>(
     finder: &mut F,
@@ -75,7 +76,8 @@ fn eval_expr<F: Finder>(
     ensures kept { F.kept finder.new ≡ F.kept finder.old }
     ensures no_more { left.new ≤ left.old }
     ensures value_of { IfOk result (IsOf frame.now.image.now) }
-    ensures meaning { (h : History) → F.stands finder.old h → Gives (F.stands finder.new) h (eval frame.now.image.now (bodies frame.now.image.now frame.now.depth) (scope_of frame.now) (plain expr.now) left.old) result left.new }
+    ensures meaning { (h : History) → F.stands finder.old h
+        → Gives (F.stands finder.new) h (evaluated frame.now (plain expr.now) left.old) result left.new }
 {
     match expr {
         Expr::Const(value) => Ok(*value),
@@ -108,7 +110,8 @@ fn eval_two<F: Finder>(
     ensures kept { F.kept finder.new ≡ F.kept finder.old }
     ensures no_more { left.new ≤ left.old }
     ensures value_of { IfOk result (IsOf frame.now.image.now) }
-    ensures meaning { (h : History) → F.stands finder.old h → Gives (F.stands finder.new) h (eval frame.now.image.now (bodies frame.now.image.now frame.now.depth) (scope_of frame.now) (Two (op_of op) (plain a.now) (plain b.now)) left.old) result left.new }
+    ensures meaning { (h : History) → F.stands finder.old h
+        → Gives (F.stands finder.new) h (evaluated frame.now (Two (op_of op) (plain a.now) (plain b.now)) left.old) result left.new }
 {
     let x = eval_expr(finder, frame, a, left)?;
     let y = eval_expr(finder, frame, b, left)?;
@@ -132,7 +135,8 @@ fn eval_if<F: Finder>(
     ensures kept { F.kept finder.new ≡ F.kept finder.old }
     ensures no_more { left.new ≤ left.old }
     ensures value_of { IfOk result (IsOf frame.now.image.now) }
-    ensures meaning { (h : History) → F.stands finder.old h → Gives (F.stands finder.new) h (eval frame.now.image.now (bodies frame.now.image.now frame.now.depth) (scope_of frame.now) (If (plain test.now) (plain yes.now) (plain no.now)) left.old) result left.new }
+    ensures meaning { (h : History) → F.stands finder.old h
+        → Gives (F.stands finder.new) h (evaluated frame.now (If (plain test.now) (plain yes.now) (plain no.now)) left.old) result left.new }
 {
     let chosen = eval_expr(finder, frame, test, left)?;
     if is_no(chosen) {
@@ -159,7 +163,8 @@ fn eval_send<F: Finder>(
     ensures kept { F.kept finder.new ≡ F.kept finder.old }
     ensures no_more { left.new ≤ left.old }
     ensures value_of { IfOk result (IsOf frame.now.image.now) }
-    ensures meaning { (h : History) → F.stands finder.old h → Gives (F.stands finder.new) h (eval frame.now.image.now (bodies frame.now.image.now frame.now.depth) (scope_of frame.now) (Send (plain receiver.now) sel (plain_all args.now)) left.old) result left.new }
+    ensures meaning { (h : History) → F.stands finder.old h
+        → Gives (F.stands finder.new) h (evaluated frame.now (Send (plain receiver.now) sel (plain_all args.now)) left.old) result left.new }
 {
     let receiver = eval_expr(finder, frame, receiver, left)?;
     let mut values = Args::new();
@@ -188,7 +193,8 @@ fn eval_super<F: Finder>(
     ensures kept { F.kept finder.new ≡ F.kept finder.old }
     ensures no_more { left.new ≤ left.old }
     ensures value_of { IfOk result (IsOf frame.now.image.now) }
-    ensures meaning { (h : History) → F.stands finder.old h → Gives (F.stands finder.new) h (eval frame.now.image.now (bodies frame.now.image.now frame.now.depth) (scope_of frame.now) (Super sel (plain_all args.now)) left.old) result left.new }
+    ensures meaning { (h : History) → F.stands finder.old h
+        → Gives (F.stands finder.new) h (evaluated frame.now (Super sel (plain_all args.now)) left.old) result left.new }
 {
     let mut values = Args::new();
     eval_args(finder, frame, args, &mut values, left)?;
@@ -217,7 +223,8 @@ fn eval_args<F: Finder>(
     ensures kept { F.kept finder.new ≡ F.kept finder.old }
     ensures no_more { left.new ≤ left.old }
     ensures values_of { All (IsOf frame.now.image.now) values.new.items }
-    ensures meaning { (h : History) → F.stands finder.old h → Gives (F.stands finder.new) h (eval_all frame.now.image.now (bodies frame.now.image.now frame.now.depth) (scope_of frame.now) (plain_all exprs.now) [] left.old) (with_ok values.new.items result) left.new }
+    ensures meaning { (h : History) → F.stands finder.old h
+        → Gives (F.stands finder.new) h (all_evaluated frame.now (plain_all exprs.now) [] left.old) (with_ok values.new.items result) left.new }
 {
     for expr in exprs {
         let value = eval_expr(finder, frame, expr, left)?;
@@ -239,7 +246,8 @@ fn send_to<F: Finder>(
     ensures kept { F.kept finder.new ≡ F.kept finder.old }
     ensures no_more { left.new ≤ left.old }
     ensures value_of { IfOk result (IsOf message.now.image.now) }
-    ensures meaning { (h : History) → F.stands finder.old h → Gives (F.stands finder.new) h (message_to message.now.image.now (bodies message.now.image.now message.now.depth) receiver message.now.sel message.now.args.now.items left.old) result left.new }
+    ensures meaning { (h : History) → F.stands finder.old h
+        → Gives (F.stands finder.new) h (sent message.now receiver left.old) result left.new }
 {
     if let Value::Nil = receiver {
         return Ok(Value::Nil);
@@ -265,7 +273,8 @@ fn send_super<F: Finder>(
     ensures kept { F.kept finder.new ≡ F.kept finder.old }
     ensures no_more { left.new ≤ left.old }
     ensures value_of { IfOk result (IsOf message.now.image.now) }
-    ensures meaning { (h : History) → F.stands finder.old h → Gives (F.stands finder.new) h (super_message message.now.image.now (bodies message.now.image.now message.now.depth) me home message.now.sel message.now.args.now.items left.old) result left.new }
+    ensures meaning { (h : History) → F.stands finder.old h
+        → Gives (F.stands finder.new) h (sent_above message.now me home left.old) result left.new }
 {
     let Some(class) = class_of(message.image, me) else {
         return Err(SendFault::NotAnObject);
@@ -293,7 +302,8 @@ fn dispatch<F: Finder>(
     ensures kept { F.kept finder.new ≡ F.kept finder.old }
     ensures no_more { left.new ≤ left.old }
     ensures value_of { IfOk result (IsOf message.now.image.now) }
-    ensures meaning { (h : History) → F.stands finder.old h → Gives (F.stands finder.new) h (dispatch message.now.image.now (bodies message.now.image.now message.now.depth) left.old me class from message.now.sel message.now.args.now.items left.old) result left.new }
+    ensures meaning { (h : History) → F.stands finder.old h
+        → Gives (F.stands finder.new) h (dispatched message.now left.old me class from left.old) result left.new }
 {
     let mut me = me;
     let mut class = class;
@@ -324,8 +334,10 @@ fn forward<F: Finder>(
     requires class_listed { class.class < length message.now.image.now.classes }
     ensures kept { F.kept finder.new ≡ F.kept finder.old }
     ensures no_more { left.new ≤ left.old }
-    ensures target_of { IfOk result (λ r. IsOf message.now.image.now r.0 × (r.1.class < length message.now.image.now.classes)) }
-    ensures meaning { (h : History) → F.stands finder.old h → Gives (F.stands finder.new) h (forward message.now.image.now (bodies message.now.image.now message.now.depth) me class message.now.sel left.old) result left.new }
+    ensures target_of { IfOk result (λ r. IsOf message.now.image.now r.0
+        × (r.1.class < length message.now.image.now.classes)) }
+    ensures meaning { (h : History) → F.stands finder.old h
+        → Gives (F.stands finder.new) h (forwarded message.now me class left.old) result left.new }
 {
     let sel = message.image.forwarding_selector();
     let unrecognized = SendFault::Unrecognized {
@@ -364,7 +376,8 @@ fn enter<F: Finder>(
     ensures kept { F.kept finder.new ≡ F.kept finder.old }
     ensures no_more { left.new ≤ left.old }
     ensures value_of { IfOk result (IsOf message.now.image.now) }
-    ensures meaning { (h : History) → F.stands finder.old h → Gives (F.stands finder.new) h (bodies message.now.image.now message.now.depth (imp_number imp) me message.now.args.now.items left.old) result left.new }
+    ensures meaning { (h : History) → F.stands finder.old h
+        → Gives (F.stands finder.new) h (entered message.now imp me left.old) result left.new }
 {
     if message.depth == 0 {
         return Err(SendFault::Depth);

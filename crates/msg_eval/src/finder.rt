@@ -26,7 +26,8 @@ pub trait Finder {
         requires { class.class < (sizes (kept self.old)).classes }
         ensures kept { kept self.new ≡ kept self.old }
         ensures listed { imp_number result ≤ (sizes (kept self.old)).imps }
-        ensures lawful { (h : History) → stands self.old h → FindsAfter (stands self.new) h class (selector_number sel) (imp_number result) };
+        ensures lawful { (h : History) → stands self.old h
+            → FindsAfter (stands self.new) h class (selector_number sel) (imp_number result) };
 }
 
 /// Looks up in tables, and so always at their history.

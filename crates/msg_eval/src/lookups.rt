@@ -22,7 +22,8 @@ pub(crate) fn ask<F: Finder>(
     ensures listed { IfOk result (λ i. imp_number i ≤ (F.sizes (F.kept finder.old)).imps) }
     ensures fewer { IfOk result (λ _. left.new < left.old) }
     ensures no_more { left.new ≤ left.old }
-    ensures meaning { (h : History) → F.stands finder.old h → Gives (F.stands finder.new) h (ask class (selector_number sel) left.old) (numbered result) left.new }
+    ensures meaning { (h : History) → F.stands finder.old h
+        → Gives (F.stands finder.new) h (ask class (selector_number sel) left.old) (numbered result) left.new }
 {
     if *left == 0 {
         return Err(SendFault::Budget);

@@ -4,9 +4,7 @@ use Rattle.msg_image.specs.Plain.{plain, plain_all}
 use Rattle.msg_image.specs.Sizes.{count, count_all}
 use Rattle.msg_image.specs.Sound.{IsOf, AreExpressionsOf}
 use Rattle.msg_tables.specs.History.{History}
-use Rattle.msg_eval.specs.Evaluation.{eval_all, bodies}
-use Rattle.msg_eval.specs.Message.{dispatch}
-use Rattle.msg_eval.specs.Scope.{scope_of}
+use Rattle.msg_eval.specs.Evaluated.{dispatched, all_evaluated}
 use Rattle.msg_eval.specs.Step.{ComesTo}
 use Rattle.msg_eval.proofs.eval.+eval.Given as goal
 
@@ -52,8 +50,8 @@ invariant-dispatch-loop-imp g l = record {
   from_listed : l.from.class < length l.message.image.now.classes;
   no_more : l.left ≤ l.fn.left;
   rest : (h : History) → g.F.Finder.stands l.fn.finder h → (t : ℕ) × (l.left ≤ t) × ComesTo {A = Value} (g.F.Finder.stands l.finder) h
-      (dispatch l.message.image.now (bodies l.message.image.now l.message.depth) l.fn.left l.fn.me l.fn.class l.fn.from l.message.sel l.message.args.now.items l.fn.left)
-      (dispatch l.message.image.now (bodies l.message.image.now l.message.depth) t l.me l.class l.from l.message.sel l.message.args.now.items l.left);
+      (dispatched l.message l.fn.left l.fn.me l.fn.class l.fn.from l.fn.left)
+      (dispatched l.message t l.me l.class l.from l.left);
 }
 
 abbrev pub decreases-dispatch-loop-imp : goal.decreases-dispatch-loop-imp
@@ -69,6 +67,6 @@ invariant-eval_args-loop-expr g l = record {
   rest_of : AreExpressionsOf l.frame.image.now (plain_all (drop l.expr-index l.exprs));
   smaller : count_all (plain_all (drop l.expr-index l.exprs)) ≤ count_all (plain_all l.exprs);
   rest : (h : History) → g.F.Finder.stands l.fn.finder h → ComesTo {A = List Value} (g.F.Finder.stands l.finder) h
-      (eval_all l.frame.image.now (bodies l.frame.image.now l.frame.depth) (scope_of l.frame) (plain_all l.exprs) [] l.fn.left)
-      (eval_all l.frame.image.now (bodies l.frame.image.now l.frame.depth) (scope_of l.frame) (plain_all (drop l.expr-index l.exprs)) l.values.items l.left);
+      (all_evaluated l.frame (plain_all l.exprs) [] l.fn.left)
+      (all_evaluated l.frame (plain_all (drop l.expr-index l.exprs)) l.values.items l.left);
 }
