@@ -94,6 +94,30 @@ fn eval_expr<F: Finder>(
     }
 }
 
+// Evaluates an operand. A leaf, as every second expression of a body is, makes no call here.
+#[cycle(eval)]
+fn eval_operand<F: Finder>(
+    finder: &mut F,
+    frame: &Frame<'_>,
+    expr: &Expr,
+    left: &mut u32,
+) -> Result<Value, SendFault>
+    requires sizes { F.sizes (F.kept finder.old) ≡ sizes_of frame.now.image.now }
+    requires expr_of { IsExpressionOf frame.now.image.now (plain expr.now) }
+    ensures kept { F.kept finder.new ≡ F.kept finder.old }
+    ensures no_more { left.new ≤ left.old }
+    ensures value_of { IfOk result (IsOf frame.now.image.now) }
+    ensures meaning { (h : History) → F.stands finder.old h
+        → Gives (F.stands finder.new) h (evaluated frame.now (plain expr.now) left.old) result left.new }
+{
+    match expr {
+        Expr::Const(value) => Ok(*value),
+        Expr::Me => Ok(frame.me),
+        Expr::Arg(place) => Ok(frame.argument(*place)),
+        inner => eval_expr(finder, frame, inner, left),
+    }
+}
+
 // Evaluates both operands, and operates on them.
 #[cycle(eval)]
 fn eval_two<F: Finder>(
@@ -113,8 +137,8 @@ fn eval_two<F: Finder>(
     ensures meaning { (h : History) → F.stands finder.old h
         → Gives (F.stands finder.new) h (evaluated frame.now (Two (op_of op) (plain a.now) (plain b.now)) left.old) result left.new }
 {
-    let x = eval_expr(finder, frame, a, left)?;
-    let y = eval_expr(finder, frame, b, left)?;
+    let x = eval_operand(finder, frame, a, left)?;
+    let y = eval_operand(finder, frame, b, left)?;
     operate(op, x, y)
 }
 
