@@ -22,7 +22,7 @@ pub use device::{Failed, Sink, Source};
 pub use fault::RunFault;
 pub use from_reader::FromReader;
 pub use gate::{Gate, OpenGate};
-pub use reading::{MAX_BYTES, ReadFault, read_whole};
+pub use reading::{ReadFault, read_whole};
 pub use running::{MAX_WORKERS, run};
 pub use to_writer::ToWriter;
 pub use writing::write_whole;

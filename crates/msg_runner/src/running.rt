@@ -27,7 +27,7 @@ fn document<R: Source>(alloc: Global, source: &mut R) -> Result<Document, RunFau
     ensures ok { IfOk result (λ d. IfSome (R.remaining source.old) (λ bytes. IsAnswer bytes (Ok (document_parts d)))) }
     ensures sound { IfOk result (λ d. All (IsSoundItem d.image) (map item_parts d.items.items)) }
     ensures fault { (f : DocumentFault) → result ≡ Err (RunFault.Document f) → IfSome (R.remaining source.old) (λ bytes. IsAnswer bytes (Err f)) }
-    ensures read { result ≡ Err RunFault.Read → R.mark source.new ≡ true }
+    ensures read { (result ≡ Err RunFault.Read) ↔ (R.mark source.new ≡ true) }
     ensures others { (result ≢ Err RunFault.Write) × (result ≢ Err RunFault.Workers) × (result ≢ Err RunFault.Cut) }
 {
     let bytes = read_whole(alloc, source)?;
@@ -37,7 +37,7 @@ fn document<R: Source>(alloc: Global, source: &mut R) -> Result<Document, RunFau
 /// Reads a document, answers its items in their order, and writes a line for each answer.
 ///
 /// The lines are those of one thread that takes the items one by one and searches the method lists, for every number of workers and every cut. The text is
-/// whole before its first byte is written.
+/// whole before its first byte is written. As long as a run has one thread the gate isn't called.
 pub fn run<R: Source, W: Sink, G: Gate>(
     alloc: Global,
     source: &mut R,
@@ -54,8 +54,8 @@ pub fn run<R: Source, W: Sink, G: Gate>(
     ensures workers { (result ≡ Err RunFault.Workers) ↔ ((workers ≡ 0) ⊎ (64 < workers)) }
     ensures cut { (result ≡ Err RunFault.Cut) ↔ ((cut ≡ 0) × (0 < workers) × (workers ≤ 64)) }
     ensures document { (f : DocumentFault) → result ≡ Err (RunFault.Document f) → IfSome (R.remaining source.old) (λ bytes. IsAnswer bytes (Err f)) }
-    ensures read { result ≡ Err RunFault.Read → R.mark source.new ≡ true }
-    ensures write { result ≡ Err RunFault.Write → W.mark sink.new ≡ true }
+    ensures read { (result ≡ Err RunFault.Read) ↔ (R.mark source.new ≡ true) }
+    ensures write { (result ≡ Err RunFault.Write) ↔ (W.mark sink.new ≡ true) }
 {
     if workers == 0 || workers > MAX_WORKERS {
         return Err(RunFault::Workers);

@@ -1,0 +1,10 @@
+pub mod BelowLemmas
+pub mod EffectLemmas
+pub mod ForeseeLemmas
+pub mod KeepLemmas
+pub mod LegalLemmas
+pub mod OpenLemmas
+pub mod PointLemmas
+pub mod ReadLemmas
+pub mod RunLemmas
+pub mod WholeLemmas

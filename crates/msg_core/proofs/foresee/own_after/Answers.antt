@@ -1,0 +1,14 @@
+-- what is written, and else the class's own method
+use Rattle.std.proofs.Common.{sym, ap, option_map}
+use Rattle.msg_names.specs.Number.{selector_number, imp_number}
+use Rattle.msg_core.proofs.ForeseeLemmas.{own_seen, own_kept}
+use Rattle.msg_core.proofs.foresee.own_after.Goals as goal
+
+pub returns-in-Some : goal.returns-in-Some
+returns-in-Some c = λ h stands.
+    sym (own_seen h c.args.change.now c.args.here (selector_number c.args.sel) (imp_number c.in-Some.imp) c.written.result (c.written.ensures h stands) (ap (option_map imp_number) c.in-Some.is))
+
+pub returns-in-None : goal.returns-in-None
+returns-in-None c = λ h stands.
+    own_kept h c.args.change.now c.args.here (selector_number c.args.sel) c.written.result c.holder.result (imp_number c.lookup.result) (option_map imp_number c.at_place.result)
+    (c.written.ensures h stands) c.in-None.is (c.holder.ensures.meaning h stands) (c.lookup.ensures.meaning h stands) c.at_place.ensures

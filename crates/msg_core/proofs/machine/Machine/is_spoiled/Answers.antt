@@ -1,0 +1,36 @@
+-- the array's words, and the tables' classes
+use Rattle.std.proofs.Common.{◌≡◌, ◌<◌, length, map, sym, ◌∙◌, ap, subst}
+use Rattle.std.specs.Prelude.{None, slice_index}
+use Rattle.msg_tables.specs.History.{lookup, and_then}
+use Rattle.msg_tables.specs.Refusal.{refusal}
+use Rattle.msg_tables.proofs.StandsLemmas.{class_count}
+use Rattle.msg_core.specs.declared.state.Standing.TheVariants.{Live}
+use Rattle.msg_core.specs.Inside.{view_of}
+use Rattle.msg_core.specs.Steps.{is_spoiled}
+use Rattle.msg_core.specs.View.{MachineView, word_at, standing_at}
+use Rattle.msg_core.specs.Written.{AreListed}
+use Rattle.msg_core.proofs.WholeLemmas.{class_number, class_listed, change_listed, spoiled_as}
+use Rattle.msg_core.proofs.machine.Machine.is_spoiled.Goals as goal
+
+pub has_spoiled_word-requires-clause-classes : goal.has_spoiled_word-requires-clause-classes
+has_spoiled_word-requires-clause-classes c = class_number _ c.self.invariant.whole c.self.inside.tables c.self.invariant.tables c.len-classes.result (c.len-classes.ensures ∙ c.self.inside.live.ok.0)
+
+pub has_spoiled_word-requires-clause-class : goal.has_spoiled_word-requires-clause-class
+has_spoiled_word-requires-clause-class c = class_listed c.self.inside.tables _ c.self.invariant.tables c.in-Live.class.class
+    (subst (λ v. c.in-Live.class.class < length v.history.image.classes) (sym c.self.view_is) c.in-Live.ensures.listed)
+
+pub has_spoiled_word-requires-clause-listed : goal.has_spoiled_word-requires-clause-listed
+has_spoiled_word-requires-clause-listed c =
+    subst (λ n. AreListed n c.args.change.now) (sym (class_count c.self.inside.tables _ c.self.invariant.tables))
+    (change_listed _ c.args.change.now (subst (λ v. refusal v.history c.args.change.now ≡ None) (sym c.self.view_is) c.requires.accepted))
+
+pub returns-in-Live : goal.returns-in-Live
+returns-in-Live c =
+    let a = c.args.array in
+    let x = c.args.change.now in
+    let standing = subst (λ v. Live c.in-Live.class ≡ standing_at v.standings a) (sym c.self.view_is) c.in-Live.ensures.standing in
+    subst (λ (v : MachineView). c.has_spoiled_word.result ≡ is_spoiled (lookup (and_then v.history x)) (slice_index (map length v.arrays) a) (word_at v.arrays a) (standing_at v.standings a)) c.self.view_is
+    (c.has_spoiled_word.ensures (view_of c.self.inside).history c.self.invariant.tables
+    ∙ spoiled_as (lookup (and_then (view_of c.self.inside).history x)) c.self.inside.arrays.items a c.index.result.now (Live c.in-Live.class)
+    (subst (λ (v : MachineView). a < length (map length v.arrays)) (sym c.self.view_is) c.requires.array) c.index.ensures
+    ∙ ap (is_spoiled (lookup (and_then (view_of c.self.inside).history x)) (slice_index (map length c.self.inside.arrays.items) a) (word_at c.self.inside.arrays.items a)) standing)

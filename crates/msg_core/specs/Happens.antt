@@ -1,0 +1,38 @@
+-- An event that happens to a machine.
+use Rattle.std.specs.Prelude.{◌≡◌, Option}
+use Rattle.msg_core.specs.declared.event.Event.{Event}
+use Rattle.msg_core.specs.declared.event.Event.TheVariants.{Enter, Header, Read, Leave, Fill, Install, Flush, Look, Clear, Commit}
+use Rattle.msg_tables.specs.History.{lookup}
+use Rattle.msg_core.specs.declared.fault.EventFault.{EventFault}
+use Rattle.msg_core.specs.State.{State}
+use Rattle.msg_core.specs.Steps.{after, refusal, Legal}
+use Rattle.msg_core.specs.View.{MachineView, layout_of, state_of}
+
+-- the least fault for which an event is refused, where words have to agree with what is looked up in the class tables
+abbrev pub refusal_of : MachineView → Event → Option EventFault
+refusal_of v e = refusal lookup (layout_of v) (state_of v) e
+
+abbrev pub IsLegal : MachineView → Event → Type 0
+IsLegal v e = Legal lookup (layout_of v) (state_of v) e
+
+-- the machine has come to a state, in its layout
+pub record Becomes (old new : MachineView) (m : State) : Type 0 where
+  pub layout : layout_of new ≡ layout_of old
+  pub state : state_of new ≡ m
+
+-- the event has happened
+abbrev pub Happens : MachineView → MachineView → Event → Type 0
+Happens old new e = Becomes old new (after (layout_of old) (state_of old) e)
+
+-- the only event that takes memory
+abbrev pub IsCommit : Event → Type 0
+IsCommit (Commit x) = Unit {0}
+IsCommit (Enter n) = ⊥
+IsCommit (Header n c) = ⊥
+IsCommit (Read n p) = ⊥
+IsCommit (Leave n) = ⊥
+IsCommit (Fill c p word) = ⊥
+IsCommit (Install c a) = ⊥
+IsCommit (Flush c) = ⊥
+IsCommit (Look n) = ⊥
+IsCommit (Clear a p) = ⊥

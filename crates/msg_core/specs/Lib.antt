@@ -1,0 +1,7 @@
+pub mod Happens
+pub mod Inside
+pub mod Runs
+pub mod State
+pub mod Steps
+pub mod View
+pub mod Written

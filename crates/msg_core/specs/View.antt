@@ -1,0 +1,70 @@
+-- What contracts see of `Machine`, and the state that it is.
+use Rattle.std.specs.Prelude.{◌≡◌, ◌<◌, ◌≤◌, ◌*◌, ℕ, List, [], length, map, Option, Some, None, slice_index, slice_index_or}
+use Rattle.msg_names.specs.declared.value.ClassRef.{ClassRef}
+use Rattle.msg_tables.specs.History.{History}
+use Rattle.msg_tables.specs.View.{place_of}
+use Rattle.msg_core.specs.declared.state.Standing.{Standing}
+use Rattle.msg_core.specs.declared.state.Standing.TheVariants.{Free, Live, Retired}
+use Rattle.msg_core.specs.declared.state.Place.{Place}
+use Rattle.msg_core.specs.declared.state.Place.TheVariants.{Out, In, Holding}
+use Rattle.msg_core.specs.State.{Layout, State}
+
+pub record MachineView : Type 0 where
+  pub history : History
+  -- the live array of each class reference, at its place
+  pub live : List (Option ℕ)
+  -- the words of each array, and what it is for
+  pub arrays : List (List ℕ)
+  pub standings : List Standing
+  -- where each sender is
+  pub places : List Place
+
+abbrev pub live_at : List (Option ℕ) → ClassRef → Option ℕ
+live_at live c = slice_index_or live (place_of c) None
+
+abbrev pub word_at : List (List ℕ) → ℕ → ℕ → ℕ
+word_at arrays a p = slice_index (slice_index_or arrays a []) p
+
+abbrev pub standing_at : List Standing → ℕ → Standing
+standing_at standings a = slice_index_or standings a Free
+
+abbrev pub sender_at : List Place → ℕ → Place
+sender_at places n = slice_index_or places n Out
+
+abbrev pub layout_of : MachineView → Layout
+layout_of v = record {
+  classes = length v.history.image.classes;
+  senders = length v.places;
+  capacities = map length v.arrays;
+}
+
+abbrev pub state_of : MachineView → State
+state_of v = record {
+  history = v.history;
+  live = live_at v.live;
+  word = word_at v.arrays;
+  standing = standing_at v.standings;
+  place = sender_at v.places;
+}
+
+-- numbers that are kept name what is there
+pub record IsWhole (v : MachineView) : Type 0 where
+  -- there is a header word for each class reference, and a standing for each array
+  pub headers : length v.live ≡ 2 * length v.history.image.classes
+  pub standings : length v.standings ≡ length v.arrays
+  pub few_senders : length v.places ≤ 64
+  pub live_arrays : (c : ClassRef) (a : ℕ) → live_at v.live c ≡ Some a → a < length v.arrays
+  pub held_arrays : (n : ℕ) (c : ClassRef) (a : ℕ) → sender_at v.places n ≡ Holding c a → a < length v.arrays
+  pub live_classes : (a : ℕ) (c : ClassRef) → standing_at v.standings a ≡ Live c → c.class < length v.history.image.classes
+
+-- a fact about the array that is held, where one is
+abbrev pub IfHolding : Place → (ℕ → Type 0) → Type 0
+IfHolding Out P = Unit {0}
+IfHolding In P = Unit {0}
+IfHolding (Holding c a) P = P a
+
+-- a fact about the class reference for which an array is live, where it is
+abbrev pub IfLive : Standing → (ClassRef → Type 0) → Type 0
+IfLive Free P = Unit {0}
+IfLive (Live c) P = P c
+IfLive (Retired c r awaited) P = Unit {0}

@@ -1,0 +1,215 @@
+//! What events do.
+
+ghost use Rattle.std.specs.Prelude.{◌≡◌, ◌<◌, Some, None, Ok, Err, IfOk, OnErr, IfErr, IfSome, length};
+ghost use Rattle.msg_core.specs.declared.event.Event.{Event};
+ghost use Rattle.msg_core.specs.declared.fault.EventFault.{EventFault};
+ghost use Rattle.msg_core.specs.Happens.{Becomes, Happens, IsLegal, IsCommit};
+ghost use Rattle.msg_core.specs.State.{capacity};
+ghost use Rattle.msg_core.specs.Steps.{shows, at, at_class, stored, retired, seen_out};
+ghost use Rattle.msg_core.specs.View.{layout_of, state_of, IfHolding, IfLive};
+
+use crate::awaited::{everyone, see_out};
+use crate::event::{Event, Seen};
+use crate::fault::EventFault;
+use crate::machine::{Machine, place};
+use crate::state::{Place, Standing};
+use msg_image::Change;
+use msg_names::ClassRef;
+
+// ---- one word, or what one word means
+
+impl Machine {
+    fn set_place(&mut self, sender: u32, place: Place)
+        requires sender { sender < (layout_of self.old).senders }
+        requires listed { IfHolding place (λ array. array < length (layout_of self.old).capacities) }
+        ensures { Becomes self.old self.new (record (state_of self.old) { place = at (state_of self.old).place sender place }) }
+    {
+        self.places[sender as usize] = place;
+    }
+
+    fn set_live(&mut self, class: ClassRef, array: Option<u32>)
+        requires class { class.class < (layout_of self.old).classes }
+        requires listed { IfSome array (λ a. a < length (layout_of self.old).capacities) }
+        ensures { Becomes self.old self.new (record (state_of self.old) { live = at_class (state_of self.old).live class array }) }
+    {
+        self.live[place(class)] = array;
+    }
+
+    fn set_standing(&mut self, array: u32, standing: Standing)
+        requires array { array < length (layout_of self.old).capacities }
+        requires listed { IfLive standing (λ class. class.class < (layout_of self.old).classes) }
+        ensures { Becomes self.old self.new (record (state_of self.old) { standing = at (state_of self.old).standing array standing }) }
+    {
+        self.standings[array as usize] = standing;
+    }
+
+    fn store(&mut self, array: u32, place: usize, word: u64)
+        requires array { array < length (layout_of self.old).capacities }
+        requires place { place < capacity (layout_of self.old) array }
+        ensures { Becomes self.old self.new (record (state_of self.old) { word = stored (state_of self.old).word (Some array) place word }) }
+    {
+        self.arrays[array as usize].store(place, word);
+    }
+
+    // The live array of a class reference, if any, is retired.
+    fn retire(&mut self, class: ClassRef)
+        requires { class.class < (layout_of self.old).classes }
+        ensures { Becomes self.old self.new (record (state_of self.old) {
+          standing = retired (layout_of self.old) (state_of self.old) class ((state_of self.old).live class);
+        }) }
+    {
+        if let Some(array) = self.live_array(class) {
+            let awaited = everyone(self.places.len());
+            let standing = Standing::Retired(class, self.changes.len(), awaited);
+            self.set_standing(array, standing);
+        }
+    }
+
+    // No array awaits the sender any more.
+    fn await_no_more(&mut self, sender: u32)
+        requires { sender < (layout_of self.old).senders }
+        ensures { Becomes self.old self.new (record (state_of self.old) { standing = λ a. seen_out sender ((state_of self.old).standing a) }) }
+    {
+        see_out(&mut self.standings, sender as usize);
+    }
+}
+
+// ---- events that are not refused
+
+impl Machine {
+    pub(crate) fn enter(&mut self, sender: u32) -> Seen
+        requires { IsLegal self.old (Event.Enter sender) }
+        ensures happens { Happens self.old self.new (Event.Enter sender) }
+        ensures seen { result ≡ shows (state_of self.old) (Event.Enter sender) }
+    {
+        self.set_place(sender, Place::In);
+        Seen::Nothing
+    }
+
+    pub(crate) fn load_header(&mut self, sender: u32, class: ClassRef) -> Seen
+        requires { IsLegal self.old (Event.Header sender class) }
+        ensures happens { Happens self.old self.new (Event.Header sender class) }
+        ensures seen { result ≡ shows (state_of self.old) (Event.Header sender class) }
+    {
+        let live = self.live_array(class);
+        if let Some(array) = live {
+            self.set_place(sender, Place::Holding(class, array));
+        }
+        Seen::Array(live)
+    }
+
+    pub(crate) fn read(&self, sender: u32, place: usize) -> Seen
+        requires { IsLegal self.now (Event.Read sender place) }
+        ensures { result ≡ shows (state_of self.now) (Event.Read sender place) }
+    {
+        match self.sender_place(sender) {
+            Place::Holding(_, array) => Seen::Word(self.word(array, place)),
+            Place::Out | Place::In => Seen::Word(0),
+        }
+    }
+
+    pub(crate) fn leave(&mut self, sender: u32) -> Seen
+        requires { IsLegal self.old (Event.Leave sender) }
+        ensures happens { Happens self.old self.new (Event.Leave sender) }
+        ensures seen { result ≡ shows (state_of self.old) (Event.Leave sender) }
+    {
+        self.set_place(sender, Place::Out);
+        Seen::Nothing
+    }
+
+    pub(crate) fn fill(&mut self, class: ClassRef, place: usize, word: u64) -> Seen
+        requires { IsLegal self.old (Event.Fill class place word) }
+        ensures happens { Happens self.old self.new (Event.Fill class place word) }
+        ensures seen { result ≡ shows (state_of self.old) (Event.Fill class place word) }
+    {
+        if let Some(array) = self.live_array(class) {
+            self.store(array, place, word);
+        }
+        Seen::Nothing
+    }
+
+    pub(crate) fn install(&mut self, class: ClassRef, array: u32) -> Seen
+        requires { IsLegal self.old (Event.Install class array) }
+        ensures happens { Happens self.old self.new (Event.Install class array) }
+        ensures seen { result ≡ shows (state_of self.old) (Event.Install class array) }
+    {
+        self.retire(class);
+        self.set_live(class, Some(array));
+        self.set_standing(array, Standing::Live(class));
+        Seen::Nothing
+    }
+
+    pub(crate) fn flush(&mut self, class: ClassRef) -> Seen
+        requires { IsLegal self.old (Event.Flush class) }
+        ensures happens { Happens self.old self.new (Event.Flush class) }
+        ensures seen { result ≡ shows (state_of self.old) (Event.Flush class) }
+    {
+        self.retire(class);
+        self.set_live(class, None);
+        Seen::Nothing
+    }
+
+    pub(crate) fn look(&mut self, sender: u32) -> Seen
+        requires { IsLegal self.old (Event.Look sender) }
+        ensures happens { Happens self.old self.new (Event.Look sender) }
+        ensures seen { result ≡ shows (state_of self.old) (Event.Look sender) }
+    {
+        match self.sender_place(sender) {
+            Place::Out => {
+                self.await_no_more(sender);
+                Seen::Out(true)
+            }
+            Place::In | Place::Holding(_, _) => Seen::Out(false),
+        }
+    }
+
+    pub(crate) fn clear(&mut self, array: u32, place: usize) -> Seen
+        requires { IsLegal self.old (Event.Clear array place) }
+        ensures happens { Happens self.old self.new (Event.Clear array place) }
+        ensures seen { result ≡ shows (state_of self.old) (Event.Clear array place) }
+    {
+        self.store(array, place, 0);
+        Seen::Nothing
+    }
+}
+
+impl Machine {
+    // The only event that takes memory: room for the change is made before it is applied.
+    pub(crate) fn commit(&mut self, change: Change) -> Result<Seen, EventFault>
+        requires { IsLegal self.old (Event.Commit change) }
+        ensures happens { IfOk result (λ _. Happens self.old self.new (Event.Commit change)) }
+        ensures seen { IfOk result (λ seen. seen ≡ shows (state_of self.old) (Event.Commit change)) }
+        ensures err { OnErr result (self.new ≡ self.old) }
+        ensures memory { IfErr result (λ fault. fault ≡ EventFault.Memory) }
+    {
+        self.changes.reserve(1)?;
+        if self.tables.apply(&change).is_err() {
+            return Err(EventFault::Memory);
+        }
+        let pushed: Result<_, _> = self.changes.push(change);
+        pushed.unwrap();
+        Ok(Seen::Nothing)
+    }
+
+    // Makes an event happen that isn't refused.
+    pub(crate) fn happen(&mut self, event: Event) -> Result<Seen, EventFault>
+        requires { IsLegal self.old event }
+        ensures happens { IfOk result (λ _. Happens self.old self.new event) }
+        ensures seen { IfOk result (λ seen. seen ≡ shows (state_of self.old) event) }
+        ensures err { OnErr result (self.new ≡ self.old) }
+        ensures memory { IfErr result (λ fault. (fault ≡ EventFault.Memory) × IsCommit event) }
+    {
+        match event {
+            Event::Enter(sender) => Ok(self.enter(sender)),
+            Event::Header(sender, class) => Ok(self.load_header(sender, class)),
+            Event::Read(sender, place) => Ok(self.read(sender, place)),
+            Event::Leave(sender) => Ok(self.leave(sender)),
+            Event::Fill(class, place, word) => Ok(self.fill(class, place, word)),
+            Event::Install(class, array) => Ok(self.install(class, array)),
+            Event::Flush(class) => Ok(self.flush(class)),
+            Event::Look(sender) => Ok(self.look(sender)),
+            Event::Clear(array, place) => Ok(self.clear(array, place)),
+            Event::Commit(change) => self.commit(change),
+        }
+    }
+}

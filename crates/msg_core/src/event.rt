@@ -1,0 +1,43 @@
+//! Events, and what is seen at each.
+
+use msg_image::Change;
+use msg_names::ClassRef;
+
+/// One load or one store of one word that threads share.
+///
+/// Senders and arrays are meant by their numbers, words by their places in an array.
+#[derive(Drop)]
+pub enum Event {
+    /// A sender sets its probe word.
+    Enter(u32),
+    /// A sender loads the header word of a class reference, and from then on holds the array that it names.
+    Header(u32, ClassRef),
+    /// A sender loads a word of the array that it holds.
+    Read(u32, usize),
+    /// A sender clears its probe word.
+    Leave(u32),
+    /// A word is stored in the live array of a class reference.
+    Fill(ClassRef, usize, u64),
+    /// A free array becomes the live array of a class reference. One that was live is retired.
+    Install(ClassRef, u32),
+    /// The live array of a class reference is retired.
+    Flush(ClassRef),
+    /// A sender's probe word is loaded. One that is seen out is awaited no more.
+    Look(u32),
+    /// 0 is stored in a word of a free array.
+    Clear(u32, usize),
+    /// The count of changes is stored, after a change of the method lists.
+    Commit(Change),
+}
+
+/// What an event shows to the one that makes it.
+#[derive(Clone, Copy, Debug, PartialEq, Eq)]
+pub enum Seen {
+    Nothing,
+    /// The live array of the class reference, if it has one.
+    Array(Option<u32>),
+    /// The word that was loaded.
+    Word(u64),
+    /// Whether the sender is out.
+    Out(bool),
+}

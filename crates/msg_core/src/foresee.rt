@@ -1,0 +1,219 @@
+//! What a lookup will find once a change is made.
+//!
+//! The chain stays, and at each class reference what the change writes comes before the class's own method. So the answer is
+//! known before the change is made, and takes no memory.
+
+ghost use Rattle.std.specs.Prelude.{◌≡◌, ◌<◌, ◌&&◌, length, option_map, reverse, slice_index};
+ghost use Rattle.msg_names.specs.Number.{selector_number, imp_number};
+ghost use Rattle.msg_tables.specs.History.{History, lookup, and_then, table};
+ghost use Rattle.msg_tables.specs.After.{rows_after};
+ghost use Rattle.msg_tables.specs.RowList.{own_in};
+ghost use Rattle.msg_tables.specs.Rows.{own};
+ghost use Rattle.msg_tables.specs.Stands.{StandsAt};
+ghost use Rattle.msg_core.specs.declared.state.Standing.TheVariants.{Live};
+ghost use Rattle.msg_core.specs.Steps.{is_entry, disagrees, is_spoiled};
+ghost use Rattle.msg_core.specs.Written.{written, at_place, AreListed};
+
+use crate::buckets::Buckets;
+use msg_buckets::unpack;
+use msg_image::{Change, MethodList};
+use msg_names::{ClassRef, ImpRef, Selector};
+use msg_tables::Tables;
+
+// The implementation of the first entry of a selector.
+fn listed(methods: &MethodList, sel: Selector) -> Option<ImpRef>
+    ensures { option_map imp_number result ≡ own_in (selector_number sel) (reverse methods.now) }
+{
+    let pairs = methods.as_slice();
+    for pair in pairs {
+        if pair.0 == sel {
+            return Some(pair.1);
+        }
+    }
+    None
+}
+
+// The implementation, where the method of a class reference and a selector that is written is the one that is sought.
+fn at_place(
+    place: Option<ClassRef>,
+    here: ClassRef,
+    named: Selector,
+    sel: Selector,
+    imp: ImpRef,
+) -> Option<ImpRef>
+    ensures { option_map imp_number result ≡ at_place place here (selector_number named) (selector_number sel) (imp_number imp) }
+{
+    match place {
+        Some(class) if class == here && named == sel => Some(imp),
+        _ => None,
+    }
+}
+
+// The implementation that the change writes at a class reference for a selector.
+fn written(tables: &Tables, change: &Change, here: ClassRef, sel: Selector) -> Option<ImpRef>
+    requires { AreListed (length tables.now.supers) change.now }
+    ensures { (h : History) → StandsAt tables.now h → option_map imp_number result ≡ written h change.now here (selector_number sel) }
+{
+    match change {
+        Change::Add {
+            class,
+            sel: named,
+            imp,
+        } => at_place(Some(*class), here, *named, sel, *imp),
+        Change::Replace {
+            class,
+            sel: named,
+            imp,
+        } => at_place(Some(*class), here, *named, sel, *imp),
+        Change::SetImp {
+            class,
+            sel: named,
+            imp,
+        } => at_place(tables.holder(*class, *named), here, *named, sel, *imp),
+        Change::Exchange {
+            class,
+            sel: named,
+            other,
+            other_sel,
+        } => exchanged(tables, *class, *named, *other, *other_sel, here, sel),
+        Change::Attach {
+            class,
+            methods,
+            class_methods,
+        } => attached(*class, methods, class_methods, here, sel),
+    }
+}
+
+// What `Change::Attach` writes.
+fn attached(
+    class: u32,
+    methods: &MethodList,
+    class_methods: &MethodList,
+    here: ClassRef,
+    sel: Selector,
+) -> Option<ImpRef>
+    ensures { (h : History) → option_map imp_number result ≡ written h (Change.Attach class methods.now class_methods.now) here (selector_number sel) }
+{
+    if here == (ClassRef { class, meta: true }) {
+        listed(class_methods, sel)
+    } else if here == (ClassRef { class, meta: false }) {
+        listed(methods, sel)
+    } else {
+        None
+    }
+}
+
+// What `Change::Exchange` writes.
+fn exchanged(
+    tables: &Tables,
+    class: ClassRef,
+    named: Selector,
+    other: ClassRef,
+    other_sel: Selector,
+    here: ClassRef,
+    sel: Selector,
+) -> Option<ImpRef>
+    requires class { class.class < length tables.now.supers }
+    requires other { other.class < length tables.now.supers }
+    ensures { (h : History) → StandsAt tables.now h
+        → option_map imp_number result ≡ written h (Change.Exchange class named other other_sel) here (selector_number sel) }
+{
+    let first = tables.holder(class, named);
+    let second = tables.holder(other, other_sel);
+    let by_first = at_place(first, here, named, sel, tables.lookup(other, other_sel));
+    if by_first.is_some() {
+        return by_first;
+    }
+    at_place(second, here, other_sel, sel, tables.lookup(class, named))
+}
+
+// The implementation that a class reference itself will have for a selector.
+fn own_after(tables: &Tables, change: &Change, here: ClassRef, sel: Selector) -> Option<ImpRef>
+    requires here { here.class < length tables.now.supers }
+    requires listed { AreListed (length tables.now.supers) change.now }
+    ensures { (h : History) → StandsAt tables.now h → option_map imp_number result ≡ own (rows_after (table h) change.now) here (selector_number sel) }
+{
+    match written(tables, change, here, sel) {
+        Some(imp) => Some(imp),
+        None => at_place(
+            tables.holder(here, sel),
+            here,
+            sel,
+            sel,
+            tables.lookup(here, sel),
+        ),
+    }
+}
+
+// The implementation that a lookup will find. `classes` is how many there are.
+fn lookup_after(
+    tables: &Tables,
+    classes: usize,
+    change: &Change,
+    class: ClassRef,
+    sel: Selector,
+) -> ImpRef
+    requires classes { classes ≡ length tables.now.supers }
+    requires class { class.class < length tables.now.supers }
+    requires listed { AreListed (length tables.now.supers) change.now }
+    ensures { (h : History) → StandsAt tables.now h → imp_number result ≡ lookup (and_then h change.now) class (selector_number sel) }
+{
+    let mut here = class;
+    for _step in 0..classes {
+        if let Some(imp) = own_after(tables, change, here, sel) {
+            return imp;
+        }
+        match tables.superclass(here) {
+            Some(above) => here = above,
+            None => return ImpRef::FORWARD,
+        }
+    }
+    match own_after(tables, change, here, sel) {
+        Some(imp) => imp,
+        None => ImpRef::FORWARD,
+    }
+}
+
+// Whether a word is an entry that will not agree with the method lists.
+fn would_disagree(
+    tables: &Tables,
+    classes: usize,
+    change: &Change,
+    class: ClassRef,
+    word: u64,
+) -> bool
+    requires classes { classes ≡ length tables.now.supers }
+    requires class { class.class < length tables.now.supers }
+    requires listed { AreListed (length tables.now.supers) change.now }
+    ensures { (h : History) → StandsAt tables.now h → result ≡ (is_entry word && disagrees (lookup (and_then h change.now)) class word) }
+{
+    if word == 0 {
+        return false;
+    }
+    match unpack(word) {
+        Some((sel, imp)) => lookup_after(tables, classes, change, class, sel) != imp,
+        None => true,
+    }
+}
+
+// Whether the words of a class reference have an entry that will not agree.
+pub(crate) fn has_spoiled_word(
+    tables: &Tables,
+    classes: usize,
+    change: &Change,
+    class: ClassRef,
+    words: &Buckets,
+) -> bool
+    requires classes { classes ≡ length tables.now.supers }
+    requires class { class.class < length tables.now.supers }
+    requires listed { AreListed (length tables.now.supers) change.now }
+    ensures { (h : History) → StandsAt tables.now h
+        → result ≡ is_spoiled (lookup (and_then h change.now)) (length words.now) (slice_index words.now) (Live class) }
+{
+    for place in 0..words.capacity() {
+        if would_disagree(tables, classes, change, class, words.word(place)) {
+            return true;
+        }
+    }
+    false
+}

@@ -1,0 +1,174 @@
+//! Whether an event is refused.
+//!
+//! Each condition is judged by a function of its own; what changes the machine is elsewhere.
+
+ghost use Rattle.std.specs.Prelude.{◌≡◌};
+ghost use Rattle.msg_core.specs.declared.event.Event.{Event};
+ghost use Rattle.msg_core.specs.Happens.{refusal_of};
+
+use crate::event::Event;
+use crate::fault::EventFault;
+use crate::machine::Machine;
+use crate::state::{Place, Standing};
+use msg_image::Change;
+use msg_names::ClassRef;
+
+impl Machine {
+    /// The fault for which an event is refused, and none where it would happen.
+    pub(crate) fn refusal(&self, event: &Event) -> Option<EventFault>
+        ensures { result ≡ refusal_of self.now event.now }
+    {
+        match event {
+            Event::Enter(sender) => self.refuses_enter(*sender),
+            Event::Header(sender, class) => self.refuses_header(*sender, *class),
+            Event::Read(sender, place) => self.refuses_read(*sender, *place),
+            Event::Leave(sender) => self.refuses_leave(*sender),
+            Event::Fill(class, place, word) => self.refuses_fill(*class, *place, *word),
+            Event::Install(class, array) => self.refuses_install(*class, *array),
+            Event::Flush(class) => self.refuses_flush(*class),
+            Event::Look(sender) => self.refuses_look(*sender),
+            Event::Clear(array, place) => self.refuses_clear(*array, *place),
+            Event::Commit(change) => self.refuses_commit(change),
+        }
+    }
+
+    fn refuses_enter(&self, sender: u32) -> Option<EventFault>
+        ensures { result ≡ refusal_of self.now (Event.Enter sender) }
+    {
+        if self.lacks_sender(sender) {
+            return Some(EventFault::NoSender);
+        }
+        match self.sender_place(sender) {
+            Place::Out => None,
+            Place::In | Place::Holding(_, _) => Some(EventFault::NotOut),
+        }
+    }
+
+    fn refuses_header(&self, sender: u32, class: ClassRef) -> Option<EventFault>
+        ensures { result ≡ refusal_of self.now (Event.Header sender class) }
+    {
+        if self.lacks_sender(sender) {
+            return Some(EventFault::NoSender);
+        }
+        if self.lacks_class(class) {
+            return Some(EventFault::NoClass);
+        }
+        match self.sender_place(sender) {
+            Place::In => None,
+            Place::Out | Place::Holding(_, _) => Some(EventFault::NotIn),
+        }
+    }
+
+    fn refuses_read(&self, sender: u32, place: usize) -> Option<EventFault>
+        ensures { result ≡ refusal_of self.now (Event.Read sender place) }
+    {
+        if self.lacks_sender(sender) {
+            return Some(EventFault::NoSender);
+        }
+        match self.sender_place(sender) {
+            Place::Out | Place::In => Some(EventFault::NotHolding),
+            Place::Holding(_, array) if self.capacity(array) <= place => Some(EventFault::NoPlace),
+            Place::Holding(_, _) => None,
+        }
+    }
+
+    fn refuses_leave(&self, sender: u32) -> Option<EventFault>
+        ensures { result ≡ refusal_of self.now (Event.Leave sender) }
+    {
+        if self.lacks_sender(sender) {
+            return Some(EventFault::NoSender);
+        }
+        match self.sender_place(sender) {
+            Place::Out => Some(EventFault::NotIn),
+            Place::In | Place::Holding(_, _) => None,
+        }
+    }
+
+    fn refuses_fill(&self, class: ClassRef, place: usize, word: u64) -> Option<EventFault>
+        ensures { result ≡ refusal_of self.now (Event.Fill class place word) }
+    {
+        if self.lacks_class(class) {
+            return Some(EventFault::NoClass);
+        }
+        let Some(array) = self.live_array(class) else {
+            return Some(EventFault::NotLive);
+        };
+        if self.capacity(array) <= place {
+            return Some(EventFault::NoPlace);
+        }
+        if self.word(array, place) != 0 {
+            return Some(EventFault::NotEmpty);
+        }
+        if self.disagrees(class, word) {
+            return Some(EventFault::Disagrees);
+        }
+        None
+    }
+
+    fn refuses_install(&self, class: ClassRef, array: u32) -> Option<EventFault>
+        ensures { result ≡ refusal_of self.now (Event.Install class array) }
+    {
+        if self.lacks_class(class) {
+            return Some(EventFault::NoClass);
+        }
+        if self.lacks_array(array) {
+            return Some(EventFault::NoArray);
+        }
+        if !self.is_free(array) {
+            return Some(EventFault::NotFree);
+        }
+        if self.has_entry(array) {
+            return Some(EventFault::NotEmpty);
+        }
+        None
+    }
+
+    fn refuses_flush(&self, class: ClassRef) -> Option<EventFault>
+        ensures { result ≡ refusal_of self.now (Event.Flush class) }
+    {
+        if self.lacks_class(class) {
+            return Some(EventFault::NoClass);
+        }
+        match self.live_array(class) {
+            Some(_) => None,
+            None => Some(EventFault::NotLive),
+        }
+    }
+
+    fn refuses_look(&self, sender: u32) -> Option<EventFault>
+        ensures { result ≡ refusal_of self.now (Event.Look sender) }
+    {
+        if self.lacks_sender(sender) {
+            return Some(EventFault::NoSender);
+        }
+        None
+    }
+
+    fn refuses_clear(&self, array: u32, place: usize) -> Option<EventFault>
+        ensures { result ≡ refusal_of self.now (Event.Clear array place) }
+    {
+        if self.lacks_array(array) {
+            return Some(EventFault::NoArray);
+        }
+        if self.capacity(array) <= place {
+            return Some(EventFault::NoPlace);
+        }
+        if self.is_free(array) {
+            None
+        } else {
+            Some(EventFault::NotFree)
+        }
+    }
+
+    fn refuses_commit(&self, change: &Change) -> Option<EventFault>
+        ensures { result ≡ refusal_of self.now (Event.Commit change.now) }
+    {
+        if let Some(fault) = self.change_refusal(change) {
+            return Some(EventFault::Refused(fault));
+        }
+        if self.spoils(change) {
+            return Some(EventFault::Disagrees);
+        }
+        None
+    }
+}

@@ -1,0 +1,23 @@
+//! The machine of events: what senders, who read method caches without a lock, and the one keeper, who changes them, do to
+//! the words that they share, one load or store at a time.
+//!
+//! Nothing here is shared. Caches that threads share are built on these definitions.
+#![tactic(auto)]
+
+mod awaited;
+mod buckets;
+mod effects;
+mod event;
+mod fault;
+mod foresee;
+mod judge;
+pub mod laws;
+mod machine;
+mod open;
+mod state;
+mod step;
+
+pub use event::{Event, Seen};
+pub use fault::EventFault;
+pub use machine::Machine;
+pub use state::{Place, Standing};

@@ -1,0 +1,177 @@
+//! The machine.
+
+ghost use Rattle.std.specs.Prelude.{◌≡◌, ◌<◌, nat_le, length, IfSome, None};
+ghost use Rattle.msg_tables.specs.History.{lookup, and_then};
+ghost use Rattle.msg_tables.specs.Refusal.{refusal as change_refusal};
+ghost use Rattle.msg_tables.specs.View.{place_of};
+ghost use Rattle.msg_core.specs.State.{capacity};
+ghost use Rattle.msg_core.specs.Steps.{is_free, some_below, is_entry, disagrees, spoils, is_spoiled};
+ghost use Rattle.msg_core.specs.View.{layout_of, state_of, IfHolding, IfLive};
+
+use crate::buckets::Buckets;
+use crate::foresee::has_spoiled_word;
+use crate::state::{Place, Standing};
+use msg_buckets::unpack;
+use msg_image::{Change, Image};
+use msg_names::ClassRef;
+use msg_tables::{ChangeFault, Tables};
+use std::marker::Model;
+use std::snapshot::Snapshot;
+
+/// The state of the caches of an image, on which events happen one at a time.
+#[derive(Drop)]
+pub struct Machine {
+    pub(crate) image: Snapshot<Image>,
+    pub(crate) changes: Vec<Change>,
+    pub(crate) tables: Tables,
+    pub(crate) live: Vec<Option<u32>>,
+    pub(crate) arrays: Vec<Buckets>,
+    pub(crate) standings: Vec<Standing>,
+    pub(crate) places: Vec<Place>,
+}
+
+impl Model for Machine {
+    ghost use Rattle.msg_core.specs.View.{MachineView};
+
+    ghost Value = { MachineView };
+
+    ghost use Rattle.std.specs.Coded.{codes};
+    ghost use Rattle.msg_image.specs.Coding.{coded_expression};
+
+    ghost coded = { Prim.hlevel (codes, coded_expression) };
+
+    ghost use Rattle.msg_core.specs.Inside.{view_of, IsSound};
+
+    ghost view = { view_of };
+
+    ghost invariant = { IsSound };
+}
+
+// Where the header word of a class reference stands.
+#[inline(always)]
+pub(crate) fn place(class: ClassRef) -> usize
+    ensures { result ≡ place_of class }
+{
+    2 * class.class as usize + usize::from(class.meta)
+}
+
+impl Machine {
+    pub(crate) fn lacks_sender(&self, sender: u32) -> bool
+        ensures { result ≡ nat_le (layout_of self.now).senders sender }
+    {
+        self.places.len() <= sender as usize
+    }
+
+    pub(crate) fn lacks_class(&self, class: ClassRef) -> bool
+        ensures { result ≡ nat_le (layout_of self.now).classes class.class }
+    {
+        self.live.len() <= 2 * class.class as usize
+    }
+
+    pub(crate) fn lacks_array(&self, array: u32) -> bool
+        ensures { result ≡ nat_le (length (layout_of self.now).capacities) array }
+    {
+        self.arrays.len() <= array as usize
+    }
+
+    pub(crate) fn sender_place(&self, sender: u32) -> Place
+        requires { sender < (layout_of self.now).senders }
+        ensures place { result ≡ (state_of self.now).place sender }
+        ensures listed { IfHolding result (λ array. array < length (layout_of self.now).capacities) }
+    {
+        self.places[sender as usize]
+    }
+
+    pub(crate) fn live_array(&self, class: ClassRef) -> Option<u32>
+        requires { class.class < (layout_of self.now).classes }
+        ensures array { result ≡ (state_of self.now).live class }
+        ensures listed { IfSome result (λ array. array < length (layout_of self.now).capacities) }
+    {
+        self.live[place(class)]
+    }
+
+    pub(crate) fn standing(&self, array: usize) -> Standing
+        requires { array < length (layout_of self.now).capacities }
+        ensures standing { result ≡ (state_of self.now).standing array }
+        ensures listed { IfLive result (λ class. class.class < (layout_of self.now).classes) }
+    {
+        self.standings[array]
+    }
+
+    pub(crate) fn capacity(&self, array: u32) -> usize
+        requires { array < length (layout_of self.now).capacities }
+        ensures { result ≡ capacity (layout_of self.now) array }
+    {
+        self.arrays[array as usize].capacity()
+    }
+
+    pub(crate) fn word(&self, array: u32, place: usize) -> u64
+        requires array { array < length (layout_of self.now).capacities }
+        requires place { place < capacity (layout_of self.now) array }
+        ensures { result ≡ (state_of self.now).word array place }
+    {
+        self.arrays[array as usize].word(place)
+    }
+
+    pub(crate) fn is_free(&self, array: u32) -> bool
+        requires { array < length (layout_of self.now).capacities }
+        ensures { result ≡ is_free ((state_of self.now).standing array) }
+    {
+        matches!(self.standing(array as usize), Standing::Free)
+    }
+
+    // Whether some word of the array isn't 0.
+    pub(crate) fn has_entry(&self, array: u32) -> bool
+        requires { array < length (layout_of self.now).capacities }
+        ensures { result ≡ some_below (capacity (layout_of self.now) array) (λ p. is_entry ((state_of self.now).word array p)) }
+    {
+        self.arrays[array as usize].has_entry()
+    }
+
+    // The fault for which the tables refuse the change.
+    pub(crate) fn change_refusal(&self, change: &Change) -> Option<ChangeFault>
+        ensures { result ≡ change_refusal (state_of self.now).history change.now }
+    {
+        self.tables.refusal(change)
+    }
+
+    // Whether the word has no selector, or not the implementation that is looked up for it.
+    pub(crate) fn disagrees(&self, class: ClassRef, word: u64) -> bool
+        requires { class.class < (layout_of self.now).classes }
+        ensures { result ≡ disagrees (lookup (state_of self.now).history) class word }
+    {
+        match unpack(word) {
+            Some((sel, imp)) => self.tables.lookup(class, sel) != imp,
+            None => true,
+        }
+    }
+
+    // Whether a live array has a word that would not agree with the method lists after the change.
+    pub(crate) fn spoils(&self, change: &Change) -> bool
+        requires { change_refusal (state_of self.now).history change.now ≡ None }
+        ensures { result ≡ spoils lookup (layout_of self.now) (state_of self.now) change.now }
+    {
+        for array in 0..self.arrays.len() {
+            if self.is_spoiled(array, change) {
+                return true;
+            }
+        }
+        false
+    }
+
+    // Whether an array is live and has such a word.
+    fn is_spoiled(&self, array: usize, change: &Change) -> bool
+        requires array { array < length (layout_of self.now).capacities }
+        requires accepted { change_refusal (state_of self.now).history change.now ≡ None }
+        ensures { result ≡ is_spoiled (lookup (and_then (state_of self.now).history change.now)) (capacity (layout_of self.now) array)
+            ((state_of self.now).word array) ((state_of self.now).standing array) }
+    {
+        match self.standing(array) {
+            Standing::Live(class) => {
+                let classes = self.live.len() / 2;
+                has_spoiled_word(&self.tables, classes, change, class, &self.arrays[array])
+            }
+            Standing::Free | Standing::Retired(_, _, _) => false,
+        }
+    }
+}

@@ -1,0 +1,53 @@
+//! The machine before the first event.
+
+ghost use Rattle.std.specs.Prelude.{◌≡◌, ◌≤◌, IfOk, All, length, map, replicate};
+ghost use Rattle.msg_buckets.specs.Capacity.{IsCapacity};
+ghost use Rattle.msg_core.specs.Runs.{opening};
+ghost use Rattle.msg_core.specs.View.{layout_of, state_of};
+
+use crate::buckets::Buckets;
+use crate::machine::Machine;
+use crate::state::{Place, Standing};
+use msg_image::Image;
+use msg_tables::Tables;
+use std::alloc::{AllocError, Global};
+use std::snapshot::Snapshot;
+
+// Empty arrays of these capacities.
+fn empty_arrays(alloc: Global, capacities: &[u32]) -> Result<Vec<Buckets>, AllocError>
+    ensures { IfOk result (λ arrays. arrays.items ≡ map (λ capacity. replicate capacity 0) capacities.now) }
+{
+    let mut arrays = Vec::new(alloc);
+    for capacity in capacities {
+        let words = Buckets::empty(alloc, *capacity)?;
+        arrays.push(words)?;
+    }
+    Ok(arrays)
+}
+
+impl Machine {
+    /// The machine of an image with so many senders, and arrays of these capacities.
+    pub fn open(
+        alloc: Global,
+        image: &Image,
+        senders: u32,
+        arrays: &[u32],
+    ) -> Result<Machine, AllocError>
+        requires some_sender { 1 ≤ senders }
+        requires few_senders { senders ≤ 64 }
+        requires arrays { All IsCapacity arrays.now }
+        ensures layout { IfOk result (λ machine. layout_of machine ≡ record { classes = length image.now.classes; senders = senders; capacities = arrays.now }) }
+        ensures state { IfOk result (λ machine. state_of machine ≡ opening image.now) }
+    {
+        let classes = image.class_count() as usize;
+        Ok(Machine {
+            image: Snapshot::of(image),
+            changes: Vec::new(alloc),
+            tables: Tables::open(alloc, image)?,
+            live: vec![in alloc; None; 2 * classes]?,
+            arrays: empty_arrays(alloc, arrays)?,
+            standings: vec![in alloc; Standing::Free; arrays.len()]?,
+            places: vec![in alloc; Place::Out; senders as usize]?,
+        })
+    }
+}
