@@ -95,13 +95,14 @@ impl Names {
         Some(colon_count(text.as_bytes()) as u8)
     }
 
-    /// The selector of a name. A name that is new gets the next number.
+    /// The selector of a name. A name that is new gets the next number; only then is memory wanted.
     pub fn intern(&mut self, text: &str) -> Result<Selector, NameFault>
         ensures ok { IfOk result (λ s. number_of self.new text.now ≡ Some (selector_number s)) }
         ensures names { OnOk result (self.new ≡ with_name self.old text.now) }
         ensures bad { IsErrOf result NameFault.BadName ↔ (spec.is_selector_name text.now ≡ false) }
         ensures many { IsErrOf result NameFault.TooMany
             ↔ ((spec.is_selector_name text.now ≡ true) × (length self.old ≡ 4096) × (list_any (bytes_eq text.now) self.old ≡ false)) }
+        ensures memory { IsErrOf result NameFault.Memory → list_any (bytes_eq text.now) self.old ≡ false }
         ensures err { OnErr result (self.new ≡ self.old) }
     {
         if !is_selector_name(text) {
@@ -142,6 +143,7 @@ fn intern_in(set: &mut IndexSet<String>, text: &str) -> Result<Selector, NameFau
     ensures bad { IsErrOf result NameFault.BadName → ⊥ }
     ensures many { IsErrOf result NameFault.TooMany
         ↔ ((length set.old.keys ≡ 4096) × (list_any (bytes_eq text.now) (map string_bytes set.old.keys) ≡ false)) }
+    ensures memory { IsErrOf result NameFault.Memory → list_any (bytes_eq text.now) (map string_bytes set.old.keys) ≡ false }
     ensures err { OnErr result (set.new.keys ≡ set.old.keys) }
 {
     if let Some(selector) = find_in(set, text) {

@@ -1,6 +1,7 @@
 //! From bytes to bytes.
 
-ghost use Rattle.std.specs.Prelude.{◌≡◌, ◌≢◌, ◌<◌, ◌≤◌, ◌↔◌, ◌⊎◌, All, map, false, true, Ok, Err, IfOk, IfErr, IfSome, OnOk};
+ghost use Rattle.std.specs.Prelude.{◌≡◌, ◌≢◌, ◌<◌, ◌≤◌, ◌↔◌, ◌⊎◌, All, map, false, true, Ok, Err, IfOk, IfErr, IfSome, OnErr, OnOk};
+ghost use Rattle.std.specs.Io.KnownBytes.{Appends};
 ghost use Rattle.msg_form.specs.declared.faults.DocumentFault.{DocumentFault};
 ghost use Rattle.msg_image.specs.Answer.{IsAnswer};
 ghost use Rattle.msg_image.specs.DocumentParts.{document_parts};
@@ -8,6 +9,7 @@ ghost use Rattle.msg_image.specs.Plain.{item_parts};
 ghost use Rattle.msg_image.specs.Sound.{IsSoundItem};
 ghost use Rattle.msg_runner.specs.Device.{Marks};
 ghost use Rattle.msg_runner.specs.Outcome.{Wrote, WroteFront, Leaves};
+ghost use Rattle.msg_runner.specs.Writing.{AppendsFront};
 
 use crate::answers::answers;
 use crate::device::{Sink, Source};
@@ -34,6 +36,35 @@ fn document<R: Source>(alloc: Global, source: &mut R) -> Result<Document, RunFau
     Ok(read_document(alloc, &bytes)?)
 }
 
+// Whether there can be a run with so many workers and this cut.
+fn judge(workers: u32, cut: u32) -> Result<(), RunFault>
+    ensures workers { (result ≡ Err RunFault.Workers) ↔ ((workers ≡ 0) ⊎ (64 < workers)) }
+    ensures cut { (result ≡ Err RunFault.Cut) ↔ ((cut ≡ 0) × (0 < workers) × (workers ≤ 64)) }
+    ensures others { IfErr result (λ f. (f ≡ RunFault.Workers) ⊎ (f ≡ RunFault.Cut)) }
+{
+    if workers == 0 || workers > MAX_WORKERS {
+        return Err(RunFault::Workers);
+    }
+    if cut == 0 {
+        return Err(RunFault::Cut);
+    }
+    Ok(())
+}
+
+// Writes the text, which is whole.
+fn write<W: Sink>(sink: &mut W, text: &[u8]) -> Result<(), RunFault>
+    requires { W.mark sink.old ≡ false }
+    ensures whole { OnOk result (Appends (W.contents sink.old) (W.contents sink.new) text.now) }
+    ensures front { OnErr result (AppendsFront (W.contents sink.old) (W.contents sink.new) text.now) }
+    ensures fault { IfErr result (λ f. f ≡ RunFault.Write) }
+    ensures mark { (result ≡ Err RunFault.Write) ↔ (W.mark sink.new ≡ true) }
+{
+    match write_whole(sink, text) {
+        Ok(()) => Ok(()),
+        Err(_) => Err(RunFault::Write),
+    }
+}
+
 /// Reads a document, answers its items in their order, and writes a line for each answer.
 ///
 /// The lines are those of one thread that takes the items one by one and searches the method lists, for every number of workers and every cut. The text is
@@ -57,16 +88,8 @@ pub fn run<R: Source, W: Sink, G: Gate>(
     ensures read { (result ≡ Err RunFault.Read) ↔ (R.mark source.new ≡ true) }
     ensures write { (result ≡ Err RunFault.Write) ↔ (W.mark sink.new ≡ true) }
 {
-    if workers == 0 || workers > MAX_WORKERS {
-        return Err(RunFault::Workers);
-    }
-    if cut == 0 {
-        return Err(RunFault::Cut);
-    }
+    judge(workers, cut)?;
     let document = document(alloc, source)?;
     let text = answers(alloc, &document)?;
-    match write_whole(sink, &text) {
-        Ok(()) => Ok(()),
-        Err(_) => Err(RunFault::Write),
-    }
+    write(sink, &text)
 }

@@ -29,3 +29,9 @@ returns-clause-ok c =
 
 pub returns-clause-names : goal.returns-clause-names
 returns-clause-names c = names-insert_key c.args.set.now.keys c.insert.new.self.keys c.in-Ok.name c.args.text.now c.in-Ok.ensures.ok c.in-Ok-insert.ensures.keys
+
+pub returns-in_default-from_str-clause-memory : goal.returns-in_default-from_str-clause-memory
+returns-in_default-from_str-clause-memory c = λ _. is_some-number_of (map string_bytes c.args.set.now.keys) c.args.text.now ∙ ap is_some (sym c.in_default.ensures)
+
+pub returns-in_default-insert-clause-memory : goal.returns-in_default-insert-clause-memory
+returns-in_default-insert-clause-memory c = λ _. is_some-number_of (map string_bytes c.args.set.now.keys) c.args.text.now ∙ ap is_some (sym c.in_default.ensures)
