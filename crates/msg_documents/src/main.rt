@@ -1,0 +1,90 @@
+//! Runs the documents of the folder that it is started in, and says of each whether its answers are as they should be.
+//!
+//! In `examples` and `answers` a document `NAME.json` stands beside `NAME.out`, which is what a run of it writes, for each number of workers and each cut.
+//! In `edits` each `NAME.edits` has edits of the documents there, and the fault that the edited document is refused with.
+#![tactic(auto)]
+
+mod edits;
+
+use edits::Edits;
+use msg_runner::{FromReader, OpenGate, RunFault, ToWriter, run};
+use std::alloc::Global;
+use std::{fs, io};
+
+/// How many workers there are, and how many sends a piece has at most.
+const SPLITS: [(u32, u32); 5] = [(1, 64), (1, 1), (2, 1), (3, 2), (64, 64)];
+
+/// What a run of the document writes, and how it ends.
+fn run_of(
+    alloc: Global,
+    document: &[u8],
+    workers: u32,
+    cut: u32,
+) -> (Vec<u8>, Result<(), RunFault>) {
+    let mut source = FromReader::new(document);
+    let mut sink = ToWriter::new(Vec::new(alloc));
+    let ended = run(alloc, &mut source, &mut sink, workers, cut, &OpenGate);
+    let ToWriter { writer, .. } = sink;
+    (writer, ended)
+}
+
+// The names of the files of a folder that end so, without that end, in order.
+fn names(rt: &HostRuntime, folder: &str, end: &str) -> io::Result<Vec<String>> {
+    let mut names = Vec::new(rt.alloc());
+    for entry in fs::read_dir(rt, folder)? {
+        let entry = entry?;
+        if let Some(name) = entry.file_name().strip_suffix(end) {
+            names.push(name.to_string(rt.alloc())?)?;
+        }
+    }
+    names.sort_unstable();
+    Ok(names)
+}
+
+fn read(rt: &HostRuntime, folder: &str, name: &str, end: &str) -> io::Result<String> {
+    let path = format!(in rt.alloc(); "{folder}/{name}{end}")?;
+    fs::read_to_string(rt, path.as_str())
+}
+
+// Whether each run of the document writes the text, and nothing else.
+fn is_answered(alloc: Global, document: &str, text: &str) -> bool {
+    for (workers, cut) in SPLITS {
+        let (written, ended) = run_of(alloc, document.as_bytes(), workers, cut);
+        if ended.is_err() || written.as_slice() != text.as_bytes() {
+            return false;
+        }
+    }
+    true
+}
+
+fn try_answers(rt: &HostRuntime, folder: &str) -> io::Result<()> {
+    for name in names(rt, folder, ".json")? {
+        let document = read(rt, folder, name.as_str(), ".json")?;
+        let text = read(rt, folder, name.as_str(), ".out")?;
+        let answer = if is_answered(rt.alloc(), document.as_str(), text.as_str()) {
+            "as expected"
+        } else {
+            "otherwise"
+        };
+        println!(rt; "{folder}/{name}: {answer}")?;
+    }
+    Ok(())
+}
+
+fn try_edits(rt: &HostRuntime, folder: &str) -> io::Result<()> {
+    for name in names(rt, folder, ".edits")? {
+        let lines = read(rt, folder, name.as_str(), ".edits")?;
+        let mut edits = Edits::new(rt.alloc());
+        for line in lines.as_str().lines() {
+            edits.take(rt, folder, line)?;
+        }
+        println!(rt; "{folder}/{name}: {} as expected", edits.expected)?;
+    }
+    Ok(())
+}
+
+fn main(rt: HostRuntime) -> io::Result<()> {
+    try_answers(&rt, "examples")?;
+    try_answers(&rt, "answers")?;
+    try_edits(&rt, "edits")
+}
