@@ -17,14 +17,14 @@ fn fault(alloc: Global, document: &str) -> Option<u32> {
 
 /// What the lines so far have said.
 #[derive(Drop)]
-pub struct Edits {
+pub(crate) struct Edits {
     document: String,
     fault: Option<u32>,
     pub expected: u64,
 }
 
 impl Edits {
-    pub fn new(alloc: Global) -> Edits {
+    pub(crate) fn new(alloc: Global) -> Edits {
         Edits {
             document: String::new(alloc),
             fault: None,
@@ -34,7 +34,7 @@ impl Edits {
 
     /// Takes one line: the document that is edited from here on, what is expected from here on, an edit `OLD => NEW` at the first place of the old
     /// text, or a comment.
-    pub fn take(&mut self, rt: &HostRuntime, folder: &str, line: &str) -> io::Result<()> {
+    pub(crate) fn take(&mut self, rt: &HostRuntime, folder: &str, line: &str) -> io::Result<()> {
         if let Some(name) = line.strip_prefix("document ") {
             self.document = read(rt, folder, name, ".json")?;
         } else if let Some(number) = line.strip_prefix("fault ") {
