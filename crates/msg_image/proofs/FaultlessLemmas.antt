@@ -1,5 +1,5 @@
 -- What a form without fault doesn't have.
-use Rattle.std.proofs.Common.{◌≡◌, List, [], ◌∷◌, Bool, true, false, cond, Option, None, Some, refl, sym, ap, ◌∙◌}
+use Rattle.std.proofs.Common.{◌≡◌, List, [], ◌∷◌, Bool, true, false, cond, None, Some, refl}
 use Rattle.msg_form.specs.Form.{Form}
 use Rattle.msg_form.specs.Faults.{Condition, conditions, first_of, fault_of, is_over_limit, has_unknown_superclass, has_unknown_class, has_unknown_object, has_unknown_imp, has_bad_selector, has_wrong_argument_count, has_too_deep_body}
 

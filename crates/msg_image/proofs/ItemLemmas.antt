@@ -1,17 +1,17 @@
 -- The items of a form without fault are sound.
-use Rattle.std.proofs.Common.{◌≡◌, ◌<◌, ◌≤◌, ◌++◌, ℕ, zero, suc, List, [], ◌∷◌, length, map, take, Bool, true, false, not, Option, Some, None, option_map, get_or, bytes_eq, refl, sym, ap, ◌∙◌, subst, arith}
+use Rattle.std.proofs.Common.{◌≡◌, ◌<◌, ◌++◌, ℕ, zero, suc, List, [], ◌∷◌, length, map, take, Bool, true, false, Some, option_map, get_or, bytes_eq, refl, sym, ap, ◌∙◌, subst, arith}
 use Rattle.std.specs.Prelude.{All}
 use Rattle.std.specs.List.{list_any, flat_map}
 use Rattle.std.proofs.lemmas.List.{length-map, take_all}
 use Rattle.std.proofs.lemmas.List.Elements.{All-map}
 use Rattle.std.proofs.lemmas.Slice.Eq.{bytes_eq-Decides}
-use Rattle.msg_names.specs.Name.{colons_of, is_selector_name}
+use Rattle.msg_names.specs.Name.{colons_of}
 use Rattle.msg_names.specs.Number.{selector_number, selector_of}
-use Rattle.msg_names.specs.Numbering.{number_of, name_at}
+use Rattle.msg_names.specs.Numbering.{name_at}
 use Rattle.msg_names.proofs.NumberLemmas.{name_at-number_of}
 use Rattle.msg_form.specs.Expression as form
 use Rattle.msg_form.specs.Faults.{is_miscounted_send}
-use Rattle.msg_form.specs.Form.{Form, ItemForm, send_item, change_item, ChangeForm}
+use Rattle.msg_form.specs.Form.{Form, ItemForm, send_item, change_item}
 use Rattle.msg_form.specs.Lists.{class_names, object_names, part_classes, item_classes, item_objects, item_sends}
 use Rattle.msg_form.specs.Parts as inner
 use Rattle.msg_form.specs.Text.{Text, is_among, is_unknown, distinct}
@@ -22,7 +22,7 @@ use Rattle.msg_image.specs.Sound.{IsOf, IsSoundItem, Takes}
 use Rattle.msg_image.proofs.ExpressionLemmas.{is_bad, few_arguments, same_count, constant_of_image}
 use Rattle.msg_image.proofs.FaultlessLemmas.{IsFaultless}
 use Rattle.msg_image.proofs.KnownLemmas.{known}
-use Rattle.msg_image.proofs.NoneLemmas.{neither, none-append, each-none, each-inside}
+use Rattle.msg_image.proofs.NoneLemmas.{neither, none-append, each-inside}
 use Rattle.msg_image.proofs.SoundLemmas.{class_in, object_in, classes_cited, objects_cited, selectors_good, counts_right}
 
 of_number : (k : ℕ) → 0 < k → selector_number (selector_of k) ≡ k

@@ -1,10 +1,10 @@
 -- Names that are known, and their numbers.
-use Rattle.std.proofs.Common.{◌≡◌, ◌<◌, ◌≤◌, ◌+◌, ℕ, zero, suc, List, [], ◌∷◌, ◌++◌, length, length-append, map, take, drop, Bool, true, false, not, cond, Option, Some, None, is_some, option_map, slice_get, bytes_eq, refl, sym, ap, ◌∙◌, subst, arith, append_assoc}
+use Rattle.std.proofs.Common.{◌≡◌, ◌<◌, ◌≤◌, ◌+◌, ℕ, zero, suc, List, [], ◌∷◌, ◌++◌, length, length-append, map, take, Bool, true, false, not, cond, Option, Some, None, is_some, option_map, slice_get, bytes_eq, refl, sym, ap, ◌∙◌, subst, arith, append_assoc}
 use Rattle.std.specs.Prelude.{fold}
 use Rattle.std.specs.List.{list_any}
-use Rattle.std.proofs.lemmas.List.{length-map, append-nil}
+use Rattle.std.proofs.lemmas.List.{append-nil}
 use Rattle.std.proofs.lemmas.Option.{same_Some}
-use Rattle.msg_names.specs.Numbering.{number_of, with_name, name_at}
+use Rattle.msg_names.specs.Numbering.{number_of, with_name}
 use Rattle.msg_names.proofs.NumberLemmas.{is_some-number_of, number_stays}
 use Rattle.msg_form.specs.Text.{Text, is_among, is_unknown, distinct}
 use Rattle.msg_form.specs.Form.{ClassForm}

@@ -1,5 +1,5 @@
 -- The image of a form without fault is sound.
-use Rattle.std.proofs.Common.{◌≡◌, ◌<◌, ◌≤◌, ◌+◌, ◌-◌, ℕ, List, [], ◌∷◌, ◌++◌, length, length-append, map, take, drop, Bool, true, false, ◌||◌, Option, Some, None, option_map, unwrap_or, slice_get, get_or, refl, sym, ap, ◌∙◌, subst, arith}
+use Rattle.std.proofs.Common.{◌≡◌, ◌<◌, ◌≤◌, ◌+◌, ◌-◌, ℕ, List, [], ◌∷◌, ◌++◌, length, length-append, map, take, drop, Bool, false, ◌||◌, Option, Some, None, option_map, slice_get, get_or, refl, sym, ap, ◌∙◌, subst, arith}
 use Rattle.std.specs.Prelude.{All, nat_lt, sum_by}
 use Rattle.std.specs.List.{list_any, flat_map}
 use Rattle.std.proofs.lemmas.Bool.Decides.{nat_tests}
@@ -14,18 +14,18 @@ use Rattle.msg_form.specs.Faults.{has_late_superclass, has_long_list, has_many_e
 use Rattle.msg_form.specs.Form.{PairForm, ClassForm, CategoryForm, ObjectForm, ImpForm, Form}
 use Rattle.msg_form.specs.Lists.{class_names, object_names, imp_names, class_lists, category_lists, method_lists, item_lists, all_lists, method_entries, item_imps, item_classes, item_objects, item_sends, body_sends, body_classes, body_objects, part_classes, other_classes}
 use Rattle.msg_form.specs.Parts as inner
-use Rattle.msg_form.specs.Text.{Text, is_among, is_unknown, distinct}
+use Rattle.msg_form.specs.Text.{Text, is_unknown, distinct}
 use Rattle.msg_form.specs.Walk.{selector_texts, forwarding_text, class_texts, category_texts, imp_texts, item_texts, texts_in}
 use Rattle.msg_form.proofs.AnyLemmas.{list_any-map, list_any-flat_map}
 use Rattle.msg_image.specs.Document as spec
 use Rattle.msg_image.specs.declared.image.Category.{Category}
 use Rattle.msg_image.specs.declared.numbers.Numbers.{Numbers}
 use Rattle.msg_image.specs.Numbers.{numbers_of, class_named, object_named, imp_named}
-use Rattle.msg_image.specs.Parts.{ImageParts, ClassParts, ObjectParts, ImpParts}
+use Rattle.msg_image.specs.Parts.{ImageParts, ClassParts, ObjectParts}
 use Rattle.msg_image.specs.Sound.{IsSound, IsSoundClass, IsSoundCategory, IsSoundImp, AreListed, row_count}
 use Rattle.msg_image.proofs.ExpressionLemmas.{AreGood, names_unknown_class, names_unknown_object, sends_miscounted, is_bad, count-expression, depth-expression, expression_of_image}
-use Rattle.msg_image.proofs.FaultlessLemmas.{IsFaultless, faultless}
-use Rattle.msg_image.proofs.KnownLemmas.{HasNumber, known, among, number_of-first, earlier}
+use Rattle.msg_image.proofs.FaultlessLemmas.{IsFaultless}
+use Rattle.msg_image.proofs.KnownLemmas.{known, among, number_of-first, earlier}
 use Rattle.msg_image.proofs.NoneLemmas.{neither, none-append, each-none, each-mapped, each-inside}
 use Rattle.msg_image.proofs.PartLemmas.{All-at}
 

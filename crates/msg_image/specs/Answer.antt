@@ -1,5 +1,5 @@
 -- The one answer to bytes: the document that they spell, or what is wrong with them.
-use Rattle.std.specs.Prelude.{◌≡◌, ℕ, List, length, map, Option, Some, None, Result, Ok, Err, IsUtf8, MatchBool, nat_lt}
+use Rattle.std.specs.Prelude.{◌≡◌, ℕ, List, length, Option, Some, None, Result, Ok, Err, IsUtf8, MatchBool, nat_lt}
 use Rattle.serde_json.specs.Data.{Data}
 use Rattle.serde_json.specs.Read as json
 use Rattle.msg_form.specs.Faults.{fault_of}

@@ -1,8 +1,7 @@
 -- A code for expressions, by which a proof tells them apart. No clause cites it.
-use Rattle.std.specs.Prelude.{◌≡◌, ◌<◌, ℕ, zero, suc, ℤ, pos, negsuc, refl}
+use Rattle.std.specs.Prelude.{◌≡◌, ◌<◌, ℕ, zero, suc, pos, negsuc, refl}
 use Rattle.std.proofs.Common.{ap, arith, zero-le, suc-le-suc}
 use Rattle.std.specs.Coded.{le_prop}
-use Rattle.msg_names.specs.declared.value.Selector.{Selector}
 use Rattle.msg_names.specs.Number.{selector_of}
 use Rattle.std.specs.Coded.{Coded, code_by}
 use base.Stored.{Gv, gnil, gnum, gcons}

@@ -8,7 +8,6 @@ use Rattle.msg_form.specs.declared.form.Operator.{Operator}
 use Rattle.msg_form.specs.declared.form.Operator.TheVariants as operators
 use Rattle.msg_form.specs.Expression as form
 use Rattle.msg_form.specs.Form.{PairForm, ClassForm, CategoryForm, ObjectForm, ImpForm, MethodForm, ChangeForm, add, replace, set_imp, exchange, attach, ItemForm, send_item, change_item, Form}
-use Rattle.msg_form.specs.Text.{Text}
 use Rattle.msg_image.specs.declared.change.Change.{Change}
 use Rattle.msg_image.specs.declared.change.Change.TheVariants as changes
 use Rattle.msg_image.specs.declared.image.Category.{Category}

@@ -1,5 +1,5 @@
 -- Items and documents, with no pointers.
-use Rattle.std.specs.Prelude.{ℕ, List}
+use Rattle.std.specs.Prelude.{List}
 use Rattle.msg_names.specs.declared.value.Selector.{Selector}
 use Rattle.msg_names.specs.declared.value.Value.{Value}
 use Rattle.msg_image.specs.declared.change.Change.{Change}

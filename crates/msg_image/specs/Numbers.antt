@@ -1,5 +1,5 @@
 -- The numbers that a document's names get, and what the names stand for.
-use Rattle.std.specs.Prelude.{ℕ, ◌-◌, List, unwrap_or}
+use Rattle.std.specs.Prelude.{ℕ, ◌-◌, unwrap_or}
 use Rattle.msg_names.specs.Number.{selector_of, imp_of}
 use Rattle.msg_names.specs.Numbering.{number_of}
 use Rattle.msg_names.specs.declared.value.ImpRef.{ImpRef}

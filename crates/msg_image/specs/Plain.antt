@@ -1,9 +1,7 @@
 -- The parts of an image of the program.
-use Rattle.std.specs.Prelude.{ℕ, List, map, string_bytes}
-use Rattle.std.specs.declared.vec.Vec.{Vec}
-use Rattle.std.specs.declared.alloc.Global.{Global}
+use Rattle.std.specs.Prelude.{List, map, string_bytes}
 use Rattle.msg_image.specs.Items.{ItemParts, SendItem, ChangeItem}
-use Rattle.msg_image.specs.Parts.{Op, Add, Sub, Mul, Eq, Lt, Expression, Expressions, Const, Me, Arg, Two, If, Send, Super, in_row, ClassParts, ObjectParts, ImpParts, ImageParts}
+use Rattle.msg_image.specs.Parts.{Add, Sub, Mul, Eq, Lt, Expression, Expressions, Const, Me, Arg, Two, If, Send, Super, in_row, ClassParts, ObjectParts, ImpParts, ImageParts}
 use Rattle.msg_image.specs.declared.expr.Expr.{Expr, fold-Expr}
 use Rattle.msg_image.specs.declared.expr.Expr.TheOpen.{Expr-F}
 use Rattle.msg_image.specs.declared.image.Imp.{Imp}

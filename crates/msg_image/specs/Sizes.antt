@@ -1,5 +1,5 @@
 -- How large an expression is.
-use Rattle.std.specs.Prelude.{ℕ, zero, suc, ◌+◌, max}
+use Rattle.std.specs.Prelude.{ℕ, suc, ◌+◌, max}
 use Rattle.msg_image.specs.Parts.{Expression, Expressions, Const, Me, Arg, Two, If, Send, Super, NoMore, More}
 
 abbrev mutual

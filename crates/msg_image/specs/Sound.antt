@@ -1,5 +1,5 @@
 -- What holds of every image.
-use Rattle.std.specs.Prelude.{◌≡◌, ◌<◌, ◌≤◌, ◌+◌, ℕ, List, Option, Some, option_map, slice_get, length, sum_by, All}
+use Rattle.std.specs.Prelude.{◌≡◌, ◌<◌, ◌≤◌, ◌+◌, ℕ, List, Some, option_map, slice_get, length, sum_by, All}
 use Rattle.msg_names.specs.Name.{colons_of}
 use Rattle.msg_names.specs.Number.{selector_number}
 use Rattle.msg_names.specs.Numbering.{name_at}

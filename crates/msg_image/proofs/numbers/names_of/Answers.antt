@@ -1,4 +1,4 @@
-use Rattle.std.proofs.Common.{[], sym, subst}
+use Rattle.std.proofs.Common.{sym, subst}
 use Rattle.msg_image.proofs.NumberingLemmas.{Gathers, gathers-start}
 use Rattle.msg_image.proofs.numbers.names_of.Goals as goal
 

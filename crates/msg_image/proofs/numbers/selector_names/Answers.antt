@@ -1,4 +1,4 @@
-use Rattle.std.proofs.Common.{[], sym, ap, subst}
+use Rattle.std.proofs.Common.{sym, subst}
 use Rattle.std.specs.Borrow.{Bor}
 use Rattle.msg_form.specs.Text.{Text}
 use Rattle.msg_image.proofs.NumberingLemmas.{Gathers, gathers-start}

@@ -1,0 +1,170 @@
+//! The words of the command line, and what is said of a fault.
+
+use msg_form::DocumentFault;
+use msg_runner::{RunFault, ToWriter, arguments, complain};
+use std::alloc::Global;
+use std::io;
+use std::test::Fail;
+
+fn words(alloc: Global, texts: &[&str]) -> Result<Vec<String>, Fail> {
+    let mut words = Vec::new(alloc);
+    for text in texts {
+        words.push(text.to_string(alloc)?)?;
+    }
+    Ok(words)
+}
+
+const WORDS: [(&[&str], Option<(u32, u32)>); 27] = [
+    (&[], Some((1, 64))),
+    (&["1"], Some((1, 64))),
+    (&["3"], Some((3, 64))),
+    (&["3", "2"], Some((3, 2))),
+    (&["0"], Some((0, 64))),
+    (&["65"], Some((65, 64))),
+    (&["1", "0"], Some((1, 0))),
+    (&["000000007", "000000009"], Some((7, 9))),
+    (&["999999999", "999999999"], Some((999999999, 999999999))),
+    (&["x"], None),
+    (&[""], None),
+    (&["1", ""], None),
+    (&["1", "x"], None),
+    (&["x", "1"], None),
+    (&["1", "2", "3"], None),
+    (&["1", "2", ""], None),
+    (&["-1"], None),
+    (&["+1"], None),
+    (&[" 1"], None),
+    (&["1 "], None),
+    (&["1\n"], None),
+    (&["1.0"], None),
+    (&["1e0"], None),
+    (&["0x1"], None),
+    (&["0000000001"], None),
+    (&["1000000000"], None),
+    (&["\u{661}"], None),
+];
+
+#[test]
+fn words_are_two_numbers_at_most(rt: HostRuntime) -> Result<(), Fail> {
+    let alloc = rt.alloc();
+    for (texts, want) in WORDS {
+        let words = words(alloc, texts)?;
+        assert_eq!(rt; arguments(&words), want, "{texts:?}");
+    }
+    Ok(())
+}
+
+const LINES: [(Option<RunFault>, &str, u8); 22] = [
+    (None, "msgrun: usage: msgrun [workers [cut]]\n", 2),
+    (Some(RunFault::Read), "msgrun: read failed\n", 1),
+    (Some(RunFault::Memory), "msgrun: out of memory\n", 1),
+    (Some(RunFault::Write), "msgrun: write failed\n", 1),
+    (
+        Some(RunFault::Workers),
+        "msgrun: workers must be 1 to 64\n",
+        2,
+    ),
+    (Some(RunFault::Cut), "msgrun: cut must be at least 1\n", 2),
+    (
+        Some(RunFault::Document(DocumentFault::NotJson)),
+        "msgrun: document fault 1: not json\n",
+        2,
+    ),
+    (
+        Some(RunFault::Document(DocumentFault::Shape)),
+        "msgrun: document fault 2: shape\n",
+        2,
+    ),
+    (
+        Some(RunFault::Document(DocumentFault::Version)),
+        "msgrun: document fault 3: version\n",
+        2,
+    ),
+    (
+        Some(RunFault::Document(DocumentFault::Limit)),
+        "msgrun: document fault 4: limit\n",
+        2,
+    ),
+    (
+        Some(RunFault::Document(DocumentFault::DuplicateClass)),
+        "msgrun: document fault 5: duplicate class\n",
+        2,
+    ),
+    (
+        Some(RunFault::Document(DocumentFault::UnknownSuperclass)),
+        "msgrun: document fault 6: unknown superclass\n",
+        2,
+    ),
+    (
+        Some(RunFault::Document(DocumentFault::UnknownClass)),
+        "msgrun: document fault 7: unknown class\n",
+        2,
+    ),
+    (
+        Some(RunFault::Document(DocumentFault::DuplicateObject)),
+        "msgrun: document fault 8: duplicate object\n",
+        2,
+    ),
+    (
+        Some(RunFault::Document(DocumentFault::UnknownObject)),
+        "msgrun: document fault 9: unknown object\n",
+        2,
+    ),
+    (
+        Some(RunFault::Document(DocumentFault::DuplicateImp)),
+        "msgrun: document fault 10: duplicate implementation\n",
+        2,
+    ),
+    (
+        Some(RunFault::Document(DocumentFault::UnknownImp)),
+        "msgrun: document fault 11: unknown implementation\n",
+        2,
+    ),
+    (
+        Some(RunFault::Document(DocumentFault::BadSelector)),
+        "msgrun: document fault 12: bad selector\n",
+        2,
+    ),
+    (
+        Some(RunFault::Document(DocumentFault::DuplicateSelector)),
+        "msgrun: document fault 13: duplicate selector\n",
+        2,
+    ),
+    (
+        Some(RunFault::Document(DocumentFault::ArgumentCount)),
+        "msgrun: document fault 14: argument count\n",
+        2,
+    ),
+    (
+        Some(RunFault::Document(DocumentFault::ArgumentIndex)),
+        "msgrun: document fault 15: argument index\n",
+        2,
+    ),
+    (
+        Some(RunFault::Document(DocumentFault::BodyTooDeep)),
+        "msgrun: document fault 16: body too deep\n",
+        2,
+    ),
+];
+
+#[test]
+fn each_fault_has_a_line_and_a_status(rt: HostRuntime) {
+    let alloc = rt.alloc();
+    for (fault, line, status) in LINES {
+        let mut sink = ToWriter::new(Vec::new(alloc));
+        assert_eq!(rt; complain(&mut sink, fault.as_ref()), status, "{line}");
+        assert_eq!(rt; sink.writer.as_slice(), line.as_bytes());
+    }
+}
+
+#[test]
+fn a_failed_write_leaves_the_status(rt: HostRuntime) {
+    for (fault, _line, status) in LINES {
+        let mut room = [0; 12];
+        let mut sink = ToWriter::new(io::Cursor::new(room.as_mut_slice()));
+        assert_eq!(rt; complain(&mut sink, fault.as_ref()), status);
+        let front = sink.failed;
+        assert!(rt; front);
+        assert_eq!(rt; room.as_slice().first(), Some(&b'm'));
+    }
+}

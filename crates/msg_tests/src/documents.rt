@@ -1,0 +1,110 @@
+//! Documents, edits of them, and the number of the fault that one is refused with.
+
+use msg_image::{DocumentFault, read_document};
+use std::alloc::Global;
+use std::process::Abort;
+use std::test::Fail;
+
+/// A small document.
+pub(crate) const SMALL: &str =
+    r#"{"version":1,"classes":[{"name":"Root","super":null,"methods":[["value","r_value"]],"class_methods":[]},{"name":"Child","super":"Root","methods":[],"class_methods":[]}],"categories":[],"objects":[{"name":"c","class":"Child"}],"imps":[{"name":"r_value","class":"Root","meta":false,"args":0,"body":7}],"items":[{"send":[["obj","c"],"value"]}]}"#;
+
+/// A document with each form of a part, an item and a change.
+pub(crate) const FULL: &str = r#"{"version":1,"classes":[
+{"name":"Root","super":null,"methods":[["value","r_value"],["down:","r_down"]],"class_methods":[["make","r_make"]]},
+{"name":"Child","super":"Root","methods":[["name","c_name"]],"class_methods":[]}],
+"categories":[{"class":"Child","methods":[["tag","c_tag"]],"class_methods":[["kind","c_kind"]]}],
+"objects":[{"name":"c","class":"Child"},{"name":"r","class":"Root"}],
+"imps":[
+{"name":"r_value","class":"Root","meta":false,"args":0,"body":7},
+{"name":"r_down","class":"Root","meta":false,"args":1,"body":
+ ["if",["arg",0],["send",["self"],"down:",["sub",["arg",0],1]],["obj","r"]]},
+{"name":"r_make","class":"Root","meta":true,"args":0,"body":["self"]},
+{"name":"c_name","class":"Child","meta":false,"args":0,"body":["add",10,["super","value"]]},
+{"name":"c_tag","class":"Child","meta":false,"args":0,"body":["eq",["class","Root"],["sel","other"]]},
+{"name":"c_kind","class":"Child","meta":true,"args":0,"body":["mul",["lt",1,2],null]}],
+"items":[
+{"send":[["obj","c"],"value"]},
+{"send":[["class","Child"],"down:",["sel","seen"]]},
+{"change":["add","Child",false,"more","r_value"]},
+{"change":["replace","Root",true,"less","r_make"]},
+{"change":["set","Root",false,"value","r_value"]},
+{"change":["exchange","Child",false,"name","Root",true,"make"]},
+{"change":["attach","Root",[["top","r_value"]],[["low","r_make"]]]}]}"#;
+
+/// A document without parts.
+pub(crate) const EMPTY: &str =
+    r#"{"version":1,"classes":[],"categories":[],"objects":[],"imps":[],"items":[]}"#;
+
+/// The body of an implementation without arguments, in both documents.
+pub(crate) const BODY: &str = r#""body":7"#;
+
+/// The number of the fault that a document is refused with.
+pub(crate) fn number(alloc: Global, text: &[u8]) -> Option<u32> {
+    read_document(alloc, text).err().map(DocumentFault::number)
+}
+
+/// The text with `new` where it first has `old`.
+pub(crate) fn edited(alloc: Global, text: &str, old: &str, new: &str) -> Result<String, Fail> {
+    let (before, after) = text.split_once(old).ok_or("nothing to edit")?;
+    Ok(format!(in alloc; "{before}{new}{after}")?)
+}
+
+/// The piece so many times, with commas.
+pub(crate) fn listed(alloc: Global, piece: &str, count: usize) -> Result<String, Fail> {
+    let mut text = String::new(alloc);
+    for place in 0..count {
+        if place > 0 {
+            text.push(',')?;
+        }
+        text.push_str(piece)?;
+    }
+    Ok(text)
+}
+
+/// The middle inside so many of `before` and `after`.
+pub(crate) fn nested(
+    alloc: Global,
+    before: &str,
+    middle: &str,
+    after: &str,
+    count: usize,
+) -> Result<String, Fail> {
+    let opening = before.repeat(alloc, count)?;
+    let closing = after.repeat(alloc, count)?;
+    Ok(format!(in alloc; "{opening}{middle}{closing}")?)
+}
+
+/// The edit of the text gives the answer.
+pub(crate) fn edit_is(
+    rt: &impl Abort,
+    alloc: Global,
+    document: &str,
+    want: Option<u32>,
+    old: &str,
+    new: &str,
+) -> Result<(), Fail> {
+    let text = edited(alloc, document, old, new)?;
+    assert_eq!(rt; number(alloc, text.as_bytes()), want, "{old}");
+    Ok(())
+}
+
+/// The document without parts, with this list in place of an empty one, gives the answer.
+pub(crate) fn list_is(
+    rt: &impl Abort,
+    alloc: Global,
+    want: Option<u32>,
+    key: &str,
+    values: &str,
+) -> Result<(), Fail> {
+    let old = format!(in alloc; "\"{key}\":[]")?;
+    let new = format!(in alloc; "\"{key}\":[{values}]")?;
+    let text = edited(alloc, EMPTY, old.as_str(), new.as_str())?;
+    let length = values.len();
+    assert_eq!(rt;
+        number(alloc, text.as_bytes()),
+        want,
+        "{key} of {length} bytes"
+    );
+    Ok(())
+}

@@ -1,0 +1,89 @@
+//! Selectors, values and interned names.
+
+use msg_names::{ImpRef, NameFault, Names, Selector, Value, is_identifier, is_selector_name};
+use std::alloc::Global;
+use std::process::Abort;
+use std::test::Fail;
+
+fn interned(rt: &impl Abort, names: &mut Names, text: &str, want: Result<u32, NameFault>) {
+    let number = names.intern(text).map(Selector::number);
+    assert_eq!(rt; number, want, "{text}");
+}
+
+#[test]
+fn names_are_interned(rt: HostRuntime) -> Result<(), Fail> {
+    let alloc = rt.alloc();
+    let mut names = Names::new(alloc);
+    assert!(rt; names.is_empty());
+    let longest = "n".repeat(alloc, 64)?;
+    let longer = "n".repeat(alloc, 65)?;
+    for (text, want) in [
+        ("value", Ok(1)),
+        ("value", Ok(1)),
+        ("at:put:", Ok(2)),
+        (":", Ok(3)),
+        ("", Err(NameFault::BadName)),
+        ("a b", Err(NameFault::BadName)),
+        ("at:put", Err(NameFault::BadName)),
+        ("1x", Err(NameFault::BadName)),
+        ("a:b:c:d:e:", Err(NameFault::BadName)),
+        (longer.as_str(), Err(NameFault::BadName)),
+        (longest.as_str(), Ok(4)),
+        ("value", Ok(1)),
+    ] {
+        interned(&rt, &mut names, text, want);
+    }
+    assert_eq!(rt; names.len(), 4);
+    assert!(rt; !names.is_empty());
+    assert_eq!(rt; names.find("at:put:").map(Selector::number), Some(2));
+    assert_eq!(rt; names.find("at:"), None);
+    for (number, text, colons) in [
+        (1, Some("value"), Some(0)),
+        (2, Some("at:put:"), Some(2)),
+        (3, Some(":"), Some(1)),
+        (4, Some(longest.as_str()), Some(0)),
+        (5, None, None),
+        (4294967295, None, None),
+    ] {
+        let selector = Selector::of(number).ok_or("0")?;
+        assert_eq!(rt; names.text(selector), text, "{number}");
+        assert_eq!(rt; names.colons(selector), colons, "{number}");
+    }
+    Ok(())
+}
+
+#[test]
+fn no_more_than_4096_names_fit(rt: HostRuntime) -> Result<(), Fail> {
+    let alloc = rt.alloc();
+    let mut names = Names::new(alloc);
+    for number in 1..4097_u32 {
+        let text = format!(in alloc; "n{number}")?;
+        interned(&rt, &mut names, text.as_str(), Ok(number));
+    }
+    interned(&rt, &mut names, "n4097", Err(NameFault::TooMany));
+    interned(&rt, &mut names, "a b", Err(NameFault::BadName));
+    interned(&rt, &mut names, "n1", Ok(1));
+    interned(&rt, &mut names, "n4096", Ok(4096));
+    assert_eq!(rt; names.len(), 4096);
+    Ok(())
+}
+
+#[test]
+fn numbers_and_texts(rt: HostRuntime) {
+    assert_eq!(rt; Selector::of(0), None);
+    assert_eq!(rt; Selector::of(7).map(Selector::number), Some(7));
+    assert_eq!(rt; ImpRef::of(7).number(), 7);
+    assert_eq!(rt; ImpRef::of(0), ImpRef::FORWARD);
+    assert_eq!(rt; ImpRef::FORWARD.number(), 0);
+    assert_eq!(rt; Value::default(), Value::Nil);
+    for (text, identifier, selector) in [
+        ("_x9", true, true),
+        ("at:", false, true),
+        ("9x", false, false),
+        ("a-b", false, false),
+        ("", false, false),
+    ] {
+        assert_eq!(rt; is_identifier(text), identifier, "{text}");
+        assert_eq!(rt; is_selector_name(text), selector, "{text}");
+    }
+}

@@ -1,0 +1,280 @@
+//! What is read from an image, and the items of a document.
+
+ghost use Rattle.std.specs.Prelude.{◌≡◌};
+
+use crate::images::{IMAGE, with_items};
+use msg_image::{Change, Expr, Image, Item, MethodList, read_document};
+use msg_names::{ClassRef, ImpRef, ObjectRef, Selector, Value};
+use std::alloc::Global;
+use std::process::Abort;
+use std::test::Fail;
+
+fn image(alloc: Global) -> Result<Image, Fail> {
+    Ok(read_document(alloc, IMAGE.as_bytes())?.image)
+}
+
+fn at(class: u32, meta: bool) -> ClassRef
+    ensures { result.class ≡ class }
+{
+    ClassRef { class, meta }
+}
+
+#[test]
+fn names_come_in_the_order_of_the_walk(rt: HostRuntime) -> Result<(), Fail> {
+    let image = image(rt.alloc())?;
+    let names = [
+        "forwardingTargetForSelector:",
+        "value",
+        "name",
+        "down:",
+        "big",
+        "small",
+        "spread:",
+        "top",
+        "over",
+        "bad",
+        "make",
+        "tag",
+        "plus:",
+        "go",
+    ];
+    assert_eq!(rt; image.names().len(), 14);
+    for (text, number) in names.into_iter().zip(1..15_u32) {
+        let sel = image.names().find(text);
+        assert_eq!(rt; sel.map(Selector::number), Some(number), "{text}");
+    }
+    assert_eq!(rt; image.forwarding_selector().number(), 1);
+    Ok(())
+}
+
+#[test]
+fn classes_and_objects_come_as_listed(rt: HostRuntime) -> Result<(), Fail> {
+    let image = image(rt.alloc())?;
+    assert_eq!(rt; image.class_count(), 5);
+    assert_eq!(rt; image.object_count(), 5);
+    assert_eq!(rt; image.imp_count(), 14);
+    for (class, name, above, above_meta) in [
+        (0, "Root", None, Some(at(0, false))),
+        (1, "Child", Some(at(0, false)), Some(at(0, true))),
+        (2, "Grand", Some(at(1, false)), Some(at(1, true))),
+        (3, "Side", Some(at(0, false)), Some(at(0, true))),
+        (4, "Proxy", None, Some(at(4, false))),
+    ] {
+        assert!(rt; class < image.class_count());
+        assert_eq!(rt; image.class_name(class).as_bytes(), name.as_bytes());
+        assert_eq!(rt; image.superclass(at(class, false)), above, "{name}");
+        assert_eq!(rt; image.superclass(at(class, true)), above_meta, "{name}");
+    }
+    for (object, name, class) in [
+        (0, "c", 1),
+        (1, "g", 2),
+        (2, "s", 3),
+        (3, "p", 4),
+        (4, "q", 4),
+    ] {
+        assert!(rt; object < image.object_count());
+        let text = image.object_name(ObjectRef { object });
+        assert_eq!(rt; text.as_bytes(), name.as_bytes());
+        assert_eq!(rt; image.object_class(ObjectRef { object }), class, "{name}");
+    }
+    Ok(())
+}
+
+// The methods have these numbers of selectors and implementations.
+fn methods_are(rt: &impl Abort, methods: &[(Selector, ImpRef)], want: &[(u32, u32)]) {
+    assert_eq!(rt; methods.len(), want.len());
+    for (method, pair) in methods.iter().zip(want.iter()) {
+        assert_eq!(rt; method.0.number(), pair.0);
+        assert_eq!(rt; method.1.number(), pair.1);
+    }
+}
+
+#[test]
+fn methods_come_as_listed(rt: HostRuntime) -> Result<(), Fail> {
+    let image = image(rt.alloc())?;
+    assert_eq!(rt; image.class_count(), 5);
+    let root = [
+        (2, 1),
+        (3, 2),
+        (4, 3),
+        (5, 4),
+        (6, 5),
+        (7, 6),
+        (8, 7),
+        (9, 8),
+        (10, 9),
+    ];
+    methods_are(&rt, image.methods(at(0, false)), &root);
+    methods_are(&rt, image.methods(at(0, true)), &[(11, 10)]);
+    methods_are(&rt, image.methods(at(1, false)), &[(3, 11)]);
+    methods_are(&rt, image.methods(at(2, false)), &[]);
+    // without the methods of its categories
+    methods_are(&rt, image.methods(at(3, false)), &[(12, 2)]);
+    let categories = image.categories();
+    assert_eq!(rt; categories.len(), 2);
+    for (category, imp) in categories.iter().zip([12, 13]) {
+        assert_eq!(rt; category.class, 3);
+        methods_are(&rt, category.methods.as_slice(), &[(12, imp)]);
+        methods_are(&rt, category.class_methods.as_slice(), &[]);
+    }
+    Ok(())
+}
+
+fn is_number(expr: &Expr, want: i64) -> bool {
+    match expr {
+        Expr::Const(Value::Number(number)) => *number == want,
+        _ => false,
+    }
+}
+
+fn is_argument(expr: &Expr, want: u8) -> bool {
+    match expr {
+        Expr::Arg(place) => *place == want,
+        _ => false,
+    }
+}
+
+// `["sub",["arg",0],1]`
+fn is_one_less(expr: &Expr) -> bool {
+    match expr {
+        Expr::Sub(left, right) => is_argument(left, 0) && is_number(right, 1),
+        _ => false,
+    }
+}
+
+// `["send",["self"],S,["sub",["arg",0],1]]`, with the selector of this number
+fn is_recursion(expr: &Expr, sel: u32) -> bool {
+    match expr {
+        Expr::Send(receiver, selector, args) => match args.as_slice() {
+            [only] => matches!(**receiver, Expr::Me)
+                && selector.number() == sel
+                && is_one_less(only),
+            _ => false,
+        },
+        _ => false,
+    }
+}
+
+// `["if",["arg",0],["send",["self"],S,["sub",["arg",0],1]],0]`, with the selector of this number
+fn is_countdown(expr: &Expr, sel: u32) -> bool {
+    match expr {
+        Expr::If(test, then, otherwise) => {
+            is_argument(test, 0) && is_recursion(then, sel) && is_number(otherwise, 0)
+        }
+        _ => false,
+    }
+}
+
+// `["super",S]`, with the selector of this number
+fn is_super(expr: &Expr, want: u32) -> bool {
+    match expr {
+        Expr::Super(sel, args) => sel.number() == want && args.is_empty(),
+        _ => false,
+    }
+}
+
+// `["add",10,["super",S]]`, with the selector of this number
+fn is_sum(expr: &Expr, sel: u32) -> bool {
+    match expr {
+        Expr::Add(left, right) => is_number(left, 10) && is_super(right, sel),
+        _ => false,
+    }
+}
+
+#[test]
+fn implementations_come_as_listed(rt: HostRuntime) -> Result<(), Fail> {
+    let image = image(rt.alloc())?;
+    for (number, home, args) in [
+        (1, at(0, false), 0),
+        (3, at(0, false), 1),
+        (10, at(0, true), 0),
+        (11, at(1, false), 0),
+    ] {
+        assert!(rt; number <= image.imp_count());
+        let imp = image.imp(ImpRef::of(number));
+        assert_eq!(rt; imp.home, home, "{number}");
+        assert_eq!(rt; imp.args, args, "{number}");
+        let is_as_listed = match number {
+            1 => is_number(&imp.body, 7),
+            3 => is_countdown(&imp.body, 4),
+            10 => matches!(imp.body, Expr::Me),
+            _ => is_sum(&imp.body, 3),
+        };
+        assert!(rt; is_as_listed, "{number}");
+    }
+    Ok(())
+}
+
+#[test]
+fn items_come_as_listed(rt: HostRuntime) -> Result<(), Fail> {
+    let alloc = rt.alloc();
+    let items =
+        r#"{"send":[["obj","g"],"down:",31]},{"change":["add","Child",true,"value","r_name"]},{"change":["replace","Side",false,"tag","s_two"]},{"change":["set","Proxy",true,"new","r_value"]},{"change":["exchange","Child",false,"value","Root",true,"name"]},{"change":["attach","Side",[["tag","r_value"],["more","s_three"]],[["make","r_make"]]]}"#;
+    let text = with_items(alloc, IMAGE, items)?;
+    let document = read_document(alloc, text.as_bytes())?;
+    let mut seen = 0_u32;
+    for item in document.items {
+        seen = seen.saturating_add(1);
+        match item {
+            Item::Send {
+                receiver,
+                sel,
+                args,
+            } => {
+                assert_eq!(rt; receiver, Value::Object(ObjectRef { object: 1 }));
+                assert_eq!(rt; sel.number(), 4);
+                assert_eq!(rt; args.as_slice(), [Value::Number(31)].as_slice());
+                assert_eq!(rt; seen, 1);
+            }
+            Item::Change(Change::Add { class, sel, imp }) => {
+                assert_eq!(rt; (class, sel.number(), imp.number()), (at(1, true), 2, 2));
+                assert_eq!(rt; seen, 2);
+            }
+            Item::Change(Change::Replace { class, sel, imp }) => {
+                assert_eq!(rt; (class, sel.number(), imp.number()), (at(3, false), 12, 12));
+                assert_eq!(rt; seen, 3);
+            }
+            Item::Change(Change::SetImp { class, sel, imp }) => {
+                // the selectors of items come after those of bodies
+                assert_eq!(rt; (class, sel.number(), imp.number()), (at(4, true), 15, 1));
+                assert_eq!(rt; seen, 4);
+            }
+            Item::Change(
+                Change::Exchange {
+                    class,
+                    sel,
+                    other,
+                    other_sel,
+                },
+            ) => {
+                assert_eq!(rt; (class, sel.number()), (at(1, false), 2));
+                assert_eq!(rt; (other, other_sel.number()), (at(0, true), 3));
+                assert_eq!(rt; seen, 5);
+            }
+            Item::Change(
+                Change::Attach {
+                    class,
+                    methods,
+                    class_methods,
+                },
+            ) => {
+                assert_eq!(rt; class, 3);
+                methods_are(&rt, methods.as_slice(), &[(12, 1), (16, 13)]);
+                methods_are(&rt, class_methods.as_slice(), &[(11, 10)]);
+                assert_eq!(rt; seen, 6);
+            }
+        }
+    }
+    assert_eq!(rt; seen, 6);
+    Ok(())
+}
+
+#[test]
+fn a_method_list_gives_its_pairs_back(rt: HostRuntime) -> Result<(), Fail> {
+    let sel = Selector::of(2).ok_or("0")?;
+    let pairs = vec![in rt.alloc(); (sel, ImpRef::of(1)), (sel, ImpRef::FORWARD)]?;
+    let list = MethodList::new(pairs);
+    methods_are(&rt, list.as_slice(), &[(2, 1), (2, 0)]);
+    methods_are(&rt, list.into_vec().as_slice(), &[(2, 1), (2, 0)]);
+    Ok(())
+}
