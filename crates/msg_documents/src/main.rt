@@ -9,6 +9,7 @@ mod edits;
 use edits::Edits;
 use msg_runner::{FromReader, OpenGate, RunFault, ToWriter, run};
 use std::alloc::Global;
+use std::thread::{self, Threads};
 use std::{fs, io};
 
 /// How many workers there are, and how many sends a piece has at most.
@@ -57,11 +58,32 @@ fn is_answered(alloc: Global, document: &str, text: &str) -> bool {
     true
 }
 
-fn try_answers(rt: &HostRuntime, folder: &str) -> io::Result<()> {
+// The same in two threads at once, each with the stack that a thread has by default.
+fn is_answered_in_threads<T: Threads + Sync>(
+    threads: &T,
+    alloc: Global,
+    document: &str,
+    text: &str,
+) -> bool {
+    let (one, other) = thread::join(
+        threads,
+        || is_answered(alloc, document, text),
+        || is_answered(alloc, document, text),
+    );
+    one && other
+}
+
+fn try_answers<T: Threads + Sync>(rt: &HostRuntime, threads: &T, folder: &str) -> io::Result<()> {
     for name in names(rt, folder, ".json")? {
         let document = read(rt, folder, name.as_str(), ".json")?;
         let text = read(rt, folder, name.as_str(), ".out")?;
-        let answer = if is_answered(rt.alloc(), document.as_str(), text.as_str()) {
+        let is_answered = is_answered_in_threads(
+            threads,
+            rt.alloc(),
+            document.as_str(),
+            text.as_str(),
+        );
+        let answer = if is_answered {
             "as expected"
         } else {
             "otherwise"
@@ -84,7 +106,7 @@ fn try_edits(rt: &HostRuntime, folder: &str) -> io::Result<()> {
 }
 
 fn main(rt: HostRuntime) -> io::Result<()> {
-    try_answers(&rt, "examples")?;
-    try_answers(&rt, "answers")?;
+    try_answers(&rt, &rt, "examples")?;
+    try_answers(&rt, &rt, "answers")?;
     try_edits(&rt, "edits")
 }

@@ -1,7 +1,6 @@
 -- Looking into a JSON value for what it spells.
-use Rattle.std.specs.Prelude.{ℕ, ◌==◌, ℤ, List, [], ◌∷◌, Bool, true, false, if◌then◌else◌, Option, Some, None, option_map, option_and_then, slice_get, ⊤}
-use Rattle.serde_json.specs.Data.{Data, null, boolean, number, string, array, object, Items, no_items, item}
-use Rattle.serde_json.specs.Events.{members_len}
+use Rattle.std.specs.Prelude.{ℕ, ℤ, List, [], ◌∷◌, Bool, true, false, if◌then◌else◌, Option, Some, None, option_map, option_and_then, slice_get, ⊤}
+use Rattle.serde_json.specs.Data.{Data, Items, no_items, item}
 use Rattle.serde_json.specs.Find.{get, as_array, as_number, as_str, as_i64}
 use Rattle.msg_names.specs.Name.{is_identifier}
 use Rattle.msg_form.specs.Text.{Text}
@@ -34,15 +33,6 @@ list_of f d = list_at d >>= each f
 -- what the value at a place spells
 abbrev pub value_of : {B : Type 0} → (Data → Option B) → ℕ → List Data → Option B
 value_of f i ds = slice_get ds i >>= f
-
--- an object with n keys
-abbrev pub has_keys : ℕ → Data → Bool
-has_keys n null = false
-has_keys n (boolean b) = false
-has_keys n (number x) = false
-has_keys n (string s) = false
-has_keys n (array ds) = false
-has_keys n (object ms) = members_len ms == n
 
 -- what the value at a key spells
 abbrev pub field_of : {B : Type 0} → (Data → Option B) → Text → Data → Option B

@@ -1,9 +1,10 @@
 -- What the program's JSON values spell as expressions.
 use Rattle.std.specs.Prelude.{List, Option, map}
-use Rattle.serde_json.specs.View.{view}
-use Rattle.serde_json.specs.declared.value.Value.{Value}
+use Rattle.std.specs.declared.alloc.Global.{Global}
+use Rattle.msg_json.specs.View.{view}
+use Rattle.json.specs.declared.value.Value.{Value}
 use Rattle.msg_form.specs.Expression.{Expression}
 use Rattle.msg_form.specs.ExprShape.{expression_of}
 
-abbrev pub readings : List Value → List (Option Expression)
+abbrev pub readings : List (Value Global) → List (Option Expression)
 readings vs = map expression_of (map view vs)

@@ -2,9 +2,10 @@
 use Rattle.std.specs.Prelude.{ℕ, ◌+◌, ◌==◌, ℤ, pos, negsuc, List, length, drop, nat_le, codes, if◌then◌else◌, Option, Some, None, option_map}
 use Rattle.serde_json.specs.Data.{Data, null, boolean, number, string, array, object}
 use Rattle.serde_json.specs.Find.{get, as_str, as_bool}
+use Rattle.msg_json.specs.Keys.{has_keys}
 use Rattle.msg_form.specs.ExprShape.{is_word, constant_of, expression_of}
 use Rattle.msg_form.specs.Form.{PairForm, ClassForm, CategoryForm, ObjectForm, ImpForm, MethodForm, ChangeForm, add, replace, set_imp, exchange, attach, ItemForm, send_item, change_item, Form}
-use Rattle.msg_form.specs.Json.{◌>>=◌, only_if, each, list_at, list_of, has_keys, field_of, value_of, name_of, whole_of}
+use Rattle.msg_form.specs.Json.{◌>>=◌, only_if, each, list_at, list_of, field_of, value_of, name_of, whole_of}
 use Rattle.msg_form.specs.Text.{Text}
 
 -- list L's entries: `[S,N]`

@@ -1,4 +1,4 @@
-//! The parts of a document. Their texts are those of the JSON value that they were read from.
+//! The parts of a document. Their texts are those of the JSON text that they were read from.
 
 ghost use Rattle.std.specs.Prelude.{◌≤◌};
 

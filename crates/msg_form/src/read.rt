@@ -1,20 +1,20 @@
-//! Reading a form from a JSON value. Each value is looked at once, and texts are borrowed.
+//! Reading a form from a JSON tree. Each value is looked at once, and texts are borrowed from the JSON text.
 
 ghost use Rattle.std.specs.Prelude.{◌≡◌, Option, map};
 ghost use Rattle.serde_json.specs.Data.{Data};
-ghost use Rattle.serde_json.specs.View.{view};
+ghost use Rattle.msg_json.specs.View.{view};
 ghost use Rattle.msg_form.specs.Gives.{Gives};
 ghost use Rattle.msg_form.specs.Json.{each, list_of};
 
 mod change;
 mod expr;
-mod json;
 mod parts;
+mod values;
 
 use crate::faults::ReadFault;
-use json::list;
-use serde_json::Value;
+use msg_json::Value;
 use std::alloc::Global;
+use values::list;
 
 /// What a JSON value may spell.
 trait FromValue<'v>: Sized + Drop {
@@ -26,19 +26,19 @@ trait FromValue<'v>: Sized + Drop {
     // What a value spells.
     ghost spelled: { Data → Option Plain };
 
-    fn from_value(alloc: Global, value: &'v Value) -> Result<Self, ReadFault>
+    fn from_value(alloc: Global, value: &Value<'v>) -> Result<Self, ReadFault>
         ensures { Gives plain result (spelled (view value.now)) };
 }
 
 /// What the values of a list spell.
-fn list_of<'v, T: FromValue<'v>>(alloc: Global, value: &'v Value) -> Result<Vec<T>, ReadFault>
+fn list_of<'v, T: FromValue<'v>>(alloc: Global, value: &Value<'v>) -> Result<Vec<T>, ReadFault>
     ensures { Gives (λ v. map T.plain v.items) result (list_of T.spelled (view value.now)) }
 {
     each(alloc, list(value)?)
 }
 
 /// What each of the values spells.
-fn each<'v, T: FromValue<'v>>(alloc: Global, values: &'v [Value]) -> Result<Vec<T>, ReadFault>
+fn each<'v, T: FromValue<'v>>(alloc: Global, values: &[Value<'v>]) -> Result<Vec<T>, ReadFault>
     ensures { Gives (λ v. map T.plain v.items) result (each T.spelled (map view values.now)) }
 {
     let mut parts = Vec::new(alloc);

@@ -1,7 +1,7 @@
 //! Documents.
 
 ghost use Rattle.std.specs.Prelude.{◌≡◌, ◌≢◌, ℕ, List, map, All, Result, Some, None, Ok, Err, IfOk, IfErr};
-ghost use Rattle.serde_json.specs.View.{view};
+ghost use Rattle.msg_json.specs.View.{view};
 ghost use Rattle.msg_form.specs.Faults.{fault_of};
 ghost use Rattle.msg_form.specs.Form.{Form};
 ghost use Rattle.msg_form.specs.Shape.{form_of};
@@ -19,7 +19,7 @@ use crate::image::Image;
 use crate::numbers::Numbers;
 use crate::resolve::each;
 use msg_form::{DocumentFault, Form};
-use serde_json::Value;
+use msg_json::{JsonFault, Scratch, Value};
 use std::alloc::{AllocError, Global};
 
 /// The longest document, in bytes.
@@ -32,14 +32,18 @@ pub struct Document {
     pub items: Vec<Item>,
 }
 
-fn parsed(alloc: Global, bytes: &[u8]) -> Result<Value, DocumentFault>
+fn parsed<'t>(
+    alloc: Global,
+    bytes: &'t [u8],
+    scratch: &'t mut Scratch,
+) -> Result<Value<'t>, DocumentFault>
     ensures ok { IfOk result (λ v. IsJson bytes.now (Some (view v))) }
     ensures err { IfErr result (λ e. e ≢ DocumentFault.Memory → (e ≡ DocumentFault.NotJson) × IsJson bytes.now None) }
 {
-    match Value::from_slice(alloc, bytes) {
+    match msg_json::read(alloc, bytes, scratch) {
         Ok(value) => Ok(value),
-        Err(e) if e.is_memory() => Err(DocumentFault::Memory),
-        Err(_) => Err(DocumentFault::NotJson),
+        Err(JsonFault::Memory) => Err(DocumentFault::Memory),
+        Err(JsonFault::NotJson) => Err(DocumentFault::NotJson),
     }
 }
 
@@ -79,7 +83,8 @@ pub fn read_document(alloc: Global, bytes: &[u8]) -> Result<Document, DocumentFa
     if bytes.len() > MOST_BYTES {
         return Err(DocumentFault::Limit);
     }
-    let value = parsed(alloc, bytes)?;
+    let mut scratch = Scratch::new(alloc);
+    let value = parsed(alloc, bytes, &mut scratch)?;
     judged(alloc, &value)
 }
 

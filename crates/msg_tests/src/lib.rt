@@ -27,3 +27,5 @@ mod refusals;
 mod sets;
 #[cfg(test)]
 mod tables;
+#[cfg(test)]
+mod trees;

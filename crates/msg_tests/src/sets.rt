@@ -2,13 +2,14 @@
 
 use crate::documents::FULL;
 use msg_form::{DocumentFault, FORWARDING, Form, NameSet, ReadFault};
-use serde_json::Value;
+use msg_json::{Scratch, read};
 use std::test::Fail;
 
 #[test]
 fn selectors_come_in_the_order_of_the_walk(rt: HostRuntime) -> Result<(), Fail> {
     let alloc = rt.alloc();
-    let value = Value::from_slice(alloc, FULL.as_bytes())?;
+    let mut scratch = Scratch::new(alloc);
+    let value = read(alloc, FULL.as_bytes(), &mut scratch)?;
     let form = Form::read(alloc, &value)?;
     let texts = form.selector_texts(alloc)?;
     let want = [

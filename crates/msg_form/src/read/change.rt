@@ -1,22 +1,22 @@
 //! Reading changes and items.
 
 ghost use Rattle.std.specs.Prelude.{◌≡◌, ◌+◌, ◌≤◌, map, length};
-ghost use Rattle.serde_json.specs.View.{view};
+ghost use Rattle.msg_json.specs.View.{view};
 ghost use Rattle.msg_form.specs.Form.{ChangeForm, ItemForm};
 ghost use Rattle.msg_form.specs.Gives.{Gives};
 ghost use Rattle.msg_form.specs.Shape as spec;
 ghost use Rattle.msg_form.specs.Views.{method_view, change_view, item_view};
 
-use super::json::{field, keys, list, name, text, truth};
+use super::values::{field, keys, list, name, text, truth};
 use super::{FromValue, each, list_of};
 use crate::faults::ReadFault;
 use crate::form::{Change, Constant, Item, MethodName};
-use serde_json::Value;
+use msg_json::Value;
 use std::alloc::Global;
 
 /// A method's name, which takes three values from a place on.
 #[tactic(auto, unfolding(crate::specs::Shape::method_of))]
-fn method(values: &[Value], place: usize) -> Result<MethodName<'_>, ReadFault>
+fn method<'v>(values: &[Value<'v>], place: usize) -> Result<MethodName<'v>, ReadFault>
     requires { place + 3 ≤ length values.now }
     ensures { Gives method_view result (spec.method_of place (map view values.now)) }
 {
@@ -29,7 +29,7 @@ fn method(values: &[Value], place: usize) -> Result<MethodName<'_>, ReadFault>
 
 /// What `add`, `replace` and `set` say of a method.
 #[tactic(auto, unfolding(crate::specs::Shape::edit_of))]
-fn edit(values: &[Value]) -> Result<(MethodName<'_>, &str), ReadFault>
+fn edit<'v>(values: &[Value<'v>]) -> Result<(MethodName<'v>, &'v str), ReadFault>
     ensures { Gives (λ e. (method_view e.0, e.1.now)) result (spec.edit_of (map view values.now)) }
 {
     if values.len() != 5 {
@@ -41,7 +41,7 @@ fn edit(values: &[Value]) -> Result<(MethodName<'_>, &str), ReadFault>
 }
 
 #[tactic(auto, unfolding(crate::specs::Shape::exchange_of))]
-fn exchange(values: &[Value]) -> Result<Change<'_>, ReadFault>
+fn exchange<'v>(values: &[Value<'v>]) -> Result<Change<'v>, ReadFault>
     ensures { Gives change_view result (spec.exchange_of (map view values.now)) }
 {
     if values.len() != 7 {
@@ -54,7 +54,7 @@ fn exchange(values: &[Value]) -> Result<Change<'_>, ReadFault>
 }
 
 #[tactic(auto, unfolding(crate::specs::Shape::attach_of))]
-fn attach(alloc: Global, values: &[Value]) -> Result<Change<'_>, ReadFault>
+fn attach<'v>(alloc: Global, values: &[Value<'v>]) -> Result<Change<'v>, ReadFault>
     ensures { Gives change_view result (spec.attach_of (map view values.now)) }
 {
     if values.len() != 4 {
@@ -71,7 +71,7 @@ fn attach(alloc: Global, values: &[Value]) -> Result<Change<'_>, ReadFault>
 fn worded_change<'v>(
     alloc: Global,
     word: &str,
-    values: &'v [Value],
+    values: &[Value<'v>],
 ) -> Result<Change<'v>, ReadFault>
     ensures { Gives change_view result (spec.worded_change_of word.now (map view values.now)) }
 {
@@ -95,7 +95,7 @@ fn worded_change<'v>(
 }
 
 #[tactic(auto, unfolding(crate::specs::Shape::change_of))]
-fn change(alloc: Global, value: &Value) -> Result<Change<'_>, ReadFault>
+fn change<'v>(alloc: Global, value: &Value<'v>) -> Result<Change<'v>, ReadFault>
     ensures { Gives change_view result (spec.change_of (view value.now)) }
 {
     let values = list(value)?;
@@ -106,7 +106,7 @@ fn change(alloc: Global, value: &Value) -> Result<Change<'_>, ReadFault>
 }
 
 #[tactic(auto, unfolding(crate::specs::Shape::send_item_of))]
-fn send_item(alloc: Global, value: &Value) -> Result<Item<'_>, ReadFault>
+fn send_item<'v>(alloc: Global, value: &Value<'v>) -> Result<Item<'v>, ReadFault>
     ensures { Gives item_view result (spec.send_item_of (view value.now)) }
 {
     let values = list(value)?;
@@ -128,9 +128,9 @@ impl<'v> FromValue<'v> for Item<'v> {
     ghost spelled = { spec.item_of };
 
     #[tactic(auto, unfolding(crate::specs::Shape::item_of))]
-    fn from_value(alloc: Global, value: &'v Value) -> Result<Item<'v>, ReadFault> {
+    fn from_value(alloc: Global, value: &Value<'v>) -> Result<Item<'v>, ReadFault> {
         keys(value, 1)?;
-        match value.get("send") {
+        match msg_json::get(value, "send") {
             Some(send) => send_item(alloc, send),
             None => Ok(Item::Change(change(alloc, field(value, "change")?)?)),
         }

@@ -1,7 +1,7 @@
 //! Reading constants and expressions. A body is read once, from the outside in.
 
 ghost use Rattle.std.specs.Prelude.{◌≡◌, ◌≤◌, map, length};
-ghost use Rattle.serde_json.specs.View.{view};
+ghost use Rattle.msg_json.specs.View.{view};
 ghost use Rattle.msg_form.specs.Expression as plain;
 ghost use Rattle.msg_form.specs.ExprShape as spec;
 ghost use Rattle.msg_form.specs.ExprShape.{expression_of};
@@ -10,10 +10,10 @@ ghost use Rattle.msg_form.specs.Gives.{Gives};
 ghost use Rattle.msg_form.specs.Readings.{readings};
 
 use super::FromValue;
-use super::json::{name, text, whole};
+use super::values::{name, text, whole};
 use crate::faults::ReadFault;
 use crate::form::{BinaryExpr, Constant, Expr, IfExpr, Operator, SendExpr, SuperExpr};
-use serde_json::Value;
+use msg_json::Value;
 use std::alloc::Global;
 
 impl<'v> FromValue<'v> for Constant<'v> {
@@ -23,13 +23,13 @@ impl<'v> FromValue<'v> for Constant<'v> {
 
     ghost spelled = { spec.constant_of };
 
-    fn from_value(_alloc: Global, value: &'v Value) -> Result<Constant<'v>, ReadFault> {
+    fn from_value(_alloc: Global, value: &Value<'v>) -> Result<Constant<'v>, ReadFault> {
         constant(value)
     }
 }
 
 #[tactic(auto, unfolding(crate::specs::ExprShape::constant_of, crate::specs::ExprShape::whole_constant_of))]
-fn constant(value: &Value) -> Result<Constant<'_>, ReadFault>
+fn constant<'v>(value: &Value<'v>) -> Result<Constant<'v>, ReadFault>
     ensures { Gives constant_view result (spec.constant_of (view value.now)) }
 {
     match value {
@@ -41,7 +41,7 @@ fn constant(value: &Value) -> Result<Constant<'_>, ReadFault>
 }
 
 #[tactic(auto, unfolding(crate::specs::ExprShape::listed_constant_of))]
-fn listed_constant(values: &[Value]) -> Result<Constant<'_>, ReadFault>
+fn listed_constant<'v>(values: &[Value<'v>]) -> Result<Constant<'v>, ReadFault>
     ensures { Gives constant_view result (spec.listed_constant_of (map view values.now)) }
 {
     if values.is_empty() {
@@ -51,7 +51,7 @@ fn listed_constant(values: &[Value]) -> Result<Constant<'_>, ReadFault>
 }
 
 #[tactic(auto, unfolding(crate::specs::ExprShape::named_of))]
-fn named<'v>(word: &str, values: &'v [Value]) -> Result<Constant<'v>, ReadFault>
+fn named<'v>(word: &str, values: &[Value<'v>]) -> Result<Constant<'v>, ReadFault>
     ensures { Gives constant_view result (spec.named_of word.now (map view values.now)) }
 {
     if values.len() != 2 {
@@ -80,7 +80,7 @@ fn operator(word: &str) -> Option<Operator>
 }
 
 #[tactic(auto, unfolding(crate::specs::ExprShape::arg_of))]
-fn arg(values: &[Value]) -> Result<Expr<'_>, ReadFault>
+fn arg<'v>(values: &[Value<'v>]) -> Result<Expr<'v>, ReadFault>
     ensures { Gives expr_view result (spec.arg_of (map view values.now)) }
 {
     if values.len() != 2 {
@@ -100,13 +100,13 @@ impl<'v> FromValue<'v> for Expr<'v> {
 
     ghost spelled = { expression_of };
 
-    fn from_value(alloc: Global, value: &'v Value) -> Result<Expr<'v>, ReadFault> {
+    fn from_value(alloc: Global, value: &Value<'v>) -> Result<Expr<'v>, ReadFault> {
         expr(alloc, value)
     }
 }
 
 #[cycle(expr)]
-fn expr(alloc: Global, value: &Value) -> Result<Expr<'_>, ReadFault>
+fn expr<'v>(alloc: Global, value: &Value<'v>) -> Result<Expr<'v>, ReadFault>
     ensures { Gives expr_view result (expression_of (view value.now)) }
 {
     match value {
@@ -117,7 +117,7 @@ fn expr(alloc: Global, value: &Value) -> Result<Expr<'_>, ReadFault>
 
 #[cycle(expr)]
 #[tactic(auto, unfolding(crate::specs::ExprShape::listed_of, crate::specs::ExprShape::worded_of, crate::specs::ExprShape::me_of))]
-fn listed(alloc: Global, values: &[Value]) -> Result<Expr<'_>, ReadFault>
+fn listed<'v>(alloc: Global, values: &[Value<'v>]) -> Result<Expr<'v>, ReadFault>
     ensures { Gives expr_view result (spec.listed_of (map view values.now) (readings values.now)) }
 {
     if values.is_empty() {
@@ -145,7 +145,11 @@ fn listed(alloc: Global, values: &[Value]) -> Result<Expr<'_>, ReadFault>
 
 #[cycle(expr)]
 #[tactic(auto, unfolding(crate::specs::ExprShape::binary_of))]
-fn binary(alloc: Global, operator: Operator, values: &[Value]) -> Result<Expr<'_>, ReadFault>
+fn binary<'v>(
+    alloc: Global,
+    operator: Operator,
+    values: &[Value<'v>],
+) -> Result<Expr<'v>, ReadFault>
     ensures { Gives expr_view result (spec.binary_of operator (readings values.now)) }
 {
     if values.len() != 3 {
@@ -163,7 +167,7 @@ fn binary(alloc: Global, operator: Operator, values: &[Value]) -> Result<Expr<'_
 
 #[cycle(expr)]
 #[tactic(auto, unfolding(crate::specs::ExprShape::choice_of))]
-fn choice(alloc: Global, values: &[Value]) -> Result<Expr<'_>, ReadFault>
+fn choice<'v>(alloc: Global, values: &[Value<'v>]) -> Result<Expr<'v>, ReadFault>
     ensures { Gives expr_view result (spec.choice_of (readings values.now)) }
 {
     if values.len() != 4 {
@@ -182,7 +186,7 @@ fn choice(alloc: Global, values: &[Value]) -> Result<Expr<'_>, ReadFault>
 
 #[cycle(expr)]
 #[tactic(auto, unfolding(crate::specs::ExprShape::send_of))]
-fn send(alloc: Global, values: &[Value]) -> Result<Expr<'_>, ReadFault>
+fn send<'v>(alloc: Global, values: &[Value<'v>]) -> Result<Expr<'v>, ReadFault>
     ensures { Gives expr_view result (spec.send_of (map view values.now) (readings values.now)) }
 {
     if values.len() < 3 {
@@ -201,7 +205,7 @@ fn send(alloc: Global, values: &[Value]) -> Result<Expr<'_>, ReadFault>
 
 #[cycle(expr)]
 #[tactic(auto, unfolding(crate::specs::ExprShape::super_of))]
-fn super_send(alloc: Global, values: &[Value]) -> Result<Expr<'_>, ReadFault>
+fn super_send<'v>(alloc: Global, values: &[Value<'v>]) -> Result<Expr<'v>, ReadFault>
     ensures { Gives expr_view result (spec.super_of (map view values.now) (readings values.now)) }
 {
     if values.len() < 2 {
@@ -215,7 +219,7 @@ fn super_send(alloc: Global, values: &[Value]) -> Result<Expr<'_>, ReadFault>
 
 /// The expressions from a place on.
 #[cycle(expr)]
-fn exprs(alloc: Global, values: &[Value], from: usize) -> Result<Vec<Expr<'_>>, ReadFault>
+fn exprs<'v>(alloc: Global, values: &[Value<'v>], from: usize) -> Result<Vec<Expr<'v>>, ReadFault>
     requires { from ≤ length values.now }
     ensures { Gives (λ v. map expr_view v.items) result (spec.all_from from (readings values.now)) }
 {

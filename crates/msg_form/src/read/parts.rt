@@ -1,18 +1,18 @@
 //! Reading the parts of a document.
 
 ghost use Rattle.std.specs.Prelude.{◌≡◌, ◌≤◌, map, option_map, IfOk};
-ghost use Rattle.serde_json.specs.View.{view};
+ghost use Rattle.msg_json.specs.View.{view};
 ghost use Rattle.msg_form.specs.Form.{PairForm, ClassForm, CategoryForm, ObjectForm, ImpForm};
 ghost use Rattle.msg_form.specs.Gives.{Gives};
 ghost use Rattle.msg_form.specs.Shape as spec;
 ghost use Rattle.msg_form.specs.Views.{pair_view, class_view, category_view, object_view};
 ghost use Rattle.msg_form.specs.Views.{imp_view, form_view};
 
-use super::json::{field, keys, list, name, text, truth, whole};
+use super::values::{field, keys, list, name, text, truth, whole};
 use super::{FromValue, list_of};
 use crate::faults::ReadFault;
 use crate::form::{Category, Class, Expr, Form, Imp, Object, Pair};
-use serde_json::Value;
+use msg_json::Value;
 use std::alloc::Global;
 
 impl<'v> FromValue<'v> for Pair<'v> {
@@ -23,7 +23,7 @@ impl<'v> FromValue<'v> for Pair<'v> {
     ghost spelled = { spec.pair_of };
 
     #[tactic(auto, unfolding(crate::specs::Shape::pair_of))]
-    fn from_value(_alloc: Global, value: &'v Value) -> Result<Pair<'v>, ReadFault> {
+    fn from_value(_alloc: Global, value: &Value<'v>) -> Result<Pair<'v>, ReadFault> {
         let values = list(value)?;
         if values.len() != 2 {
             return Err(ReadFault::Shape);
@@ -35,7 +35,7 @@ impl<'v> FromValue<'v> for Pair<'v> {
 }
 
 #[tactic(auto, unfolding(crate::specs::Shape::superclass_of))]
-fn superclass(value: &Value) -> Result<Option<&str>, ReadFault>
+fn superclass<'v>(value: &Value<'v>) -> Result<Option<&'v str>, ReadFault>
     ensures { Gives (λ o. option_map (λ s. s.now) o) result
         (spec.superclass_of (view value.now)) }
 {
@@ -54,7 +54,7 @@ impl<'v> FromValue<'v> for Class<'v> {
     ghost spelled = { spec.class_of };
 
     #[tactic(auto, unfolding(crate::specs::Shape::class_of))]
-    fn from_value(alloc: Global, value: &'v Value) -> Result<Class<'v>, ReadFault> {
+    fn from_value(alloc: Global, value: &Value<'v>) -> Result<Class<'v>, ReadFault> {
         keys(value, 4)?;
         Ok(Class {
             name: name(field(value, "name")?)?,
@@ -73,7 +73,7 @@ impl<'v> FromValue<'v> for Category<'v> {
     ghost spelled = { spec.category_of };
 
     #[tactic(auto, unfolding(crate::specs::Shape::category_of))]
-    fn from_value(alloc: Global, value: &'v Value) -> Result<Category<'v>, ReadFault> {
+    fn from_value(alloc: Global, value: &Value<'v>) -> Result<Category<'v>, ReadFault> {
         keys(value, 3)?;
         Ok(Category {
             class: name(field(value, "class")?)?,
@@ -91,7 +91,7 @@ impl<'v> FromValue<'v> for Object<'v> {
     ghost spelled = { spec.object_of };
 
     #[tactic(auto, unfolding(crate::specs::Shape::object_of))]
-    fn from_value(_alloc: Global, value: &'v Value) -> Result<Object<'v>, ReadFault> {
+    fn from_value(_alloc: Global, value: &Value<'v>) -> Result<Object<'v>, ReadFault> {
         keys(value, 2)?;
         Ok(Object {
             name: name(field(value, "name")?)?,
@@ -102,7 +102,7 @@ impl<'v> FromValue<'v> for Object<'v> {
 
 /// How many arguments an implementation takes.
 #[tactic(auto, unfolding(crate::specs::Shape::args_of))]
-fn args(value: &Value) -> Result<u8, ReadFault>
+fn args<'v>(value: &Value<'v>) -> Result<u8, ReadFault>
     ensures number { Gives (λ n. n) result (spec.args_of (view value.now)) }
     ensures few { IfOk result (λ n. n ≤ 4) }
 {
@@ -120,7 +120,7 @@ impl<'v> FromValue<'v> for Imp<'v> {
     ghost spelled = { spec.imp_of };
 
     #[tactic(auto, unfolding(crate::specs::Shape::imp_of))]
-    fn from_value(alloc: Global, value: &'v Value) -> Result<Imp<'v>, ReadFault> {
+    fn from_value(alloc: Global, value: &Value<'v>) -> Result<Imp<'v>, ReadFault> {
         keys(value, 5)?;
         Ok(Imp {
             name: name(field(value, "name")?)?,
@@ -135,7 +135,7 @@ impl<'v> FromValue<'v> for Imp<'v> {
 impl<'v> Form<'v> {
     /// The form that a JSON value spells.
     #[tactic(auto, unfolding(crate::specs::Shape::form_of))]
-    pub fn read(alloc: Global, value: &'v Value) -> Result<Form<'v>, ReadFault>
+    pub fn read(alloc: Global, value: &Value<'v>) -> Result<Form<'v>, ReadFault>
         ensures { Gives form_view result (spec.form_of (view value.now)) }
     {
         keys(value, 6)?;

@@ -1,5 +1,5 @@
 use Rattle.std.proofs.Common.{◌≡◌, map, drop}
-use Rattle.serde_json.specs.View.{view}
+use Rattle.msg_json.specs.View.{view}
 use Rattle.msg_form.specs.Json.{each}
 use Rattle.msg_form.proofs.JsonLemmas.{with_front}
 use Rattle.msg_form.proofs.read.each.Given as goal

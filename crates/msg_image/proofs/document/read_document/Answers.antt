@@ -1,5 +1,5 @@
 use Rattle.std.proofs.Common.{arith}
-use Rattle.serde_json.specs.View.{view}
+use Rattle.msg_json.specs.View.{view}
 use Rattle.msg_image.proofs.AnswerLemmas.{answers-ok, answers-err}
 use Rattle.msg_image.proofs.document.read_document.Goals as goal
 

@@ -1,5 +1,5 @@
 use Rattle.std.proofs.Common.{◌-◌, map, take, drop, length}
-use Rattle.serde_json.specs.View.{view}
+use Rattle.msg_json.specs.View.{view}
 use Rattle.msg_form.specs.ExprShape.{expression_of, all_from}
 use Rattle.msg_form.specs.ExprView.{expr_view}
 use Rattle.msg_form.proofs.ExprShapeLemmas.{expression_of-array, exprs_start}

@@ -1,43 +1,36 @@
 //! Looking into a JSON value for what it spells.
 
-ghost use Rattle.std.specs.Prelude.{◌≡◌, map};
+ghost use Rattle.std.specs.Prelude.{◌≡◌, ◌≤◌, map};
 ghost use Rattle.serde_json.specs.Find.{get, as_bool, as_str};
-ghost use Rattle.serde_json.specs.View.{view};
+ghost use Rattle.msg_json.specs.Keys.{has_keys, most_keys};
+ghost use Rattle.msg_json.specs.View.{view};
 ghost use Rattle.msg_form.specs.Gives.{Gives};
 ghost use Rattle.msg_form.specs.Json as spec;
 
 use crate::faults::ReadFault;
-use serde_json::Value;
+use msg_json::Value;
 
 /// Asks for an object with so many keys.
 pub(super) fn keys(value: &Value, count: usize) -> Result<(), ReadFault>
-    ensures { Gives (λ x. x) result (spec.only_if (spec.has_keys count (view value.now))) }
+    requires { count ≤ most_keys }
+    ensures { Gives (λ x. x) result (spec.only_if (has_keys count (view value.now))) }
 {
-    if has_keys(value, count) {
+    if msg_json::has_keys(value, count) {
         Ok(())
     } else {
         Err(ReadFault::Shape)
     }
 }
 
-fn has_keys(value: &Value, count: usize) -> bool
-    ensures { result ≡ spec.has_keys count (view value.now) }
-{
-    match value {
-        Value::Object(members) => members.len() == count,
-        _ => false,
-    }
-}
-
 /// The value at a key.
-pub(super) fn field<'v>(value: &'v Value, key: &str) -> Result<&'v Value, ReadFault>
+pub(super) fn field<'a, 'v>(value: &'a Value<'v>, key: &str) -> Result<&'a Value<'v>, ReadFault>
     ensures { Gives (λ v. view v.now) result (get key.now (view value.now)) }
 {
-    value.get(key).ok_or(ReadFault::Shape)
+    msg_json::get(value, key).ok_or(ReadFault::Shape)
 }
 
 /// The values of a list.
-pub(super) fn list(value: &Value) -> Result<&[Value], ReadFault>
+pub(super) fn list<'a, 'v>(value: &'a Value<'v>) -> Result<&'a [Value<'v>], ReadFault>
     ensures { Gives (λ vs. map view vs.now) result (spec.list_at (view value.now)) }
 {
     match value {
@@ -46,19 +39,22 @@ pub(super) fn list(value: &Value) -> Result<&[Value], ReadFault>
     }
 }
 
-pub(super) fn text(value: &Value) -> Result<&str, ReadFault>
+pub(super) fn text<'v>(value: &Value<'v>) -> Result<&'v str, ReadFault>
     ensures { Gives (λ s. s.now) result (as_str (view value.now)) }
 {
-    value.as_str().ok_or(ReadFault::Shape)
+    match value {
+        Value::String(text) => Ok(*text),
+        _ => Err(ReadFault::Shape),
+    }
 }
 
 /// The name of a class, an object or an implementation.
 #[tactic(auto, unfolding(crate::specs::Json::name_of))]
-pub(super) fn name(value: &Value) -> Result<&str, ReadFault>
+pub(super) fn name<'v>(value: &Value<'v>) -> Result<&'v str, ReadFault>
     ensures { Gives (λ s. s.now) result (spec.name_of (view value.now)) }
 {
-    match value.as_str() {
-        Some(text) if msg_names::is_identifier(text) => Ok(text),
+    match value {
+        Value::String(text) if msg_names::is_identifier(*text) => Ok(*text),
         _ => Err(ReadFault::Shape),
     }
 }
@@ -67,11 +63,14 @@ pub(super) fn name(value: &Value) -> Result<&str, ReadFault>
 pub(super) fn whole(value: &Value) -> Result<i64, ReadFault>
     ensures { Gives (λ n. n) result (spec.whole_of (view value.now)) }
 {
-    value.as_i64().ok_or(ReadFault::Shape)
+    msg_json::whole(value).ok_or(ReadFault::Shape)
 }
 
 pub(super) fn truth(value: &Value) -> Result<bool, ReadFault>
     ensures { Gives (λ b. b) result (as_bool (view value.now)) }
 {
-    value.as_bool().ok_or(ReadFault::Shape)
+    match value {
+        Value::Bool(truth) => Ok(*truth),
+        _ => Err(ReadFault::Shape),
+    }
 }

@@ -1,0 +1,65 @@
+//! Looking into a tree.
+
+ghost use Rattle.std.specs.Prelude.{◌≡◌, ◌≤◌, ◌==◌, option_map, option_and_then};
+ghost use Rattle.std.specs.List.{list_any};
+ghost use Rattle.std.specs.Str.{bytes_eq};
+ghost use Rattle.json.specs.Value.{members_view};
+ghost use Rattle.serde_json.specs.Data.{no_members};
+ghost use Rattle.serde_json.specs.Events.{members_len};
+ghost use Rattle.serde_json.specs.Find.{get, as_number, as_i64};
+ghost use Rattle.msg_json.specs.View.{view, members_data};
+ghost use Rattle.msg_json.specs.Keys.{has_keys, most_keys};
+
+use crate::numbers::number;
+use arrayvec::ArrayVec;
+use json::Value;
+
+/// The most keys that [`has_keys`] is asked for.
+pub const MOST_KEYS: usize = 8;
+
+/// The value of a key, in time that grows with the members.
+pub fn get<'v, 't>(value: &'v Value<'t>, key: &str) -> Option<&'v Value<'t>>
+    ensures { option_map (λ v. view v.now) result ≡ get key.now (view value.now) }
+{
+    value.get(key)
+}
+
+/// The number, where it is an integer that fits and is written without a point or an exponent.
+pub fn whole(value: &Value) -> Option<i64>
+    ensures { result ≡ option_and_then as_i64 (as_number (view value.now)) }
+{
+    number(value.as_number()?)?.as_i64()
+}
+
+/// Whether this is an object with so many keys, where a key that comes twice counts once.
+pub fn has_keys(value: &Value, count: usize) -> bool
+    requires { count ≤ most_keys }
+    ensures { result ≡ has_keys count (view value.now) }
+{
+    match value {
+        Value::Object(members) => are_keys(members, count),
+        _ => false,
+    }
+}
+
+fn are_keys(members: &[(&str, Value)], count: usize) -> bool
+    requires { count ≤ most_keys }
+    ensures { result ≡ (members_len (members_data (members_view members.now) no_members) == count) }
+{
+    let mut keys = ArrayVec::<&str, MOST_KEYS>::new();
+    for member in members {
+        if !is_among(&keys, member.0) {
+            if keys.len() == count {
+                return false;
+            }
+            keys.push(member.0);
+        }
+    }
+    keys.len() == count
+}
+
+fn is_among(keys: &[&str], key: &str) -> bool
+    ensures { result ≡ list_any (λ k. bytes_eq k.now key.now) keys.now }
+{
+    keys.iter().any(|k| *k == key)
+}

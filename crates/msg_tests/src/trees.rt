@@ -1,0 +1,44 @@
+//! JSON texts as trees.
+
+use msg_json::{JsonFault, Scratch, Value, get, has_keys, read, whole};
+use std::test::Fail;
+
+#[test]
+fn a_tree_is_looked_into(rt: HostRuntime) -> Result<(), Fail> {
+    let alloc = rt.alloc();
+    let mut scratch = Scratch::new(alloc);
+    let text = r#"{"a":1,"b":[-7,1.0,-0,9223372036854775807,9223372036854775808],"\u0061":2}"#;
+    let value = read(alloc, text.as_bytes(), &mut scratch)?;
+    for (count, is_it) in [(1, false), (2, true), (3, false)] {
+        assert_eq!(rt; has_keys(&value, count), is_it, "{count}");
+    }
+    assert_eq!(rt; get(&value, "a").and_then(whole), Some(2));
+    assert_eq!(rt; get(&value, "c").is_none(), true);
+    let Some(Value::Array(numbers)) = get(&value, "b") else {
+        return Err("no list".into());
+    };
+    for (number, want) in numbers
+        .iter()
+        .zip([Some(-7), None, None, Some(i64::MAX), None])
+    {
+        assert_eq!(rt; whole(number), want);
+    }
+    Ok(())
+}
+
+#[test]
+fn what_is_no_json_is_not_read(rt: HostRuntime) {
+    for text in [
+        "",
+        "[1,]",
+        "{\"a\" 1}",
+        "1 2",
+        "[1e400]",
+        "{\"a\":[-1e999]}",
+        "\u{feff}1",
+    ] {
+        let mut scratch = Scratch::new(rt.alloc());
+        let fault = read(rt.alloc(), text.as_bytes(), &mut scratch).err();
+        assert_eq!(rt; fault, Some(JsonFault::NotJson), "{text}");
+    }
+}
