@@ -151,18 +151,6 @@ has_too_deep_body f = list_any (λ i. is_too_deep i.body) f.imps
 abbrev pub Condition : Type 0
 Condition = DocumentFault × (Form → Bool)
 
--- the conditions that are judged on a form with good names of classes and objects
-abbrev pub later_conditions : List Condition
-later_conditions =
-    (faults.DuplicateImp, has_duplicate_imp) ∷
-    (faults.UnknownImp, has_unknown_imp) ∷
-    (faults.BadSelector, has_bad_selector) ∷
-    (faults.DuplicateSelector, has_duplicate_selector) ∷
-    (faults.ArgumentCount, has_wrong_argument_count) ∷
-    (faults.ArgumentIndex, has_wrong_argument_index) ∷
-    (faults.BodyTooDeep, has_too_deep_body) ∷
-    []
-
 -- all conditions, in the order of the faults' numbers
 abbrev pub conditions : List Condition
 conditions =
@@ -173,7 +161,14 @@ conditions =
     (faults.UnknownClass, has_unknown_class) ∷
     (faults.DuplicateObject, has_duplicate_object) ∷
     (faults.UnknownObject, has_unknown_object) ∷
-    later_conditions
+    (faults.DuplicateImp, has_duplicate_imp) ∷
+    (faults.UnknownImp, has_unknown_imp) ∷
+    (faults.BadSelector, has_bad_selector) ∷
+    (faults.DuplicateSelector, has_duplicate_selector) ∷
+    (faults.ArgumentCount, has_wrong_argument_count) ∷
+    (faults.ArgumentIndex, has_wrong_argument_index) ∷
+    (faults.BodyTooDeep, has_too_deep_body) ∷
+    []
 
 -- the fault of the first condition that the form meets
 abbrev pub first_of : List Condition → Form → Option DocumentFault

@@ -6,7 +6,7 @@
 //! 16,384 method entries. They take memory for a reference to each place of a selector and to each
 //! list of pairs, and for sets of at most 4,097 names.
 
-ghost use Rattle.std.specs.Prelude.{◌≡◌, IfOk};
+ghost use Rattle.std.specs.Prelude.{◌≡◌, drop, IfOk};
 ghost use Rattle.msg_form.specs.BodyFaults.{AreBodyFaults};
 ghost use Rattle.msg_form.specs.Faults as spec;
 ghost use Rattle.msg_form.specs.Text.{distinct};
@@ -72,6 +72,7 @@ pub fn fault(alloc: Global, form: &Form) -> Result<Option<DocumentFault>, AllocE
     later_fault(alloc, form, &selectors, bodies)
 }
 
+/// The least fault from [`DuplicateImp`](DocumentFault::DuplicateImp), the eighth, on.
 #[tactic(auto, using(crate::proofs::TextLemmas::any_distinct), unfolding(crate::specs::Faults::has_bad_selector))]
 fn later_fault(
     alloc: Global,
@@ -81,7 +82,7 @@ fn later_fault(
 ) -> Result<Option<DocumentFault>, AllocError>
     requires selectors { selectors.now ≡ distinct (selector_texts (form_view form.now)) }
     requires bodies { AreBodyFaults bodies (form_view form.now) }
-    ensures { IfOk result (λ f. f ≡ spec.first_of spec.later_conditions (form_view form.now)) }
+    ensures { IfOk result (λ f. f ≡ spec.first_of (drop 7 spec.conditions) (form_view form.now)) }
 {
     if has_duplicate_imp(alloc, form)? {
         return Ok(Some(DocumentFault::DuplicateImp));
