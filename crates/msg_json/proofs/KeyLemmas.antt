@@ -1,9 +1,7 @@
 -- How many keys there are, where some come twice.
-use Rattle.std.proofs.Common.{◌≡◌, ℕ, suc, ◌+◌, ◌<◌, ◌≤◌, List, [], ◌∷◌, ◌++◌, length, drop, get_or, Bool, true, false, ◌||◌, cond, Bor, Option, Some, None, is_some, Ordering, Less, Equal, Greater, nat_cmp, bytes_eq, ne_eqb, ◌==◌, Global, drop-cons, add-one, refl, sym, ap, ◌∙◌, arith}
+use Rattle.std.proofs.Common.{◌≡◌, ℕ, suc, ◌+◌, ◌<◌, ◌≤◌, List, ◌∷◌, length, drop, take, get_or, Bool, true, false, ◌||◌, cond, Bor, Option, Some, None, is_some, Ordering, Less, Equal, Greater, nat_cmp, bytes_eq, ne_eqb, ◌==◌, Global, drop-cons, add-one, refl, sym, ap, ◌∙◌, arith}
 use Rattle.std.proofs.lemmas.Cmp.{nat_list_cmp_total}
-use Rattle.std.proofs.lemmas.List.{length_push}
-use Rattle.std.proofs.lemmas.List.Folds.{list_any-append}
-use Rattle.std.proofs.lemmas.Slice.Eq.{bytes_eq-Decides}
+use Rattle.std.proofs.lemmas.List.Folds.{list_any_more}
 use Rattle.std.specs.Cmp.Lexicographic.{slice_cmp}
 use Rattle.std.specs.List.{list_any}
 use Rattle.std.specs.Ordering.{match_ordering, ordering_reverse}
@@ -92,62 +90,56 @@ members_data-grows (json.member k j ms) found h =
     let here = grows (is_some (get_member k found)) (members_len found) in
     grind arith
 
--- ---- keys that are kept as they come
+-- ---- keys that are counted as they come
 
-abbrev pub among : List ℕ → List (Bor (List ℕ)) → Bool
-among k keys = list_any (λ key. bytes_eq key.now k) keys
+abbrev pub Entry : Type 0
+Entry = Bor (List ℕ) × Value Global
 
--- the keys are those of the members, each once
-abbrev pub AreKeysOf : List (Bor (List ℕ)) → Members → Type 0
-AreKeysOf keys found = IsInOrder found × (members_len found ≡ length keys) × ((k : List ℕ) → is_some (get_member k found) ≡ among k keys)
+abbrev pub among : List ℕ → List Entry → Bool
+among k ms = list_any (λ m. bytes_eq m.0.now k) ms
 
-either : (b : Bool) (d : Data) (o : Option Data) → is_some (cond b (Some d) o) ≡ b || is_some o
-either true d o = refl
-either false d o = refl
+-- the members have n keys, which are those found
+abbrev pub AreKeysOf : List Entry → ℕ → Members → Type 0
+AreKeysOf ms n found = IsInOrder found × (members_len found ≡ n) × ((k : List ℕ) → is_some (get_member k found) ≡ among k ms)
 
-here_or : (k l : List ℕ) (d : Data) (found : Members) → is_some (get_member k (put l d found)) ≡ bytes_eq l k || is_some (get_member k found)
+either : (b : Bool) (d : Data) (o : Option Data) → is_some (cond b (Some d) o) ≡ is_some o || b
+either true d None = refl
+either true d (Some e) = refl
+either false d None = refl
+either false d (Some e) = refl
+
+here_or : (k l : List ℕ) (d : Data) (found : Members) → is_some (get_member k (put l d found)) ≡ is_some (get_member k found) || bytes_eq l k
 here_or k l d found = ap is_some (put_found (bytes_eq l k) k l d found refl) ∙ either (bytes_eq l k) d (get_member k found)
 
-last_or : (k : List ℕ) (keys : List (Bor (List ℕ))) (key : Bor (List ℕ)) → among k (keys ++ key ∷ []) ≡ bytes_eq key.now k || among k keys
-last_or k keys key = list_any-append (λ key. bytes_eq key.now k) keys (key ∷ []) ∙ turn (among k keys) (bytes_eq key.now k)
-  where
-    turn : (a b : Bool) → a || (b || false) ≡ b || a
-    turn true true = refl
-    turn true false = refl
-    turn false true = refl
-    turn false false = refl
+-- one more member is put
+answers : (ms : List Entry) (i : ℕ) (m : Entry) (n : ℕ) (found : Members) → i < length ms → m ≡ get_or ms i m → AreKeysOf (take i ms) n found
+    → (k : List ℕ) → is_some (get_member k (put m.0.now (view m.1) found)) ≡ among k (take (i + 1) ms)
+answers ms i m n found lt at h k =
+    let last = list_any_more (λ m. bytes_eq m.0.now k) ms i m lt in
+    here_or k m.0.now (view m.1) found ∙ ap (λ b. b || bytes_eq m.0.now k) (h.2 k) ∙ ap (λ (l : Entry). among k (take i ms) || bytes_eq l.0.now k) at ∙ sym last
 
 -- a key that was there
-pub put_old : (keys : List (Bor (List ℕ))) (found : Members) (key : Bor (List ℕ)) (d : Data) → AreKeysOf keys found → among key.now keys ≡ true → AreKeysOf keys (put key.now d found)
-put_old keys found key d h old =
-    let there : is_some (get_member key.now found) ≡ true = h.2 key.now ∙ old in
-    let len = members_len-put key.now d found h.0 ∙ ap (λ b. count_after b (members_len found)) there ∙ h.1 in
-    let stays = λ (k : List ℕ). at (bytes_eq key.now k) k refl in
-    (IsInOrder-put key.now d found h.0, len, stays)
-  where
-    at : (b : Bool) (k : List ℕ) → bytes_eq key.now k ≡ b → is_some (get_member k (put key.now d found)) ≡ among k keys
-    at true k e = here_or k key.now d found ∙ ap (λ x. x || is_some (get_member k found)) e ∙ sym (ap (λ x. among x keys) (sym ((bytes_eq-Decides key.now k).0 e)) ∙ old)
-    at false k e = here_or k key.now d found ∙ ap (λ x. x || is_some (get_member k found)) e ∙ h.2 k
+pub put_old : (ms : List Entry) (i : ℕ) (m : Entry) (n : ℕ) (found : Members) → i < length ms → m ≡ get_or ms i m → AreKeysOf (take i ms) n found → among m.0.now (take i ms) ≡ true
+    → AreKeysOf (take (i + 1) ms) n (put m.0.now (view m.1) found)
+put_old ms i m n found lt at h old =
+    let len = members_len-put m.0.now (view m.1) found h.0 ∙ ap (λ b. count_after b (members_len found)) (h.2 m.0.now ∙ old) ∙ h.1 in
+    (IsInOrder-put m.0.now (view m.1) found h.0, len, answers ms i m n found lt at h)
 
 -- a key that is new
-pub put_new : (keys : List (Bor (List ℕ))) (found : Members) (key : Bor (List ℕ)) (d : Data) → AreKeysOf keys found → among key.now keys ≡ false → AreKeysOf (keys ++ key ∷ []) (put key.now d found)
-put_new keys found key d h new =
-    let lacks : is_some (get_member key.now found) ≡ false = h.2 key.now ∙ new in
-    let len = members_len-put key.now d found h.0 ∙ ap (λ b. count_after b (members_len found)) lacks ∙ ap suc h.1 ∙ sym (add-one (length keys)) ∙ sym (length_push keys key) in
-    let one_more = λ (k : List ℕ). here_or k key.now d found ∙ ap (λ x. bytes_eq key.now k || x) (h.2 k) ∙ sym (last_or k keys key) in
-    (IsInOrder-put key.now d found h.0, len, one_more)
+pub put_new : (ms : List Entry) (i : ℕ) (m : Entry) (n : ℕ) (found : Members) → i < length ms → m ≡ get_or ms i m → AreKeysOf (take i ms) n found → among m.0.now (take i ms) ≡ false
+    → AreKeysOf (take (i + 1) ms) (n + 1) (put m.0.now (view m.1) found)
+put_new ms i m n found lt at h new =
+    let len = members_len-put m.0.now (view m.1) found h.0 ∙ ap (λ b. count_after b (members_len found)) (h.2 m.0.now ∙ new) ∙ ap suc h.1 ∙ sym (add-one n) in
+    (IsInOrder-put m.0.now (view m.1) found h.0, len, answers ms i m n found lt at h)
 
 -- one more than so many
-pub too_many : (keys : List (Bor (List ℕ))) (found : Members) (key : Bor (List ℕ)) (j : json.Json) (ms : json.Members) (n : ℕ) → AreKeysOf keys found → among key.now keys ≡ false → length keys ≡ n
-    → (members_len (members_data ms (put key.now (data_of j) found)) == n) ≡ false
-too_many keys found key j ms n h new len =
-    let k = put_new keys found key (data_of j) h new in
-    let more = members_data-grows ms (put key.now (data_of j) found) k.0 in
-    let long = k.1 ∙ length_push keys key in
-    ne_eqb _ n (λ e. omega (arith, more, long, len, e))
+pub too_many : (ms : json.Members) (n : ℕ) (found : Members) → IsInOrder found → members_len found ≡ n + 1 → (members_len (members_data ms found) == n) ≡ false
+too_many ms n found h len =
+    let more = members_data-grows ms found h in
+    ne_eqb _ n (λ e. omega (arith, more, len, e))
 
 -- a turn of a loop over the members, in which one is put into those found
-pub turn : (ms : List (Bor (List ℕ) × Value Global)) (i : ℕ) (m : Bor (List ℕ) × Value Global) (found whole : Members) → i < length ms → m ≡ get_or ms i m
+pub turn : (ms : List Entry) (i : ℕ) (m : Entry) (found whole : Members) → i < length ms → m ≡ get_or ms i m
     → members_data (members_view (drop i ms)) found ≡ whole → members_data (members_view (drop (i + 1) ms)) (put m.0.now (view m.1) found) ≡ whole
 turn ms i m found whole lt at so_far =
     let left : drop i ms ≡ m ∷ drop (i + 1) ms = rw add-one (drop-cons ms i m lt ∙ ap (λ y. y ∷ drop (suc i) ms) (sym at)) in

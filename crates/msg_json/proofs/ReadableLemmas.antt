@@ -2,7 +2,7 @@
 use Rattle.std.proofs.Common.{◌≡◌, List, [], ◌∷◌, Bool, true, false, ◌&&◌, Option, Some, None, option_map, option_and_then, is_some, unwrap_or, refl, ap}
 use Rattle.json.specs.Json as json
 use Rattle.json.specs.Token.{Token}
-use Rattle.serde_json.specs.Data.{Num, Data, number, array, object, Items, item, Members, no_members, put}
+use Rattle.serde_json.specs.Data.{Num, Data, number, array, object, item, Members, no_members, put}
 use Rattle.serde_json.specs.Read.{number_of, of_json, of_items, of_members}
 use Rattle.msg_json.specs.Readable.{is_readable, are_readable, have_readable}
 use Rattle.msg_json.specs.View.{data_of, items_data, members_data, num_of}

@@ -11,7 +11,3 @@ has_keys n (number x) = false
 has_keys n (string s) = false
 has_keys n (array ds) = false
 has_keys n (object ms) = members_len ms == n
-
--- the most keys that are asked for
-abbrev pub most_keys : ℕ
-most_keys = 8

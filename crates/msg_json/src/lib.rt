@@ -9,5 +9,5 @@ mod numbers;
 mod reading;
 
 pub use json::{Scratch, Value};
-pub use look::{MOST_KEYS, get, has_keys, whole};
+pub use look::{get, has_keys, whole};
 pub use reading::{JsonFault, read};

@@ -1,6 +1,6 @@
 //! Looking into a tree.
 
-ghost use Rattle.std.specs.Prelude.{◌≡◌, ◌≤◌, ◌==◌, option_map, option_and_then};
+ghost use Rattle.std.specs.Prelude.{◌≡◌, ◌==◌, option_map, option_and_then};
 ghost use Rattle.std.specs.List.{list_any};
 ghost use Rattle.std.specs.Str.{bytes_eq};
 ghost use Rattle.json.specs.Value.{members_view};
@@ -8,14 +8,10 @@ ghost use Rattle.serde_json.specs.Data.{no_members};
 ghost use Rattle.serde_json.specs.Events.{members_len};
 ghost use Rattle.serde_json.specs.Find.{get, as_number, as_i64};
 ghost use Rattle.msg_json.specs.View.{view, members_data};
-ghost use Rattle.msg_json.specs.Keys.{has_keys, most_keys};
+ghost use Rattle.msg_json.specs.Keys.{has_keys};
 
 use crate::numbers::number;
-use arrayvec::ArrayVec;
 use json::Value;
-
-/// The most keys that [`has_keys`] is asked for.
-pub const MOST_KEYS: usize = 8;
 
 /// The value of a key, in time that grows with the members.
 pub fn get<'v, 't>(value: &'v Value<'t>, key: &str) -> Option<&'v Value<'t>>
@@ -33,7 +29,6 @@ pub fn whole(value: &Value) -> Option<i64>
 
 /// Whether this is an object with so many keys, where a key that comes twice counts once.
 pub fn has_keys(value: &Value, count: usize) -> bool
-    requires { count ≤ most_keys }
     ensures { result ≡ has_keys count (view value.now) }
 {
     match value {
@@ -43,23 +38,24 @@ pub fn has_keys(value: &Value, count: usize) -> bool
 }
 
 fn are_keys(members: &[(&str, Value)], count: usize) -> bool
-    requires { count ≤ most_keys }
     ensures { result ≡ (members_len (members_data (members_view members.now) no_members) == count) }
 {
-    let mut keys = ArrayVec::<&str, MOST_KEYS>::new();
-    for member in members {
-        if !is_among(&keys, member.0) {
-            if keys.len() == count {
+    let mut keys = 0;
+    for (index, member) in members.iter().enumerate() {
+        if !is_among(&members[..index], member.0) {
+            if keys == count {
                 return false;
             }
-            keys.push(member.0);
+            keys += 1;
         }
     }
-    keys.len() == count
+    keys == count
 }
 
-fn is_among(keys: &[&str], key: &str) -> bool
-    ensures { result ≡ list_any (λ k. bytes_eq k.now key.now) keys.now }
+// From the last to the first, so that a key is found where it came last: all searches of an object together take as many steps as it has members and
+// keys, multiplied.
+fn is_among(members: &[(&str, Value)], key: &str) -> bool
+    ensures { result ≡ list_any (λ m. bytes_eq m.0.now key.now) members.now }
 {
-    keys.iter().any(|k| *k == key)
+    members.iter().rev().any(|member| member.0 == key)
 }

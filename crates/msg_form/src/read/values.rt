@@ -1,8 +1,8 @@
 //! Looking into a JSON value for what it spells.
 
-ghost use Rattle.std.specs.Prelude.{◌≡◌, ◌≤◌, map};
+ghost use Rattle.std.specs.Prelude.{◌≡◌, map};
 ghost use Rattle.serde_json.specs.Find.{get, as_bool, as_str};
-ghost use Rattle.msg_json.specs.Keys.{has_keys, most_keys};
+ghost use Rattle.msg_json.specs.Keys.{has_keys};
 ghost use Rattle.msg_json.specs.View.{view};
 ghost use Rattle.msg_form.specs.Gives.{Gives};
 ghost use Rattle.msg_form.specs.Json as spec;
@@ -12,7 +12,6 @@ use msg_json::Value;
 
 /// Asks for an object with so many keys.
 pub(super) fn keys(value: &Value, count: usize) -> Result<(), ReadFault>
-    requires { count ≤ most_keys }
     ensures { Gives (λ x. x) result (spec.only_if (has_keys count (view value.now))) }
 {
     if msg_json::has_keys(value, count) {
