@@ -36,17 +36,18 @@ module _ (look : History → ClassRef → ℕ → ℕ) (z : Layout) where
   abbrev pub LiveFor : History → (ClassRef → Option ℕ) → (ℕ → ℕ → ℕ) → ClassRef → ℕ → Type 0
   LiveFor h lv wd c a = (c.class < z.classes) × (a < length z.capacities) × (lv c ≡ Some a) × ((p : ℕ) → p < capacity z a → Agrees (look h) c (wd a p))
 
-  abbrev pub SomeAwaited : List Bool → Type 0
-  SomeAwaited aw = (n : ℕ) × (awaits aw n ≡ true)
+  -- some sender is awaited, and none but senders
+  abbrev pub AreAwaited : List Bool → Type 0
+  AreAwaited aw = ((n : ℕ) × (n < z.senders) × (awaits aw n ≡ true)) × ((n : ℕ) → awaits aw n ≡ true → n < z.senders)
 
   abbrev pub RetiredFrom : History → (ℕ → ℕ → ℕ) → ClassRef → ℕ → ℕ → List Bool → Type 0
-  RetiredFrom h wd c r a aw = (r ≤ size h) × SomeAwaited aw × ((p : ℕ) → p < capacity z a → Agrees (look (first r h)) c (wd a p))
+  RetiredFrom h wd c r a aw = (r ≤ size h) × AreAwaited aw × ((p : ℕ) → p < capacity z a → Agrees (look (first r h)) c (wd a p))
 
   live_for : {m : State} → Sound look z m → (c : ClassRef) (a : ℕ) → m.standing a ≡ Live c → LiveFor m.history m.live m.word c a
   live_for {m} s c a e = (s.in_range.live_class c a e, s.in_range.live_array c a e, s.lawful.stands_live c a e, λ p. s.lawful.live_words c a p e)
 
   retired_from : {m : State} → Sound look z m → (c : ClassRef) (r a : ℕ) (aw : List Bool) → m.standing a ≡ Retired c r aw → RetiredFrom m.history m.word c r a aw
-  retired_from {m} s c r a aw e = (s.in_range.retired_before c r a aw e, s.lawful.awaits_some c r a aw e, λ p. s.lawful.retired_words c r a p aw e)
+  retired_from {m} s c r a aw e = (s.in_range.retired_before c r a aw e, (s.lawful.awaits_some c r a aw e, s.in_range.awaited_senders c r a aw e), λ p. s.lawful.retired_words c r a p aw e)
 
   held_for : {m : State} → Sound look z m → (n : ℕ) (c : ClassRef) (a : ℕ) → m.place n ≡ Holding c a → HeldFor m.standing n c a
   held_for {m} s n c a e = (s.in_range.holder n c a e, s.lawful.held n c a e)
@@ -65,13 +66,14 @@ module _ (look : History → ClassRef → ℕ → ℕ) (z : Layout) where
       retired_words = λ c r a p aw e. (retired c r a aw e).2 p;
       live_stands = named;
       stands_live = λ c a e. (live c a e).2;
-      awaits_some = λ c r a aw e. (retired c r a aw e).1;
+      awaits_some = λ c r a aw e. (retired c r a aw e).1.0;
       free_unheld = λ a free n c e. not_free n c (st a) free (held n c a e).1;
     };
     in_range = record {
       retired_before = λ c r a aw e. (retired c r a aw e).0;
       live_class = λ c a e. (live c a e).0;
       live_array = λ c a e. (live c a e).1;
+      awaited_senders = λ c r a aw e. (retired c r a aw e).1.1;
       holder = λ n c a e. (held n c a e).0;
     };
   }
@@ -111,9 +113,9 @@ module _ (look : History → ClassRef → ℕ → ℕ) (z : Layout) where
     pub flushes : (c : ClassRef) (a : ℕ) (all : List Bool) → c.class < z.classes → lv c ≡ Some a → lv' c ≡ None → ((d : ClassRef) → d.class < z.classes → d ≢ c → lv' d ≡ lv d)
         → ((b q : ℕ) → q < capacity z b → wd' b q ≡ wd b q)
         → ((b : ℕ) → ((b ≢ a) × (st' b ≡ st b)) ⊎ ((b ≡ a) × (st' b ≡ Retired c (size h) all)))
-        → ((n : ℕ) → n < z.senders → awaits all n ≡ true) → 0 < z.senders
+        → ((n : ℕ) → n < z.senders → awaits all n ≡ true) → ((n : ℕ) → awaits all n ≡ true → n < z.senders) → 0 < z.senders
         → Sound look z (state_from h lv' wd' st' pl)
-    flushes c a all lt here gone other words stands everyone some_sender = sound_from h lv' wd' st' pl
+    flushes c a all lt here gone other words stands everyone only some_sender = sound_from h lv' wd' st' pl
         (λ n d b e. let o = held_for s n d b e in (
           o.0,
           ⊎_elim
@@ -154,7 +156,7 @@ module _ (look : History → ClassRef → ℕ → ℕ) (z : Layout) where
             let cd : c ≡ d = cc in let sr : size h ≡ r = cc in let al : all ≡ aw = cc in
             let o = live_for s c b (ap st t ∙ was) in (
               omega arith,
-              (0, ap (λ x. awaits x 0) (sym al) ∙ everyone 0 some_sender),
+              ((0, some_sender, ap (λ x. awaits x 0) (sym al) ∙ everyone 0 some_sender), λ n e. only n (ap (λ x. awaits x n) al ∙ e)),
               λ p pl.
                   subst (λ (x : History × ClassRef × ℕ). Agrees (look x.0) x.1 x.2) (λ i. (first_all h r sr i, cd i, sym (words b p pl) i)) (o.3 p pl),
             )
@@ -261,6 +263,13 @@ some_any (false ∷ xs) (suc n) e = some_any xs n e
 awaits_other : (xs : List Bool) (n m : ℕ) → m ≢ n → awaits (slice_set xs n false) m ≡ awaits xs m
 awaits_other xs n m ne = get_or-set_other xs n m false false ne
 
+awaits_less : (xs : List Bool) (n m : ℕ) → awaits (slice_set xs n false) m ≡ true → awaits xs m ≡ true
+awaits_less [] n m e = e
+awaits_less (x ∷ xs) zero zero e = absurd (true≢false (sym e))
+awaits_less (x ∷ xs) zero (suc m) e = e
+awaits_less (x ∷ xs) (suc n) zero e = e
+awaits_less (x ∷ xs) (suc n) (suc m) e = awaits_less xs n m e
+
 still_awaiting : (c : ClassRef) (r : ℕ) (aw : List Bool) → list_any (λ b. b) aw ≡ true → awaiting c r aw ≡ Retired c r aw
 still_awaiting c r aw e = rw e refl
 
@@ -273,7 +282,9 @@ module _ (look : History → ClassRef → ℕ → ℕ) (z : Layout) (h : History
       (λ c r a aw e.
       let t = looked_retired n c r aw (st a) (sym (stands a) ∙ e) in
       let o = retired_from look z s c r a t.0 t.1 in
-      (o.0, any_some aw t.3, o.2))
+      let kept = λ (m : ℕ) (e : awaits aw m ≡ true). o.1.1 m (awaits_less t.0 n m (ap (λ x. awaits x m) (sym t.2) ∙ e)) in
+      let some = any_some aw t.3 in
+      (o.0, ((some.0, kept some.0 some.1, some.1), kept), o.2))
       (λ c a lt e. stands a ∙ ap (seen_out n) (s.lawful.live_stands c a lt e))
     where
       stays : (m : ℕ) (c : ClassRef) (x : Standing) → m ≢ n → Stands x c m → Stands (seen_out n x) c m

@@ -114,6 +114,25 @@ module _ (look : History → ClassRef → ℕ → ℕ) (z : Layout) (some_sender
       read_since end (size there.history) n c p (sound_run look z some_sender m (before ++ Header n c ∷ mid) s run)
       (subst (Since (size there.history) n c) (sym (after_append z m before (Header n c ∷ mid))) since) read.0 some
 
+  -- the word has a selector, unless it is 0
+  entry_of : (m : State) (n p : ℕ) → Sound look z m → Legal look z m (Read n p) → held_word m.word (m.place n) p ≢ 0 → 0 < sel_of (held_word m.word (m.place n) p)
+  entry_of m n p s e some =
+      let (lt, (c, a, holds, inside)) = legal_read look z m n p e in
+      let word : held_word m.word (m.place n) p ≡ m.word a p = ap (λ q. held_word m.word q p) holds in
+      subst (λ w. 0 < sel_of w) (sym word) (has c a holds inside (λ none. some (word ∙ none)))
+    where
+      has : (c : ClassRef) (a : ℕ) → m.place n ≡ Holding c a → p < capacity z a → m.word a p ≢ 0 → 0 < sel_of (m.word a p)
+      has c a holds inside some = ⊎_elim
+          (λ (live : m.standing a ≡ Live c). (s.lawful.live_words c a p live inside some).0)
+          (λ (gone : (r : ℕ) × (aw : List Bool) × (m.standing a ≡ Retired c r aw) × (awaits aw n ≡ true)). (s.lawful.retired_words c gone.0 a p gone.1 gone.2 inside some).0)
+          (s.lawful.held n c a holds)
+
+  pub read_entry : (m : State) (es : List Event) (n p : ℕ) → Sound look z m → AreLegal look z m (es ++ Read n p ∷ []) → held_word (after_all z m es).word ((after_all z m es).place n) p ≢ 0
+      → 0 < sel_of (held_word (after_all z m es).word ((after_all z m es).place n) p)
+  read_entry m es n p s legal =
+      let (run, read) = legal_append look z m es (Read n p ∷ []) legal in
+      entry_of (after_all z m es) n p (sound_run look z some_sender m es s run) read.0
+
   pub unheld_install : (m : State) (es : List Event) (c : ClassRef) (a : ℕ) → Sound look z m → AreLegal look z m (es ++ Install c a ∷ []) → (n : ℕ) (d : ClassRef) → (after_all z m es).place n ≢ Holding d a
   unheld_install m es c a s legal =
       let (run, last) = legal_append look z m es (Install c a ∷ []) legal in
@@ -175,3 +194,11 @@ module _ (z : Layout) (n : ℕ) (c : ClassRef) (a : ℕ) where
 
   pub loaded_law : (image : ImageParts) (es : List Event) → (after_all z (opening image) es).place n ≡ Holding c a → HasLoaded n c es
   loaded_law image es h = ⊎_elim (λ (t : All (IsNoHeader n) es × (Out ≡ Holding c a)). let u = t.1 in absurd (cc)) (λ (t : HasLoaded n c es). t) (loaded (opening image) es h)
+
+-- a sender whose read is not refused holds an array
+pub read_holds : (look : History → ClassRef → ℕ → ℕ) (z : Layout) (image : ImageParts) (es : List Event) (n p : ℕ) → AreLegal look z (opening image) (es ++ Read n p ∷ [])
+    → (c : ClassRef) × (a : ℕ) × ((after_all z (opening image) es).place n ≡ Holding c a) × HasLoaded n c es
+read_holds look z image es n p legal =
+    let (run, read) = legal_append look z (opening image) es (Read n p ∷ []) legal in
+    let (lt, (c, a, holds, inside)) = legal_read look z (after_all z (opening image) es) n p read.0 in
+    (c, a, holds, loaded_law z n c a image es holds)

@@ -1,5 +1,5 @@
 -- Legal events keep a state sound, and what a sender reads agrees with the method lists since its header load.
-use Rattle.std.proofs.Common.{◌≡◌, ◌≢◌, ℕ, zero, suc, ◌<◌, ◌⊎◌, List, [], ◌∷◌, ◌++◌, Option, Some, None, Bool, true, replicate, refl, sym, ap, ◌∙◌, subst, inl, inr, ⊎_elim, arith, length-append}
+use Rattle.std.proofs.Common.{◌≡◌, ◌≢◌, ℕ, zero, suc, ◌<◌, ◌⊎◌, List, [], ◌∷◌, ◌++◌, Option, Some, None, Bool, true, false, true≢false, replicate, refl, sym, ap, ◌∙◌, subst, inl, inr, ⊎_elim, arith, length-append}
 use Rattle.std.specs.Prelude.{if◌then◌else◌}
 use Rattle.std.proofs.lemmas.List.{take-append-le}
 use Rattle.msg_names.specs.declared.value.ClassRef.{ClassRef}
@@ -23,6 +23,16 @@ awaits_everyone zero n rest lt = absurd (omega arith)
 awaits_everyone (suc k) zero rest lt = refl
 awaits_everyone (suc k) (suc n) rest lt = awaits_everyone k n rest (omega arith)
 
+awaits_nobody : (k n : ℕ) → awaits (replicate k false) n ≡ true → ⊥
+awaits_nobody zero n e = true≢false (sym e)
+awaits_nobody (suc k) zero e = true≢false (sym e)
+awaits_nobody (suc k) (suc n) e = awaits_nobody k n e
+
+awaits_no_more : (k j n : ℕ) → awaits (replicate k true ++ replicate j false) n ≡ true → n < k
+awaits_no_more zero j n e = absurd (awaits_nobody j n e)
+awaits_no_more (suc k) j zero e = omega arith
+awaits_no_more (suc k) j (suc n) e = let lt = awaits_no_more k j n e in omega arith
+
 -- what a sender that moves holds
 pub moved : (f : ℕ → Place) (n : ℕ) (p : Place) (j : ℕ) (c : ClassRef) (a : ℕ) → at f n p j ≡ Holding c a → ((j ≡ n) × (p ≡ Holding c a)) ⊎ ((j ≢ n) × (f j ≡ Holding c a))
 moved f n p j c a e = ⊎_elim
@@ -33,6 +43,9 @@ moved f n p j c a e = ⊎_elim
 module _ (look : History → ClassRef → ℕ → ℕ) (z : Layout) (some_sender : 0 < z.senders) where
   all_awaited : (n : ℕ) → n < z.senders → awaits (everyone z.senders) n ≡ true
   all_awaited n lt = awaits_everyone z.senders n _ lt
+
+  only_senders : (n : ℕ) → awaits (everyone z.senders) n ≡ true → n < z.senders
+  only_senders n e = awaits_no_more z.senders _ n e
 
   -- a sender that comes to hold nothing
   lets_go : (m : State) (n : ℕ) (p : Place) → ((c : ClassRef) (a : ℕ) → p ≢ Holding c a) → Sound look z m → Sound look z (record m { place = at m.place n p })
@@ -53,7 +66,7 @@ module _ (look : History → ClassRef → ℕ → ℕ) (z : Layout) (some_sender
       (λ (is : b ≡ a). inr (is, ap (retired z m c (Some a)) is ∙ at_same m.standing a (Retired c (size m.history) (everyone z.senders))))
       (λ (ne : b ≢ a). inl (ne, at_other m.standing a (Retired c (size m.history) (everyone z.senders)) b ne))
       (number_or b a))
-      all_awaited some_sender
+      all_awaited only_senders some_sender
 
   pub holds_seen : (m : State) (c : ClassRef) (o : Option ℕ) → Sound look z m → c.class < z.classes → m.live c ≡ o → (d : ClassRef) (a : ℕ) → seeing c o ≡ Holding d a → (m.standing a ≡ Live d) × (d ≡ c)
   holds_seen m c None s lt e d a is = absurd (cc)

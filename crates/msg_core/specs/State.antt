@@ -62,7 +62,7 @@ module _ (look : History → ClassRef → ℕ → ℕ) (z : Layout) where
     pub live_stands : (c : ClassRef) (a : ℕ) → c.class < z.classes → m.live c ≡ Some a → m.standing a ≡ Live c
     pub stands_live : (c : ClassRef) (a : ℕ) → m.standing a ≡ Live c → m.live c ≡ Some a
     -- a retired array awaits some sender, and a free one is held by none
-    pub awaits_some : (c : ClassRef) (r a : ℕ) (awaited : List Bool) → m.standing a ≡ Retired c r awaited → (n : ℕ) × (awaits awaited n ≡ true)
+    pub awaits_some : (c : ClassRef) (r a : ℕ) (awaited : List Bool) → m.standing a ≡ Retired c r awaited → (n : ℕ) × (n < z.senders) × (awaits awaited n ≡ true)
     pub free_unheld : (a : ℕ) → m.standing a ≡ Free → (n : ℕ) (c : ClassRef) → m.place n ≢ Holding c a
 
   -- What every event needs beside that: numbers are those of the layout, and arrays were retired in the past.
@@ -71,7 +71,10 @@ module _ (look : History → ClassRef → ℕ → ℕ) (z : Layout) where
     pub retired_before : (c : ClassRef) (r a : ℕ) (awaited : List Bool) → m.standing a ≡ Retired c r awaited → r ≤ size m.history
     -- else an array could be live where no flush finds it
     pub live_class : (c : ClassRef) (a : ℕ) → m.standing a ≡ Live c → c.class < z.classes
+    -- else a commit, which looks at the arrays of the layout alone, could let a live word disagree
     pub live_array : (c : ClassRef) (a : ℕ) → m.standing a ≡ Live c → a < length z.capacities
+    -- else an array could await for ever one who isn't there to be seen out
+    pub awaited_senders : (c : ClassRef) (r a : ℕ) (awaited : List Bool) → m.standing a ≡ Retired c r awaited → (n : ℕ) → awaits awaited n ≡ true → n < z.senders
     -- else a retired array, which awaits all senders, wouldn't await all holders
     pub holder : (n : ℕ) (c : ClassRef) (a : ℕ) → m.place n ≡ Holding c a → n < z.senders
 

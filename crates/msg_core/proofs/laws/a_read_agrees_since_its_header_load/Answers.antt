@@ -1,8 +1,13 @@
-use Rattle.msg_tables.specs.History.{lookup}
 use Rattle.msg_core.specs.Runs.{opening}
 use Rattle.msg_core.proofs.RunLemmas.{sound_opening}
-use Rattle.msg_core.proofs.ReadLemmas.{read_law}
+use Rattle.msg_core.proofs.ReadLemmas.{read_holds, read_entry, read_law}
 use Rattle.msg_core.proofs.laws.a_read_agrees_since_its_header_load.Goals as goal
 
-pub returns : goal.returns
-returns c z image before mid n d p some_sender = read_law lookup z some_sender (opening image) before mid n d p (sound_opening lookup z some_sender image)
+pub returns-clause-holds : goal.returns-clause-holds
+returns-clause-holds c look z image es n p legal = read_holds look z image es n p legal
+
+pub returns-clause-entry : goal.returns-clause-entry
+returns-clause-entry c look z image es n p some_sender = read_entry look z some_sender (opening image) es n p (sound_opening look z some_sender image)
+
+pub returns-clause-agrees : goal.returns-clause-agrees
+returns-clause-agrees c look z image before mid n d p some_sender = read_law look z some_sender (opening image) before mid n d p (sound_opening look z some_sender image)
