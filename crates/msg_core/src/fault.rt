@@ -1,5 +1,8 @@
 //! Why events are refused.
 
+ghost use Rattle.std.specs.Prelude.{◌≡◌};
+ghost use Rattle.msg_core.specs.FaultNumber.{fault_number};
+
 use msg_tables::ChangeFault;
 use std::alloc::AllocError;
 use thiserror::Error;
@@ -52,5 +55,28 @@ impl From<AllocError> for EventFault {
 
     fn from(_refused: AllocError) -> EventFault {
         EventFault::Memory
+    }
+}
+
+impl EventFault {
+    /// The number of the fault, from 1. Of several the least is answered.
+    pub fn number(self) -> u32
+        ensures { result ≡ fault_number self }
+    {
+        match self {
+            EventFault::NoSender => 1,
+            EventFault::NoClass => 2,
+            EventFault::NoArray => 3,
+            EventFault::NotOut => 4,
+            EventFault::NotIn => 5,
+            EventFault::NotHolding => 6,
+            EventFault::NotLive => 7,
+            EventFault::NoPlace => 8,
+            EventFault::NotFree => 9,
+            EventFault::NotEmpty => 10,
+            EventFault::Refused(_) => 11,
+            EventFault::Disagrees => 12,
+            EventFault::Memory => 13,
+        }
     }
 }
