@@ -1,6 +1,5 @@
 pub mod BelowLemmas
 pub mod EffectLemmas
-pub mod ForeseeLemmas
 pub mod KeepLemmas
 pub mod LegalLemmas
 pub mod OpenLemmas

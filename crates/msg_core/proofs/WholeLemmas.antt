@@ -20,7 +20,7 @@ use Rattle.msg_core.specs.declared.state.Standing.TheVariants.{Free, Live, Retir
 use Rattle.msg_core.specs.declared.state.Place.{Place}
 use Rattle.msg_core.specs.declared.state.Place.TheVariants.{Out, In, Holding}
 use Rattle.msg_core.specs.Steps.{is_spoiled}
-use Rattle.msg_core.specs.Written.{AreListed}
+use Rattle.msg_tables.specs.Written.{AreListed}
 use Rattle.msg_core.proofs.BelowLemmas.{neither}
 use Rattle.msg_core.specs.View.{MachineView, IsWhole, live_at, word_at, sender_at, standing_at, IfHolding, IfLive}
 
@@ -86,13 +86,6 @@ change_listed h (SetImp c s i) none = below (length h.image.classes) c.class (fi
 change_listed h (Exchange c s d u) none =
     let (own, other) = neither _ _ (first_false (nat_le (length h.image.classes) c.class || nat_le (length h.image.classes) d.class) NoClass (drop 1 (conditions h (Exchange c s d u))) none) in
     (below (length h.image.classes) c.class own, below (length h.image.classes) d.class other)
-
--- how many classes there are, by the header words and by the tables
-pub class_number : (v : MachineView) → IsWhole v → (t : TablesView) → StandsAt t v.history → (n : ℕ) → n ≡ length v.live → n / 2 ≡ length t.supers
-class_number v whole t stands n e =
-    let headers = whole.headers in
-    let classes = class_count t v.history stands in
-    omega (arith, headers, classes)
 
 -- the words of an array that was read, and how many it has
 pub words_read : (arrays : List (List ℕ)) (a : ℕ) (words : List ℕ) → a < length (map length arrays) → words ≡ slice_index_or arrays a words → words ≡ slice_index_or arrays a []

@@ -5,4 +5,3 @@ pub mod Runs
 pub mod State
 pub mod Steps
 pub mod View
-pub mod Written

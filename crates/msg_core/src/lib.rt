@@ -9,11 +9,11 @@ mod buckets;
 mod effects;
 mod event;
 mod fault;
-mod foresee;
 mod judge;
 pub mod laws;
 mod machine;
 mod open;
+mod spoiled;
 mod state;
 mod step;
 

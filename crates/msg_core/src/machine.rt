@@ -9,7 +9,7 @@ ghost use Rattle.msg_core.specs.Steps.{is_free, some_below, is_entry, disagrees,
 ghost use Rattle.msg_core.specs.View.{layout_of, state_of, IfHolding, IfLive};
 
 use crate::buckets::Buckets;
-use crate::foresee::has_spoiled_word;
+use crate::spoiled::has_spoiled_word;
 use crate::state::{Place, Standing};
 use msg_buckets::unpack;
 use msg_image::{Change, Image};
@@ -168,8 +168,7 @@ impl Machine {
     {
         match self.standing(array) {
             Standing::Live(class) => {
-                let classes = self.live.len() / 2;
-                has_spoiled_word(&self.tables, classes, change, class, &self.arrays[array])
+                has_spoiled_word(&self.tables, change, class, &self.arrays[array])
             }
             Standing::Free | Standing::Retired(_, _, _) => false,
         }

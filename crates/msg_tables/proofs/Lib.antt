@@ -1,6 +1,7 @@
 pub mod ApplyLemmas
 pub mod AttachLemmas
 pub mod ChainLemmas
+pub mod ForeseeLemmas
 pub mod HistoryLemmas
 pub mod HoldsLemmas
 pub mod IndexLemmas

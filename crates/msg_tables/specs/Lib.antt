@@ -12,3 +12,4 @@ pub mod RowList
 pub mod Rows
 pub mod Stands
 pub mod View
+pub mod Written

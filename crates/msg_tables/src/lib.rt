@@ -4,6 +4,7 @@
 mod apply;
 mod edit;
 mod fault;
+mod foresee;
 mod judge;
 pub mod laws;
 mod lists;

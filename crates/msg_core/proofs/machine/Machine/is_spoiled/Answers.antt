@@ -8,12 +8,9 @@ use Rattle.msg_core.specs.declared.state.Standing.TheVariants.{Live}
 use Rattle.msg_core.specs.Inside.{view_of}
 use Rattle.msg_core.specs.Steps.{is_spoiled}
 use Rattle.msg_core.specs.View.{MachineView, word_at, standing_at}
-use Rattle.msg_core.specs.Written.{AreListed}
-use Rattle.msg_core.proofs.WholeLemmas.{class_number, class_listed, change_listed, spoiled_as}
+use Rattle.msg_tables.specs.Written.{AreListed}
+use Rattle.msg_core.proofs.WholeLemmas.{class_listed, change_listed, spoiled_as}
 use Rattle.msg_core.proofs.machine.Machine.is_spoiled.Goals as goal
-
-pub has_spoiled_word-requires-clause-classes : goal.has_spoiled_word-requires-clause-classes
-has_spoiled_word-requires-clause-classes c = class_number _ c.self.invariant.whole c.self.inside.tables c.self.invariant.tables c.len-classes.result (c.len-classes.ensures ∙ c.self.inside.live.ok.0)
 
 pub has_spoiled_word-requires-clause-class : goal.has_spoiled_word-requires-clause-class
 has_spoiled_word-requires-clause-class c = class_listed c.self.inside.tables _ c.self.invariant.tables c.in-Live.class.class

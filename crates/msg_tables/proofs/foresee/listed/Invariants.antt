@@ -3,7 +3,7 @@ use Rattle.std.proofs.Common.{◌≡◌, None, reverse, take}
 use Rattle.msg_names.specs.Number.{selector_number}
 use Rattle.msg_image.specs.Methods.{method_numbers}
 use Rattle.msg_tables.specs.RowList.{own_in}
-use Rattle.msg_core.proofs.foresee.listed.Given as goal
+use Rattle.msg_tables.proofs.foresee.listed.Given as goal
 
 abbrev pub invariant-loop-pair : goal.invariant-loop-pair
 invariant-loop-pair l = own_in (selector_number l.sel) (reverse (method_numbers (take l.pair-index l.pairs))) ≡ None

@@ -18,7 +18,7 @@ use Rattle.msg_tables.specs.History.{History, and_then, table, lookup, holder, s
 use Rattle.msg_tables.proofs.LawLemmas.{lookup-after, held}
 use Rattle.msg_tables.proofs.OwnLemmas.{same, equal, own-append, own-rows_at, own-rows_other, own-set_same, own-set_other, some-set_own, lookup-holder, lookup-own}
 use Rattle.msg_tables.proofs.PlaceLemmas.{same_class-is, same_class-refl}
-use Rattle.msg_core.specs.Written.{written, at_place}
+use Rattle.msg_tables.specs.Written.{written, at_place}
 
 or_else_none : (o : Option ℕ) → or_else o None ≡ o
 or_else_none None = refl

@@ -3,8 +3,8 @@ use Rattle.std.proofs.Common.{◌<◌, length}
 use Rattle.msg_names.specs.Number.{selector_number}
 use Rattle.msg_tables.specs.History.{History}
 use Rattle.msg_tables.specs.Stands.{StandsAt}
-use Rattle.msg_core.proofs.ForeseeLemmas.{OnTheWay}
-use Rattle.msg_core.proofs.foresee.lookup_after.Given as goal
+use Rattle.msg_tables.proofs.ForeseeLemmas.{OnTheWay}
+use Rattle.msg_tables.proofs.foresee.found_after.Given as goal
 
 abbrev pub invariant-loop-step : goal.invariant-loop-step
 invariant-loop-step l = (l.here.class < length l.tables.supers)

@@ -4,7 +4,7 @@ use Rattle.std.specs.Prelude.{◌&&◌}
 use Rattle.msg_tables.specs.History.{lookup, and_then}
 use Rattle.msg_core.specs.Steps.{is_entry, disagrees}
 use Rattle.msg_core.proofs.BelowLemmas.{some_below-true}
-use Rattle.msg_core.proofs.foresee.has_spoiled_word.Goals as goal
+use Rattle.msg_core.proofs.spoiled.has_spoiled_word.Goals as goal
 
 pub returns-then-would_disagree : goal.returns-then-would_disagree
 returns-then-would_disagree c = λ h stands.

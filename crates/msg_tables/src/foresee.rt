@@ -3,22 +3,18 @@
 //! The chain stays, and at each class reference what the change writes comes before the class's own method. So the answer is
 //! known before the change is made, and takes no memory.
 
-ghost use Rattle.std.specs.Prelude.{◌≡◌, ◌<◌, ◌&&◌, length, option_map, reverse, slice_index};
+ghost use Rattle.std.specs.Prelude.{◌≡◌, ◌<◌, length, option_map, reverse};
 ghost use Rattle.msg_names.specs.Number.{selector_number, imp_number};
 ghost use Rattle.msg_tables.specs.History.{History, lookup, and_then, table};
 ghost use Rattle.msg_tables.specs.After.{rows_after};
 ghost use Rattle.msg_tables.specs.RowList.{own_in};
 ghost use Rattle.msg_tables.specs.Rows.{own};
 ghost use Rattle.msg_tables.specs.Stands.{StandsAt};
-ghost use Rattle.msg_core.specs.declared.state.Standing.TheVariants.{Live};
-ghost use Rattle.msg_core.specs.Steps.{is_entry, disagrees, is_spoiled};
-ghost use Rattle.msg_core.specs.Written.{written, at_place, AreListed};
+ghost use Rattle.msg_tables.specs.Written.{written, at_place, AreListed};
 
-use crate::buckets::Buckets;
-use msg_buckets::unpack;
+use crate::tables::Tables;
 use msg_image::{Change, MethodList};
 use msg_names::{ClassRef, ImpRef, Selector};
-use msg_tables::Tables;
 
 // The implementation of the first entry of a selector.
 fn listed(methods: &MethodList, sel: Selector) -> Option<ImpRef>
@@ -146,7 +142,7 @@ fn own_after(tables: &Tables, change: &Change, here: ClassRef, sel: Selector) ->
 }
 
 // The implementation that a lookup will find. `classes` is how many there are.
-fn lookup_after(
+fn found_after(
     tables: &Tables,
     classes: usize,
     change: &Change,
@@ -174,46 +170,15 @@ fn lookup_after(
     }
 }
 
-// Whether a word is an entry that will not agree with the method lists.
-fn would_disagree(
-    tables: &Tables,
-    classes: usize,
-    change: &Change,
-    class: ClassRef,
-    word: u64,
-) -> bool
-    requires classes { classes ≡ length tables.now.supers }
-    requires class { class.class < length tables.now.supers }
-    requires listed { AreListed (length tables.now.supers) change.now }
-    ensures { (h : History) → StandsAt tables.now h → result ≡ (is_entry word && disagrees (lookup (and_then h change.now)) class word) }
-{
-    if word == 0 {
-        return false;
+impl Tables {
+    /// The implementation that [`Tables::lookup`] will find once a change is made, which is of listed classes.
+    ///
+    /// Each class on the way costs what a lookup of the methods that the change names costs. No memory is taken.
+    pub fn lookup_after(&self, change: &Change, class: ClassRef, sel: Selector) -> ImpRef
+        requires class { class.class < length self.now.supers }
+        requires listed { AreListed (length self.now.supers) change.now }
+        ensures { (h : History) → StandsAt self.now h → imp_number result ≡ lookup (and_then h change.now) class (selector_number sel) }
+    {
+        found_after(self, self.supers.len(), change, class, sel)
     }
-    match unpack(word) {
-        Some((sel, imp)) => lookup_after(tables, classes, change, class, sel) != imp,
-        None => true,
-    }
-}
-
-// Whether the words of a class reference have an entry that will not agree.
-pub(crate) fn has_spoiled_word(
-    tables: &Tables,
-    classes: usize,
-    change: &Change,
-    class: ClassRef,
-    words: &Buckets,
-) -> bool
-    requires classes { classes ≡ length tables.now.supers }
-    requires class { class.class < length tables.now.supers }
-    requires listed { AreListed (length tables.now.supers) change.now }
-    ensures { (h : History) → StandsAt tables.now h
-        → result ≡ is_spoiled (lookup (and_then h change.now)) (length words.now) (slice_index words.now) (Live class) }
-{
-    for place in 0..words.capacity() {
-        if would_disagree(tables, classes, change, class, words.word(place)) {
-            return true;
-        }
-    }
-    false
 }

@@ -1,8 +1,8 @@
 -- each step of the lookup
 use Rattle.std.proofs.Common.{◌≡◌, ◌<◌, ◌≤◌, ℕ, suc, length, option_map, sym, ◌∙◌, ap, arith}
 use Rattle.msg_names.specs.Number.{selector_number, imp_number}
-use Rattle.msg_core.proofs.ForeseeLemmas.{comes_first, way_stop, way_end, way_up}
-use Rattle.msg_core.proofs.foresee.lookup_after.Goals as goal
+use Rattle.msg_tables.proofs.ForeseeLemmas.{comes_first, way_stop, way_end, way_up}
+use Rattle.msg_tables.proofs.foresee.found_after.Goals as goal
 
 at_most : (k n m : ℕ) → n ≡ m → k < n → k ≤ m
 at_most k n m e lt = omega arith

@@ -2,8 +2,8 @@
 use Rattle.std.proofs.Common.{sym, ◌∙◌, ap, reverse}
 use Rattle.msg_names.specs.Number.{selector_number}
 use Rattle.msg_tables.specs.RowList.{own_in}
-use Rattle.msg_core.proofs.ForeseeLemmas.{listed_found}
-use Rattle.msg_core.proofs.foresee.listed.Goals as goal
+use Rattle.msg_tables.proofs.ForeseeLemmas.{listed_found}
+use Rattle.msg_tables.proofs.foresee.listed.Goals as goal
 
 pub returns-then-eq : goal.returns-then-eq
 returns-then-eq c =

@@ -1,8 +1,8 @@
 -- what is written, and else the class's own method
 use Rattle.std.proofs.Common.{sym, ap, option_map}
 use Rattle.msg_names.specs.Number.{selector_number, imp_number}
-use Rattle.msg_core.proofs.ForeseeLemmas.{own_seen, own_kept}
-use Rattle.msg_core.proofs.foresee.own_after.Goals as goal
+use Rattle.msg_tables.proofs.ForeseeLemmas.{own_seen, own_kept}
+use Rattle.msg_tables.proofs.foresee.own_after.Goals as goal
 
 pub returns-in-Some : goal.returns-in-Some
 returns-in-Some c = λ h stands.

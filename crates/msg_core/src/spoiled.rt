@@ -1,0 +1,54 @@
+//! Whether words of a live array will agree with the method lists once a change is made.
+
+ghost use Rattle.std.specs.Prelude.{◌≡◌, ◌<◌, ◌&&◌, length, slice_index};
+ghost use Rattle.msg_tables.specs.History.{History, lookup, and_then};
+ghost use Rattle.msg_tables.specs.Stands.{StandsAt};
+ghost use Rattle.msg_tables.specs.Written.{AreListed};
+ghost use Rattle.msg_core.specs.declared.state.Standing.TheVariants.{Live};
+ghost use Rattle.msg_core.specs.Steps.{is_entry, disagrees, is_spoiled};
+
+use crate::buckets::Buckets;
+use msg_buckets::unpack;
+use msg_image::Change;
+use msg_names::ClassRef;
+use msg_tables::Tables;
+
+// Whether a word is an entry that will not agree with the method lists.
+fn would_disagree(
+    tables: &Tables,
+    change: &Change,
+    class: ClassRef,
+    word: u64,
+) -> bool
+    requires class { class.class < length tables.now.supers }
+    requires listed { AreListed (length tables.now.supers) change.now }
+    ensures { (h : History) → StandsAt tables.now h → result ≡ (is_entry word && disagrees (lookup (and_then h change.now)) class word) }
+{
+    if word == 0 {
+        return false;
+    }
+    match unpack(word) {
+        Some((sel, imp)) => tables.lookup_after(change, class, sel) != imp,
+        None => true,
+    }
+}
+
+// Whether the words of a class reference have an entry that will not agree.
+pub(crate) fn has_spoiled_word(
+    tables: &Tables,
+    change: &Change,
+    class: ClassRef,
+    words: &Buckets,
+) -> bool
+    requires class { class.class < length tables.now.supers }
+    requires listed { AreListed (length tables.now.supers) change.now }
+    ensures { (h : History) → StandsAt tables.now h
+        → result ≡ is_spoiled (lookup (and_then h change.now)) (length words.now) (slice_index words.now) (Live class) }
+{
+    for place in 0..words.capacity() {
+        if would_disagree(tables, change, class, words.word(place)) {
+            return true;
+        }
+    }
+    false
+}
