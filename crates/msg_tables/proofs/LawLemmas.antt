@@ -1,10 +1,11 @@
 -- What lookups find after a change.
-use Rattle.std.proofs.Common.{◌≡◌, ◌<◌, ℕ, List, [], ◌∷◌, ◌++◌, length, Option, Some, None, Bool, true, false, cond, slice_get, append_assoc, refl, sym, ap, ap₂, ◌∙◌, subst, arith}
-use Rattle.std.specs.Prelude.{◌==◌, ◌&&◌, ◌||◌, is_some, unwrap_or, reverse}
+use Rattle.std.proofs.Common.{◌≡◌, ◌<◌, ℕ, List, [], ◌∷◌, ◌++◌, length, Option, Some, None, Bool, true, false, cond, slice_get, refl, sym, ap, ap₂, ◌∙◌, subst, arith}
+use Rattle.std.specs.Prelude.{◌==◌, ◌&&◌, ◌||◌, is_some, unwrap_or, reverse, All}
 use Rattle.std.specs.Option.{option_map_or}
 use Rattle.std.specs.List.{list_any}
 use Rattle.std.proofs.lemmas.Bool.Decides.{nat_tests}
 use Rattle.std.proofs.lemmas.List.{length-map}
+use Rattle.std.proofs.lemmas.List.Elements.{All-head, All-tail}
 use Rattle.std.proofs.lemmas.Option.{same_Some}
 use Rattle.msg_names.specs.declared.value.ClassRef.{ClassRef}
 use Rattle.msg_names.specs.declared.value.ImpRef.{ImpRef}
@@ -22,13 +23,13 @@ use Rattle.msg_tables.specs.After.{of_class, of_meta, row, rows_at, set_own, set
 use Rattle.msg_tables.specs.Affected.{at_most_one, if_any, places, is_affected}
 use Rattle.msg_tables.specs.History.{History, empty, and_then, table, lookup, holder, superclass, chain_at}
 use Rattle.msg_tables.specs.Marking.{Before}
-use Rattle.msg_tables.specs.Opening.{rows_of_category}
+use Rattle.msg_tables.specs.Opening.{rows_of_category, Lacks}
 use Rattle.msg_tables.specs.Refusal.{no_class, has_own}
 use Rattle.msg_tables.proofs.HistoryLemmas.{table-and_then, supers-table}
 use Rattle.msg_tables.proofs.HoldsLemmas.{meta-apart}
 use Rattle.msg_tables.proofs.MarkLemmas.{chain_of-step}
 use Rattle.msg_tables.proofs.OwnLemmas.{equal, same, own-append, own-rows_at, own-rows_other, own-set_other, own-set_same, set_own-own, some-set_own, lookup-same, lookup-own, lookup-nowhere, lookup-holder, holder-same}
-use Rattle.msg_tables.proofs.OpeningLemmas.{category_rows-next, supers-before}
+use Rattle.msg_tables.proofs.OpeningLemmas.{category_rows-append, supers-before}
 use Rattle.msg_tables.proofs.TakeLemmas.{element}
 use Rattle.msg_tables.proofs.PlaceLemmas.{same_class-is}
 
@@ -254,32 +255,40 @@ found-attached-meta h k ms cs s i e =
     let first = (table h).rows ++ rows_at (of_class k) (reverse ms) in
     found-own h (Attach k ms cs) (of_meta k) s i (own-append first (rows_at (of_meta k) (reverse cs)) (of_meta k) s ∙ ap (λ o. or_else o (own first (of_meta k) s)) (own-rows_at (of_meta k) (reverse cs) s ∙ e))
 
--- the rows of the category that is listed last
-opened : (image : ImageParts) (before : List Category) (c : Category) → image.categories ≡ before ++ c ∷ [] → (table (empty image)).rows ≡ (class_rows 0 image.classes ++ category_rows before) ++ rows_at (of_class c.class) c.methods ++ rows_at (of_meta c.class) c.class_methods
+-- categories without a method bring no row of it
+own-later : (later : List Category) (k : ClassRef) (s : ℕ) → All (Lacks k s) later → own (category_rows later) k s ≡ None
+own-later [] k s all = refl
+own-later (d ∷ ds) k s all =
+    own-append (rows_of_category d) (category_rows ds) k s ∙ ap₂ or_else (own-later ds k s (All-tail (Lacks k s) d ds all)) (All-head (Lacks k s) d ds all)
+
+-- the method of a category that is the last with one
+own-opened : (image : ImageParts) (before later : List Category) (c : Category) (k : ClassRef) (s i : ℕ) → image.categories ≡ before ++ c ∷ later → All (Lacks k s) later → own (rows_of_category c) k s ≡ Some i
+    → own (table (empty image)).rows k s ≡ Some i
 unfolding table opening
-opened image before c e =
-    ap (λ cs. class_rows 0 image.classes ++ category_rows cs) e ∙ ap (λ rows. class_rows 0 image.classes ++ rows) (category_rows-next before c)
-    ∙ sym (append_assoc (class_rows 0 image.classes) (category_rows before) (rows_of_category c))
-    ∙ sym (append_assoc (class_rows 0 image.classes ++ category_rows before) (rows_at (of_class c.class) c.methods) (rows_at (of_meta c.class) c.class_methods))
+own-opened image before later c k s i e all is =
+    let last = own-append (rows_of_category c) (category_rows later) k s ∙ ap₂ or_else (own-later later k s all) is in
+    let brought = ap (λ rows. own rows k s) (category_rows-append before (c ∷ later)) ∙ own-append (category_rows before) (category_rows (c ∷ later)) k s ∙ ap (λ o. or_else o (own (category_rows before) k s)) last in
+    ap (λ cs. own (class_rows 0 image.classes ++ category_rows cs) k s) e ∙ own-append (class_rows 0 image.classes) (category_rows (before ++ c ∷ later)) k s
+    ∙ ap (λ o. or_else o (own (class_rows 0 image.classes) k s)) brought
 
 found-opened : (image : ImageParts) (c : ClassRef) (s i : ℕ) → own (table (empty image)).rows c s ≡ Some i → lookup (empty image) c s ≡ i
 unfolding lookup chain_of
 found-opened image c s i e = lookup-own (length (table (empty image)).supers) (table (empty image)).supers (table (empty image)).rows c s i e
 
-pub found-category : (image : ImageParts) (before : List Category) (c : Category) (s i : ℕ) → image.categories ≡ before ++ c ∷ [] → own_in s c.methods ≡ Some i → lookup (empty image) (of_class c.class) s ≡ i
-found-category image before c s i e is =
-    let older = class_rows 0 image.classes ++ category_rows before in
+pub found-category : (image : ImageParts) (before later : List Category) (c : Category) (s i : ℕ) → image.categories ≡ before ++ c ∷ later → All (Lacks (of_class c.class) s) later → own_in s c.methods ≡ Some i
+    → lookup (empty image) (of_class c.class) s ≡ i
+found-category image before later c s i e all is =
     let class = of_class c.class in
     found-opened image class s i
-    (ap (λ rows. own rows class s) (opened image before c e) ∙ own-more (of_meta c.class) class c.class_methods s (older ++ rows_at class c.methods) (meta-apart c.class)
-    ∙ own-append older (rows_at class c.methods) class s ∙ ap (λ o. or_else o (own older class s)) (own-rows_at class c.methods s ∙ is))
+    (own-opened image before later c class s i e all (own-more (of_meta c.class) class c.class_methods s (rows_at class c.methods) (meta-apart c.class) ∙ own-rows_at class c.methods s ∙ is))
 
-pub found-category-meta : (image : ImageParts) (before : List Category) (c : Category) (s i : ℕ) → image.categories ≡ before ++ c ∷ [] → own_in s c.class_methods ≡ Some i → lookup (empty image) (of_meta c.class) s ≡ i
-found-category-meta image before c s i e is =
-    let older = (class_rows 0 image.classes ++ category_rows before) ++ rows_at (of_class c.class) c.methods in
+pub found-category-meta : (image : ImageParts) (before later : List Category) (c : Category) (s i : ℕ) → image.categories ≡ before ++ c ∷ later → All (Lacks (of_meta c.class) s) later → own_in s c.class_methods ≡ Some i
+    → lookup (empty image) (of_meta c.class) s ≡ i
+found-category-meta image before later c s i e all is =
+    let own_rows = rows_at (of_class c.class) c.methods in
     let meta = of_meta c.class in
     found-opened image meta s i
-    (ap (λ rows. own rows meta s) (opened image before c e) ∙ own-append older (rows_at meta c.class_methods) meta s ∙ ap (λ o. or_else o (own older meta s)) (own-rows_at meta c.class_methods s ∙ is))
+    (own-opened image before later c meta s i e all (own-append own_rows (rows_at meta c.class_methods) meta s ∙ ap (λ o. or_else o (own own_rows meta s)) (own-rows_at meta c.class_methods s ∙ is)))
 
 -- ---- inheritance
 

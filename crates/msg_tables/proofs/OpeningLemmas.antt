@@ -59,10 +59,13 @@ class_rows-next j (x ∷ xs) c =
     ap (λ rows. rows_of_class j x ++ rows) (class_rows-next (j + 1) xs c ∙ ap (λ k. class_rows (j + 1) xs ++ rows_of_class k c) same)
     ∙ sym (append_assoc (rows_of_class j x) (class_rows (j + 1) xs) (rows_of_class (j + length (x ∷ xs)) c))
 
+pub category_rows-append : (xs ys : List Category) → category_rows (xs ++ ys) ≡ category_rows xs ++ category_rows ys
+category_rows-append [] ys = refl
+category_rows-append (x ∷ xs) ys = ap (λ rows. rows_of_category x ++ rows) (category_rows-append xs ys) ∙ sym (append_assoc (rows_of_category x) (category_rows xs) (category_rows ys))
+
 -- one category more
 pub category_rows-next : (xs : List Category) (c : Category) → category_rows (xs ++ c ∷ []) ≡ category_rows xs ++ rows_of_category c
-category_rows-next [] c = append-nil (rows_of_category c)
-category_rows-next (x ∷ xs) c = ap (λ rows. rows_of_category x ++ rows) (category_rows-next xs c) ∙ sym (append_assoc (rows_of_category x) (category_rows xs) (rows_of_category c))
+category_rows-next xs c = category_rows-append xs (c ∷ []) ∙ ap (λ rows. category_rows xs ++ rows) (append-nil (rows_of_category c))
 
 -- how many rows classes and categories bring
 pub length-class_rows : (j : ℕ) (xs : List ClassParts) → length (class_rows j xs) ≡ sum_by size_of_class xs

@@ -1,9 +1,10 @@
 -- How the tables of an image are filled.
-use Rattle.std.specs.Prelude.{◌≡◌, ℕ, ◌+◌, ◌*◌, List, [], ◌++◌, length, map, replicate}
+use Rattle.std.specs.Prelude.{◌≡◌, ℕ, ◌+◌, ◌*◌, List, [], ◌++◌, None, length, map, replicate}
+use Rattle.msg_names.specs.declared.value.ClassRef.{ClassRef}
 use Rattle.msg_names.specs.Name.{colons_of}
 use Rattle.msg_image.specs.declared.image.Category.{Category}
 use Rattle.msg_image.specs.Parts.{ClassParts, ImpParts, ImageParts}
-use Rattle.msg_tables.specs.Rows.{Row}
+use Rattle.msg_tables.specs.Rows.{Row, own}
 use Rattle.msg_tables.specs.After.{rows_at, of_class, of_meta}
 use Rattle.msg_tables.specs.Stands.{Holds}
 use Rattle.msg_tables.specs.View.{TablesView}
@@ -24,6 +25,10 @@ size_of_class c = length c.methods + length c.class_methods
 -- the rows that a category brings
 abbrev pub rows_of_category : Category → List Row
 rows_of_category c = rows_at (of_class c.class) c.methods ++ rows_at (of_meta c.class) c.class_methods
+
+-- a category has no method of this selector for the class reference
+abbrev pub Lacks : ClassRef → ℕ → Category → Type 0
+Lacks c s category = own (rows_of_category category) c s ≡ None
 
 abbrev pub size_of_category : Category → ℕ
 size_of_category c = length c.methods + length c.class_methods

@@ -1,6 +1,6 @@
 //! Laws of lookup and of changes, over every history.
 
-ghost use Rattle.std.specs.Prelude.{◌≡◌, ◌<◌, ℕ, List, [], ◌∷◌, ◌++◌, Some, None, true, false, length, reverse};
+ghost use Rattle.std.specs.Prelude.{◌≡◌, ◌<◌, ℕ, List, [], ◌∷◌, ◌++◌, Some, None, true, false, length, reverse, All};
 ghost use Rattle.msg_names.specs.Number.{selector_number, imp_number};
 ghost use Rattle.msg_names.specs.declared.value.ClassRef.{ClassRef};
 ghost use Rattle.msg_names.specs.declared.value.ImpRef.{ImpRef};
@@ -12,6 +12,7 @@ ghost use Rattle.msg_image.specs.declared.change.Change.{Change};
 ghost use Rattle.msg_tables.specs.Affected.{is_affected};
 ghost use Rattle.msg_tables.specs.After.{of_class, of_meta};
 ghost use Rattle.msg_tables.specs.History.{History, empty, and_then, table, lookup, holder, superclass};
+ghost use Rattle.msg_tables.specs.Opening.{Lacks};
 ghost use Rattle.msg_tables.specs.Refusal.{has_own, no_class};
 ghost use Rattle.msg_tables.specs.RowList.{own_in};
 
@@ -77,10 +78,10 @@ pub fn an_attached_method_is_found()
         → lookup (and_then h (Change.Attach k methods class_methods)) (of_meta k) s ≡ i }
 {}
 
-/// Of the categories of a class the one that is listed last wins, over the others and over the class.
+/// Of the categories of a class with a method of a selector the one that is listed last wins, over the others and over the class; later categories without such a method change nothing.
 pub fn the_last_category_wins()
-    ensures class { (image : ImageParts) (before : List Category) (c : Category) (s i : ℕ) → image.categories ≡ before ++ c ∷ [] → own_in s c.methods ≡ Some i
+    ensures class { (image : ImageParts) (before later : List Category) (c : Category) (s i : ℕ) → image.categories ≡ before ++ c ∷ later → All (Lacks (of_class c.class) s) later → own_in s c.methods ≡ Some i
         → lookup (empty image) (of_class c.class) s ≡ i }
-    ensures metaclass { (image : ImageParts) (before : List Category) (c : Category) (s i : ℕ) → image.categories ≡ before ++ c ∷ [] → own_in s c.class_methods ≡ Some i
+    ensures metaclass { (image : ImageParts) (before later : List Category) (c : Category) (s i : ℕ) → image.categories ≡ before ++ c ∷ later → All (Lacks (of_meta c.class) s) later → own_in s c.class_methods ≡ Some i
         → lookup (empty image) (of_meta c.class) s ≡ i }
 {}
