@@ -4,7 +4,7 @@ use Rattle.msg_image.specs.declared.change.Change.{Change}
 use Rattle.msg_image.specs.Parts.{ClassParts}
 use Rattle.msg_tables.specs.Rows.{ClassTable}
 use Rattle.msg_tables.specs.After.{opening, after}
-use Rattle.msg_tables.specs.History.{History, empty, and_then, after_all, table}
+use Rattle.msg_tables.specs.History.{History, BeginsWith, empty, and_then, after_all, table}
 use Rattle.msg_tables.specs.Refusal.{refusal, AreAccepted, IsHistory}
 
 after_all-append : (t : ClassTable) (xs ys : List Change) → after_all t (xs ++ ys) ≡ after_all (after_all t xs) ys
@@ -35,6 +35,18 @@ accepted-push h (y ∷ ys) x all none =
 pub history-and_then : (h : History) (x : Change) → IsHistory h → refusal h x ≡ None → IsHistory (and_then h x)
 unfolding IsHistory
 history-and_then h x is none = accepted-push (empty h.image) h.changes x is none
+
+accepted-prefix : (h : History) (xs ys : List Change) → AreAccepted h (xs ++ ys) → AreAccepted h xs
+accepted-prefix h [] ys all = tt
+accepted-prefix h (x ∷ xs) ys all = (all.0, accepted-prefix (and_then h x) xs ys all.1)
+
+-- a history with which another begins
+pub history-before : (h g : History) → BeginsWith h g → IsHistory h → IsHistory g
+unfolding IsHistory
+history-before h g begins is =
+    let (more, changes) = begins.rest in
+    let longer = subst (AreAccepted (empty h.image)) changes is in
+    subst (λ image. AreAccepted (empty image) g.changes) begins.same (accepted-prefix (empty h.image) g.changes more longer)
 
 pub history-empty : (h : History) → h.changes ≡ [] → IsHistory h
 unfolding IsHistory

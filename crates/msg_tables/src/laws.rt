@@ -11,14 +11,19 @@ ghost use Rattle.msg_image.specs.declared.image.Category.{Category};
 ghost use Rattle.msg_image.specs.declared.change.Change.{Change};
 ghost use Rattle.msg_tables.specs.Affected.{is_affected};
 ghost use Rattle.msg_tables.specs.After.{of_class, of_meta};
-ghost use Rattle.msg_tables.specs.History.{History, empty, and_then, table, lookup, holder, superclass};
+ghost use Rattle.msg_tables.specs.History.{History, BeginsWith, empty, and_then, table, lookup, holder, superclass};
 ghost use Rattle.msg_tables.specs.Opening.{Lacks};
-ghost use Rattle.msg_tables.specs.Refusal.{has_own, no_class};
+ghost use Rattle.msg_tables.specs.Refusal.{IsHistory, has_own, no_class};
 ghost use Rattle.msg_tables.specs.RowList.{own_in};
 
 /// A class reference that a change doesn't affect finds what it found.
 pub fn a_change_affects_no_more()
     ensures { (h : History) (x : Change) (c : ClassRef) (s : ℕ) → is_affected h x c ≡ false → lookup (and_then h x) c s ≡ lookup h c s }
+{}
+
+/// What a history of accepted changes begins with is one, too: each earlier point of a history is a history.
+pub fn an_earlier_point_is_a_history()
+    ensures { (h g : History) → BeginsWith h g → IsHistory h → IsHistory g }
 {}
 
 /// Where no method is found the answer is forwarding.
