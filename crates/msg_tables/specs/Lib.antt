@@ -2,6 +2,7 @@ pub mod Affected
 pub mod After
 pub mod Chain
 pub mod Edits
+pub mod FaultNumber
 pub mod History
 pub mod Indexed
 pub mod Inside

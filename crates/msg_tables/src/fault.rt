@@ -1,6 +1,7 @@
 //! Why changes are refused.
 
 ghost use Rattle.std.specs.Prelude.{◌≡◌};
+ghost use Rattle.msg_tables.specs.FaultNumber.{fault_number};
 ghost use Rattle.msg_tables.specs.declared.fault.ChangeFault.TheVariants.{Memory};
 
 use std::alloc::AllocError;
@@ -37,5 +38,14 @@ impl From<AllocError> for ChangeFault {
 
     fn from(_refused: AllocError) -> ChangeFault {
         ChangeFault::Memory
+    }
+}
+
+impl ChangeFault {
+    /// The number of the fault, from 1.
+    pub fn number(self) -> u32
+        ensures { result ≡ fault_number self }
+    {
+        self as u32 + 1
     }
 }
