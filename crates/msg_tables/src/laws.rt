@@ -1,6 +1,6 @@
 //! Laws of lookup and of changes, over every history.
 
-ghost use Rattle.std.specs.Prelude.{◌≡◌, ◌<◌, ℕ, List, [], ◌∷◌, ◌++◌, Some, None, true, false, length, reverse, All};
+ghost use Rattle.std.specs.Prelude.{◌≡◌, ℕ, List, ◌∷◌, ◌++◌, Some, None, false, reverse, All};
 ghost use Rattle.msg_names.specs.Number.{selector_number, imp_number};
 ghost use Rattle.msg_names.specs.declared.value.ClassRef.{ClassRef};
 ghost use Rattle.msg_names.specs.declared.value.ImpRef.{ImpRef};
