@@ -3,6 +3,7 @@
 ghost use Rattle.std.specs.Prelude.{◌≡◌, ◌≢◌, ◌<◌, ◌≤◌, ◌↔◌, ◌⊎◌, All, map, false, true, Ok, Err, IfOk, IfErr, IfSome, OnErr, OnOk};
 ghost use Rattle.std.specs.Io.KnownBytes.{Appends};
 ghost use Rattle.msg_form.specs.declared.faults.DocumentFault.{DocumentFault};
+ghost use Rattle.msg_form.specs.declared.faults.DocumentFault.TheVariants as documents;
 ghost use Rattle.msg_image.specs.Answer.{IsAnswer};
 ghost use Rattle.msg_image.specs.DocumentParts.{document_parts};
 ghost use Rattle.msg_image.specs.Plain.{item_parts};
@@ -29,6 +30,7 @@ fn document<R: Source>(alloc: Global, source: &mut R) -> Result<Document, RunFau
     ensures ok { IfOk result (λ d. IfSome (R.remaining source.old) (λ bytes. IsAnswer bytes (Ok (document_parts d)))) }
     ensures sound { IfOk result (λ d. All (IsSoundItem d.image) (map item_parts d.items.items)) }
     ensures fault { (f : DocumentFault) → result ≡ Err (RunFault.Document f) → IfSome (R.remaining source.old) (λ bytes. IsAnswer bytes (Err f)) }
+    ensures memory { result ≢ Err (RunFault.Document documents.Memory) }
     ensures read { (result ≡ Err RunFault.Read) ↔ (R.mark source.new ≡ true) }
     ensures others { (result ≢ Err RunFault.Write) × (result ≢ Err RunFault.Workers) × (result ≢ Err RunFault.Cut) }
 {
@@ -85,6 +87,7 @@ pub fn run<R: Source, W: Sink, G: Gate>(
     ensures workers { (result ≡ Err RunFault.Workers) ↔ ((workers ≡ 0) ⊎ (64 < workers)) }
     ensures cut { (result ≡ Err RunFault.Cut) ↔ ((cut ≡ 0) × (0 < workers) × (workers ≤ 64)) }
     ensures document { (f : DocumentFault) → result ≡ Err (RunFault.Document f) → IfSome (R.remaining source.old) (λ bytes. IsAnswer bytes (Err f)) }
+    ensures memory { result ≢ Err (RunFault.Document documents.Memory) }
     ensures read { (result ≡ Err RunFault.Read) ↔ (R.mark source.new ≡ true) }
     ensures write { (result ≡ Err RunFault.Write) ↔ (W.mark sink.new ≡ true) }
 {
