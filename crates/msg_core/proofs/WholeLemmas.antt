@@ -1,6 +1,6 @@
 -- What a whole machine's lists give.
 use Rattle.std.proofs.Common.{◌≡◌, ◌<◌, ℕ, List, length, map, drop, Option, Some, None, sym, subst, ap, ◌∙◌, Bool, true, false, [], ◌∷◌, refl, arith}
-use Rattle.std.specs.Prelude.{IfSome, slice_index_or, nat_le, ◌||◌, ◌/◌, slice_index}
+use Rattle.std.specs.Prelude.{IfSome, slice_index_or, nat_le, ◌||◌, slice_index}
 use Rattle.std.proofs.lemmas.List.{length-map, get_or_default, get_or-map}
 use Rattle.msg_tables.specs.View.{place_of}
 use Rattle.msg_tables.proofs.PlaceLemmas.{place_of-inside}

@@ -14,12 +14,7 @@ use msg_names::ClassRef;
 use msg_tables::Tables;
 
 // Whether a word is an entry that will not agree with the method lists.
-fn would_disagree(
-    tables: &Tables,
-    change: &Change,
-    class: ClassRef,
-    word: u64,
-) -> bool
+fn would_disagree(tables: &Tables, change: &Change, class: ClassRef, word: u64) -> bool
     requires class { class.class < length tables.now.supers }
     requires listed { AreListed (length tables.now.supers) change.now }
     ensures { (h : History) → StandsAt tables.now h → result ≡ (is_entry word && disagrees (lookup (and_then h change.now)) class word) }

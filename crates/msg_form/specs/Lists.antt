@@ -51,10 +51,6 @@ all_lists f = method_lists f ++ flat_map item_lists f.items
 abbrev pub method_entries : Form → List PairForm
 method_entries f = flat_map (λ l. l) (method_lists f)
 
--- the entries of all lists L
-abbrev pub all_entries : Form → List PairForm
-all_entries f = flat_map (λ l. l) (all_lists f)
-
 -- ---- sends
 
 abbrev pub body_sends : Form → List (Text × ℕ)

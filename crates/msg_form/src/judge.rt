@@ -2,8 +2,8 @@
 //!
 //! All checks together take time in proportion to the document's size: each goes once over the parts
 //! that its fault speaks of, and looks names up in hash sets. The walk over the places of selectors
-//! and the one over the bodies are the dear ones, since the others judge at most 74,752 parts and
-//! 16,384 method entries. They take memory for a reference to each place of a selector and to each
+//! and the one over the bodies are the dear ones, since the others judge at most 75,776 parts,
+//! 16,384 method entries and the lists of attached categories. They take memory for a reference to each place of a selector and to each
 //! list of pairs, and for sets of at most 4,097 names.
 
 ghost use Rattle.std.specs.Prelude.{◌≡◌, drop, IfOk};

@@ -1,4 +1,4 @@
-//! The document that a form spells: numbers for names. Each name is hashed once.
+//! The document that a form spells: numbers for names. Each place of a name is hashed once.
 
 ghost use Rattle.std.specs.Prelude.{◌≡◌, IfOk, map, take, option_map};
 ghost use Rattle.msg_form.specs.Expression as form;

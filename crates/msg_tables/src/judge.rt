@@ -1,4 +1,4 @@
-//! Judging changes: each fault is a test of its own, they come in their order, and a method is looked up once.
+//! Judging changes: each fault is a test of its own, they come in their order, and a method is looked up once: the edit that is answered says where it stands.
 
 ghost use Rattle.std.specs.Prelude.{◌≡◌, ◌<◌, ◌≤◌, ◌+◌, ◌-◌, ◌++◌, ◌||◌, length, true, false, if◌then◌else◌, slice_get, IfOk, IfSome, IsSome, Option, Some, None, option_map, nat_lt};
 ghost use Rattle.std.specs.List.{list_any};

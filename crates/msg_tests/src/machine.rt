@@ -25,13 +25,17 @@ const NONE: ClassRef = ClassRef {
 // Selector 2 with implementation 1.
 const WORD: u64 = 0x0000_0002_0000_0001;
 
-// Child below Root, which has a method `value`, and two implementations.
-const IMAGE: &[u8] =
+// Child below Root, which has a method `value`; and a send of it.
+const ONE: &[u8] =
+    br#"{"version":1,"classes":[{"name":"Root","super":null,"methods":[["value","r_value"]],"class_methods":[]},{"name":"Child","super":"Root","methods":[],"class_methods":[]}],"categories":[],"objects":[{"name":"c","class":"Child"}],"imps":[{"name":"r_value","class":"Root","meta":false,"args":0,"body":7}],"items":[{"send":[["obj","c"],"value"]}]}"#;
+
+// The same classes, and a second implementation.
+const TWO: &[u8] =
     br#"{"version":1,"classes":[{"name":"Root","super":null,"methods":[["value","r_value"]],"class_methods":[]},{"name":"Child","super":"Root","methods":[],"class_methods":[]}],"categories":[],"objects":[{"name":"c","class":"Child"}],"imps":[{"name":"r_value","class":"Root","meta":false,"args":0,"body":7},{"name":"r_two","class":"Root","meta":false,"args":0,"body":2}],"items":[]}"#;
 
-// The machine of that image, with one sender and one array of 4.
-fn machine(alloc: Global) -> Option<Machine> {
-    let document = read_document(alloc, IMAGE).ok()?;
+// The machine of a document's image, with one sender and one array of 4.
+fn machine(alloc: Global, document: &[u8]) -> Option<Machine> {
+    let document = read_document(alloc, document).ok()?;
     Machine::open(alloc, &document.image, 1, &[4]).ok()
 }
 
@@ -46,7 +50,7 @@ fn add(imp: u32) -> Option<Event> {
 
 #[test]
 fn an_array_is_flushed_while_a_sender_holds_it(rt: HostRuntime) {
-    let mut machine = machine(rt.alloc()).expect(&rt, "an image");
+    let mut machine = machine(rt.alloc(), ONE).expect(&rt, "an image");
     let events = [
         (Event::Install(CHILD, 0), Ok(Seen::Nothing)),
         (Event::Fill(CHILD, 2, WORD), Ok(Seen::Nothing)),
@@ -68,7 +72,7 @@ fn an_array_is_flushed_while_a_sender_holds_it(rt: HostRuntime) {
 
 #[test]
 fn each_refusal_is_the_least(rt: HostRuntime) {
-    let mut machine = machine(rt.alloc()).expect(&rt, "an image");
+    let mut machine = machine(rt.alloc(), TWO).expect(&rt, "an image");
     let other = 0x0000_0002_0000_0002;
     let events = [
         (Some(Event::Enter(1)), Err(EventFault::NoSender)),
@@ -106,4 +110,12 @@ fn each_refusal_is_the_least(rt: HostRuntime) {
         let event = event.expect(&rt, "an event");
         assert_eq!(rt; machine.step(event), answer);
     }
+}
+
+#[test]
+fn faults_have_numbers(rt: HostRuntime) {
+    assert_eq!(rt; EventFault::NoSender.number(), 1);
+    assert_eq!(rt; EventFault::Refused(ChangeFault::NoImp).number(), 11);
+    assert_eq!(rt; EventFault::Memory.number(), 13);
+    assert_eq!(rt; ChangeFault::NoImp.number(), 2);
 }
