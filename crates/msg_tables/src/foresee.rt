@@ -173,7 +173,8 @@ fn found_after(
 impl Tables {
     /// The implementation that [`Tables::lookup`] will find once a change is made, which is of listed classes.
     ///
-    /// Each class on the way costs what a lookup of the methods that the change names costs. No memory is taken.
+    /// Each class on the way costs a few lookups: of the selector from there, and of the methods that the change names. So the time grows with the
+    /// square of the chain. No memory is taken.
     pub fn lookup_after(&self, change: &Change, class: ClassRef, sel: Selector) -> ImpRef
         requires class { class.class < length self.now.supers }
         requires listed { AreListed (length self.now.supers) change.now }
