@@ -8,9 +8,11 @@ use Rattle.msg_buckets.specs.declared.capacity.Plan.TheVariants.{Use, Take}
 abbrev pub capacities : List ℕ
 capacities = 4 ∷ 8 ∷ 16 ∷ 32 ∷ 64 ∷ 128 ∷ 256 ∷ 512 ∷ 1024 ∷ []
 
+-- an array may have this many buckets
 abbrev pub is_capacity : ℕ → Bool
 is_capacity n = list_any (λ c. c == n) capacities
 
+-- the same as a fact
 abbrev pub IsCapacity : ℕ → Type 0
 IsCapacity n = IsTrue (is_capacity n)
 

@@ -1,16 +1,13 @@
 -- Tests of the numbers below one.
 use Rattle.std.proofs.Common.{◌≡◌, ◌<◌, ℕ, zero, suc, Bool, true, false, refl, ◌∙◌, ap, sym, arith, ⊎_elim, ne_eqb}
 use Rattle.std.specs.Prelude.{◌||◌, ◌≢◌, not}
+use Rattle.msg_names.proofs.TestLemmas.{neither}
 use Rattle.msg_core.specs.Steps.{some_below, is_entry}
 use Rattle.msg_core.proofs.PointLemmas.{number_or}
 
 or_true : (b : Bool) → (b || true) ≡ true
 or_true true = refl
 or_true false = refl
-
-pub neither : (a b : Bool) → (a || b) ≡ false → (a ≡ false) × (b ≡ false)
-neither true b e = cc
-neither false b e = (refl, e)
 
 -- one that passes is some that passes
 pub some_below-true : (n k : ℕ) (test : ℕ → Bool) → k < n → test k ≡ true → some_below n test ≡ true

@@ -4,13 +4,14 @@ use Rattle.std.specs.Prelude.{◌==◌, slice_index, slice_index_or, slice_set}
 use Rattle.std.proofs.lemmas.Grind.{get_or-set_at}
 use Rattle.std.proofs.lemmas.List.{get_or-set_other, length-set, length-map}
 use Rattle.std.proofs.Math.Seq.{map-set_same}
+use Rattle.msg_image.specs.Parts.{class_total}
 use Rattle.msg_names.specs.declared.value.ClassRef.{ClassRef}
-use Rattle.msg_tables.specs.View.{place_of}
-use Rattle.msg_tables.proofs.PlaceLemmas.{place_of-inside, place_of-same}
+use Rattle.msg_names.specs.ClassRef.{slot_of}
+use Rattle.msg_names.proofs.ClassRefLemmas.{slot_of-inside, slot_of-same}
 use Rattle.msg_core.specs.declared.state.Standing.{Standing}
 use Rattle.msg_core.specs.declared.state.Standing.TheVariants.{Free}
-use Rattle.msg_core.specs.declared.state.Place.{Place}
-use Rattle.msg_core.specs.declared.state.Place.TheVariants.{Out}
+use Rattle.msg_core.specs.declared.state.Whereabouts.{Whereabouts}
+use Rattle.msg_core.specs.declared.state.Whereabouts.TheVariants.{Out}
 use Rattle.msg_core.specs.Happens.{Becomes}
 use Rattle.msg_core.specs.State.{capacity}
 use Rattle.msg_core.specs.Steps.{at, at_class, stored, everyone, seen_out}
@@ -64,24 +65,24 @@ module _ (v : MachineView) (whole : IsWhole v) where
   standing_inside : (a : ℕ) → a < length (layout_of v).capacities → a < length v.standings
   standing_inside a lt = subst (λ n. a < n) (sym whole.standings) (array_inside a lt)
 
-  pub places_set : (n : ℕ) (p : Place) → n < length v.places → Becomes v (record v { places = slice_set v.places n p }) (record (state_of v) { place = at (state_of v).place n p })
-  places_set n p lt = record {
-    layout = λ i. record { classes = length v.history.image.classes; senders = length-set v.places n p i; capacities = map length v.arrays };
-    state = λ i. record (state_of v) { place = λ m. read_set v.places n p Out lt m i };
+  pub whereabouts_set : (n : ℕ) (p : Whereabouts) → n < length v.whereabouts → Becomes v (record v { whereabouts = slice_set v.whereabouts n p }) (record (state_of v) { whereabouts = at (state_of v).whereabouts n p })
+  whereabouts_set n p lt = record {
+    layout = λ i. record { classes = class_total v.history.image; senders = length-set v.whereabouts n p i; capacities = map length v.arrays };
+    state = λ i. record (state_of v) { whereabouts = λ m. read_set v.whereabouts n p Out lt m i };
   }
 
-  pub live_set : (c : ClassRef) (o : Option ℕ) → c.class < length v.history.image.classes
-      → Becomes v (record v { live = slice_set v.live (place_of c) o }) (record (state_of v) { live = at_class (state_of v).live c o })
+  pub live_set : (c : ClassRef) (o : Option ℕ) → c.class < class_total v.history.image
+      → Becomes v (record v { live = slice_set v.live (slot_of c) o }) (record (state_of v) { live = at_class (state_of v).live c o })
   live_set c o inside = record {
     layout = refl;
     state = λ i. record (state_of v) { live = λ d. read d i };
   }
     where
-      read : (d : ClassRef) → live_at (slice_set v.live (place_of c) o) d ≡ at_class (live_at v.live) c o d
+      read : (d : ClassRef) → live_at (slice_set v.live (slot_of c) o) d ≡ at_class (live_at v.live) c o d
       read d = ⊎_elim
-          (λ (e : d ≡ c). get_or-set_at v.live (place_of c) (place_of d) o None (ap place_of e) (place_of-inside c (length v.history.image.classes) (length v.live) whole.headers inside)
+          (λ (e : d ≡ c). get_or-set_at v.live (slot_of c) (slot_of d) o None (ap slot_of e) (slot_of-inside c (class_total v.history.image) (length v.live) whole.headers inside)
           ∙ sym (ap (at_class (live_at v.live) c o) e ∙ at_class_same (live_at v.live) c o))
-          (λ (ne : d ≢ c). get_or-set_other v.live (place_of c) (place_of d) o None (λ e. ne (place_of-same d c e)) ∙ sym (at_class_other (live_at v.live) c o d ne))
+          (λ (ne : d ≢ c). get_or-set_other v.live (slot_of c) (slot_of d) o None (λ e. ne (slot_of-same d c e)) ∙ sym (at_class_other (live_at v.live) c o d ne))
           (class_or d c)
 
   pub standings_set : (a : ℕ) (s : Standing) → a < length (layout_of v).capacities → Becomes v (record v { standings = slice_set v.standings a s }) (record (state_of v) { standing = at (state_of v).standing a s })
@@ -93,7 +94,7 @@ module _ (v : MachineView) (whole : IsWhole v) where
   pub word_set : (a p w : ℕ) → a < length (layout_of v).capacities → p < capacity (layout_of v) a
       → Becomes v (record v { arrays = slice_set v.arrays a (slice_set (slice_index_or v.arrays a []) p w) }) (record (state_of v) { word = stored (state_of v).word (Some a) p w })
   word_set a p w lt below = record {
-    layout = λ i. record { classes = length v.history.image.classes; senders = length v.places; capacities = map-set_same length v.arrays a (slice_set words p w) [] (length-set words p w) i };
+    layout = λ i. record { classes = class_total v.history.image; senders = length v.whereabouts; capacities = map-set_same length v.arrays a (slice_set words p w) [] (length-set words p w) i };
     state = λ i. record (state_of v) { word = λ b q. (read b q ∙ by_array b q) i };
   }
     where

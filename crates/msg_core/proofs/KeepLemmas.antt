@@ -8,9 +8,9 @@ use Rattle.msg_names.specs.declared.value.ClassRef.{ClassRef}
 use Rattle.msg_tables.specs.History.{History}
 use Rattle.msg_core.specs.declared.state.Standing.{Standing}
 use Rattle.msg_core.specs.declared.state.Standing.TheVariants.{Free, Live, Retired}
-use Rattle.msg_core.specs.declared.state.Place.{Place}
-use Rattle.msg_core.specs.declared.state.Place.TheVariants.{Holding}
-use Rattle.msg_core.specs.State.{Layout, capacity, State, state_from, size, first, Agrees, awaits, Stands, Sound}
+use Rattle.msg_core.specs.declared.state.Whereabouts.{Whereabouts}
+use Rattle.msg_core.specs.declared.state.Whereabouts.TheVariants.{Holding}
+use Rattle.msg_core.specs.State.{Layout, capacity, State, state_from, size, first, Agrees, awaits, KeepsFor, Sound}
 use Rattle.msg_core.specs.Steps.{seen_out, awaiting}
 use Rattle.msg_core.proofs.PointLemmas.{class_or}
 
@@ -24,14 +24,14 @@ live_same c d e = cc
 some_same : (a b : ℕ) → Some a ≡ Some b → a ≡ b
 some_same a b e = cc
 
-not_free : (n : ℕ) (c : ClassRef) (s : Standing) → s ≡ Free → Stands s c n → ⊥
+not_free : (n : ℕ) (c : ClassRef) (s : Standing) → s ≡ Free → KeepsFor s c n → ⊥
 not_free n c s e (inl v) = let u : Free ≡ Live c = sym e ∙ v in cc
 not_free n c s e (inr v) = let u : Free ≡ Retired c v.0 v.1 = sym e ∙ v.2 in cc
 
 module _ (look : History → ClassRef → ℕ → ℕ) (z : Layout) where
   -- the facts of a sound state, by what they speak of
   abbrev pub HeldFor : (ℕ → Standing) → ℕ → ClassRef → ℕ → Type 0
-  HeldFor st n c a = (n < z.senders) × Stands (st a) c n
+  HeldFor st n c a = (n < z.senders) × KeepsFor (st a) c n
 
   abbrev pub LiveFor : History → (ClassRef → Option ℕ) → (ℕ → ℕ → ℕ) → ClassRef → ℕ → Type 0
   LiveFor h lv wd c a = (c.class < z.classes) × (a < length z.capacities) × (lv c ≡ Some a) × ((p : ℕ) → p < capacity z a → Agrees (look h) c (wd a p))
@@ -49,11 +49,11 @@ module _ (look : History → ClassRef → ℕ → ℕ) (z : Layout) where
   retired_from : {m : State} → Sound look z m → (c : ClassRef) (r a : ℕ) (aw : List Bool) → m.standing a ≡ Retired c r aw → RetiredFrom m.history m.word c r a aw
   retired_from {m} s c r a aw e = (s.in_range.retired_before c r a aw e, (s.lawful.awaits_some c r a aw e, s.in_range.awaited_senders c r a aw e), λ p. s.lawful.retired_words c r a p aw e)
 
-  held_for : {m : State} → Sound look z m → (n : ℕ) (c : ClassRef) (a : ℕ) → m.place n ≡ Holding c a → HeldFor m.standing n c a
+  held_for : {m : State} → Sound look z m → (n : ℕ) (c : ClassRef) (a : ℕ) → m.whereabouts n ≡ Holding c a → HeldFor m.standing n c a
   held_for {m} s n c a e = (s.in_range.holder n c a e, s.lawful.held n c a e)
 
   -- these facts are all
-  pub sound_from : (h : History) (lv : ClassRef → Option ℕ) (wd : ℕ → ℕ → ℕ) (st : ℕ → Standing) (pl : ℕ → Place)
+  pub sound_from : (h : History) (lv : ClassRef → Option ℕ) (wd : ℕ → ℕ → ℕ) (st : ℕ → Standing) (pl : ℕ → Whereabouts)
       → ((n : ℕ) (c : ClassRef) (a : ℕ) → pl n ≡ Holding c a → HeldFor st n c a)
       → ((c : ClassRef) (a : ℕ) → st a ≡ Live c → LiveFor h lv wd c a)
       → ((c : ClassRef) (r a : ℕ) (aw : List Bool) → st a ≡ Retired c r aw → RetiredFrom h wd c r a aw)
@@ -78,7 +78,7 @@ module _ (look : History → ClassRef → ℕ → ℕ) (z : Layout) where
     };
   }
 
-  module _ (h : History) (lv lv' : ClassRef → Option ℕ) (wd wd' : ℕ → ℕ → ℕ) (st st' : ℕ → Standing) (pl pl' : ℕ → Place) (s : Sound look z (state_from h lv wd st pl)) where
+  module _ (h : History) (lv lv' : ClassRef → Option ℕ) (wd wd' : ℕ → ℕ → ℕ) (st st' : ℕ → Standing) (pl pl' : ℕ → Whereabouts) (s : Sound look z (state_from h lv wd st pl)) where
     -- a sender moves: it holds what it held, or an array that is live
     pub moves : ((n : ℕ) (c : ClassRef) (a : ℕ) → pl' n ≡ Holding c a → (pl n ≡ Holding c a) ⊎ ((n < z.senders) × (st a ≡ Live c))) → Sound look z (state_from h lv wd st pl')
     moves to = sound_from h lv wd st pl'
@@ -119,7 +119,7 @@ module _ (look : History → ClassRef → ℕ → ℕ) (z : Layout) where
         (λ n d b e. let o = held_for s n d b e in (
           o.0,
           ⊎_elim
-              (λ (t : (b ≢ a) × (st' b ≡ st b)). subst (λ x. Stands x d n) (sym t.1) o.1)
+              (λ (t : (b ≢ a) × (st' b ≡ st b)). subst (λ x. KeepsFor x d n) (sym t.1) o.1)
               (λ (t : (b ≡ a) × (st' b ≡ Retired c (size h) all)). inr (size h, all, t.1 ∙ ap (λ (x : ClassRef). Retired x (size h) all) (held_class n d b o.1 t.0), everyone n o.0))
               (stands b),
         ))
@@ -144,7 +144,7 @@ module _ (look : History → ClassRef → ℕ → ℕ) (z : Layout) where
         not_c : (d : ClassRef) (b : ℕ) → lv' d ≡ Some b → d ≢ c
         not_c d b e same = let u : None ≡ Some b = sym gone ∙ ap lv' (sym same) ∙ e in cc
 
-        held_class : (n : ℕ) (d : ClassRef) (b : ℕ) → Stands (st b) d n → b ≡ a → c ≡ d
+        held_class : (n : ℕ) (d : ClassRef) (b : ℕ) → KeepsFor (st b) d n → b ≡ a → c ≡ d
         held_class n d b (inl v) t = live_same c d (sym was ∙ ap st (sym t) ∙ v)
         held_class n d b (inr v) t = let u : Live c ≡ Retired d v.0 v.1 = sym was ∙ ap st (sym t) ∙ v.2 in absurd (cc)
 
@@ -171,7 +171,7 @@ module _ (look : History → ClassRef → ℕ → ℕ) (z : Layout) where
         (λ n d b e. let o = held_for s n d b e in (
           o.0,
           ⊎_elim
-              (λ (t : (b ≢ a) × (st' b ≡ st b)). subst (λ x. Stands x d n) (sym t.1) o.1)
+              (λ (t : (b ≢ a) × (st' b ≡ st b)). subst (λ x. KeepsFor x d n) (sym t.1) o.1)
               (λ (t : (b ≡ a) × (st' b ≡ Live c)). absurd (not_free n d (st b) (ap st t.0 ∙ free) o.1))
               (stands b),
         ))
@@ -273,11 +273,11 @@ awaits_less (x ∷ xs) (suc n) (suc m) e = awaits_less xs n m e
 still_awaiting : (c : ClassRef) (r : ℕ) (aw : List Bool) → list_any (λ b. b) aw ≡ true → awaiting c r aw ≡ Retired c r aw
 still_awaiting c r aw e = rw e refl
 
-module _ (look : History → ClassRef → ℕ → ℕ) (z : Layout) (h : History) (lv : ClassRef → Option ℕ) (wd : ℕ → ℕ → ℕ) (st st' : ℕ → Standing) (pl : ℕ → Place) (s : Sound look z (state_from h lv wd st pl)) where
+module _ (look : History → ClassRef → ℕ → ℕ) (z : Layout) (h : History) (lv : ClassRef → Option ℕ) (wd : ℕ → ℕ → ℕ) (st st' : ℕ → Standing) (pl : ℕ → Whereabouts) (s : Sound look z (state_from h lv wd st pl)) where
   -- a sender was seen out
   pub looks : (n : ℕ) → ((c : ClassRef) (a : ℕ) → pl n ≢ Holding c a) → ((b : ℕ) → st' b ≡ seen_out n (st b)) → Sound look z (state_from h lv wd st' pl)
   looks n out stands = sound_from look z h lv wd st' pl
-      (λ m c a e. let o = held_for look z s m c a e in (o.0, subst (λ x. Stands x c m) (sym (stands a)) (stays m c (st a) (λ same. out c a (ap pl (sym same) ∙ e)) o.1)))
+      (λ m c a e. let o = held_for look z s m c a e in (o.0, subst (λ x. KeepsFor x c m) (sym (stands a)) (stays m c (st a) (λ same. out c a (ap pl (sym same) ∙ e)) o.1)))
       (λ c a e. live_for look z s c a (looked_live n c (st a) (sym (stands a) ∙ e)))
       (λ c r a aw e.
       let t = looked_retired n c r aw (st a) (sym (stands a) ∙ e) in
@@ -287,7 +287,7 @@ module _ (look : History → ClassRef → ℕ → ℕ) (z : Layout) (h : History
       (o.0, ((some.0, kept some.0 some.1, some.1), kept), o.2))
       (λ c a lt e. stands a ∙ ap (seen_out n) (s.lawful.live_stands c a lt e))
     where
-      stays : (m : ℕ) (c : ClassRef) (x : Standing) → m ≢ n → Stands x c m → Stands (seen_out n x) c m
+      stays : (m : ℕ) (c : ClassRef) (x : Standing) → m ≢ n → KeepsFor x c m → KeepsFor (seen_out n x) c m
       stays m c x ne (inl e) = inl (ap (seen_out n) e)
       stays m c x ne (inr (r, aw, e, w)) =
           let still : awaits (slice_set aw n false) m ≡ true = awaits_other aw n m ne ∙ w in

@@ -12,31 +12,31 @@ use Rattle.msg_core.specs.declared.fault.EventFault.{EventFault}
 use Rattle.msg_core.specs.declared.fault.EventFault.TheVariants.{NoSender, NoClass, NoArray, NotOut, NotIn, NotHolding, NotLive, NoPlace, NotFree, NotEmpty, Refused, Disagrees}
 use Rattle.msg_core.specs.declared.state.Standing.{Standing}
 use Rattle.msg_core.specs.declared.state.Standing.TheVariants.{Free, Live, Retired}
-use Rattle.msg_core.specs.declared.state.Place.{Place}
-use Rattle.msg_core.specs.declared.state.Place.TheVariants.{Out, In, Holding}
+use Rattle.msg_core.specs.declared.state.Whereabouts.{Whereabouts}
+use Rattle.msg_core.specs.declared.state.Whereabouts.TheVariants.{Out, In, Holding}
 use Rattle.msg_core.specs.State.{Layout, capacity, State, Agrees}
-use Rattle.msg_core.specs.Steps.{when, least, is_out, is_in, is_free, is_past, held_capacity, is_entry, is_entry_in, disagrees, is_spoiled, some_below, Legal}
+use Rattle.msg_core.specs.Steps.{when, least_event_fault, is_out, is_in, is_free, is_past, held_capacity, is_entry, is_entry_in, disagrees, is_spoiled, some_below, Legal}
 use Rattle.msg_core.proofs.BelowLemmas.{some_below-false}
 
 -- the first of the conditions doesn't hold, nor does one of the others
-none_when : (b : Bool) (f : EventFault) (fs : List (Option EventFault)) → least (when b f ∷ fs) ≡ None → (b ≡ false) × (least fs ≡ None)
+none_when : (b : Bool) (f : EventFault) (fs : List (Option EventFault)) → least_event_fault (when b f ∷ fs) ≡ None → (b ≡ false) × (least_event_fault fs ≡ None)
 none_when true f fs e = cc
 none_when false f fs e = (refl, e)
 
 below : (n k : ℕ) → nat_le n k ≡ false → k < n
 below n k e = grind (arith, nat_tests)
 
-place_out : (p : Place) → not (is_out p) ≡ false → p ≡ Out
+place_out : (p : Whereabouts) → not (is_out p) ≡ false → p ≡ Out
 place_out Out e = refl
 place_out In e = cc
 place_out (Holding c a) e = cc
 
-place_in : (p : Place) → not (is_in p) ≡ false → p ≡ In
+place_in : (p : Whereabouts) → not (is_in p) ≡ false → p ≡ In
 place_in Out e = cc
 place_in In e = refl
 place_in (Holding c a) e = cc
 
-place_not_out : (p : Place) → is_out p ≡ false → p ≢ Out
+place_not_out : (p : Whereabouts) → is_out p ≡ false → p ≢ Out
 place_not_out Out e h = cc
 place_not_out In e h = cc
 place_not_out (Holding c a) e h = cc
@@ -76,34 +76,34 @@ unspoiled look c w e some = step (is_entry w) refl e
     step false p h = absurd (some (no_entry w p))
 
 module _ (look : History → ClassRef → ℕ → ℕ) (z : Layout) (m : State) where
-  pub legal_enter : (n : ℕ) → Legal look z m (Enter n) → (n < z.senders) × (m.place n ≡ Out)
+  pub legal_enter : (n : ℕ) → Legal look z m (Enter n) → (n < z.senders) × (m.whereabouts n ≡ Out)
   legal_enter n e =
       let t = none_when (nat_le z.senders n) NoSender _ e in
-      let u = none_when (not (is_out (m.place n))) NotOut [] t.1 in
-      (below z.senders n t.0, place_out (m.place n) u.0)
+      let u = none_when (not (is_out (m.whereabouts n))) NotOut [] t.1 in
+      (below z.senders n t.0, place_out (m.whereabouts n) u.0)
 
-  pub legal_header : (n : ℕ) (c : ClassRef) → Legal look z m (Header n c) → (n < z.senders) × (c.class < z.classes) × (m.place n ≡ In)
+  pub legal_header : (n : ℕ) (c : ClassRef) → Legal look z m (Header n c) → (n < z.senders) × (c.class < z.classes) × (m.whereabouts n ≡ In)
   legal_header n c e =
       let t = none_when (nat_le z.senders n) NoSender _ e in
       let u = none_when (nat_le z.classes c.class) NoClass _ t.1 in
-      let w = none_when (not (is_in (m.place n))) NotIn [] u.1 in
-      (below z.senders n t.0, below z.classes c.class u.0, place_in (m.place n) w.0)
+      let w = none_when (not (is_in (m.whereabouts n))) NotIn [] u.1 in
+      (below z.senders n t.0, below z.classes c.class u.0, place_in (m.whereabouts n) w.0)
 
-  pub legal_read : (n p : ℕ) → Legal look z m (Read n p) → (n < z.senders) × ((c : ClassRef) × (a : ℕ) × (m.place n ≡ Holding c a) × (p < capacity z a))
+  pub legal_read : (n p : ℕ) → Legal look z m (Read n p) → (n < z.senders) × ((c : ClassRef) × (a : ℕ) × (m.whereabouts n ≡ Holding c a) × (p < capacity z a))
   legal_read n p e =
       let t = none_when (nat_le z.senders n) NoSender _ e in
-      (below z.senders n t.0, step (m.place n) t.1)
+      (below z.senders n t.0, step (m.whereabouts n) t.1)
     where
-      step : (q : Place) → least (when (is_none (held_capacity z q)) NotHolding ∷ when (is_past p (held_capacity z q)) NoPlace ∷ []) ≡ None → (c : ClassRef) × (a : ℕ) × (q ≡ Holding c a) × (p < capacity z a)
+      step : (q : Whereabouts) → least_event_fault (when (is_none (held_capacity z q)) NotHolding ∷ when (is_past p (held_capacity z q)) NoPlace ∷ []) ≡ None → (c : ClassRef) × (a : ℕ) × (q ≡ Holding c a) × (p < capacity z a)
       step Out h = cc
       step In h = cc
       step (Holding c a) h = (c, a, refl, below (capacity z a) p (none_when (nat_le (capacity z a) p) NoPlace [] h).0)
 
-  pub legal_leave : (n : ℕ) → Legal look z m (Leave n) → (n < z.senders) × (m.place n ≢ Out)
+  pub legal_leave : (n : ℕ) → Legal look z m (Leave n) → (n < z.senders) × (m.whereabouts n ≢ Out)
   legal_leave n e =
       let t = none_when (nat_le z.senders n) NoSender _ e in
-      let u = none_when (is_out (m.place n)) NotIn [] t.1 in
-      (below z.senders n t.0, place_not_out (m.place n) u.0)
+      let u = none_when (is_out (m.whereabouts n)) NotIn [] t.1 in
+      (below z.senders n t.0, place_not_out (m.whereabouts n) u.0)
 
   pub legal_fill : (c : ClassRef) (p w : ℕ) → Legal look z m (Fill c p w)
       → (c.class < z.classes) × ((a : ℕ) × (m.live c ≡ Some a) × (p < capacity z a) × (m.word a p ≡ 0) × (0 < sel_of w) × (imp_of w ≡ look m.history c (sel_of w)))
@@ -111,7 +111,7 @@ module _ (look : History → ClassRef → ℕ → ℕ) (z : Layout) (m : State) 
       let t = none_when (nat_le z.classes c.class) NoClass _ e in
       (below z.classes c.class t.0, step (m.live c) t.1)
     where
-      step : (o : Option ℕ) → least (when (is_none o) NotLive ∷ when (is_past p (option_map (capacity z) o)) NoPlace ∷ when (is_entry_in m.word o p) NotEmpty ∷ when (disagrees (look m.history) c w) Disagrees ∷ []) ≡ None
+      step : (o : Option ℕ) → least_event_fault (when (is_none o) NotLive ∷ when (is_past p (option_map (capacity z) o)) NoPlace ∷ when (is_entry_in m.word o p) NotEmpty ∷ when (disagrees (look m.history) c w) Disagrees ∷ []) ≡ None
           → (a : ℕ) × (o ≡ Some a) × (p < capacity z a) × (m.word a p ≡ 0) × (0 < sel_of w) × (imp_of w ≡ look m.history c (sel_of w))
       step None h = cc
       step (Some a) h =
@@ -157,7 +157,7 @@ module _ (look : History → ClassRef → ℕ → ℕ) (z : Layout) (m : State) 
           (some_below-false (capacity z b) q (λ p. is_entry (m.word b p) && disagrees (look (and_then m.history x)) c (m.word b p))
           (sym (ap (is_spoiled (look (and_then m.history x)) (capacity z b) (m.word b)) live) ∙ unhurt) lt)
 
-      step : (o : _) → change_refusal m.history x ≡ o → least (option_map Refused o ∷ when (some_below (length z.capacities) (λ a. is_spoiled (look (and_then m.history x)) (capacity z a) (m.word a) (m.standing a))) Disagrees ∷ []) ≡ None
+      step : (o : _) → change_refusal m.history x ≡ o → least_event_fault (option_map Refused o ∷ when (some_below (length z.capacities) (λ a. is_spoiled (look (and_then m.history x)) (capacity z a) (m.word a) (m.standing a))) Disagrees ∷ []) ≡ None
           → (change_refusal m.history x ≡ None) × ((c : ClassRef) (b q : ℕ) → b < length z.capacities → m.standing b ≡ Live c → q < capacity z b → Agrees (look (and_then m.history x)) c (m.word b q))
       step None o h = (o, agree (none_when _ Disagrees [] h).0)
       step (Some f) o h = cc

@@ -2,6 +2,7 @@ pub mod BelowLemmas
 pub mod EffectLemmas
 pub mod KeepLemmas
 pub mod LegalLemmas
+pub mod LegalSteps
 pub mod OpenLemmas
 pub mod PointLemmas
 pub mod ReadLemmas

@@ -2,11 +2,11 @@
 use Rattle.std.proofs.Common.{◌≡◌, ◌≤◌, ◌*◌, ℕ, zero, suc, List, [], ◌∷◌, length, map, replicate, get_or, Some, None, refl, sym, ap, ◌∙◌, subst}
 use Rattle.std.proofs.lemmas.List.{length-map, length-replicate}
 use Rattle.msg_names.specs.declared.value.ClassRef.{ClassRef}
-use Rattle.msg_image.specs.Parts.{ImageParts}
+use Rattle.msg_image.specs.Parts.{class_total, ImageParts}
 use Rattle.msg_tables.specs.History.{History, empty}
-use Rattle.msg_tables.specs.View.{place_of}
+use Rattle.msg_names.specs.ClassRef.{slot_of}
 use Rattle.msg_core.specs.declared.state.Standing.TheVariants.{Free, Live}
-use Rattle.msg_core.specs.declared.state.Place.TheVariants.{Out, Holding}
+use Rattle.msg_core.specs.declared.state.Whereabouts.TheVariants.{Out, Holding}
 use Rattle.msg_core.specs.Runs.{opening}
 use Rattle.msg_core.specs.View.{MachineView, IsWhole, layout_of, state_of, live_at, word_at, standing_at, sender_at}
 
@@ -27,25 +27,25 @@ empty_lengths (n ∷ ns) = let zero : ℕ = 0 in λ i. length-replicate n zero i
 -- a machine of an image that was just opened
 pub record IsNew (image : ImageParts) (senders : ℕ) (capacities : List ℕ) (v : MachineView) : Type 0 where
   pub history : v.history ≡ empty image
-  pub live : v.live ≡ replicate (2 * length image.classes) None
+  pub live : v.live ≡ replicate (2 * class_total image) None
   pub arrays : v.arrays ≡ map (λ n. replicate n 0) capacities
   pub standings : v.standings ≡ replicate (length capacities) Free
-  pub places : v.places ≡ replicate senders Out
+  pub whereabouts : v.whereabouts ≡ replicate senders Out
 
 module _ (image : ImageParts) (senders : ℕ) (capacities : List ℕ) (v : MachineView) (new : IsNew image senders capacities v) where
   no_live : (c : ClassRef) → live_at v.live c ≡ None
-  no_live c = ap (λ live. live_at live c) new.live ∙ same_everywhere (2 * length image.classes) None (place_of c)
+  no_live c = ap (λ live. live_at live c) new.live ∙ same_everywhere (2 * class_total image) None (slot_of c)
 
   all_free : (a : ℕ) → standing_at v.standings a ≡ Free
   all_free a = ap (λ standings. standing_at standings a) new.standings ∙ same_everywhere (length capacities) Free a
 
-  all_out : (n : ℕ) → sender_at v.places n ≡ Out
-  all_out n = ap (λ places. sender_at places n) new.places ∙ same_everywhere senders Out n
+  all_out : (n : ℕ) → sender_at v.whereabouts n ≡ Out
+  all_out n = ap (λ whereabouts. sender_at whereabouts n) new.whereabouts ∙ same_everywhere senders Out n
 
-  pub new_layout : layout_of v ≡ record { classes = length image.classes; senders = senders; capacities = capacities }
+  pub new_layout : layout_of v ≡ record { classes = class_total image; senders = senders; capacities = capacities }
   new_layout = λ i. record {
-    classes = length (new.history i).image.classes;
-    senders = (ap length new.places ∙ length-replicate senders Out) i;
+    classes = class_total (new.history i).image;
+    senders = (ap length new.whereabouts ∙ length-replicate senders Out) i;
     capacities = (ap (map (length {A = ℕ})) new.arrays ∙ empty_lengths capacities) i;
   }
 
@@ -55,14 +55,14 @@ module _ (image : ImageParts) (senders : ℕ) (capacities : List ℕ) (v : Machi
     live = λ c. no_live c i;
     word = λ a p. (ap (λ arrays. word_at arrays a p) new.arrays ∙ empty_words capacities a p) i;
     standing = λ a. all_free a i;
-    place = λ n. all_out n i;
+    whereabouts = λ n. all_out n i;
   }
 
   pub new_whole : senders ≤ 64 → IsWhole v
   new_whole few = record {
-    headers = ap length new.live ∙ length-replicate (2 * length image.classes) None ∙ ap (λ (h : History). 2 * length h.image.classes) (sym new.history);
+    headers = ap length new.live ∙ length-replicate (2 * class_total image) None ∙ ap (λ (h : History). 2 * class_total h.image) (sym new.history);
     standings = ap length new.standings ∙ length-replicate (length capacities) Free ∙ sym (ap length new.arrays ∙ length-map capacities (λ n. replicate n 0));
-    few_senders = subst (λ n. n ≤ 64) (sym (ap length new.places ∙ length-replicate senders Out)) few;
+    few_senders = subst (λ n. n ≤ 64) (sym (ap length new.whereabouts ∙ length-replicate senders Out)) few;
     live_arrays = λ c a e. let u : None ≡ Some a = sym (no_live c) ∙ e in absurd (cc);
     held_arrays = λ n c a e. let u : Out ≡ Holding c a = sym (all_out n) ∙ e in absurd (cc);
     live_classes = λ a c e. let u : Free ≡ Live c = sym (all_free a) ∙ e in absurd (cc);

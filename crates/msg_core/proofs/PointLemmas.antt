@@ -4,8 +4,8 @@ use Rattle.std.specs.Prelude.{Some}
 use mathlib.Core.Logic.{dite}
 use native.Mathlib.Decide.{ℕ_discrete}
 use Rattle.msg_names.specs.declared.value.ClassRef.{ClassRef}
-use Rattle.msg_tables.specs.Chain.{same_class}
-use Rattle.msg_tables.proofs.PlaceLemmas.{same_class-is, same_class-refl}
+use Rattle.msg_names.specs.ClassRef.{same_class}
+use Rattle.msg_names.proofs.ClassRefLemmas.{same_class-is, same_class-refl}
 use Rattle.msg_core.specs.Steps.{at, at_class, stored}
 
 pub number_or : (x y : ℕ) → (x ≡ y) ⊎ (x ≢ y)

@@ -9,8 +9,8 @@ use Rattle.msg_tables.specs.History.{History, and_then, empty}
 use Rattle.msg_core.specs.declared.event.Event.{Event}
 use Rattle.msg_core.specs.declared.event.Event.TheVariants.{Enter, Header, Read, Leave, Fill, Install, Flush, Look, Clear, Commit}
 use Rattle.msg_core.specs.declared.state.Standing.TheVariants.{Free, Live, Retired}
-use Rattle.msg_core.specs.declared.state.Place.{Place}
-use Rattle.msg_core.specs.declared.state.Place.TheVariants.{Out, In, Holding}
+use Rattle.msg_core.specs.declared.state.Whereabouts.{Whereabouts}
+use Rattle.msg_core.specs.declared.state.Whereabouts.TheVariants.{Out, In, Holding}
 use Rattle.msg_core.specs.State.{Layout, State, size, first, Sound, awaits}
 use Rattle.msg_core.specs.Steps.{at, at_class, stored, everyone, seeing, retired, seen_out, is_out, after, Legal}
 use Rattle.msg_core.specs.Runs.{opening, after_all, AreLegal}
@@ -34,7 +34,7 @@ awaits_no_more (suc k) j zero e = omega arith
 awaits_no_more (suc k) j (suc n) e = let lt = awaits_no_more k j n e in omega arith
 
 -- what a sender that moves holds
-pub moved : (f : ℕ → Place) (n : ℕ) (p : Place) (j : ℕ) (c : ClassRef) (a : ℕ) → at f n p j ≡ Holding c a → ((j ≡ n) × (p ≡ Holding c a)) ⊎ ((j ≢ n) × (f j ≡ Holding c a))
+pub moved : (f : ℕ → Whereabouts) (n : ℕ) (p : Whereabouts) (j : ℕ) (c : ClassRef) (a : ℕ) → at f n p j ≡ Holding c a → ((j ≡ n) × (p ≡ Holding c a)) ⊎ ((j ≢ n) × (f j ≡ Holding c a))
 moved f n p j c a e = ⊎_elim
     (λ (is : j ≡ n). inl (is, sym (ap (at f n p) is ∙ at_same f n p) ∙ e))
     (λ (ne : j ≢ n). inr (ne, sym (at_other f n p j ne) ∙ e))
@@ -48,19 +48,19 @@ module _ (look : History → ClassRef → ℕ → ℕ) (z : Layout) (some_sender
   only_senders n e = awaits_no_more z.senders _ n e
 
   -- a sender that comes to hold nothing
-  lets_go : (m : State) (n : ℕ) (p : Place) → ((c : ClassRef) (a : ℕ) → p ≢ Holding c a) → Sound look z m → Sound look z (record m { place = at m.place n p })
+  lets_go : (m : State) (n : ℕ) (p : Whereabouts) → ((c : ClassRef) (a : ℕ) → p ≢ Holding c a) → Sound look z m → Sound look z (record m { whereabouts = at m.whereabouts n p })
   lets_go m n p nothing s =
-      keep.moves look z m.history m.live m.live m.word m.word m.standing m.standing m.place (at m.place n p) s
-      (λ j c a e. ⊎_elim (λ (t : (j ≡ n) × (p ≡ Holding c a)). absurd (nothing c a t.1)) (λ (t : (j ≢ n) × (m.place j ≡ Holding c a)). inl t.1) (moved m.place n p j c a e))
+      keep.moves look z m.history m.live m.live m.word m.word m.standing m.standing m.whereabouts (at m.whereabouts n p) s
+      (λ j c a e. ⊎_elim (λ (t : (j ≡ n) × (p ≡ Holding c a)). absurd (nothing c a t.1)) (λ (t : (j ≢ n) × (m.whereabouts j ≡ Holding c a)). inl t.1) (moved m.whereabouts n p j c a e))
 
   -- the class reference has no live array any more; what it had is retired
   flushed : (m : State) (c : ClassRef) (o : Option ℕ) → Sound look z m → c.class < z.classes → m.live c ≡ o → Sound look z (record m { live = at_class m.live c None; standing = retired z m c o })
   flushed m c None s lt e =
-      keep.commits look z m.history m.live (at_class m.live c None) m.word m.word m.standing m.standing m.place m.place s m.history (omega arith) (λ r le. refl)
+      keep.commits look z m.history m.live (at_class m.live c None) m.word m.word m.standing m.standing m.whereabouts m.whereabouts s m.history (omega arith) (λ r le. refl)
       (λ d dl. ⊎_elim (λ (is : d ≡ c). ap (at_class m.live c None) is ∙ at_class_same m.live c None ∙ sym (ap m.live is ∙ e)) (λ (ne : d ≢ c). at_class_other m.live c None d ne) (class_or d c))
       (λ b q bl. refl) s.lawful.live_words
   flushed m c (Some a) s lt e =
-      keep.flushes look z m.history m.live (at_class m.live c None) m.word m.word m.standing (retired z m c (Some a)) m.place m.place s c a (everyone z.senders) lt e
+      keep.flushes look z m.history m.live (at_class m.live c None) m.word m.word m.standing (retired z m c (Some a)) m.whereabouts m.whereabouts s c a (everyone z.senders) lt e
       (at_class_same m.live c None) (λ d dl ne. at_class_other m.live c None d ne) (λ b q bl. refl)
       (λ b. ⊎_elim
       (λ (is : b ≡ a). inr (is, ap (retired z m c (Some a)) is ∙ at_same m.standing a (Retired c (size m.history) (everyone z.senders))))
@@ -78,17 +78,17 @@ module _ (look : History → ClassRef → ℕ → ℕ) (z : Layout) (some_sender
   sound_after m (Enter n) s e = lets_go m n In (λ c a is. let u : In ≡ Holding c a = is in cc) s
   sound_after m (Header n c) s e =
       let t = legal.legal_header look z m n c e in
-      keep.moves look z m.history m.live m.live m.word m.word m.standing m.standing m.place (at m.place n (seeing c (m.live c))) s
+      keep.moves look z m.history m.live m.live m.word m.word m.standing m.standing m.whereabouts (at m.whereabouts n (seeing c (m.live c))) s
       (λ j d a h. ⊎_elim
       (λ (u : (j ≡ n) × (seeing c (m.live c) ≡ Holding d a)). inr (subst (λ k. k < z.senders) (sym u.0) t.0, (holds_seen m c (m.live c) s t.1 refl d a u.1).0))
-      (λ (u : (j ≢ n) × (m.place j ≡ Holding d a)). inl u.1)
-      (moved m.place n (seeing c (m.live c)) j d a h))
+      (λ (u : (j ≢ n) × (m.whereabouts j ≡ Holding d a)). inl u.1)
+      (moved m.whereabouts n (seeing c (m.live c)) j d a h))
   sound_after m (Read n p) s e = s
   sound_after m (Leave n) s e = lets_go m n Out (λ c a is. let u : Out ≡ Holding c a = is in cc) s
   sound_after m (Fill c p w) s e =
       let (lt, (a, here, inside, zero_there, sel, imp)) = legal.legal_fill look z m c p w e in
       let lives : m.standing a ≡ Live c = s.lawful.live_stands c a lt here in
-      keep.stores look z m.history m.live m.live m.word (stored m.word (m.live c) p w) m.standing m.standing m.place m.place s a w
+      keep.stores look z m.history m.live m.live m.word (stored m.word (m.live c) p w) m.standing m.standing m.whereabouts m.whereabouts s a w
       (λ d live some. subst (λ (k : ClassRef). (0 < sel_of w) × (imp_of w ≡ look m.history k (sel_of w))) (keep.live_same c d (sym lives ∙ live)) (sel, imp))
       (λ d r aw gone. let u : Live c ≡ Retired d r aw = sym lives ∙ gone in cc)
       (λ d dl. refl)
@@ -96,7 +96,7 @@ module _ (look : History → ClassRef → ℕ → ℕ) (z : Layout) (some_sender
   sound_after m (Install c a) s e =
       let (lt, there, free, clear) = legal.legal_install look z m c a e in
       let mid = flushed m c (m.live c) s lt refl in
-      keep.installs look z m.history (at_class m.live c None) (at_class m.live c (Some a)) m.word m.word (retired z m c (m.live c)) (at (retired z m c (m.live c)) a (Live c)) m.place m.place mid c a lt there
+      keep.installs look z m.history (at_class m.live c None) (at_class m.live c (Some a)) m.word m.word (retired z m c (m.live c)) (at (retired z m c (m.live c)) a (Live c)) m.whereabouts m.whereabouts mid c a lt there
       (at_class_same m.live c None) (at_class_same m.live c (Some a)) (λ d dl ne. at_class_other m.live c (Some a) d ne ∙ sym (at_class_other m.live c None d ne)) (λ b q bl. refl)
       (λ b. ⊎_elim
       (λ (is : b ≡ a). inr (is, ap (at (retired z m c (m.live c)) a (Live c)) is ∙ at_same (retired z m c (m.live c)) a (Live c)))
@@ -111,20 +111,20 @@ module _ (look : History → ClassRef → ℕ → ℕ) (z : Layout) (some_sender
           (λ (ne : a ≢ b). at_other m.standing b (Retired c (size m.history) (everyone z.senders)) a ne ∙ free)
           (number_or a b)
   sound_after m (Flush c) s e = flushed m c (m.live c) s (legal.legal_flush look z m c e).0 refl
-  sound_after m (Look n) s e = by_place (m.place n) refl
+  sound_after m (Look n) s e = by_whereabouts (m.whereabouts n) refl
     where
-      by_place : (p : Place) → m.place n ≡ p → Sound look z (record m { standing = if is_out p then (λ a. seen_out n (m.standing a)) else m.standing })
-      by_place Out h = keep.looks look z m.history m.live m.word m.standing (λ a. seen_out n (m.standing a)) m.place s n (λ c a holds. let u : Out ≡ Holding c a = sym h ∙ holds in cc) (λ b. refl)
-      by_place In h = s
-      by_place (Holding c a) h = s
+      by_whereabouts : (p : Whereabouts) → m.whereabouts n ≡ p → Sound look z (record m { standing = if is_out p then (λ a. seen_out n (m.standing a)) else m.standing })
+      by_whereabouts Out h = keep.looks look z m.history m.live m.word m.standing (λ a. seen_out n (m.standing a)) m.whereabouts s n (λ c a holds. let u : Out ≡ Holding c a = sym h ∙ holds in cc) (λ b. refl)
+      by_whereabouts In h = s
+      by_whereabouts (Holding c a) h = s
   sound_after m (Clear a p) s e =
       let (there, inside, free) = legal.legal_clear look z m a p e in
-      keep.stores look z m.history m.live m.live m.word (stored m.word (Some a) p 0) m.standing m.standing m.place m.place s a 0
+      keep.stores look z m.history m.live m.live m.word (stored m.word (Some a) p 0) m.standing m.standing m.whereabouts m.whereabouts s a 0
       (λ d live some. let u : Free ≡ Live d = sym free ∙ live in absurd (cc)) (λ d r aw gone. let u : Free ≡ Retired d r aw = sym free ∙ gone in cc)
       (λ d dl. refl) (λ b q bl. stored_or m.word a p 0 b q)
   sound_after m (Commit x) s e =
       let (accepted, agree) = legal.legal_commit look z m x e in
-      keep.commits look z m.history m.live m.live m.word m.word m.standing m.standing m.place m.place s (and_then m.history x)
+      keep.commits look z m.history m.live m.live m.word m.word m.standing m.standing m.whereabouts m.whereabouts s (and_then m.history x)
       (let t = length-append m.history.changes (x ∷ []) in omega arith)
       (λ r le i. record { image = m.history.image; changes = take-append-le r m.history.changes (x ∷ []) le i })
       (λ d dl. refl) (λ b q bl. refl) (λ c b q live lt. agree c b q (s.in_range.live_array c b live) live lt)

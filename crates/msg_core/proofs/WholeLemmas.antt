@@ -2,26 +2,19 @@
 use Rattle.std.proofs.Common.{◌≡◌, ◌<◌, ℕ, List, length, map, drop, Option, Some, None, sym, subst, ap, ◌∙◌, Bool, true, false, [], ◌∷◌, refl, arith}
 use Rattle.std.specs.Prelude.{IfSome, slice_index_or, nat_le, ◌||◌, slice_index}
 use Rattle.std.proofs.lemmas.List.{length-map, get_or_default, get_or-map}
-use Rattle.msg_tables.specs.View.{place_of}
-use Rattle.msg_tables.proofs.PlaceLemmas.{place_of-inside}
+use Rattle.msg_names.specs.ClassRef.{slot_of}
+use Rattle.msg_names.proofs.ClassRefLemmas.{slot_of-inside}
 use Rattle.msg_names.specs.declared.value.ClassRef.{ClassRef}
-use Rattle.std.proofs.lemmas.Bool.Decides.{nat_tests}
-use Rattle.msg_image.specs.declared.change.Change.{Change}
-use Rattle.msg_image.specs.declared.change.Change.TheVariants.{Add, Replace, SetImp, Exchange, Attach}
-use Rattle.msg_tables.specs.declared.fault.ChangeFault.{ChangeFault}
-use Rattle.msg_tables.specs.declared.fault.ChangeFault.TheVariants.{NoClass}
+use Rattle.msg_image.specs.Parts.{class_total}
 use Rattle.msg_tables.specs.History.{History}
-use Rattle.msg_tables.specs.Refusal.{refusal as change_refusal, least as change_least, conditions, no_class}
 use Rattle.msg_tables.specs.Stands.{StandsAt}
 use Rattle.msg_tables.specs.View.{TablesView}
 use Rattle.msg_tables.proofs.StandsLemmas.{class_count}
 use Rattle.msg_core.specs.declared.state.Standing.{Standing}
 use Rattle.msg_core.specs.declared.state.Standing.TheVariants.{Free, Live, Retired}
-use Rattle.msg_core.specs.declared.state.Place.{Place}
-use Rattle.msg_core.specs.declared.state.Place.TheVariants.{Out, In, Holding}
+use Rattle.msg_core.specs.declared.state.Whereabouts.{Whereabouts}
+use Rattle.msg_core.specs.declared.state.Whereabouts.TheVariants.{Out, In, Holding}
 use Rattle.msg_core.specs.Steps.{is_spoiled}
-use Rattle.msg_tables.specs.Written.{AreListed}
-use Rattle.msg_core.proofs.BelowLemmas.{neither}
 use Rattle.msg_core.specs.View.{MachineView, IsWhole, live_at, word_at, sender_at, standing_at, IfHolding, IfLive}
 
 pub if_some : {A : Type 0} (P : A → Type 0) (o : Option A) → ((x : A) → o ≡ Some x → P x) → IfSome o P
@@ -35,10 +28,10 @@ pub listed : (v : MachineView) → IsWhole v → (c : ClassRef) (o : Option ℕ)
 listed v whole c o is = if_some _ o (λ a e. subst (λ n. a < n) (sym (array_count v.arrays)) (whole.live_arrays c a (sym is ∙ e)))
 
 -- a header word that was read at the place of its class reference
-pub header_read : (v : MachineView) → IsWhole v → (c : ClassRef) (k : ℕ) (o : Option ℕ) → c.class < length v.history.image.classes → k ≡ place_of c → o ≡ slice_index_or v.live k o → o ≡ live_at v.live c
-header_read v whole c k o inside at read = read ∙ ap (λ n. slice_index_or v.live n o) at ∙ get_or_default v.live (place_of c) o None (place_of-inside c (length v.history.image.classes) (length v.live) whole.headers inside)
+pub header_read : (v : MachineView) → IsWhole v → (c : ClassRef) (k : ℕ) (o : Option ℕ) → c.class < class_total v.history.image → k ≡ slot_of c → o ≡ slice_index_or v.live k o → o ≡ live_at v.live c
+header_read v whole c k o inside at read = read ∙ ap (λ n. slice_index_or v.live n o) at ∙ get_or_default v.live (slot_of c) o None (slot_of-inside c (class_total v.history.image) (length v.live) whole.headers inside)
 
-pub if_holding : (P : ℕ → Type 0) (p : Place) → ((c : ClassRef) (a : ℕ) → p ≡ Holding c a → P a) → IfHolding p P
+pub if_holding : (P : ℕ → Type 0) (p : Whereabouts) → ((c : ClassRef) (a : ℕ) → p ≡ Holding c a → P a) → IfHolding p P
 if_holding P Out f = tt
 if_holding P In f = tt
 if_holding P (Holding c a) f = f c a (λ i. Holding c a)
@@ -49,43 +42,24 @@ if_live P (Live c) f = f c (λ i. Live c)
 if_live P (Retired c r awaited) f = tt
 
 -- a sender holds one of the arrays
-pub held_listed : (v : MachineView) → IsWhole v → (n : ℕ) (p : Place) → p ≡ sender_at v.places n → IfHolding p (λ a. a < length (map length v.arrays))
+pub held_listed : (v : MachineView) → IsWhole v → (n : ℕ) (p : Whereabouts) → p ≡ sender_at v.whereabouts n → IfHolding p (λ a. a < length (map length v.arrays))
 held_listed v whole n p is = if_holding _ p (λ c a e. subst (λ k. a < k) (sym (array_count v.arrays)) (whole.held_arrays n c a (sym is ∙ e)))
 
 -- an array is live for one of the classes
-pub live_listed : (v : MachineView) → IsWhole v → (a : ℕ) (s : Standing) → s ≡ standing_at v.standings a → IfLive s (λ c. c.class < length v.history.image.classes)
+pub live_listed : (v : MachineView) → IsWhole v → (a : ℕ) (s : Standing) → s ≡ standing_at v.standings a → IfLive s (λ c. c.class < class_total v.history.image)
 live_listed v whole a s is = if_live _ s (λ c e. whole.live_classes a c (sym is ∙ e))
 
 -- a class of the image is one of the tables
-pub class_listed : (t : TablesView) (h : History) → StandsAt t h → (k : ℕ) → k < length h.image.classes → k < length t.supers
+pub class_listed : (t : TablesView) (h : History) → StandsAt t h → (k : ℕ) → k < class_total h.image → k < length t.supers
 class_listed t h stands k inside = subst (λ n. k < n) (sym (class_count t h stands)) inside
 
 -- a sender's place that was read
-pub sender_read : (places : List Place) (n : ℕ) (p : Place) → n < length places → p ≡ slice_index_or places n p → p ≡ sender_at places n
-sender_read places n p inside read = read ∙ get_or_default places n p Out inside
+pub sender_read : (whereabouts : List Whereabouts) (n : ℕ) (p : Whereabouts) → n < length whereabouts → p ≡ slice_index_or whereabouts n p → p ≡ sender_at whereabouts n
+sender_read whereabouts n p inside read = read ∙ get_or_default whereabouts n p Out inside
 
 -- an array's standing that was read
 pub standing_read : (v : MachineView) → IsWhole v → (a : ℕ) (s : Standing) → a < length (map length v.arrays) → s ≡ slice_index_or v.standings a s → s ≡ standing_at v.standings a
 standing_read v whole a s inside read = read ∙ get_or_default v.standings a s Free (subst (λ n. a < n) (array_count v.arrays ∙ sym whole.standings) inside)
-
-first_false : (b : Bool) (f : ChangeFault) (fs : List (Bool × ChangeFault)) → change_least ((b, f) ∷ fs) ≡ None → b ≡ false
-first_false true f fs e = cc
-first_false false f fs e = refl
-
--- a number that isn't past the end is below it
-below : (n k : ℕ) → nat_le n k ≡ false → k < n
-below n k e = grind (arith, nat_tests)
-
--- the classes at which an accepted change seeks its methods are the image's
-pub change_listed : (h : History) (x : Change) → change_refusal h x ≡ None → AreListed (length h.image.classes) x
-unfolding change_refusal no_class
-change_listed h (Add c s i) none = tt
-change_listed h (Replace c s i) none = tt
-change_listed h (Attach k ms cs) none = tt
-change_listed h (SetImp c s i) none = below (length h.image.classes) c.class (first_false (nat_le (length h.image.classes) c.class) NoClass (drop 1 (conditions h (SetImp c s i))) none)
-change_listed h (Exchange c s d u) none =
-    let (own, other) = neither _ _ (first_false (nat_le (length h.image.classes) c.class || nat_le (length h.image.classes) d.class) NoClass (drop 1 (conditions h (Exchange c s d u))) none) in
-    (below (length h.image.classes) c.class own, below (length h.image.classes) d.class other)
 
 -- the words of an array that was read, and how many it has
 pub words_read : (arrays : List (List ℕ)) (a : ℕ) (words : List ℕ) → a < length (map length arrays) → words ≡ slice_index_or arrays a words → words ≡ slice_index_or arrays a []

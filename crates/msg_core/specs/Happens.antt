@@ -5,13 +5,14 @@ use Rattle.msg_core.specs.declared.event.Event.TheVariants.{Enter, Header, Read,
 use Rattle.msg_tables.specs.History.{lookup}
 use Rattle.msg_core.specs.declared.fault.EventFault.{EventFault}
 use Rattle.msg_core.specs.State.{State}
-use Rattle.msg_core.specs.Steps.{after, refusal, Legal}
+use Rattle.msg_core.specs.Steps.{after, event_refusal, Legal}
 use Rattle.msg_core.specs.View.{MachineView, layout_of, state_of}
 
 -- the least fault for which an event is refused, where words have to agree with what is looked up in the class tables
 abbrev pub refusal_of : MachineView → Event → Option EventFault
-refusal_of v e = refusal lookup (layout_of v) (state_of v) e
+refusal_of v e = event_refusal lookup (layout_of v) (state_of v) e
 
+-- the event is not refused, where words have to agree with what is looked up in the class tables
 abbrev pub IsLegal : MachineView → Event → Type 0
 IsLegal v e = Legal lookup (layout_of v) (state_of v) e
 
@@ -24,7 +25,7 @@ pub record Becomes (old new : MachineView) (m : State) : Type 0 where
 abbrev pub Happens : MachineView → MachineView → Event → Type 0
 Happens old new e = Becomes old new (after (layout_of old) (state_of old) e)
 
--- the only event that takes memory
+-- the only event that may answer Memory
 abbrev pub IsCommit : Event → Type 0
 IsCommit (Commit x) = Unit {0}
 IsCommit (Enter n) = ⊥

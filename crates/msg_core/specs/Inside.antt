@@ -3,16 +3,18 @@ use Rattle.msg_tables.specs.Stands.{StandsAt}
 use Rattle.msg_core.specs.declared.machine.Machine.TheInside.{Inside}
 use Rattle.msg_core.specs.View.{MachineView, IsWhole}
 
+-- what contracts see of a machine
 abbrev pub view_of : Inside → MachineView
 view_of i = record {
   history = record { image = i.image.value; changes = i.changes.items };
   live = i.live.items;
   arrays = i.arrays.items;
   standings = i.standings.items;
-  places = i.places.items;
+  whereabouts = i.whereabouts.items;
 }
 
-pub record IsSound (i : Inside) : Type 0 where
+-- the invariant of a machine
+pub record IsSoundMachine (i : Inside) : Type 0 where
   pub whole : IsWhole (view_of i)
   -- the tables are those of the history
   pub tables : StandsAt i.tables (view_of i).history

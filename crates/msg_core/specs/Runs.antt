@@ -6,7 +6,7 @@ use Rattle.msg_tables.specs.History.{History, empty}
 use Rattle.msg_core.specs.declared.event.Event.{Event}
 use Rattle.msg_core.specs.declared.event.Event.TheVariants.{Enter, Header, Read, Leave, Fill, Install, Flush, Look, Clear, Commit}
 use Rattle.msg_core.specs.declared.state.Standing.TheVariants.{Free}
-use Rattle.msg_core.specs.declared.state.Place.TheVariants.{Out}
+use Rattle.msg_core.specs.declared.state.Whereabouts.TheVariants.{Out}
 use Rattle.msg_buckets.specs.Word.{sel_of, imp_of}
 use Rattle.msg_core.specs.State.{Layout, State, size, first}
 use Rattle.msg_core.specs.Steps.{after, Legal}
@@ -18,7 +18,7 @@ opening image = record {
   live = λ c. None;
   word = λ a p. 0;
   standing = λ a. Free;
-  place = λ n. Out;
+  whereabouts = λ n. Out;
 }
 
 -- the state after a list of events

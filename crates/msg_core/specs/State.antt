@@ -5,8 +5,8 @@ use Rattle.msg_buckets.specs.Word.{sel_of, imp_of}
 use Rattle.msg_tables.specs.History.{History}
 use Rattle.msg_core.specs.declared.state.Standing.{Standing}
 use Rattle.msg_core.specs.declared.state.Standing.TheVariants.{Free, Live, Retired}
-use Rattle.msg_core.specs.declared.state.Place.{Place}
-use Rattle.msg_core.specs.declared.state.Place.TheVariants.{Holding}
+use Rattle.msg_core.specs.declared.state.Whereabouts.{Whereabouts}
+use Rattle.msg_core.specs.declared.state.Whereabouts.TheVariants.{Holding}
 
 -- how many classes and senders there are, and how many words each array has
 pub record Layout : Type 0 where
@@ -23,10 +23,10 @@ pub record State : Type 0 where
   pub live : ClassRef → Option ℕ
   pub word : ℕ → ℕ → ℕ
   pub standing : ℕ → Standing
-  pub place : ℕ → Place
+  pub whereabouts : ℕ → Whereabouts
 
-abbrev pub state_from : History → (ClassRef → Option ℕ) → (ℕ → ℕ → ℕ) → (ℕ → Standing) → (ℕ → Place) → State
-state_from h live word standing place = record { history = h; live = live; word = word; standing = standing; place = place }
+abbrev pub state_from : History → (ClassRef → Option ℕ) → (ℕ → ℕ → ℕ) → (ℕ → Standing) → (ℕ → Whereabouts) → State
+state_from h live word standing whereabouts = record { history = h; live = live; word = word; standing = standing; whereabouts = whereabouts }
 
 -- how many changes were made
 abbrev pub size : History → ℕ
@@ -45,14 +45,14 @@ abbrev pub awaits : List Bool → ℕ → Bool
 awaits awaited n = slice_index_or awaited n false
 
 -- an array is live for the class reference, or is retired from it and awaits the sender
-abbrev pub Stands : Standing → ClassRef → ℕ → Type 0
-Stands s c n = (s ≡ Live c) ⊎ ((r : ℕ) × (awaited : List Bool) × (s ≡ Retired c r awaited) × (awaits awaited n ≡ true))
+abbrev pub KeepsFor : Standing → ClassRef → ℕ → Type 0
+KeepsFor s c n = (s ≡ Live c) ⊎ ((r : ℕ) × (awaited : List Bool) × (s ≡ Retired c r awaited) × (awaits awaited n ≡ true))
 
 module _ (look : History → ClassRef → ℕ → ℕ) (z : Layout) where
   -- What makes reading without a lock right.
   pub record Lawful (m : State) : Type 0 where
     -- what a sender holds is live, or was retired and awaits it
-    pub held : (n : ℕ) (c : ClassRef) (a : ℕ) → m.place n ≡ Holding c a → Stands (m.standing a) c n
+    pub held : (n : ℕ) (c : ClassRef) (a : ℕ) → m.whereabouts n ≡ Holding c a → KeepsFor (m.standing a) c n
     -- words of a live array agree with the method lists as they are
     pub live_words : (c : ClassRef) (a p : ℕ) → m.standing a ≡ Live c → p < capacity z a → Agrees (look m.history) c (m.word a p)
     -- words of a retired array agree with the method lists as they were when it was retired
@@ -63,7 +63,7 @@ module _ (look : History → ClassRef → ℕ → ℕ) (z : Layout) where
     pub stands_live : (c : ClassRef) (a : ℕ) → m.standing a ≡ Live c → m.live c ≡ Some a
     -- a retired array awaits some sender, and a free one is held by none
     pub awaits_some : (c : ClassRef) (r a : ℕ) (awaited : List Bool) → m.standing a ≡ Retired c r awaited → (n : ℕ) × (n < z.senders) × (awaits awaited n ≡ true)
-    pub free_unheld : (a : ℕ) → m.standing a ≡ Free → (n : ℕ) (c : ClassRef) → m.place n ≢ Holding c a
+    pub free_unheld : (a : ℕ) → m.standing a ≡ Free → (n : ℕ) (c : ClassRef) → m.whereabouts n ≢ Holding c a
 
   -- What every event needs beside that: numbers are those of the layout, and arrays were retired in the past.
   pub record InRange (m : State) : Type 0 where
@@ -76,7 +76,7 @@ module _ (look : History → ClassRef → ℕ → ℕ) (z : Layout) where
     -- else an array could await for ever one who isn't there to be seen out
     pub awaited_senders : (c : ClassRef) (r a : ℕ) (awaited : List Bool) → m.standing a ≡ Retired c r awaited → (n : ℕ) → awaits awaited n ≡ true → n < z.senders
     -- else a retired array, which awaits all senders, wouldn't await all holders
-    pub holder : (n : ℕ) (c : ClassRef) (a : ℕ) → m.place n ≡ Holding c a → n < z.senders
+    pub holder : (n : ℕ) (c : ClassRef) (a : ℕ) → m.whereabouts n ≡ Holding c a → n < z.senders
 
   -- what every event keeps
   pub record Sound (m : State) : Type 0 where

@@ -4,7 +4,7 @@ use Rattle.std.specs.List.{list_any}
 use Rattle.msg_names.specs.declared.value.ClassRef.{ClassRef}
 use Rattle.msg_buckets.specs.Word.{sel_of, imp_of}
 use Rattle.msg_image.specs.declared.change.Change.{Change}
-use Rattle.msg_tables.specs.Chain.{same_class}
+use Rattle.msg_names.specs.ClassRef.{same_class}
 use Rattle.msg_tables.specs.History.{History, and_then}
 use Rattle.msg_tables.specs.Refusal.{refusal as change_refusal}
 use Rattle.msg_core.specs.declared.event.Event.{Event}
@@ -15,8 +15,8 @@ use Rattle.msg_core.specs.declared.fault.EventFault.{EventFault}
 use Rattle.msg_core.specs.declared.fault.EventFault.TheVariants.{NoSender, NoClass, NoArray, NotOut, NotIn, NotHolding, NotLive, NoPlace, NotFree, NotEmpty, Refused, Disagrees}
 use Rattle.msg_core.specs.declared.state.Standing.{Standing}
 use Rattle.msg_core.specs.declared.state.Standing.TheVariants.{Free, Live, Retired}
-use Rattle.msg_core.specs.declared.state.Place.{Place}
-use Rattle.msg_core.specs.declared.state.Place.TheVariants.{Out, In, Holding}
+use Rattle.msg_core.specs.declared.state.Whereabouts.{Whereabouts}
+use Rattle.msg_core.specs.declared.state.Whereabouts.TheVariants.{Out, In, Holding}
 use Rattle.msg_core.specs.State.{Layout, capacity, State, size}
 
 -- ---- what an event does
@@ -32,8 +32,8 @@ at_class f c x d = if same_class d c then x else f d
 abbrev pub everyone : ℕ → List Bool
 everyone senders = replicate senders true ++ replicate (64 - senders) false
 
--- the place of a sender that has seen this array of a class reference, or none
-abbrev pub seeing : ClassRef → Option ℕ → Place
+-- where a sender is that has seen this array of a class reference, or none
+abbrev pub seeing : ClassRef → Option ℕ → Whereabouts
 seeing c None = In
 seeing c (Some a) = Holding c a
 
@@ -57,35 +57,37 @@ seen_out n Free = Free
 seen_out n (Live c) = Live c
 seen_out n (Retired c r awaited) = awaiting c r (slice_set awaited n false)
 
-abbrev pub is_out : Place → Bool
+abbrev pub is_out : Whereabouts → Bool
 is_out Out = true
 is_out In = false
 is_out (Holding c a) = false
 
+-- the state after an event
 abbrev pub after : Layout → State → Event → State
-after z m (Enter n) = record m { place = at m.place n In }
-after z m (Header n c) = record m { place = at m.place n (seeing c (m.live c)) }
+after z m (Enter n) = record m { whereabouts = at m.whereabouts n In }
+after z m (Header n c) = record m { whereabouts = at m.whereabouts n (seeing c (m.live c)) }
 after z m (Read n p) = m
-after z m (Leave n) = record m { place = at m.place n Out }
+after z m (Leave n) = record m { whereabouts = at m.whereabouts n Out }
 after z m (Fill c p word) = record m { word = stored m.word (m.live c) p word }
 after z m (Install c a) = record m { live = at_class m.live c (Some a); standing = at (retired z m c (m.live c)) a (Live c) }
 after z m (Flush c) = record m { live = at_class m.live c None; standing = retired z m c (m.live c) }
-after z m (Look n) = record m { standing = if is_out (m.place n) then (λ a. seen_out n (m.standing a)) else m.standing }
+after z m (Look n) = record m { standing = if is_out (m.whereabouts n) then (λ a. seen_out n (m.standing a)) else m.standing }
 after z m (Clear a p) = record m { word = stored m.word (Some a) p 0 }
 after z m (Commit x) = record m { history = and_then m.history x }
 
 -- ---- what it shows
 
 -- the word at a place of the array that is held
-abbrev pub held_word : (ℕ → ℕ → ℕ) → Place → ℕ → ℕ
+abbrev pub held_word : (ℕ → ℕ → ℕ) → Whereabouts → ℕ → ℕ
 held_word words Out p = 0
 held_word words In p = 0
 held_word words (Holding c a) p = words a p
 
+-- what the one who does an event sees
 abbrev pub shows : State → Event → Seen
 shows m (Header n c) = Array (m.live c)
-shows m (Read n p) = Word (held_word m.word (m.place n) p)
-shows m (Look n) = SeenOut (is_out (m.place n))
+shows m (Read n p) = Word (held_word m.word (m.whereabouts n) p)
+shows m (Look n) = SeenOut (is_out (m.whereabouts n))
 shows m (Enter n) = Nothing
 shows m (Leave n) = Nothing
 shows m (Fill c p word) = Nothing
@@ -101,18 +103,18 @@ abbrev pub when : Bool → EventFault → Option EventFault
 when b f = if b then Some f else None
 
 -- of the faults in their order the first that is there
-abbrev pub least : List (Option EventFault) → Option EventFault
-least [] = None
-least (None ∷ fs) = least fs
-least (Some f ∷ fs) = Some f
+abbrev pub least_event_fault : List (Option EventFault) → Option EventFault
+least_event_fault [] = None
+least_event_fault (None ∷ fs) = least_event_fault fs
+least_event_fault (Some f ∷ fs) = Some f
 
-abbrev pub is_in : Place → Bool
+abbrev pub is_in : Whereabouts → Bool
 is_in Out = false
 is_in In = true
 is_in (Holding c a) = false
 
 -- how many words the array that is held has, if one is
-abbrev pub held_capacity : Layout → Place → Option ℕ
+abbrev pub held_capacity : Layout → Whereabouts → Option ℕ
 held_capacity z Out = None
 held_capacity z In = None
 held_capacity z (Holding c a) = Some (capacity z a)
@@ -162,7 +164,7 @@ module _ (look : History → ClassRef → ℕ → ℕ) (z : Layout) (m : State) 
   no_array a = when (nat_le (length z.capacities) a) NoArray
 
   abbrev pub not_out : ℕ → Option EventFault
-  not_out n = when (not (is_out (m.place n))) NotOut
+  not_out n = when (not (is_out (m.whereabouts n))) NotOut
 
   abbrev pub not_free : ℕ → Option EventFault
   not_free a = when (not (is_free (m.standing a))) NotFree
@@ -180,9 +182,9 @@ module _ (look : History → ClassRef → ℕ → ℕ) (z : Layout) (m : State) 
   -- what speaks against an event, in the order of the faults
   abbrev pub conditions : Event → List (Option EventFault)
   conditions (Enter n) = no_sender n ∷ not_out n ∷ []
-  conditions (Header n c) = no_sender n ∷ no_class c ∷ when (not (is_in (m.place n))) NotIn ∷ []
-  conditions (Read n p) = no_sender n ∷ when (is_none (held_capacity z (m.place n))) NotHolding ∷ no_place p (held_capacity z (m.place n)) ∷ []
-  conditions (Leave n) = no_sender n ∷ when (is_out (m.place n)) NotIn ∷ []
+  conditions (Header n c) = no_sender n ∷ no_class c ∷ when (not (is_in (m.whereabouts n))) NotIn ∷ []
+  conditions (Read n p) = no_sender n ∷ when (is_none (held_capacity z (m.whereabouts n))) NotHolding ∷ no_place p (held_capacity z (m.whereabouts n)) ∷ []
+  conditions (Leave n) = no_sender n ∷ when (is_out (m.whereabouts n)) NotIn ∷ []
   conditions (Fill c p word) = no_class c ∷ not_live c ∷ no_place p (option_map (capacity z) (m.live c))
       ∷ when (is_entry_in m.word (m.live c) p) NotEmpty ∷ when (disagrees (look m.history) c word) Disagrees ∷ []
   conditions (Install c a) = no_class c ∷ no_array a ∷ not_free a ∷ when (some_below (capacity z a) (λ p. is_entry (m.word a p))) NotEmpty ∷ []
@@ -192,9 +194,9 @@ module _ (look : History → ClassRef → ℕ → ℕ) (z : Layout) (m : State) 
   conditions (Commit x) = option_map Refused (change_refusal m.history x) ∷ when (spoils x) Disagrees ∷ []
 
   -- the least fault for which an event is refused
-  abbrev pub refusal : Event → Option EventFault
-  refusal e = least (conditions e)
+  abbrev pub event_refusal : Event → Option EventFault
+  event_refusal e = least_event_fault (conditions e)
 
   -- the event is not refused
   abbrev pub Legal : Event → Type 0
-  Legal e = refusal e ≡ None
+  Legal e = event_refusal e ≡ None

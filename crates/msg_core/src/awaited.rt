@@ -7,7 +7,7 @@ ghost use Rattle.msg_core.specs.Steps.{everyone, seen_out};
 use crate::state::Standing;
 
 // All senders, of whom there are so many.
-pub(crate) fn everyone(senders: usize) -> [bool; 64]
+pub fn everyone(senders: usize) -> [bool; 64]
     requires { senders ≤ 64 }
     ensures { result ≡ everyone senders }
 {
@@ -49,7 +49,7 @@ fn seen_out(standing: Standing, sender: usize) -> Standing
 }
 
 // Notes that a sender was seen out.
-pub(crate) fn see_out(standings: &mut [Standing], sender: usize)
+pub fn see_out(standings: &mut [Standing], sender: usize)
     requires { sender < 64 }
     ensures { standings.new ≡ map (seen_out sender) standings.old }
 {

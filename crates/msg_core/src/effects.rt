@@ -11,20 +11,20 @@ ghost use Rattle.msg_core.specs.View.{layout_of, state_of, IfHolding, IfLive};
 use crate::awaited::{everyone, see_out};
 use crate::event::{Event, Seen};
 use crate::fault::EventFault;
-use crate::machine::{Machine, place};
-use crate::state::{Place, Standing};
+use crate::machine::Machine;
+use crate::state::{Standing, Whereabouts};
 use msg_image::Change;
 use msg_names::ClassRef;
 
 // ---- one word, or what one word means
 
 impl Machine {
-    fn set_place(&mut self, sender: u32, place: Place)
+    fn set_whereabouts(&mut self, sender: u32, whereabouts: Whereabouts)
         requires sender { sender < (layout_of self.old).senders }
-        requires listed { IfHolding place (λ array. array < length (layout_of self.old).capacities) }
-        ensures { Becomes self.old self.new (record (state_of self.old) { place = at (state_of self.old).place sender place }) }
+        requires listed { IfHolding whereabouts (λ array. array < length (layout_of self.old).capacities) }
+        ensures { Becomes self.old self.new (record (state_of self.old) { whereabouts = at (state_of self.old).whereabouts sender whereabouts }) }
     {
-        self.places[sender as usize] = place;
+        self.whereabouts[sender as usize] = whereabouts;
     }
 
     fn set_live(&mut self, class: ClassRef, array: Option<u32>)
@@ -32,7 +32,7 @@ impl Machine {
         requires listed { IfSome array (λ a. a < length (layout_of self.old).capacities) }
         ensures { Becomes self.old self.new (record (state_of self.old) { live = at_class (state_of self.old).live class array }) }
     {
-        self.live[place(class)] = array;
+        self.live[class.slot()] = array;
     }
 
     fn set_standing(&mut self, array: u32, standing: Standing)
@@ -59,7 +59,7 @@ impl Machine {
         }) }
     {
         if let Some(array) = self.live_array(class) {
-            let awaited = everyone(self.places.len());
+            let awaited = everyone(self.whereabouts.len());
             let standing = Standing::Retired(class, self.changes.len(), awaited);
             self.set_standing(array, standing);
         }
@@ -82,7 +82,7 @@ impl Machine {
         ensures happens { Happens self.old self.new (Event.Enter sender) }
         ensures seen { result ≡ shows (state_of self.old) (Event.Enter sender) }
     {
-        self.set_place(sender, Place::In);
+        self.set_whereabouts(sender, Whereabouts::In);
         Seen::Nothing
     }
 
@@ -93,7 +93,7 @@ impl Machine {
     {
         let live = self.live_array(class);
         if let Some(array) = live {
-            self.set_place(sender, Place::Holding(class, array));
+            self.set_whereabouts(sender, Whereabouts::Holding(class, array));
         }
         Seen::Array(live)
     }
@@ -102,9 +102,9 @@ impl Machine {
         requires { IsLegal self.now (Event.Read sender place) }
         ensures { result ≡ shows (state_of self.now) (Event.Read sender place) }
     {
-        match self.sender_place(sender) {
-            Place::Holding(_, array) => Seen::Word(self.word(array, place)),
-            Place::Out | Place::In => Seen::Word(0),
+        match self.whereabouts_of(sender) {
+            Whereabouts::Holding(_, array) => Seen::Word(self.word(array, place)),
+            Whereabouts::Out | Whereabouts::In => Seen::Word(0),
         }
     }
 
@@ -113,7 +113,7 @@ impl Machine {
         ensures happens { Happens self.old self.new (Event.Leave sender) }
         ensures seen { result ≡ shows (state_of self.old) (Event.Leave sender) }
     {
-        self.set_place(sender, Place::Out);
+        self.set_whereabouts(sender, Whereabouts::Out);
         Seen::Nothing
     }
 
@@ -154,12 +154,12 @@ impl Machine {
         ensures happens { Happens self.old self.new (Event.Look sender) }
         ensures seen { result ≡ shows (state_of self.old) (Event.Look sender) }
     {
-        match self.sender_place(sender) {
-            Place::Out => {
+        match self.whereabouts_of(sender) {
+            Whereabouts::Out => {
                 self.await_no_more(sender);
                 Seen::Out(true)
             }
-            Place::In | Place::Holding(_, _) => Seen::Out(false),
+            Whereabouts::In | Whereabouts::Holding(_, _) => Seen::Out(false),
         }
     }
 

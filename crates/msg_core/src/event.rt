@@ -5,7 +5,7 @@ use msg_names::ClassRef;
 
 /// One load or one store of one word that threads share.
 ///
-/// Senders and arrays are meant by their numbers, words by their places in an array.
+/// Senders and arrays are meant by their numbers, words by their whereabouts in an array.
 #[derive(Drop)]
 pub enum Event {
     /// A sender sets its probe word.

@@ -1,7 +1,7 @@
 //! Why events are refused.
 
 ghost use Rattle.std.specs.Prelude.{◌≡◌};
-ghost use Rattle.msg_core.specs.FaultNumber.{fault_number};
+ghost use Rattle.msg_core.specs.FaultNumber.{event_fault_number};
 
 use msg_tables::ChangeFault;
 use std::alloc::AllocError;
@@ -61,7 +61,7 @@ impl From<AllocError> for EventFault {
 impl EventFault {
     /// The number of the fault, from 1. Of several the least is answered.
     pub fn number(self) -> u32
-        ensures { result ≡ fault_number self }
+        ensures { result ≡ event_fault_number self }
     {
         match self {
             EventFault::NoSender => 1,

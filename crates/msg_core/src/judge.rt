@@ -9,7 +9,7 @@ ghost use Rattle.msg_core.specs.Happens.{refusal_of};
 use crate::event::Event;
 use crate::fault::EventFault;
 use crate::machine::Machine;
-use crate::state::{Place, Standing};
+use crate::state::{Standing, Whereabouts};
 use msg_image::Change;
 use msg_names::ClassRef;
 
@@ -38,9 +38,9 @@ impl Machine {
         if self.lacks_sender(sender) {
             return Some(EventFault::NoSender);
         }
-        match self.sender_place(sender) {
-            Place::Out => None,
-            Place::In | Place::Holding(_, _) => Some(EventFault::NotOut),
+        match self.whereabouts_of(sender) {
+            Whereabouts::Out => None,
+            Whereabouts::In | Whereabouts::Holding(_, _) => Some(EventFault::NotOut),
         }
     }
 
@@ -53,9 +53,9 @@ impl Machine {
         if self.lacks_class(class) {
             return Some(EventFault::NoClass);
         }
-        match self.sender_place(sender) {
-            Place::In => None,
-            Place::Out | Place::Holding(_, _) => Some(EventFault::NotIn),
+        match self.whereabouts_of(sender) {
+            Whereabouts::In => None,
+            Whereabouts::Out | Whereabouts::Holding(_, _) => Some(EventFault::NotIn),
         }
     }
 
@@ -65,10 +65,12 @@ impl Machine {
         if self.lacks_sender(sender) {
             return Some(EventFault::NoSender);
         }
-        match self.sender_place(sender) {
-            Place::Out | Place::In => Some(EventFault::NotHolding),
-            Place::Holding(_, array) if self.capacity(array) <= place => Some(EventFault::NoPlace),
-            Place::Holding(_, _) => None,
+        match self.whereabouts_of(sender) {
+            Whereabouts::Out | Whereabouts::In => Some(EventFault::NotHolding),
+            Whereabouts::Holding(_, array) if self.capacity(array) <= place => Some(
+                EventFault::NoPlace,
+            ),
+            Whereabouts::Holding(_, _) => None,
         }
     }
 
@@ -78,9 +80,9 @@ impl Machine {
         if self.lacks_sender(sender) {
             return Some(EventFault::NoSender);
         }
-        match self.sender_place(sender) {
-            Place::Out => Some(EventFault::NotIn),
-            Place::In | Place::Holding(_, _) => None,
+        match self.whereabouts_of(sender) {
+            Whereabouts::Out => Some(EventFault::NotIn),
+            Whereabouts::In | Whereabouts::Holding(_, _) => None,
         }
     }
 

@@ -3,14 +3,14 @@
 ghost use Rattle.std.specs.Prelude.{◌≡◌, ◌<◌, nat_le, length, IfSome, None};
 ghost use Rattle.msg_tables.specs.History.{lookup, and_then};
 ghost use Rattle.msg_tables.specs.Refusal.{refusal as change_refusal};
-ghost use Rattle.msg_tables.specs.View.{place_of};
+ghost use Rattle.msg_names.specs.ClassRef.{slot_of};
 ghost use Rattle.msg_core.specs.State.{capacity};
 ghost use Rattle.msg_core.specs.Steps.{is_free, some_below, is_entry, disagrees, spoils, is_spoiled};
 ghost use Rattle.msg_core.specs.View.{layout_of, state_of, IfHolding, IfLive};
 
 use crate::buckets::Buckets;
 use crate::spoiled::has_spoiled_word;
-use crate::state::{Place, Standing};
+use crate::state::{Standing, Whereabouts};
 use msg_buckets::unpack;
 use msg_image::{Change, Image};
 use msg_names::ClassRef;
@@ -27,7 +27,7 @@ pub struct Machine {
     pub(crate) live: Vec<Option<u32>>,
     pub(crate) arrays: Vec<Buckets>,
     pub(crate) standings: Vec<Standing>,
-    pub(crate) places: Vec<Place>,
+    pub(crate) whereabouts: Vec<Whereabouts>,
 }
 
 impl Model for Machine {
@@ -40,26 +40,18 @@ impl Model for Machine {
 
     ghost coded = { Prim.hlevel (codes, coded_expression) };
 
-    ghost use Rattle.msg_core.specs.Inside.{view_of, IsSound};
+    ghost use Rattle.msg_core.specs.Inside.{view_of, IsSoundMachine};
 
     ghost view = { view_of };
 
-    ghost invariant = { IsSound };
-}
-
-// Where the header word of a class reference stands.
-#[inline(always)]
-pub(crate) fn place(class: ClassRef) -> usize
-    ensures { result ≡ place_of class }
-{
-    2 * class.class as usize + usize::from(class.meta)
+    ghost invariant = { IsSoundMachine };
 }
 
 impl Machine {
     pub(crate) fn lacks_sender(&self, sender: u32) -> bool
         ensures { result ≡ nat_le (layout_of self.now).senders sender }
     {
-        self.places.len() <= sender as usize
+        self.whereabouts.len() <= sender as usize
     }
 
     pub(crate) fn lacks_class(&self, class: ClassRef) -> bool
@@ -74,12 +66,12 @@ impl Machine {
         self.arrays.len() <= array as usize
     }
 
-    pub(crate) fn sender_place(&self, sender: u32) -> Place
+    pub(crate) fn whereabouts_of(&self, sender: u32) -> Whereabouts
         requires { sender < (layout_of self.now).senders }
-        ensures place { result ≡ (state_of self.now).place sender }
+        ensures whereabouts { result ≡ (state_of self.now).whereabouts sender }
         ensures listed { IfHolding result (λ array. array < length (layout_of self.now).capacities) }
     {
-        self.places[sender as usize]
+        self.whereabouts[sender as usize]
     }
 
     pub(crate) fn live_array(&self, class: ClassRef) -> Option<u32>
@@ -87,7 +79,7 @@ impl Machine {
         ensures array { result ≡ (state_of self.now).live class }
         ensures listed { IfSome result (λ array. array < length (layout_of self.now).capacities) }
     {
-        self.live[place(class)]
+        self.live[class.slot()]
     }
 
     pub(crate) fn standing(&self, array: usize) -> Standing

@@ -2,12 +2,13 @@
 
 ghost use Rattle.std.specs.Prelude.{◌≡◌, ◌≤◌, IfOk, All, length, map, replicate};
 ghost use Rattle.msg_buckets.specs.Capacity.{IsCapacity};
+ghost use Rattle.msg_image.specs.Parts.{class_total};
 ghost use Rattle.msg_core.specs.Runs.{opening};
 ghost use Rattle.msg_core.specs.View.{layout_of, state_of};
 
 use crate::buckets::Buckets;
 use crate::machine::Machine;
-use crate::state::{Place, Standing};
+use crate::state::{Standing, Whereabouts};
 use msg_image::Image;
 use msg_tables::Tables;
 use std::alloc::{AllocError, Global};
@@ -36,7 +37,7 @@ impl Machine {
         requires some_sender { 1 ≤ senders }
         requires few_senders { senders ≤ 64 }
         requires arrays { All IsCapacity arrays.now }
-        ensures layout { IfOk result (λ machine. layout_of machine ≡ record { classes = length image.now.classes; senders = senders; capacities = arrays.now }) }
+        ensures layout { IfOk result (λ machine. layout_of machine ≡ record { classes = class_total image.now; senders = senders; capacities = arrays.now }) }
         ensures state { IfOk result (λ machine. state_of machine ≡ opening image.now) }
     {
         let classes = image.class_count() as usize;
@@ -47,7 +48,7 @@ impl Machine {
             live: vec![in alloc; None; 2 * classes]?,
             arrays: empty_arrays(alloc, arrays)?,
             standings: vec![in alloc; Standing::Free; arrays.len()]?,
-            places: vec![in alloc; Place::Out; senders as usize]?,
+            whereabouts: vec![in alloc; Whereabouts::Out; senders as usize]?,
         })
     }
 }

@@ -3,7 +3,7 @@
 ghost use Rattle.std.specs.Prelude.{◌≡◌, ◌<◌, ◌&&◌, length, slice_index};
 ghost use Rattle.msg_tables.specs.History.{History, lookup, and_then};
 ghost use Rattle.msg_tables.specs.Stands.{StandsAt};
-ghost use Rattle.msg_tables.specs.Written.{AreListed};
+ghost use Rattle.msg_tables.specs.Written.{SeeksAmong};
 ghost use Rattle.msg_core.specs.declared.state.Standing.TheVariants.{Live};
 ghost use Rattle.msg_core.specs.Steps.{is_entry, disagrees, is_spoiled};
 
@@ -16,7 +16,7 @@ use msg_tables::Tables;
 // Whether a word is an entry that will not agree with the method lists.
 fn would_disagree(tables: &Tables, change: &Change, class: ClassRef, word: u64) -> bool
     requires class { class.class < length tables.now.supers }
-    requires listed { AreListed (length tables.now.supers) change.now }
+    requires listed { SeeksAmong (length tables.now.supers) change.now }
     ensures { (h : History) → StandsAt tables.now h → result ≡ (is_entry word && disagrees (lookup (and_then h change.now)) class word) }
 {
     if word == 0 {
@@ -36,7 +36,7 @@ pub(crate) fn has_spoiled_word(
     words: &Buckets,
 ) -> bool
     requires class { class.class < length tables.now.supers }
-    requires listed { AreListed (length tables.now.supers) change.now }
+    requires listed { SeeksAmong (length tables.now.supers) change.now }
     ensures { (h : History) → StandsAt tables.now h
         → result ≡ is_spoiled (lookup (and_then h change.now)) (length words.now) (slice_index words.now) (Live class) }
 {

@@ -15,7 +15,7 @@ pub enum Standing {
 
 /// Where a sender is.
 #[derive(Clone, Copy)]
-pub enum Place {
+pub enum Whereabouts {
     /// It reads no array.
     Out,
     /// It has set its probe word, and may load a header word.

@@ -17,8 +17,8 @@ use Rattle.msg_eval.specs.Frame.{Scope}
 use Rattle.msg_eval.specs.Meaning.{Meaning, Ends, Asks, Rest, Bodies, ask, go_on, fault}
 use Rattle.msg_eval.specs.Message.{if_found, forward, dispatch, message_to, super_from, super_message}
 use Rattle.msg_eval.specs.Operation.{result_of, is_no}
-use Rattle.msg_eval.specs.Points.{EndsAt}
-use Rattle.msg_eval.specs.Receiver.{class_of, new_receiver}
+use Rattle.msg_eval.specs.Points.{EndsAfter}
+use Rattle.msg_eval.specs.Receiver.{receiver_class, new_receiver}
 
 -- the send asks at most n times
 abbrev pub AtMost : ℕ → Meaning → Type 0
@@ -63,7 +63,7 @@ module _ (image : ImageParts) (body : Bodies) (fits : BodiesWithin body) where
 
   pub message_to-at_most : (me : Value) (s : Selector) (xs : List Value) (n : ℕ) (k : Rest) → Within n k → AtMost n (message_to image body me s xs n k)
   message_to-at_most (Number z) s xs n k w = tt
-  message_to-at_most (Object o) s xs n k w = in_class (class_of image (Object o))
+  message_to-at_most (Object o) s xs n k w = in_class (receiver_class image (Object o))
     where
       in_class : (c : Option ClassRef) → AtMost n (option_map_or (λ c. dispatch image body n (Object o) c c s xs n k) c (fault NotAnObject))
       in_class None = tt
@@ -73,7 +73,7 @@ module _ (image : ImageParts) (body : Bodies) (fits : BodiesWithin body) where
   message_to-at_most Nil s xs n k w = w Nil n (omega arith)
 
   super-at_most : (me : Value) (home : ClassRef) (s : Selector) (xs : List Value) (n : ℕ) (k : Rest) → Within n k → AtMost n (super_message image body me home s xs n k)
-  super-at_most me home s xs n k w = from_above (class_of image me) (superclass_in image home)
+  super-at_most me home s xs n k w = from_above (receiver_class image me) (superclass_in image home)
     where
       from_above : (a b : Option ClassRef) → AtMost n (super_from image body me s xs n k a b)
       from_above None b = tt
@@ -112,7 +112,7 @@ unfolding bodies
 bodies-at_most image zero = λ i me xs n k w. tt
 bodies-at_most image (suc d) = λ i me xs n k w. eval_body-at_most image (bodies image d) (bodies-at_most image d) (slice_get image.imps (i - 1)) me xs n k w
 
-pub few_points : (t : Meaning) (n : ℕ) (points : List History) (r : Reply) → AtMost n t → EndsAt t points r → length points ≤ n
+pub few_points : (t : Meaning) (n : ℕ) (points : List History) (r : Reply) → AtMost n t → EndsAfter t points r → length points ≤ n
 few_points (Ends e) n [] r few ends = omega arith
 few_points (Ends e) n (p ∷ ps) r few ends = absurd ends
 few_points (Asks c s go) zero points r few ends = absurd few

@@ -6,11 +6,11 @@ use Rattle.msg_image.specs.declared.change.Change.{Change}
 use Rattle.msg_image.specs.Parts.{ImageParts}
 use Rattle.msg_eval.specs.declared.reply.Reply.{Reply}
 use Rattle.msg_eval.specs.Meaning.{Meaning, Ends, Asks}
-use Rattle.msg_eval.specs.Points.{Rise, last_of, EndsAt, RepliesFrom, plain_reply, AllAre, HasOneReply, Ended, Asking, with_answers, HasAnswersAt}
+use Rattle.msg_eval.specs.Points.{Rise, last_of, EndsAfter, RepliesFrom, plain_reply, AllAre, HasOneReply, Ended, Asking, with_answers, HasAnswersAt}
 use Rattle.msg_eval.specs.Step.{Leads}
 
 -- the points at which a send leads to its reply
-pub points_of : (m : Meaning) (h g : History) (r : Reply) → Leads m h g r → (points : List History) × Rise h points × EndsAt m points r × (g ≡ last_of h points)
+pub points_of : (m : Meaning) (h g : History) (r : Reply) → Leads m h g r → (points : List History) × Rise h points × EndsAfter m points r × (g ≡ last_of h points)
 points_of (Ends e) h g r x = ([], tt, x.0, sym x.1)
 points_of (Asks c s go) h g r x =
     let (points, rise, ends, last) = points_of (go (lookup x.0 c s)) x.0 g r x.2 in
@@ -21,18 +21,18 @@ replies stands m h g r leads there =
     let (points, rise, ends, last) = points_of m h g r leads in
     record { points = points; rise = rise; ends = ends; there = subst stands last there }
 
-plain_exists : (h : History) (m : Meaning) → (points : List History) × AllAre h points × EndsAt m points (plain_reply h m)
+plain_exists : (h : History) (m : Meaning) → (points : List History) × AllAre h points × EndsAfter m points (plain_reply h m)
 plain_exists h (Ends e) = ([], tt, refl)
 plain_exists h (Asks c s go) =
     let (points, all, ends) = plain_exists h (go (lookup h c s)) in
     (h ∷ points, (refl, all), ends)
 
-pub plain_only : (h : History) (m : Meaning) (points : List History) (r : Reply) → AllAre h points → EndsAt m points r → r ≡ plain_reply h m
+pub plain_only : (h : History) (m : Meaning) (points : List History) (r : Reply) → AllAre h points → EndsAfter m points r → r ≡ plain_reply h m
 plain_only h (Ends e) [] r all ends = sym ends
 plain_only h (Ends e) (p ∷ ps) r all ends = absurd ends
 plain_only h (Asks c s go) [] r all ends = absurd ends
 plain_only h (Asks c s go) (p ∷ ps) r all ends =
-    plain_only h (go (lookup h c s)) ps r all.1 (subst (λ q. EndsAt (go (lookup q c s)) ps r) all.0 ends)
+    plain_only h (go (lookup h c s)) ps r all.1 (subst (λ q. EndsAfter (go (lookup q c s)) ps r) all.0 ends)
 
 pub one_reply : (h : History) (m : Meaning) → HasOneReply h m
 one_reply h m = record { exists = plain_exists h m; only = plain_only h m }
@@ -73,7 +73,7 @@ all_one h (p ∷ ps) rise le =
 
 -- ---- lists of answers
 
-pub to_answers : (m : Meaning) (k : ℕ) (points : List History) (r : Reply) → EndsAt m points r → HasAnswersAt m k points r
+pub to_answers : (m : Meaning) (k : ℕ) (points : List History) (r : Reply) → EndsAfter m points r → HasAnswersAt m k points r
 to_answers (Ends e) k [] r ends = record {
   answers = [];
   as_many = refl;
@@ -98,7 +98,7 @@ to_answers (Asks c s go) k (p ∷ ps) r ends =
         (c, s, refl, sym is ∙ ap (λ z. lookup z c s) same)
     each rest (suc j) q i a b = rest.each j q i a b
 
-from_answers : (m : Meaning) (k : ℕ) (points : List History) (r : Reply) (answers : List ℕ) → length answers ≡ length points → ((j : ℕ) (p : History) (i : ℕ) → slice_get points j ≡ Some p → slice_get answers j ≡ Some i → (c : ClassRef) × (s : ℕ) × (with_answers m (take j answers) k ≡ Asking c s) × (i ≡ lookup p c s)) → (n : ℕ) → with_answers m answers k ≡ Ended r n → n ≡ k + length answers → EndsAt m points r
+from_answers : (m : Meaning) (k : ℕ) (points : List History) (r : Reply) (answers : List ℕ) → length answers ≡ length points → ((j : ℕ) (p : History) (i : ℕ) → slice_get points j ≡ Some p → slice_get answers j ≡ Some i → (c : ClassRef) × (s : ℕ) × (with_answers m (take j answers) k ≡ Asking c s) × (i ≡ lookup p c s)) → (n : ℕ) → with_answers m answers k ≡ Ended r n → n ≡ k + length answers → EndsAfter m points r
 from_answers (Ends e) k [] r [] many each n ended all = cc
 from_answers (Ends e) k [] r (i ∷ is) many each n ended all = absurd (omega (arith, many))
 from_answers (Ends e) k (p ∷ ps) r answers many each n ended all =
@@ -111,8 +111,8 @@ from_answers (Asks c s go) k (p ∷ ps) r (i ∷ is) many each n ended all =
     let same_d : c ≡ d = cc in
     let same_u : s ≡ u = cc in
     let answer : i ≡ lookup p c s = is_lookup ∙ ap (λ z. lookup p z u) (sym same_d) ∙ ap (λ z. lookup p c z) (sym same_u) in
-    subst (λ z. EndsAt (go z) ps r) answer
+    subst (λ z. EndsAfter (go z) ps r) answer
     (from_answers (go i) (suc k) ps r is (omega (arith, many)) (λ j q v a b. each (suc j) q v a b) n ended (omega (arith, all)))
 
-pub of_answers : (m : Meaning) (k : ℕ) (points : List History) (r : Reply) → HasAnswersAt m k points r → EndsAt m points r
+pub of_answers : (m : Meaning) (k : ℕ) (points : List History) (r : Reply) → HasAnswersAt m k points r → EndsAfter m points r
 of_answers m k points r x = from_answers m k points r x.answers x.as_many x.each (k + length x.answers) x.ended refl

@@ -5,6 +5,7 @@ use Rattle.msg_names.specs.declared.value.Value.{Value}
 use Rattle.msg_image.specs.Parts.{ImageParts, ImpParts, Expression, Expressions, Const, Me, Arg, Two, If, Send, Super, NoMore, More}
 use Rattle.msg_eval.specs.declared.reply.Reply.TheVariants as replies
 use Rattle.msg_eval.specs.declared.reply.SendFault.TheVariants.{NotAnObject, Depth}
+use Rattle.msg_eval.specs.declared.eval.TheConstants.{MAX_LOOKUPS, MAX_BODIES}
 use Rattle.msg_eval.specs.Argument.{argument}
 use Rattle.msg_eval.specs.Frame.{Scope}
 use Rattle.msg_eval.specs.Meaning.{Meaning, Ends, Rest, Bodies, fault, go_on}
@@ -44,4 +45,4 @@ bodies image (suc d) i me xs n k = eval_body image (bodies image d) me xs n k (s
 
 -- a send at the top: 32 bodies may be active at once, and 10,000 lookups are made at most
 abbrev pub send_of : ImageParts → Value → Selector → List Value → Meaning
-send_of image receiver s xs = message_to image (bodies image 32) receiver s xs 10000 (λ v n. Ends (replies.Value v))
+send_of image receiver s xs = message_to image (bodies image MAX_BODIES) receiver s xs MAX_LOOKUPS (λ v n. Ends (replies.Value v))

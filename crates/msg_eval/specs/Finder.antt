@@ -1,7 +1,7 @@
 -- What a finder answers.
 use Rattle.std.specs.Prelude.{◌≡◌, ℕ, length}
 use Rattle.msg_names.specs.declared.value.ClassRef.{ClassRef}
-use Rattle.msg_image.specs.Parts.{ImageParts}
+use Rattle.msg_image.specs.Parts.{ImageParts, class_total}
 use Rattle.msg_tables.specs.History.{History, BeginsWith, lookup}
 use Rattle.msg_tables.specs.View.{TablesView}
 
@@ -10,9 +10,11 @@ pub record Sizes : Type 0 where
   pub classes : ℕ
   pub imps : ℕ
 
+-- the sizes of an image
 abbrev pub sizes_of : ImageParts → Sizes
-sizes_of image = record { classes = length image.classes; imps = length image.imps }
+sizes_of image = record { classes = class_total image; imps = length image.imps }
 
+-- the sizes of tables
 abbrev pub table_sizes : TablesView → Sizes
 table_sizes t = record { classes = length t.supers; imps = length t.args }
 

@@ -9,7 +9,7 @@ use Rattle.msg_names.specs.declared.value.Value.TheVariants.{Sel, Nil}
 use Rattle.msg_image.specs.Parts.{ImageParts, forwarding_selector, superclass_in}
 use Rattle.msg_eval.specs.declared.reply.SendFault.TheVariants.{Unrecognized, NotAnObject, Budget}
 use Rattle.msg_eval.specs.Meaning.{Meaning, Rest, Bodies, fault, go_on, ask}
-use Rattle.msg_eval.specs.Receiver.{class_of, new_receiver}
+use Rattle.msg_eval.specs.Receiver.{receiver_class, new_receiver}
 
 -- what follows a lookup that found an implementation, and what follows one that answered forwarding, number 0
 abbrev pub if_found : ℕ → Meaning → Meaning → Meaning
@@ -34,7 +34,7 @@ dispatch image body (suc t) me c from s xs n k =
 -- A message to a value. Nil answers nil and looks nothing up, and a number or a selector is no object.
 abbrev pub message_to : ImageParts → Bodies → Value → Selector → List Value → ℕ → Rest → Meaning
 message_to image body Nil s xs n k = k Nil n
-message_to image body me s xs n k = option_map_or (λ c. dispatch image body n me c c s xs n k) (class_of image me) (fault NotAnObject)
+message_to image body me s xs n k = option_map_or (λ c. dispatch image body n me c c s xs n k) (receiver_class image me) (fault NotAnObject)
 
 -- dispatch to a receiver of one class, with the lookup begun at another
 abbrev pub super_from : ImageParts → Bodies → Value → Selector → List Value → ℕ → Rest → Option ClassRef → Option ClassRef → Meaning
@@ -43,4 +43,4 @@ super_from image body me s xs n k _ _ = fault NotAnObject
 
 -- A super send in a body of this home class: the receiver stays, and the lookup begins at the superclass of the home class. An image has such a class wherever a body has a super send.
 abbrev pub super_message : ImageParts → Bodies → Value → ClassRef → Selector → List Value → ℕ → Rest → Meaning
-super_message image body me home s xs n k = super_from image body me s xs n k (class_of image me) (superclass_in image home)
+super_message image body me home s xs n k = super_from image body me s xs n k (receiver_class image me) (superclass_in image home)

@@ -11,10 +11,10 @@ use Rattle.msg_eval.specs.declared.reply.SendFault.{SendFault}
 use Rattle.msg_eval.specs.declared.reply.SendFault.TheVariants.{NotANumber, Overflow}
 
 -- the number of a value; nil counts as 0
-abbrev pub number_of : Value → Option ℤ
-number_of (Number z) = Some z
-number_of Nil = Some (pos 0)
-number_of _ = None
+abbrev pub numeric_value : Value → Option ℤ
+numeric_value (Number z) = Some z
+numeric_value Nil = Some (pos 0)
+numeric_value _ = None
 
 -- a number of 64 bits with a sign, or an overflow
 abbrev pub fitted : ℤ → Result Value SendFault
@@ -42,11 +42,11 @@ are_same _ _ = false
 
 -- the result of an operation on two values
 abbrev pub result_of : Op → Value → Value → Result Value SendFault
-result_of Add x y = with_numbers (λ a b. fitted (a +ℤ b)) (number_of x) (number_of y)
-result_of Sub x y = with_numbers (λ a b. fitted (a -ℤ b)) (number_of x) (number_of y)
-result_of Mul x y = with_numbers (λ a b. fitted (a *ℤ b)) (number_of x) (number_of y)
+result_of Add x y = with_numbers (λ a b. fitted (a +ℤ b)) (numeric_value x) (numeric_value y)
+result_of Sub x y = with_numbers (λ a b. fitted (a -ℤ b)) (numeric_value x) (numeric_value y)
+result_of Mul x y = with_numbers (λ a b. fitted (a *ℤ b)) (numeric_value x) (numeric_value y)
 result_of Eq x y = Ok (truth (are_same x y))
-result_of Lt x y = with_numbers (λ a b. Ok (truth (int_lt a b))) (number_of x) (number_of y)
+result_of Lt x y = with_numbers (λ a b. Ok (truth (int_lt a b))) (numeric_value x) (numeric_value y)
 
 -- nil and 0 choose the third part of an `if`
 abbrev pub is_no : Value → Bool

@@ -20,21 +20,21 @@ last_of h [] = h
 last_of h (p ∷ ps) = last_of p ps
 
 -- the send ends with the reply where each of its lookups in turn answers at its point
-abbrev pub EndsAt : Meaning → List History → Reply → Type 0
-EndsAt (Ends r) [] reply = r ≡ reply
-EndsAt (Ends r) (p ∷ ps) reply = ⊥
-EndsAt (Asks c s go) [] reply = ⊥
-EndsAt (Asks c s go) (p ∷ ps) reply = EndsAt (go (lookup p c s)) ps reply
+abbrev pub EndsAfter : Meaning → List History → Reply → Type 0
+EndsAfter (Ends r) [] reply = r ≡ reply
+EndsAfter (Ends r) (p ∷ ps) reply = ⊥
+EndsAfter (Asks c s go) [] reply = ⊥
+EndsAfter (Asks c s go) (p ∷ ps) reply = EndsAfter (go (lookup p c s)) ps reply
 
 -- the send of a message ends with the reply where its lookups answer at these points
 abbrev pub SendAt : ImageParts → Value → Selector → List Value → List History → Reply → Type 0
-SendAt image receiver s xs points reply = EndsAt (send_of image receiver s xs) points reply
+SendAt image receiver s xs points reply = EndsAfter (send_of image receiver s xs) points reply
 
 -- There are points that rise from h at which the send ends with the reply, and the finder stands at the last of them, or at h where there are none.
 pub record RepliesFrom (stands : History → Type 0) (h : History) (send : Meaning) (reply : Reply) : Type 0 where
   pub points : List History
   pub rise : Rise h points
-  pub ends : EndsAt send points reply
+  pub ends : EndsAfter send points reply
   pub there : stands (last_of h points)
 
 -- the reply where every lookup answers at h
@@ -49,8 +49,8 @@ AllAre h (p ∷ ps) = (p ≡ h) × AllAre h ps
 
 -- with every point h there is one reply and no other
 pub record HasOneReply (h : History) (send : Meaning) : Type 0 where
-  pub exists : (points : List History) × AllAre h points × EndsAt send points (plain_reply h send)
-  pub only : (points : List History) (reply : Reply) → AllAre h points → EndsAt send points reply → reply ≡ plain_reply h send
+  pub exists : (points : List History) × AllAre h points × EndsAfter send points (plain_reply h send)
+  pub only : (points : List History) (reply : Reply) → AllAre h points → EndsAfter send points reply → reply ≡ plain_reply h send
 
 -- ---- the same with lists of answers
 

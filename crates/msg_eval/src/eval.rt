@@ -6,7 +6,7 @@ ghost use Rattle.std.specs.Prelude.{◌≡◌, ◌<◌, ◌≤◌, ◌+◌, leng
 ghost use Rattle.arrayvec.specs.ArrayVec.{array_vec_len};
 ghost use Rattle.msg_names.specs.Number.{imp_number};
 ghost use Rattle.msg_names.specs.declared.value.Value.{Value};
-ghost use Rattle.msg_image.specs.Parts.{Two, If, Send, Super, superclass_in};
+ghost use Rattle.msg_image.specs.Parts.{Two, If, Send, Super, superclass_in, class_total};
 ghost use Rattle.msg_image.specs.Plain.{plain, plain_all};
 ghost use Rattle.msg_image.specs.Sizes.{arity};
 ghost use Rattle.msg_image.specs.Sound.{IsOf, IsExpressionOf, AreExpressionsOf};
@@ -321,8 +321,8 @@ fn dispatch<F: Finder>(
 ) -> Result<Value, SendFault>
     requires sizes { F.sizes (F.kept finder.old) ≡ sizes_of message.now.image.now }
     requires me_of { IsOf message.now.image.now me }
-    requires class_listed { class.class < length message.now.image.now.classes }
-    requires from_listed { from.class < length message.now.image.now.classes }
+    requires class_listed { class.class < class_total message.now.image.now }
+    requires from_listed { from.class < class_total message.now.image.now }
     ensures kept { F.kept finder.new ≡ F.kept finder.old }
     ensures no_more { left.new ≤ left.old }
     ensures value_of { IfOk result (IsOf message.now.image.now) }
@@ -355,11 +355,11 @@ fn forward<F: Finder>(
 ) -> Result<(Value, ClassRef), SendFault>
     requires sizes { F.sizes (F.kept finder.old) ≡ sizes_of message.now.image.now }
     requires me_of { IsOf message.now.image.now me }
-    requires class_listed { class.class < length message.now.image.now.classes }
+    requires class_listed { class.class < class_total message.now.image.now }
     ensures kept { F.kept finder.new ≡ F.kept finder.old }
     ensures no_more { left.new ≤ left.old }
     ensures target_of { IfOk result (λ r. IsOf message.now.image.now r.0
-        × (r.1.class < length message.now.image.now.classes)) }
+        × (r.1.class < class_total message.now.image.now)) }
     ensures meaning { (h : History) → F.stands finder.old h
         → Gives (F.stands finder.new) h (forwarded message.now me class left.old) result left.new }
 {

@@ -9,8 +9,10 @@ ghost use Rattle.msg_tables.specs.Stands.{StandsAt};
 ghost use Rattle.msg_tables.specs.View.{TablesView};
 ghost use Rattle.msg_eval.specs.Finder.{sizes_of, table_sizes};
 ghost use Rattle.msg_eval.specs.Meaning.{Meaning};
-ghost use Rattle.msg_eval.specs.Points.{EndsAt, SendAt, RepliesFrom, HasOneReply, HasAnswersAt, plain_reply};
+ghost use Rattle.msg_eval.specs.Points.{Rise, last_of, EndsAfter, SendAt, RepliesFrom, HasOneReply, HasAnswersAt, plain_reply};
 ghost use Rattle.msg_eval.specs.declared.reply.Reply.{Reply};
+
+use crate::eval::MAX_LOOKUPS;
 
 /// With every lookup at one history a send has one reply and no other.
 pub fn one_history_is_one_reply()
@@ -20,18 +22,24 @@ pub fn one_history_is_one_reply()
 /// A send makes at most 10,000 lookups.
 pub fn points_are_few()
     ensures { (image : ImageParts) (receiver : Value) (sel : Selector) (args : List Value) (points : List History) (reply : Reply)
-        → SendAt image receiver sel args points reply → length points ≤ 10000 }
+        → SendAt image receiver sel args points reply → length points ≤ MAX_LOOKUPS }
 {}
 
 /// A send ends at its points where it has a list of answers, each of them the lookup at its point.
 pub fn points_have_answers()
-    ensures { (send : Meaning) (points : List History) (reply : Reply) → (EndsAt send points reply) ↔ (HasAnswersAt send 0 points reply) }
+    ensures { (send : Meaning) (points : List History) (reply : Reply) → (EndsAfter send points reply) ↔ (HasAnswersAt send 0 points reply) }
 {}
 
 /// Tables that stay where they stand give the plain reply at their history.
 pub fn tables_reply_plainly()
     ensures { (tables : TablesView) (h : History) (send : Meaning) (reply : Reply)
         → StandsAt tables h → RepliesFrom (StandsAt tables) h send reply → reply ≡ plain_reply h send }
+{}
+
+/// A finder that stands no further than where it stood gave the plain reply there.
+pub fn a_finder_that_stays_replies_plainly()
+    ensures { (h : History) (send : Meaning) (points : List History) (reply : Reply)
+        → Rise h points → last_of h points ≡ h → EndsAfter send points reply → reply ≡ plain_reply h send }
 {}
 
 /// Tables have the sizes of the image of the history at which they stand.

@@ -1,7 +1,7 @@
 //! Arithmetic, comparison and choice.
 
 ghost use Rattle.std.specs.Prelude.{◌≡◌};
-ghost use Rattle.msg_eval.specs.Operation.{result_of, number_of, are_same, truth, is_no, op_of};
+ghost use Rattle.msg_eval.specs.Operation.{result_of, numeric_value, are_same, truth, is_no, op_of};
 
 use crate::reply::SendFault;
 use msg_names::Value;
@@ -17,7 +17,7 @@ pub(crate) enum Operation {
 }
 
 fn number_of(v: Value) -> Option<i64>
-    ensures { result ≡ number_of v }
+    ensures { result ≡ numeric_value v }
 {
     match v {
         Value::Number(n) => Some(n),

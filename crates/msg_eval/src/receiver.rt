@@ -1,8 +1,9 @@
 //! Receivers of messages.
 
 ghost use Rattle.std.specs.Prelude.{◌≡◌, ◌<◌, length, IfOk, IfSome};
+ghost use Rattle.msg_image.specs.Parts.{class_total};
 ghost use Rattle.msg_image.specs.Sound.{IsOf};
-ghost use Rattle.msg_eval.specs.Receiver.{class_of, new_receiver};
+ghost use Rattle.msg_eval.specs.Receiver.{receiver_class, new_receiver};
 
 use crate::operation::are_same;
 use crate::reply::SendFault;
@@ -12,8 +13,8 @@ use msg_names::{ClassRef, Value};
 // The class in which a message to a value is looked up.
 pub(crate) fn class_of(image: &Image, v: Value) -> Option<ClassRef>
     requires { IsOf image.now v }
-    ensures value { result ≡ class_of image.now v }
-    ensures listed { IfSome result (λ c. c.class < length image.now.classes) }
+    ensures value { result ≡ receiver_class image.now v }
+    ensures listed { IfSome result (λ c. c.class < class_total image.now) }
 {
     match v {
         Value::Object(object) => Some(ClassRef {
@@ -34,7 +35,7 @@ pub(crate) fn new_receiver(
 ) -> Result<(Value, ClassRef), SendFault>
     requires { IsOf image.now target }
     ensures value { result ≡ new_receiver image.now me unrecognized target }
-    ensures listed { IfOk result (λ r. IsOf image.now r.0 × (r.1.class < length image.now.classes)) }
+    ensures listed { IfOk result (λ r. IsOf image.now r.0 × (r.1.class < class_total image.now)) }
 {
     if let Value::Nil = target {
         return Err(unrecognized);

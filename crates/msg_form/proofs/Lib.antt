@@ -10,4 +10,5 @@ pub mod ClassLemmas
 pub mod CountLemmas
 pub mod SelectorLemmas
 pub mod BodyLemmas
+pub mod LeastLemmas
 pub mod LimitLemmas

@@ -92,16 +92,16 @@ choice_of es = do
   Some (choice condition yes' no')
 
 -- `["send",E,S,E,..]`
-unfoldable pub send_of : List Data → List (Option Expression) → Option Expression
-send_of ds es = do
+unfoldable pub send_expression_of : List Data → List (Option Expression) → Option Expression
+send_expression_of ds es = do
   receiver ← at 1 es
   selector ← value_of as_str 2 ds
   args ← all_from 3 es
   Some (send receiver selector (expressions args))
 
 -- `["super",S,E,..]`
-unfoldable pub super_of : List Data → List (Option Expression) → Option Expression
-super_of ds es = do
+unfoldable pub super_expression_of : List Data → List (Option Expression) → Option Expression
+super_expression_of ds es = do
   selector ← value_of as_str 1 ds
   args ← all_from 2 es
   Some (super_send selector (expressions args))
@@ -116,8 +116,8 @@ worded_of word ds es =
     if is_word word (codes "self") then me_of ds else
     (if is_word word (codes "arg") then arg_of ds else
     (if is_word word (codes "if") then choice_of es else
-    (if is_word word (codes "send") then send_of ds es else
-    (if is_word word (codes "super") then super_of ds es else
+    (if is_word word (codes "send") then send_expression_of ds es else
+    (if is_word word (codes "super") then super_expression_of ds es else
     operation_of (operator_of word) word ds es))))
 
 unfoldable pub listed_of : List Data → List (Option Expression) → Option Expression

@@ -9,8 +9,8 @@ use Rattle.msg_form.specs.Json.{◌>>=◌, only_if, each, list_at, list_of, fiel
 use Rattle.msg_form.specs.Text.{Text}
 
 -- list L's entries: `[S,N]`
-unfoldable pub pair_of : Data → Option PairForm
-pair_of d = do
+unfoldable pub pair_form_of : Data → Option PairForm
+pair_form_of d = do
   ds ← list_at d
   _ ← only_if (length ds == 2)
   selector ← value_of as_str 0 ds
@@ -27,27 +27,27 @@ superclass_of (array ds) = None
 superclass_of (object ms) = None
 
 -- `{"name":N,"super":N or null,"methods":L,"class_methods":L}`
-unfoldable pub class_of : Data → Option ClassForm
-class_of d = do
+unfoldable pub class_form_of : Data → Option ClassForm
+class_form_of d = do
   _ ← only_if (has_keys 4 d)
   name ← field_of name_of (codes "name") d
   superclass ← field_of superclass_of (codes "super") d
-  methods ← field_of (list_of pair_of) (codes "methods") d
-  class_methods ← field_of (list_of pair_of) (codes "class_methods") d
+  methods ← field_of (list_of pair_form_of) (codes "methods") d
+  class_methods ← field_of (list_of pair_form_of) (codes "class_methods") d
   Some (record { name = name; superclass = superclass; methods = methods; class_methods = class_methods })
 
 -- `{"class":N,"methods":L,"class_methods":L}`
-unfoldable pub category_of : Data → Option CategoryForm
-category_of d = do
+unfoldable pub category_form_of : Data → Option CategoryForm
+category_form_of d = do
   _ ← only_if (has_keys 3 d)
   class ← field_of name_of (codes "class") d
-  methods ← field_of (list_of pair_of) (codes "methods") d
-  class_methods ← field_of (list_of pair_of) (codes "class_methods") d
+  methods ← field_of (list_of pair_form_of) (codes "methods") d
+  class_methods ← field_of (list_of pair_form_of) (codes "class_methods") d
   Some (record { class = class; methods = methods; class_methods = class_methods })
 
 -- `{"name":N,"class":N}`
-unfoldable pub object_of : Data → Option ObjectForm
-object_of d = do
+unfoldable pub object_form_of : Data → Option ObjectForm
+object_form_of d = do
   _ ← only_if (has_keys 2 d)
   name ← field_of name_of (codes "name") d
   class ← field_of name_of (codes "class") d
@@ -62,8 +62,8 @@ unfoldable pub args_of : Data → Option ℕ
 args_of d = whole_of d >>= at_most_four
 
 -- `{"name":N,"class":N,"meta":true or false,"args":0 to 4,"body":E}`
-unfoldable pub imp_of : Data → Option ImpForm
-imp_of d = do
+unfoldable pub imp_form_of : Data → Option ImpForm
+imp_form_of d = do
   _ ← only_if (has_keys 5 d)
   name ← field_of name_of (codes "name") d
   class ← field_of name_of (codes "class") d
@@ -75,8 +75,8 @@ imp_of d = do
 -- ---- changes
 
 -- `N,meta,S`, from a place on
-unfoldable pub method_of : ℕ → List Data → Option MethodForm
-method_of place ds = do
+unfoldable pub method_form_of : ℕ → List Data → Option MethodForm
+method_form_of place ds = do
   class ← value_of name_of place ds
   meta ← value_of as_bool (place + 1) ds
   selector ← value_of as_str (place + 2) ds
@@ -86,7 +86,7 @@ method_of place ds = do
 unfoldable pub edit_of : List Data → Option (MethodForm × Text)
 edit_of ds = do
   _ ← only_if (length ds == 5)
-  method ← method_of 1 ds
+  method ← method_form_of 1 ds
   imp ← value_of name_of 4 ds
   Some (method, imp)
 
@@ -94,8 +94,8 @@ edit_of ds = do
 unfoldable pub exchange_of : List Data → Option ChangeForm
 exchange_of ds = do
   _ ← only_if (length ds == 7)
-  method ← method_of 1 ds
-  other ← method_of 4 ds
+  method ← method_form_of 1 ds
+  other ← method_form_of 4 ds
   Some (exchange method other)
 
 -- `["attach",N,L,L]`
@@ -103,8 +103,8 @@ unfoldable pub attach_of : List Data → Option ChangeForm
 attach_of ds = do
   _ ← only_if (length ds == 4)
   class ← value_of name_of 1 ds
-  methods ← value_of (list_of pair_of) 2 ds
-  class_methods ← value_of (list_of pair_of) 3 ds
+  methods ← value_of (list_of pair_form_of) 2 ds
+  class_methods ← value_of (list_of pair_form_of) 3 ds
   Some (attach class methods class_methods)
 
 unfoldable pub worded_change_of : Text → List Data → Option ChangeForm
@@ -116,8 +116,8 @@ worded_change_of word ds =
     (if is_word word (codes "attach") then attach_of ds else
     None))))
 
-unfoldable pub change_of : Data → Option ChangeForm
-change_of d = do
+unfoldable pub change_form_of : Data → Option ChangeForm
+change_form_of d = do
   ds ← list_at d
   word ← value_of as_str 0 ds
   worded_change_of word ds
@@ -139,10 +139,10 @@ either None f other = other
 either (Some a) f other = f a
 
 -- `{"send":[C,S,C,..]}` or `{"change":X}`
-unfoldable pub item_of : Data → Option ItemForm
-item_of d = do
+unfoldable pub item_form_of : Data → Option ItemForm
+item_form_of d = do
   _ ← only_if (has_keys 1 d)
-  either (get (codes "send") d) send_item_of (option_map change_item (field_of change_of (codes "change") d))
+  either (get (codes "send") d) send_item_of (option_map change_item (field_of change_form_of (codes "change") d))
 
 -- ---- the whole document
 
@@ -150,9 +150,9 @@ unfoldable pub form_of : Data → Option Form
 form_of d = do
   _ ← only_if (has_keys 6 d)
   version ← field_of whole_of (codes "version") d
-  classes ← field_of (list_of class_of) (codes "classes") d
-  categories ← field_of (list_of category_of) (codes "categories") d
-  objects ← field_of (list_of object_of) (codes "objects") d
-  imps ← field_of (list_of imp_of) (codes "imps") d
-  items ← field_of (list_of item_of) (codes "items") d
+  classes ← field_of (list_of class_form_of) (codes "classes") d
+  categories ← field_of (list_of category_form_of) (codes "categories") d
+  objects ← field_of (list_of object_form_of) (codes "objects") d
+  imps ← field_of (list_of imp_form_of) (codes "imps") d
+  items ← field_of (list_of item_form_of) (codes "items") d
   Some (record { version = version; classes = classes; categories = categories; objects = objects; imps = imps; items = items })

@@ -1,7 +1,7 @@
 //! Why a document is refused.
 
 ghost use Rattle.std.specs.Prelude.{◌≡◌};
-ghost use Rattle.msg_form.specs.FaultNumber.{fault_number};
+ghost use Rattle.msg_form.specs.FaultNumber.{document_fault_number};
 ghost use Rattle.msg_form.specs.Unread.{unread};
 ghost use Rattle.msg_form.specs.declared.faults.DocumentFault.TheVariants as DocumentFault;
 ghost use Rattle.msg_form.specs.declared.faults.ReadFault.TheVariants.{Memory};
@@ -96,7 +96,7 @@ impl From<ReadFault> for DocumentFault {
 impl DocumentFault {
     /// The number of the fault, from 1.
     pub fn number(self) -> u32
-        ensures { result ≡ fault_number self }
+        ensures { result ≡ document_fault_number self }
     {
         self as u32 + 1
     }

@@ -7,6 +7,7 @@
 mod faults;
 mod form;
 mod judge;
+pub mod laws;
 mod name_set;
 mod read;
 mod walk;

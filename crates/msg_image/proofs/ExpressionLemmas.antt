@@ -13,7 +13,7 @@ use Rattle.msg_form.specs.Walk.{texts_in, all_texts_in}
 use Rattle.msg_image.specs.Document.{constant, expression, expressions}
 use Rattle.msg_image.specs.Numbers.{class_named, object_named}
 use Rattle.msg_image.specs.declared.numbers.Numbers.{Numbers}
-use Rattle.msg_image.specs.Parts.{ImageParts}
+use Rattle.msg_image.specs.Parts.{class_total, ImageParts}
 use Rattle.msg_image.specs.Sizes.{count, count_all, depth, depth_all, arity}
 use Rattle.msg_image.specs.Sound.{IsOf, IsExpressionOf, AreExpressionsOf}
 use Rattle.msg_image.proofs.NoneLemmas.{neither, none-append}
@@ -83,7 +83,7 @@ abbrev pub is_bad : Text → Bool
 is_bad t = not (is_selector_name t)
 
 module _ (image : ImageParts) (n : Numbers) (class_names object_names : List Text)
-    (class_in : (name : Text) → is_unknown class_names name ≡ false → class_named n name < length image.classes)
+    (class_in : (name : Text) → is_unknown class_names name ≡ false → class_named n name < class_total image)
     (object_in : (name : Text) → is_unknown object_names name ≡ false → (object_named n name).object < length image.objects) where
   -- parts, and the texts of their selectors
   pub record AreGood (parts : List form.Expression) (texts : List Text) : Type 0 where

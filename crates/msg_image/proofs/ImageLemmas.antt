@@ -1,6 +1,7 @@
 -- The image that was made from a form.
-use Rattle.std.proofs.Common.{◌≡◌, ◌≤◌, List, [], ◌∷◌, map, get_or, None, refl, sym, ap, ◌∙◌, subst}
-use Rattle.std.specs.Prelude.{All}
+use Rattle.std.proofs.Common.{◌≡◌, ◌≤◌, List, [], ◌∷◌, map, get_or, None, refl, sym, ap, ◌∙◌, subst, length, arith}
+use Rattle.std.specs.Prelude.{All, string_bytes}
+use Rattle.std.proofs.lemmas.List.{length-map}
 use Rattle.std.proofs.lemmas.List.Elements.{All-map}
 use Rattle.std.proofs.lemmas.Simd.{map-map}
 use Rattle.msg_form.specs.declared.form.Form.{Form}
@@ -23,7 +24,7 @@ use Rattle.msg_image.proofs.ItemLemmas.{items_sound}
 use Rattle.msg_image.specs.declared.image.Image.TheInside.{Inside}
 use Rattle.msg_image.specs.declared.numbers.Numbers.{Numbers}
 use Rattle.msg_image.proofs.FaultlessLemmas.{faultless}
-use Rattle.msg_image.proofs.SoundLemmas.{image_sound}
+use Rattle.msg_image.proofs.SoundLemmas.{image_sound, items_few}
 
 -- what was resolved of the forms
 pub resolved : {A B C D : Type 0} (parts : B → C) (view : A → D) (meaning : D → C) (found : List B) (forms all : List A) → forms ≡ all → map parts found ≡ map (λ a. meaning (view a)) forms → map parts found ≡ map meaning (map view all)
@@ -33,25 +34,26 @@ same_map : {A : Type 0} (xs : List A) → map (λ x. x) xs ≡ xs
 same_map [] = refl
 same_map (x ∷ xs) = ap (λ ys. x ∷ ys) (same_map xs)
 
-pub image_is : (n : Numbers) (f : Form) (i : Inside) → n ≡ numbers_of (form_view f) → i.names ≡ n.selectors → map class_parts i.classes.items ≡ map (spec.class n) (form_view f).classes → map (λ c. c) i.categories.items ≡ map (spec.category n) (form_view f).categories
+pub image_is : (n : Numbers) (f : Form) (i : Inside) → n ≡ numbers_of (form_view f) → i.names ≡ n.selectors → i.made.items ≡ [] → map class_parts i.classes.items ≡ map (spec.class n) (form_view f).classes → map (λ c. c) i.categories.items ≡ map (spec.category n) (form_view f).categories
     → map object_parts i.objects.items ≡ map (spec.object n) (form_view f).objects → map imp_parts i.imps.items ≡ map (spec.imp n) (form_view f).imps → image_parts i ≡ spec.image_of (form_view f)
-image_is n f i same names classes categories objects imps = λ j. record {
+image_is n f i same names none classes categories objects imps = λ j. record {
   names = (names ∙ ap (λ (m : Numbers). m.selectors) same) j;
   classes = (classes ∙ ap (λ m. map (spec.class m) (form_view f).classes) same) j;
+  made = ap (map string_bytes) none j;
   categories = (sym (same_map i.categories.items) ∙ categories ∙ ap (λ m. map (spec.category m) (form_view f).categories) same) j;
   objects = (objects ∙ ap (λ m. map (spec.object m) (form_view f).objects) same) j;
   imps = (imps ∙ ap (λ m. map (spec.imp m) (form_view f).imps) same) j;
 }
 
 -- an image whose lists were resolved, each from the form's list
-pub made : (n : Numbers) (f : Form) (i : Inside) (cs : List Class) (gs : List Category) (os : List Object) (is : List Imp) → n ≡ numbers_of (form_view f) → i.names ≡ n.selectors
+pub made : (n : Numbers) (f : Form) (i : Inside) (cs : List Class) (gs : List Category) (os : List Object) (is : List Imp) → n ≡ numbers_of (form_view f) → i.names ≡ n.selectors → i.made.items ≡ []
     → cs ≡ f.classes.items → map class_parts i.classes.items ≡ map (λ c. spec.class n (class_view c)) cs
     → gs ≡ f.categories.items → map (λ c. c) i.categories.items ≡ map (λ c. spec.category n (category_view c)) gs
     → os ≡ f.objects.items → map object_parts i.objects.items ≡ map (λ o. spec.object n (object_view o)) os
     → is ≡ f.imps.items → map imp_parts i.imps.items ≡ map (λ i. spec.imp n (imp_view i)) is
     → image_parts i ≡ spec.image_of (form_view f)
-made n f i cs gs os is same names c classes g categories o objects m imps =
-    image_is n f i same names
+made n f i cs gs os is same names none c classes g categories o objects m imps =
+    image_is n f i same names none
     (resolved class_parts class_view (spec.class n) i.classes.items cs f.classes.items c classes)
     (resolved (λ c. c) category_view (spec.category n) i.categories.items gs f.categories.items g categories)
     (resolved object_parts object_view (spec.object n) i.objects.items os f.objects.items o objects)
@@ -68,6 +70,10 @@ document_is f image items is are = λ j. record { image = is j; items = are j }
 
 pub sound_items : (f : Form) (image : ImageParts) (items : List ItemParts) → fault_of (form_view f) ≡ None → image ≡ spec.image_of (form_view f) → items ≡ map (spec.item (numbers_of (form_view f))) (form_view f).items → All (IsSoundItem image) items
 sound_items f image items no_fault is are = subst (λ i. All (IsSoundItem i) items) (sym is) (subst (All (IsSoundItem (spec.image_of (form_view f)))) (sym are) (items_sound (form_view f) (faultless (form_view f) no_fault)))
+
+pub few_items : (f : Form) (found : List Item) (forms : List ItemForm) (n : Numbers) → fault_of (form_view f) ≡ None → forms ≡ f.items.items → map item_parts found ≡ map (λ i. spec.item n (item_view i)) forms → length found ≤ 65536
+few_items f found forms n no_fault same is =
+    omega (arith, items_few (form_view f) (faultless (form_view f) no_fault), ap length is, ap length same, length-map found item_parts, length-map forms (λ i. spec.item n (item_view i)), length-map f.items.items item_view)
 
 few_args : (is : List Imp) → All (λ (i : ImpForm). i.args ≤ 4) (map imp_view is)
 few_args is = All-map (λ (i : ImpForm). i.args ≤ 4) imp_view is (λ k d inside. (get_or is k d).few_args)

@@ -1,9 +1,10 @@
 -- Names that are known, and their numbers.
-use Rattle.std.proofs.Common.{◌≡◌, ◌<◌, ◌≤◌, ◌+◌, ℕ, zero, suc, List, [], ◌∷◌, ◌++◌, length, length-append, map, take, Bool, true, false, not, cond, Option, Some, None, is_some, option_map, slice_get, bytes_eq, refl, sym, ap, ◌∙◌, subst, arith, append_assoc}
+use Rattle.std.proofs.Common.{◌≡◌, ◌<◌, ◌≤◌, ◌+◌, ℕ, zero, suc, List, [], ◌∷◌, ◌++◌, length, length-append, map, take, Bool, true, false, ◌||◌, not, cond, Option, Some, None, is_some, option_map, slice_get, bytes_eq, refl, sym, ap, ◌∙◌, subst, arith, append_assoc}
 use Rattle.std.specs.Prelude.{fold}
 use Rattle.std.specs.List.{list_any}
 use Rattle.std.proofs.lemmas.List.{append-nil}
 use Rattle.std.proofs.lemmas.Option.{same_Some}
+use Rattle.std.proofs.lemmas.Slice.Eq.{bytes_eq-Decides}
 use Rattle.msg_names.specs.Numbering.{number_of, with_name}
 use Rattle.msg_names.proofs.NumberLemmas.{is_some-number_of, number_stays}
 use Rattle.msg_form.specs.Text.{Text, is_among, is_unknown, distinct}
@@ -43,6 +44,7 @@ pub record HasNumber (names : List Text) (name : Text) : Type 0 where
   pub is : number_of (distinct names) name ≡ Some number
   pub positive : 0 < number
   pub listed : number ≤ length names
+  pub numbered : number ≤ length (distinct names)
 
 pub known : (names : List Text) (name : Text) → is_among name names ≡ true → HasNumber names name
 known names name among = at_number (number_of (distinct names) name) refl
@@ -54,7 +56,7 @@ known names name among = at_number (number_of (distinct names) name) refl
     at_number None e = let clash : false ≡ true = sym (ap is_some e) ∙ some in absurd cc
     at_number (Some n) e =
         let range = number-in_range (distinct names) name n e in
-        record { number = n; is = e; positive = range.0; listed = omega (arith, range.1, few_distinct names) }
+        record { number = n; is = e; positive = range.0; listed = omega (arith, range.1, few_distinct names); numbered = range.1 }
 
 pub among : (names : List Text) (name : Text) → is_unknown names name ≡ false → is_among name names ≡ true
 among names name e = at_test (is_among name names) e
@@ -62,6 +64,20 @@ among names name e = at_test (is_among name names) e
     at_test : (b : Bool) → not b ≡ false → b ≡ true
     at_test true f = refl
     at_test false f = cc
+
+or-true : (b : Bool) → (b || true) ≡ true
+or-true true = refl
+or-true false = refl
+
+-- a text is among texts in which it stands
+pub has_text : (s : Text) (xs ys : List Text) → is_among s (xs ++ (s ∷ ys)) ≡ true
+has_text s [] ys = rw ((bytes_eq-Decides s s).1 refl) refl
+has_text s (x ∷ xs) ys = rw (has_text s xs ys) (or-true (bytes_eq s x))
+
+-- texts are all known among themselves
+pub none_unknown : (xs ys : List Text) → list_any (is_unknown (xs ++ ys)) ys ≡ false
+none_unknown xs [] = refl
+none_unknown xs (y ∷ ys) = rw (has_text y xs ys) (rw (append_assoc xs (y ∷ []) ys) at (none_unknown (xs ++ y ∷ []) ys))
 
 fold-append : (names xs ys : List Text) → fold with_name names (xs ++ ys) ≡ fold with_name (fold with_name names xs) ys
 fold-append names [] ys = refl

@@ -3,8 +3,10 @@ pub mod PartLemmas
 pub mod NoneLemmas
 pub mod KnownLemmas
 pub mod ExpressionLemmas
+pub mod ContentsLemmas
 pub mod ResolveLemmas
 pub mod FaultlessLemmas
+pub mod PlaceLemmas
 pub mod SoundLemmas
 pub mod ItemLemmas
 pub mod AnswerLemmas

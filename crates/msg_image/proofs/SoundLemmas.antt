@@ -1,6 +1,6 @@
 -- The image of a form without fault is sound.
-use Rattle.std.proofs.Common.{◌≡◌, ◌<◌, ◌≤◌, ◌+◌, ◌-◌, ℕ, List, [], ◌∷◌, ◌++◌, length, length-append, map, take, drop, Bool, false, ◌||◌, Option, Some, None, option_map, slice_get, get_or, refl, sym, ap, ◌∙◌, subst, arith}
-use Rattle.std.specs.Prelude.{All, nat_lt, sum_by}
+use Rattle.std.proofs.Common.{◌≡◌, ◌<◌, ◌≤◌, ◌+◌, ◌-◌, ℕ, zero, suc, List, [], ◌∷◌, ◌++◌, length, length-append, map, take, drop, Bool, true, false, not, ◌&&◌, ◌||◌, Option, Some, None, option_map, slice_get, get_or, refl, sym, ap, ◌∙◌, subst, arith}
+use Rattle.std.specs.Prelude.{All, IsSome, nat_lt, sum_by}
 use Rattle.std.specs.List.{list_any, flat_map}
 use Rattle.std.proofs.lemmas.Bool.Decides.{nat_tests}
 use Rattle.std.proofs.lemmas.Grind.{flat_map-append}
@@ -8,26 +8,32 @@ use Rattle.std.proofs.lemmas.List.{length-map, map-append, take-append-drop, len
 use Rattle.std.proofs.lemmas.List.Elements.{All-map}
 use Rattle.std.proofs.lemmas.List.Sums.{sum_by-cons}
 use Rattle.std.proofs.lemmas.Option.{slice_get-map, same_Some}
-use Rattle.msg_names.specs.Numbering.{number_of}
+use Rattle.msg_names.specs.Number.{selector_number, selector_of}
+use Rattle.msg_names.specs.Numbering.{number_of, name_at}
+use Rattle.msg_names.proofs.NumberLemmas.{name_at-number_of}
 use Rattle.msg_form.specs.Expression as form
-use Rattle.msg_form.specs.Faults.{has_late_superclass, has_long_list, has_many_entries, has_many_selectors, is_over_limit, has_unknown_superclass, has_unknown_class, has_unknown_object, has_unknown_imp, has_bad_selector, has_wrong_argument_count, has_too_deep_body, is_too_deep, is_miscounted, is_miscounted_send}
+use Rattle.msg_form.specs.Faults.{has_late_superclass, has_long_list, has_many_entries, has_many_selectors, is_over_limit, has_unknown_superclass, has_unknown_class, has_unknown_object, has_unknown_imp, has_bad_selector, has_wrong_argument_count, has_too_deep_body, has_wrong_argument_index, is_too_deep, is_miscounted, is_miscounted_send, reads_beyond, sends_above}
 use Rattle.msg_form.specs.Form.{PairForm, ClassForm, CategoryForm, ObjectForm, ImpForm, Form}
-use Rattle.msg_form.specs.Lists.{class_names, object_names, imp_names, class_lists, category_lists, method_lists, item_lists, all_lists, method_entries, item_imps, item_classes, item_objects, item_sends, body_sends, body_classes, body_objects, part_classes, other_classes}
+use Rattle.msg_form.specs.Lists.{class_names, root_names, object_names, imp_names, class_lists, category_lists, method_lists, item_lists, all_lists, method_entries, item_imps, item_classes, item_objects, item_sends, body_sends, body_classes, body_objects, part_classes, other_classes}
 use Rattle.msg_form.specs.Parts as inner
-use Rattle.msg_form.specs.Text.{Text, is_unknown, distinct}
-use Rattle.msg_form.specs.Walk.{selector_texts, forwarding_text, class_texts, category_texts, imp_texts, item_texts, texts_in}
+use Rattle.msg_form.specs.Text.{Text, is_among, is_unknown, distinct}
+use Rattle.msg_form.specs.Walk.{selector_texts, forwarding_text, list_texts, class_texts, category_texts, imp_texts, item_texts, texts_in}
 use Rattle.msg_form.proofs.AnyLemmas.{list_any-map, list_any-flat_map}
+use Rattle.msg_image.specs.Contents.{selectors_in, arguments_in, has_super_send}
 use Rattle.msg_image.specs.Document as spec
+use Rattle.msg_image.specs.Document.{expression}
 use Rattle.msg_image.specs.declared.image.Category.{Category}
 use Rattle.msg_image.specs.declared.numbers.Numbers.{Numbers}
-use Rattle.msg_image.specs.Numbers.{numbers_of, class_named, object_named, imp_named}
-use Rattle.msg_image.specs.Parts.{ImageParts, ClassParts, ObjectParts}
-use Rattle.msg_image.specs.Sound.{IsSound, IsSoundClass, IsSoundCategory, IsSoundImp, AreListed, row_count}
+use Rattle.msg_image.specs.Numbers.{numbers_of, selector_named, class_named, object_named, imp_named}
+use Rattle.msg_image.specs.Parts.{class_total, ImageParts, ClassParts, ObjectParts, superclass_in}
+use Rattle.msg_image.specs.Sound.{IsSound, IsSoundClass, IsSoundCategory, IsSoundImp, IsMethodOf, AreListed, HasSelector, row_count}
 use Rattle.msg_image.proofs.ExpressionLemmas.{AreGood, names_unknown_class, names_unknown_object, sends_miscounted, is_bad, count-expression, depth-expression, expression_of_image}
+use Rattle.msg_image.proofs.ContentsLemmas.{selectors-expression, arguments_below, super-expression}
 use Rattle.msg_image.proofs.FaultlessLemmas.{IsFaultless}
-use Rattle.msg_image.proofs.KnownLemmas.{known, among, number_of-first, earlier}
+use Rattle.msg_image.proofs.PlaceLemmas.{IsListedAs, listed_class, root_name}
+use Rattle.msg_image.proofs.KnownLemmas.{known, among, none_unknown, number_of-first, earlier}
 use Rattle.msg_image.proofs.NoneLemmas.{neither, none-append, each-none, each-mapped, each-inside}
-use Rattle.msg_image.proofs.PartLemmas.{All-at}
+use Rattle.msg_image.proofs.PartLemmas.{All-at, superclass_in-at}
 
 -- ---- sizes
 
@@ -71,6 +77,10 @@ rows n f = omega (arith, rows_of_classes (numbers_of f) f.classes, rows_of_categ
 
 -- ---- numbers of names
 
+pub selector_of-number : (k : ℕ) → 0 < k → selector_number (selector_of k) ≡ k
+selector_of-number zero positive = absurd (omega (arith, positive))
+selector_of-number (suc k) positive = refl
+
 module _ (f : Form) (g : IsFaultless f) where
   n : Numbers
   n = numbers_of f
@@ -85,6 +95,9 @@ module _ (f : Form) (g : IsFaultless f) where
       let named : class_named (numbers_of f) name ≡ number.number - 1 = rw number.is refl in
       omega (arith, named, number.positive, number.listed, length-map f.classes (λ (c : ClassForm). c.name), length-map f.classes (spec.class (numbers_of f)))
 
+  pub any_class_in : (name : Text) → is_unknown (class_names f) name ≡ false → class_named (numbers_of f) name < class_total (spec.image_of f)
+  any_class_in name e = let inside = class_in name e in omega (arith, inside)
+
   pub object_in : (name : Text) → is_unknown (object_names f) name ≡ false → (object_named (numbers_of f) name).object < length (spec.image_of f).objects
   unfolding object_named
   object_in name e =
@@ -92,20 +105,67 @@ module _ (f : Form) (g : IsFaultless f) where
       let named : (object_named (numbers_of f) name).object ≡ number.number - 1 = rw number.is refl in
       omega (arith, named, number.positive, number.listed, length-map f.objects (λ (o : ObjectForm). o.name), length-map f.objects (spec.object (numbers_of f)))
 
-  imp_in : (p : PairForm) → is_unknown (imp_names f) p.imp ≡ false → (0 < (spec.method (numbers_of f) p).1) × ((spec.method (numbers_of f) p).1 ≤ length (spec.image_of f).imps)
+  pub imp_in : (p : PairForm) → is_unknown (imp_names f) p.imp ≡ false → (0 < (spec.method (numbers_of f) p).1) × ((spec.method (numbers_of f) p).1 ≤ length (spec.image_of f).imps)
   unfolding imp_named
   imp_in p e =
       let number = known (imp_names f) p.imp (among (imp_names f) p.imp e) in
       let named : (spec.method (numbers_of f) p).1 ≡ number.number = rw number.is refl in
       (omega (arith, named, number.positive), omega (arith, named, number.listed, length-map f.imps (λ (i : ImpForm). i.name), length-map f.imps (spec.imp (numbers_of f))))
 
+  pub selector_in : (t : Text) → is_unknown (selector_texts f) t ≡ false → HasSelector (spec.image_of f) (selector_named (numbers_of f) t)
+  unfolding selector_named
+  selector_in t e =
+      let number = known (selector_texts f) t (among (selector_texts f) t e) in
+      let named : selector_named (numbers_of f) t ≡ selector_of number.number = rw number.is refl in
+      omega (arith, ap selector_number named, selector_of-number number.number number.positive, number.numbered)
+
+  -- ---- what holds of the texts at all places of selectors holds at each place
+
+  -- a test that none of the texts passes, at the places of classes, of categories, of bodies and of items
+  pub record NoneIn (p : Text → Bool) : Type 0 where
+    pub classes : list_any p (flat_map class_texts f.classes) ≡ false
+    pub categories : list_any p (flat_map category_texts f.categories) ≡ false
+    pub imps : list_any p (flat_map imp_texts f.imps) ≡ false
+    pub items : list_any p (flat_map item_texts f.items) ≡ false
+
+  none_in : (p : Text → Bool) → list_any p (selector_texts f) ≡ false → NoneIn p
+  unfolding selector_texts
+  none_in p none =
+      let to_items = none-append p (flat_map class_texts f.classes ++ flat_map category_texts f.categories ++ flat_map imp_texts f.imps) (flat_map item_texts f.items) (neither (p forwarding_text) _ none).1 in
+      let to_imps = none-append p (flat_map class_texts f.classes ++ flat_map category_texts f.categories) (flat_map imp_texts f.imps) to_items.0 in
+      let to_categories = none-append p (flat_map class_texts f.classes) (flat_map category_texts f.categories) to_imps.0 in
+      record { classes = to_categories.0; categories = to_categories.1; imps = to_imps.1; items = to_items.1 }
+
+  -- each is the name of a selector
+  pub selectors_good : NoneIn is_bad
+  unfolding has_bad_selector
+  selectors_good = none_in is_bad g.selectors
+
+  -- a text that has no number
+  abbrev pub unnamed : Text → Bool
+  unnamed = is_unknown (selector_texts f)
+
+  pub selectors_named : NoneIn unnamed
+  selectors_named = none_in unnamed (none_unknown [] (selector_texts f))
+
   -- ---- method lists
 
-  abbrev unlisted : PairForm → Bool
+  abbrev pub unlisted : PairForm → Bool
   unlisted p = is_unknown (imp_names f) p.imp
 
-  listed : (ps : List PairForm) → list_any unlisted ps ≡ false → AreListed (spec.image_of f) (spec.methods (numbers_of f) ps)
-  listed ps none = All-map (λ m. (0 < m.1) × (m.1 ≤ length (spec.image_of f).imps)) (spec.method (numbers_of f)) ps (each-none (λ p. (0 < (spec.method (numbers_of f) p).1) × ((spec.method (numbers_of f) p).1 ≤ length (spec.image_of f).imps)) unlisted ps imp_in none)
+  pub listed : (ps : List PairForm) → list_any unlisted ps ≡ false → list_any unnamed (list_texts ps) ≡ false → AreListed (spec.image_of f) (spec.methods (numbers_of f) ps)
+  listed ps none named =
+      let imps = each-none (λ p. (0 < (spec.method (numbers_of f) p).1) × ((spec.method (numbers_of f) p).1 ≤ length (spec.image_of f).imps)) unlisted ps imp_in none in
+      let selectors = each-mapped (λ (p : PairForm). HasSelector (spec.image_of f) (selector_named (numbers_of f) p.selector)) unnamed (λ (p : PairForm). p.selector) ps (λ p. selector_in p.selector) named in
+      All-map (IsMethodOf (spec.image_of f)) (spec.method (numbers_of f)) ps (λ k d inside. ((imps k d inside).0, (imps k d inside).1, selectors k d inside))
+
+  pub imps_cited_by_items : (list_any (λ (l : List PairForm). list_any unlisted l) (flat_map item_lists f.items) ≡ false) × (list_any (is_unknown (imp_names f)) (flat_map item_imps f.items) ≡ false)
+  unfolding has_unknown_imp
+  imps_cited_by_items =
+      let cited = none-append (is_unknown (imp_names f)) (map (λ (p : PairForm). p.imp) (flat_map (λ (l : List PairForm). l) (all_lists f))) (flat_map item_imps f.items) g.imps in
+      let entries = sym (list_any-map (is_unknown (imp_names f)) (λ (p : PairForm). p.imp) (flat_map (λ (l : List PairForm). l) (all_lists f))) ∙ cited.0 in
+      let in_lists = sym (list_any-flat_map unlisted (λ (l : List PairForm). l) (all_lists f)) ∙ entries in
+      ((none-append (λ (l : List PairForm). list_any unlisted l) (method_lists f) (flat_map item_lists f.items) in_lists).1, cited.1)
 
   lists : (list_any (λ l. list_any unlisted l) (flat_map class_lists f.classes) ≡ false) × (list_any (λ l. list_any unlisted l) (flat_map category_lists f.categories) ≡ false)
   unfolding has_unknown_imp
@@ -119,16 +179,23 @@ module _ (f : Form) (g : IsFaultless f) where
   abbrev TwoListed : List PairForm → List PairForm → Type 0
   TwoListed ms cs = AreListed (spec.image_of f) (spec.methods (numbers_of f) ms) × AreListed (spec.image_of f) (spec.methods (numbers_of f) cs)
 
-  two_listed : (ms cs : List PairForm) → list_any (λ (l : List PairForm). list_any unlisted l) (ms ∷ cs ∷ []) ≡ false → TwoListed ms cs
-  two_listed ms cs none =
+  pub two_listed : (ms cs : List PairForm) → list_any (λ (l : List PairForm). list_any unlisted l) (ms ∷ cs ∷ []) ≡ false → list_any unnamed (list_texts ms ++ list_texts cs) ≡ false → TwoListed ms cs
+  two_listed ms cs none named =
       let each = neither (list_any unlisted ms) (list_any unlisted cs || false) none in
-      (listed ms each.0, listed cs (neither (list_any unlisted cs) false each.1).0)
+      let texts = none-append unnamed (list_texts ms) (list_texts cs) named in
+      (listed ms each.0 texts.0, listed cs (neither (list_any unlisted cs) false each.1).0 texts.1)
 
   class_methods_listed : All (λ (c : ClassForm). TwoListed c.methods c.class_methods) f.classes
-  class_methods_listed = each-inside (λ (c : ClassForm). TwoListed c.methods c.class_methods) (λ l. list_any unlisted l) class_lists f.classes (λ c. two_listed c.methods c.class_methods) lists.0
+  class_methods_listed =
+      let texts = each-inside (λ (c : ClassForm). list_any unnamed (class_texts c) ≡ false) unnamed class_texts f.classes (λ c e. e) selectors_named.classes in
+      let imps = each-inside (λ (c : ClassForm). list_any (λ l. list_any unlisted l) (class_lists c) ≡ false) (λ l. list_any unlisted l) class_lists f.classes (λ c e. e) lists.0 in
+      λ k d inside. two_listed (get_or f.classes k d).methods (get_or f.classes k d).class_methods (imps k d inside) (texts k d inside)
 
   category_methods_listed : All (λ (c : CategoryForm). TwoListed c.methods c.class_methods) f.categories
-  category_methods_listed = each-inside (λ (c : CategoryForm). TwoListed c.methods c.class_methods) (λ l. list_any unlisted l) category_lists f.categories (λ c. two_listed c.methods c.class_methods) lists.1
+  category_methods_listed =
+      let texts = each-inside (λ (c : CategoryForm). list_any unnamed (category_texts c) ≡ false) unnamed category_texts f.categories (λ c e. e) selectors_named.categories in
+      let imps = each-inside (λ (c : CategoryForm). list_any (λ l. list_any unlisted l) (category_lists c) ≡ false) (λ l. list_any unlisted l) category_lists f.categories (λ c e. e) lists.1 in
+      λ k d inside. two_listed (get_or f.categories k d).methods (get_or f.categories k d).class_methods (imps k d inside) (texts k d inside)
 
   -- ---- classes
 
@@ -173,13 +240,6 @@ module _ (f : Form) (g : IsFaultless f) where
   first_classes_cited : (list_any (is_unknown (class_names f)) (map (λ (c : CategoryForm). c.class) f.categories) ≡ false) × (list_any (is_unknown (class_names f)) (map (λ (o : ObjectForm). o.class) f.objects) ≡ false)
   first_classes_cited = none-append (is_unknown (class_names f)) (map (λ (c : CategoryForm). c.class) f.categories) (map (λ (o : ObjectForm). o.class) f.objects) part_classes_cited.0
 
-  pub selectors_good : (list_any is_bad (flat_map imp_texts f.imps) ≡ false) × (list_any is_bad (flat_map item_texts f.items) ≡ false)
-  unfolding has_bad_selector selector_texts
-  selectors_good =
-      let all = (neither (is_bad forwarding_text) _ g.selectors).1 in
-      let to_items = none-append is_bad (flat_map class_texts f.classes ++ flat_map category_texts f.categories ++ flat_map imp_texts f.imps) (flat_map item_texts f.items) all in
-      ((none-append is_bad (flat_map class_texts f.classes ++ flat_map category_texts f.categories) (flat_map imp_texts f.imps) to_items.0).1, to_items.1)
-
   pub counts_right : (list_any is_miscounted_send (body_sends f) ≡ false) × (list_any is_miscounted_send (flat_map item_sends f.items) ≡ false)
   unfolding has_wrong_argument_count
   counts_right = none-append is_miscounted_send (body_sends f) (flat_map item_sends f.items) (neither (list_any (is_miscounted f.imps) (method_entries f)) (list_any is_miscounted_send (body_sends f ++ flat_map item_sends f.items)) g.counts).1
@@ -203,7 +263,43 @@ module _ (f : Form) (g : IsFaultless f) where
   body_counts = each-inside (λ (i : ImpForm). list_any sends_miscounted (inner.parts i.body) ≡ false) is_miscounted_send (λ (i : ImpForm). inner.sends_in i.body) f.imps (λ i e. sym (list_any-flat_map is_miscounted_send inner.own_sends (inner.parts i.body)) ∙ e) counts_right.0
 
   body_selectors : All (λ (i : ImpForm). list_any is_bad (texts_in i.body) ≡ false) f.imps
-  body_selectors = each-inside (λ (i : ImpForm). list_any is_bad (texts_in i.body) ≡ false) is_bad imp_texts f.imps (λ i e. e) selectors_good.0
+  body_selectors = each-inside (λ (i : ImpForm). list_any is_bad (texts_in i.body) ≡ false) is_bad imp_texts f.imps (λ i e. e) selectors_good.imps
+
+  body_names : All (λ (i : ImpForm). All (HasSelector (spec.image_of f)) (selectors_in (expression (numbers_of f) i.body))) f.imps
+  body_names = each-inside (λ (i : ImpForm). All (HasSelector (spec.image_of f)) (selectors_in (expression (numbers_of f) i.body))) unnamed imp_texts f.imps (λ i e.
+      rw (selectors-expression (numbers_of f) i.body) (All-map (HasSelector (spec.image_of f)) (selector_named (numbers_of f)) (texts_in i.body) (each-none (λ t. HasSelector (spec.image_of f) (selector_named (numbers_of f) t)) unnamed (texts_in i.body) selector_in e))) selectors_named.imps
+
+  body_arguments : All (λ (i : ImpForm). All (λ k. k < i.args) (arguments_in (expression (numbers_of f) i.body))) f.imps
+  unfolding has_wrong_argument_index
+  body_arguments = each-none (λ (i : ImpForm). All (λ k. k < i.args) (arguments_in (expression (numbers_of f) i.body))) reads_beyond f.imps (λ i. arguments_below (numbers_of f) i.args i.body) g.indices
+
+  -- ---- super sends
+
+  under_superclass : (i : ImpForm) → sends_above (root_names f) i ≡ false → is_among i.class (class_names f) ≡ true → has_super_send (expression (numbers_of f) i.body) ≡ true → IsSome (superclass_in (spec.image_of f) (spec.imp (numbers_of f) i).home)
+  under_superclass i none among sends = at_meta i.meta (rw (sym (super-expression (numbers_of f) i.body) ∙ sends) at none)
+    where
+      home : IsListedAs f g i.class (class_named (numbers_of f) i.class)
+      home = listed_class f g i.class among
+
+      in_image : slice_get (spec.image_of f).classes (class_named (numbers_of f) i.class) ≡ Some (spec.class (numbers_of f) home.class)
+      in_image = slice_get-map (spec.class (numbers_of f)) f.classes (class_named (numbers_of f) i.class) ∙ ap (option_map (spec.class (numbers_of f))) home.at
+
+      at_superclass : (m : Bool) (o : Option Text) → home.class.superclass ≡ o → (not m && is_among i.class (root_names f) && true) ≡ false → IsSome (superclass_in (spec.image_of f) (record { class = class_named (numbers_of f) i.class; meta = m }))
+      at_superclass m (Some s) e h = rw (superclass_in-at (spec.image_of f) (record { class = class_named (numbers_of f) i.class; meta = m }) (spec.class (numbers_of f) home.class) (Some (class_named (numbers_of f) s)) in_image (ap (option_map (class_named (numbers_of f))) e)) refl
+      at_superclass true None e h = rw (superclass_in-at (spec.image_of f) (record { class = class_named (numbers_of f) i.class; meta = true }) (spec.class (numbers_of f) home.class) None in_image (ap (option_map (class_named (numbers_of f))) e)) refl
+      at_superclass false None e h =
+          let root : is_among i.class (root_names f) ≡ true = ap (λ s. is_among s (root_names f)) (sym home.is) ∙ root_name f.classes (class_named (numbers_of f) i.class) home.class home.at e in
+          let clash : true ≡ false = sym (ap (λ b. b && true) root) ∙ h in cc
+
+      at_meta : (m : Bool) → (not m && is_among i.class (root_names f) && true) ≡ false → IsSome (superclass_in (spec.image_of f) (record { class = class_named (numbers_of f) i.class; meta = m }))
+      at_meta m h = at_superclass m home.class.superclass refl h
+
+  supers_stand : All (λ (i : ImpForm). has_super_send (expression (numbers_of f) i.body) ≡ true → IsSome (superclass_in (spec.image_of f) (spec.imp (numbers_of f) i).home)) f.imps
+  unfolding has_unknown_superclass
+  supers_stand =
+      let above = each-none (λ (i : ImpForm). sends_above (root_names f) i ≡ false) (sends_above (root_names f)) f.imps (λ i e. e) (neither (has_late_superclass [] f.classes) _ g.superclasses).1 in
+      let home = each-mapped (λ (i : ImpForm). is_among i.class (class_names f) ≡ true) (is_unknown (class_names f)) (λ (i : ImpForm). i.class) f.imps (λ i. among (class_names f) i.class) part_classes_cited.1 in
+      λ k d inside. under_superclass (get_or f.imps k d) (above k d inside) (home k d inside)
 
   small : (b : form.Expression) → is_too_deep b ≡ false → (inner.depth b ≤ 32) × (length (inner.parts b) ≤ 256)
   small b e = let each = neither (nat_lt 32 (inner.depth b)) (nat_lt 256 (length (inner.parts b))) e in (few 32 (inner.depth b) each.0, few 256 (length (inner.parts b)) each.1)
@@ -215,20 +311,22 @@ module _ (f : Form) (g : IsFaultless f) where
   homes : All (λ (i : ImpForm). class_named (numbers_of f) i.class < length (spec.image_of f).classes) f.imps
   homes = each-mapped (λ (i : ImpForm). class_named (numbers_of f) i.class < length (spec.image_of f).classes) (is_unknown (class_names f)) (λ (i : ImpForm). i.class) f.imps (λ i. class_in i.class) part_classes_cited.1
 
-  imp_sound : (i : ImpForm) → i.args ≤ 4 → class_named (numbers_of f) i.class < length (spec.image_of f).classes → (inner.depth i.body ≤ 32) × (length (inner.parts i.body) ≤ 256)
-      → AreGood (spec.image_of f) (numbers_of f) (class_names f) (object_names f) class_in object_in (inner.parts i.body) (texts_in i.body) → IsSoundImp (spec.image_of f) (spec.imp (numbers_of f) i)
-  imp_sound i args home size good = record {
-    home = home;
-    args = args;
-    body = expression_of_image (spec.image_of f) (numbers_of f) (class_names f) (object_names f) class_in object_in i.body good;
-    count = omega (arith, count-expression (numbers_of f) i.body, size.1);
-    depth = omega (arith, depth-expression (numbers_of f) i.body, size.0);
-  }
-
   imps_sound : All (λ (i : ImpForm). i.args ≤ 4) f.imps → All (IsSoundImp (spec.image_of f)) (spec.image_of f).imps
   imps_sound args = All-map (IsSoundImp (spec.image_of f)) (spec.imp (numbers_of f)) f.imps (λ k d inside.
-      imp_sound (get_or f.imps k d) (args k d inside) (homes k d inside) (body_sizes k d inside)
-      (record { classes = body_names_classes k d inside; objects = body_names_objects k d inside; sends = body_counts k d inside; selectors = body_selectors k d inside }))
+      let i = get_or f.imps k d in
+      let good : AreGood (spec.image_of f) (numbers_of f) (class_names f) (object_names f) any_class_in object_in (inner.parts i.body) (texts_in i.body) =
+      record { classes = body_names_classes k d inside; objects = body_names_objects k d inside; sends = body_counts k d inside; selectors = body_selectors k d inside } in
+      let size = body_sizes k d inside in
+      record {
+        home = homes k d inside;
+        args = args k d inside;
+        body = expression_of_image (spec.image_of f) (numbers_of f) (class_names f) (object_names f) any_class_in object_in i.body good;
+        selectors = body_names k d inside;
+        arguments = body_arguments k d inside;
+        above = supers_stand k d inside;
+        count = omega (arith, count-expression (numbers_of f) i.body, size.1);
+        depth = omega (arith, depth-expression (numbers_of f) i.body, size.0);
+      })
 
   -- ---- categories and objects
 
@@ -238,16 +336,24 @@ module _ (f : Form) (g : IsFaultless f) where
       All-map (IsSoundCategory (spec.image_of f)) (spec.category (numbers_of f)) f.categories (λ k d inside.
       let two = category_methods_listed k d inside in record { class = classes k d inside; methods = two.0; class_methods = two.1 })
 
-  objects_sound : All (λ (o : ObjectParts). o.class < length (spec.image_of f).classes) (spec.image_of f).objects
+  objects_sound : All (λ (o : ObjectParts). o.class < class_total (spec.image_of f)) (spec.image_of f).objects
   objects_sound =
-      let classes = each-mapped (λ (o : ObjectForm). class_named (numbers_of f) o.class < length (spec.image_of f).classes) (is_unknown (class_names f)) (λ (o : ObjectForm). o.class) f.objects (λ o. class_in o.class) first_classes_cited.1 in
-      All-map (λ (o : ObjectParts). o.class < length (spec.image_of f).classes) (spec.object (numbers_of f)) f.objects classes
+      let classes = each-mapped (λ (o : ObjectForm). class_named (numbers_of f) o.class < class_total (spec.image_of f)) (is_unknown (class_names f)) (λ (o : ObjectForm). o.class) f.objects (λ o. any_class_in o.class) first_classes_cited.1 in
+      All-map (λ (o : ObjectParts). o.class < class_total (spec.image_of f)) (spec.object (numbers_of f)) f.objects classes
+
+  first_name : name_at (spec.image_of f).names 1 ≡ Some forwarding_text
+  unfolding selector_texts distinct
+  first_name = name_at-number_of (distinct (selector_texts f)) forwarding_text 1 (number_of-first (forwarding_text ∷ []) (flat_map class_texts f.classes ++ flat_map category_texts f.categories ++ flat_map imp_texts f.imps ++ flat_map item_texts f.items) forwarding_text 1 refl)
 
   -- ---- the whole
 
   limits : (has_long_list f ≡ false) × (has_many_entries f ≡ false)
   unfolding is_over_limit
   limits = neither (has_long_list f) (has_many_entries f) (neither (has_long_list f || has_many_entries f) (has_many_selectors f) g.limit).0
+
+  pub items_few : length f.items ≤ 65536
+  unfolding has_long_list
+  items_few = few 65536 (length f.items) (neither (nat_lt 1024 (length f.classes) || nat_lt 1024 (length f.categories) || nat_lt 4096 (length f.objects) || nat_lt 4096 (length f.imps)) (nat_lt 65536 (length f.items)) limits.0).1
 
   pub image_sound : All (λ (i : ImpForm). i.args ≤ 4) f.imps → IsSound (spec.image_of f)
   unfolding has_long_list has_many_entries
@@ -257,6 +363,7 @@ module _ (f : Form) (g : IsFaultless f) where
       let categories = neither (nat_lt 1024 (length f.classes) || nat_lt 1024 (length f.categories)) (nat_lt 4096 (length f.objects)) objects.0 in
       let classes = neither (nat_lt 1024 (length f.classes)) (nat_lt 1024 (length f.categories)) categories.0 in
       record {
+        forwarding = first_name;
         classes = class_sound;
         categories = categories_sound;
         objects = objects_sound;

@@ -1,5 +1,5 @@
 -- The document that a form spells: numbers for names.
-use Rattle.std.specs.Prelude.{ℕ, min, List, map, take, option_map}
+use Rattle.std.specs.Prelude.{ℕ, min, List, [], map, take, option_map}
 use Rattle.msg_names.specs.Number.{selector_number, imp_number}
 use Rattle.msg_names.specs.declared.value.ClassRef.{ClassRef}
 use Rattle.msg_names.specs.declared.value.Value.{Value}
@@ -91,6 +91,7 @@ image_of f =
     record {
       names = n.selectors;
       classes = map (class n) f.classes;
+      made = [];
       categories = map (category n) f.categories;
       objects = map (object n) f.objects;
       imps = map (imp n) f.imps;

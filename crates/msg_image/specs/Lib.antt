@@ -1,4 +1,5 @@
 pub mod Coding
+pub mod Contents
 pub mod Document
 pub mod Items
 pub mod Methods

@@ -1,6 +1,6 @@
 -- The numbers that a document's names get, and what the names stand for.
 use Rattle.std.specs.Prelude.{ℕ, ◌-◌, unwrap_or}
-use Rattle.msg_names.specs.Number.{selector_of, imp_of}
+use Rattle.msg_names.specs.Number.{selector_of, imp_ref_of}
 use Rattle.msg_names.specs.Numbering.{number_of}
 use Rattle.msg_names.specs.declared.value.ImpRef.{ImpRef}
 use Rattle.msg_names.specs.declared.value.ObjectRef.{ObjectRef}
@@ -31,4 +31,4 @@ unfoldable pub object_named : Numbers → Text → ObjectRef
 object_named n name = record { object = unwrap_or (number_of n.objects name) 1 - 1 }
 
 unfoldable pub imp_named : Numbers → Text → ImpRef
-imp_named n name = imp_of (unwrap_or (number_of n.imps name) 0)
+imp_named n name = imp_ref_of (unwrap_or (number_of n.imps name) 0)

@@ -1,5 +1,6 @@
 -- The parts of an image, with no pointers.
-use Rattle.std.specs.Prelude.{ℕ, List, [], ◌∷◌, Option, Some, None, Bool, true, false, slice_get, if◌then◌else◌}
+use Rattle.std.specs.Prelude.{ℕ, ◌+◌, ◌++◌, length, map, List, [], ◌∷◌, Option, Some, None, Bool, true, false, slice_get, if◌then◌else◌}
+use Rattle.msg_names.specs.ClassRef.{above}
 use Rattle.msg_names.specs.declared.value.Selector.{Selector}
 use Rattle.msg_names.specs.Number.{selector_of}
 use Rattle.msg_names.specs.declared.value.Value.{Value}
@@ -50,23 +51,25 @@ pub record ImpParts : Type 0 where
 pub record ImageParts : Type 0 where
   -- the names of the selectors, in the order of their numbers
   pub names : List (List ℕ)
+  -- the listed classes, which are numbered first
   pub classes : List ClassParts
+  -- the names of the classes that may be made at run time, which are numbered after them
+  pub made : List (List ℕ)
   pub categories : List Category
   pub objects : List ObjectParts
   pub imps : List ImpParts
 
+-- how many classes have numbers: the listed ones, and those that may be made
+abbrev pub class_total : ImageParts → ℕ
+class_total image = length image.classes + length image.made
+
+-- the names of the classes, in the order of their numbers
+abbrev pub class_names : ImageParts → List (List ℕ)
+class_names image = map (λ (c : ClassParts). c.name) image.classes ++ image.made
+
 -- the selector of `forwardingTargetForSelector:`
 abbrev pub forwarding_selector : Selector
 forwarding_selector = selector_of 1
-
--- What stands above a class reference whose class has this superclass: the superclass or its metaclass, and above a root metaclass the root class itself (Objective-C Runtime Reference).
-abbrev pub above : ClassRef → Option ℕ → Option ClassRef
-above c (Some d) = Some (record { class = d; meta = c.meta })
-above c None = above_root c.class c.meta
-  where
-    above_root : ℕ → Bool → Option ClassRef
-    above_root k true = Some (record { class = k; meta = false })
-    above_root k false = None
 
 -- the superclass of a class reference
 abbrev pub superclass_in : ImageParts → ClassRef → Option ClassRef

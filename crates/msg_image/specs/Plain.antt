@@ -46,6 +46,7 @@ abbrev pub image_parts : Inside → ImageParts
 image_parts i = record {
   names = i.names;
   classes = map class_parts i.classes.items;
+  made = map string_bytes i.made.items;
   categories = i.categories.items;
   objects = map object_parts i.objects.items;
   imps = map imp_parts i.imps.items;

@@ -38,6 +38,11 @@ pub enum Change {
         methods: MethodList,
         class_methods: MethodList,
     },
+    /// `objc_allocateClassPair` with `objc_registerClassPair`: makes a class and its metaclass, without methods, under a class that is there.
+    AddClass {
+        class: u32,
+        superclass: Option<u32>,
+    },
 }
 
 /// An item of a document.

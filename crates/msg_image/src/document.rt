@@ -1,6 +1,6 @@
 //! Documents.
 
-ghost use Rattle.std.specs.Prelude.{◌≡◌, ◌≢◌, ℕ, List, map, All, Result, Some, None, Ok, Err, IfOk, IfErr};
+ghost use Rattle.std.specs.Prelude.{◌≡◌, ◌≢◌, ◌≤◌, ℕ, List, length, map, All, Result, Some, None, Ok, Err, IfOk, IfErr};
 ghost use Rattle.msg_json.specs.View.{view};
 ghost use Rattle.msg_form.specs.Faults.{fault_of};
 ghost use Rattle.msg_form.specs.Form.{Form};
@@ -52,6 +52,7 @@ fn numbered(alloc: Global, form: &Form) -> Result<Document, AllocError>
     requires { fault_of (form_view form.now) ≡ None }
     ensures document { IfOk result (λ d. document_parts d ≡ document_of (form_view form.now)) }
     ensures sound { IfOk result (λ d. All (IsSoundItem d.image) (map item_parts d.items.items)) }
+    ensures few { IfOk result (λ d. length d.items.items ≤ 65536) }
 {
     let numbers = Numbers::of(alloc, form)?;
     let items = each(alloc, &numbers, &form.items)?;
@@ -63,6 +64,7 @@ fn judged(alloc: Global, value: &Value) -> Result<Document, DocumentFault>
     ensures ok { IfOk result (λ d. judged (form_of (view value.now)) ≡ Ok (document_parts d)) }
     ensures err { IfErr result (λ e. e ≢ DocumentFault.Memory → judged (form_of (view value.now)) ≡ Err e) }
     ensures sound { IfOk result (λ d. All (IsSoundItem d.image) (map item_parts d.items.items)) }
+    ensures few { IfOk result (λ d. length d.items.items ≤ 65536) }
 {
     let form = Form::read(alloc, value)?;
     match msg_form::fault(alloc, &form)? {
@@ -79,6 +81,7 @@ pub fn read_document(alloc: Global, bytes: &[u8]) -> Result<Document, DocumentFa
     ensures ok { IfOk result (λ d. IsAnswer bytes.now (Ok (document_parts d))) }
     ensures err { IfErr result (λ e. e ≢ DocumentFault.Memory → IsAnswer bytes.now (Err e)) }
     ensures sound { IfOk result (λ d. All (IsSoundItem d.image) (map item_parts d.items.items)) }
+    ensures few { IfOk result (λ d. length d.items.items ≤ 65536) }
 {
     if bytes.len() > MOST_BYTES {
         return Err(DocumentFault::Limit);

@@ -55,6 +55,8 @@ pub(crate) struct Object {
 pub struct Image {
     names: Names,
     classes: Vec<Class>,
+    // The names of the classes that may be made at run time.
+    made: Vec<String>,
     categories: Vec<Category>,
     objects: Vec<Object>,
     imps: Vec<Imp>,
@@ -87,6 +89,7 @@ impl Image {
     {
         Ok(Image {
             classes: each(alloc, &numbers, &form.classes)?,
+            made: Vec::new(alloc),
             categories: each(alloc, &numbers, &form.categories)?,
             objects: each(alloc, &numbers, &form.objects)?,
             imps: each(alloc, &numbers, &form.imps)?,
@@ -95,19 +98,30 @@ impl Image {
     }
 
     ghost use Rattle.msg_image.specs.Methods.{method_numbers};
-    ghost use Rattle.msg_image.specs.Parts.{ObjectParts, forwarding_selector, superclass_in, methods_of};
+    ghost use Rattle.msg_image.specs.Parts.{ObjectParts, class_total, class_names, forwarding_selector, superclass_in, methods_of};
+    ghost use Rattle.msg_names.specs.Numbering.{name_at};
+    ghost use Rattle.msg_form.specs.Walk.{forwarding_text};
     ghost use Rattle.msg_image.specs.Plain.{plain, imp_parts};
     ghost use Rattle.msg_image.specs.Sound.{IsSound, IsSoundCategory, IsSoundImp, AreListed};
 
-    /// The selectors' names.
+    /// The selectors' names. The first is `forwardingTargetForSelector:`.
     pub fn names(&self) -> &Names
-        ensures { result.now ≡ self.now.names }
+        ensures names { result.now ≡ self.now.names }
+        ensures forwarding { name_at self.now.names (selector_number forwarding_selector) ≡ Some forwarding_text }
     {
         &self.names
     }
 
-    /// How many classes there are.
+    /// How many classes have numbers: the listed ones, and after them those that may be made.
     pub fn class_count(&self) -> u32
+        ensures count { result ≡ class_total self.now }
+        ensures sound { IsSound self.now }
+    {
+        (self.classes.len() + self.made.len()) as u32
+    }
+
+    /// How many classes are listed.
+    pub fn listed_count(&self) -> u32
         ensures count { result ≡ length self.now.classes }
         ensures sound { IsSound self.now }
     {
@@ -127,10 +141,15 @@ impl Image {
     }
 
     pub fn class_name(&self, class: u32) -> &str
-        requires { class < length self.now.classes }
-        ensures { option_map (λ c. c.name) (slice_get self.now.classes class) ≡ Some result.now }
+        requires { class < class_total self.now }
+        ensures { slice_get (class_names self.now) class ≡ Some result.now }
     {
-        self.classes[class as usize].name.as_str()
+        let (class, listed) = (class as usize, self.classes.len());
+        if class < listed {
+            self.classes[class].name.as_str()
+        } else {
+            self.made[class - listed].as_str()
+        }
     }
 
     /// The superclass, or for a metaclass the superclass's metaclass, and for a root metaclass the root class itself.
@@ -139,17 +158,7 @@ impl Image {
         ensures value { result ≡ superclass_in self.now class }
         ensures listed { IfSome result (λ above. above.class < length self.now.classes) }
     {
-        match self.classes[class.class as usize].superclass {
-            Some(above) => Some(ClassRef {
-                class: above,
-                meta: class.meta,
-            }),
-            None if class.meta => Some(ClassRef {
-                class: class.class,
-                meta: false,
-            }),
-            None => None,
-        }
+        class.above(self.classes[class.class as usize].superclass)
     }
 
     /// The methods that the class itself lists, without those of categories.
@@ -183,7 +192,7 @@ impl Image {
     pub fn object_class(&self, object: ObjectRef) -> u32
         requires { object.object < length self.now.objects }
         ensures class { option_map (λ o. o.class) (slice_get self.now.objects object.object) ≡ Some result }
-        ensures listed { result < length self.now.classes }
+        ensures listed { result < class_total self.now }
     {
         self.objects[object.object as usize].class
     }

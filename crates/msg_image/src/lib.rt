@@ -5,6 +5,7 @@ mod change;
 mod document;
 mod expr;
 mod image;
+pub mod laws;
 mod methods;
 mod numbers;
 mod resolve;

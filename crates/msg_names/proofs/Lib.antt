@@ -1,2 +1,4 @@
+pub mod ClassRefLemmas
 pub mod NumberLemmas
 pub mod SetLemmas
+pub mod TestLemmas

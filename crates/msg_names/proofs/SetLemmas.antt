@@ -6,6 +6,7 @@ use Rattle.std.specs.String.{string_eq}
 use Rattle.std.proofs.lemmas.Bool.Decides.{nat_tests}
 use Rattle.std.proofs.lemmas.List.{map-append, length-map}
 use Rattle.indexmap.specs.IndexSet.{insert_key}
+use Rattle.msg_names.proofs.TestLemmas.{list_any-map}
 use Rattle.msg_names.specs.Name.{is_selector_name}
 use Rattle.msg_names.specs.Numbering.{number_of, with_name, AreNames}
 use Rattle.msg_names.proofs.NumberLemmas.{names-with_name}
@@ -26,10 +27,6 @@ found false n len r e = at_test (nat_lt n len) refl
 pub number_of-position : {K : Type 0} (text_of : K → List ℕ) (keys : List K) (text : List ℕ) → number_of (map text_of keys) text ≡ option_map suc (position (λ k. bytes_eq text (text_of k)) keys)
 number_of-position text_of [] text = refl
 number_of-position text_of (k ∷ keys) text = found (bytes_eq text (text_of k)) _ (length keys) _ (number_of-position text_of keys text)
-
-list_any-map : {A B : Type 0} (p : B → Bool) (f : A → B) (xs : List A) → list_any p (map f xs) ≡ list_any (λ x. p (f x)) xs
-list_any-map p f [] = refl
-list_any-map p f (x ∷ xs) = ap (λ r. p (f x) || r) (list_any-map p f xs)
 
 -- an insert adds the name
 pub names-insert_key : (keys after : List (String Global)) (k : String Global) (text : List ℕ) → string_bytes k ≡ text → after ≡ insert_key string_eq keys k → map string_bytes after ≡ with_name (map string_bytes keys) text

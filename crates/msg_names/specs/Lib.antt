@@ -1,3 +1,4 @@
+pub mod ClassRef
 pub mod Name
 pub mod Number
 pub mod Numbering

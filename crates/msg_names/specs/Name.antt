@@ -2,6 +2,7 @@
 use Rattle.std.specs.Prelude.{ℕ, ◌-◌, ◌==◌, ◌&&◌, ◌||◌, not, List, length, slice_index, count_by, Bool, nat_le}
 use Rattle.std.specs.Char.{is_ascii_alphanumeric, is_ascii_digit}
 use Rattle.std.specs.List.{list_all}
+use Rattle.msg_names.specs.declared.name.TheConstants.{MAX_NAME_BYTES, MAX_ARGUMENTS}
 
 -- the byte `:`
 abbrev pub colon : ℕ
@@ -21,14 +22,14 @@ is_selector_byte b = is_word_byte b || b == colon
 
 -- 1 to 64 bytes
 unfoldable pub is_sized : List ℕ → Bool
-is_sized text = nat_le 1 (length text) && nat_le (length text) 64
+is_sized text = nat_le 1 (length text) && nat_le (length text) MAX_NAME_BYTES
 
 abbrev pub starts_with_digit : List ℕ → Bool
 starts_with_digit text = is_ascii_digit (slice_index text 0)
 
 -- at most four colons, and a colon last where there is one
 unfoldable pub ends_in_its_colons : List ℕ → Bool
-ends_in_its_colons text = nat_le (colons_of text) 4 && (colons_of text == 0 || slice_index text (length text - 1) == colon)
+ends_in_its_colons text = nat_le (colons_of text) MAX_ARGUMENTS && (colons_of text == 0 || slice_index text (length text - 1) == colon)
 
 -- the name of a class, an object or an implementation: 1 to 64 letters, digits and `_`, and no digit first
 unfoldable pub is_identifier : List ℕ → Bool

@@ -4,6 +4,7 @@ use Rattle.std.proofs.Common.{suc-le-suc, zero-le}
 use Rattle.msg_names.specs.declared.value.Selector.{Selector}
 use Rattle.msg_names.specs.declared.value.ImpRef.{ImpRef}
 
+-- the number of a selector
 abbrev pub selector_number : Selector → ℕ
 selector_number s = s.number
 
@@ -17,5 +18,5 @@ selector_of zero = record { number = 1; positive = suc-le-suc zero-le }
 selector_of (suc n) = record { number = suc n; positive = suc-le-suc zero-le }
 
 -- the implementation of a number
-abbrev pub imp_of : ℕ → ImpRef
-imp_of n = record { number = n }
+abbrev pub imp_ref_of : ℕ → ImpRef
+imp_ref_of n = record { number = n }

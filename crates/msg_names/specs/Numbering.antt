@@ -3,6 +3,7 @@ use Rattle.std.specs.Prelude.{◌≡◌, ◌≤◌, ℕ, suc, ◌+◌, ◌-◌, 
 use Rattle.std.specs.List.{list_any, list_all}
 use Rattle.std.specs.Str.{bytes_eq}
 use Rattle.msg_names.specs.Name.{is_selector_name}
+use Rattle.msg_names.specs.declared.names.TheConstants.{MAX_NAMES}
 
 -- the number of a text: the place at which it stands, from 1
 abbrev pub number_of : List (List ℕ) → List ℕ → Option ℕ
@@ -23,6 +24,6 @@ AreNumbered names = (place : ℕ) (name : List ℕ) → slice_get names place �
 
 -- at most 4,096 different selector names
 pub record AreNames (names : List (List ℕ)) : Type 0 where
-  pub few : length names ≤ 4096
+  pub few : length names ≤ MAX_NAMES
   pub named : list_all is_selector_name names ≡ true
   pub numbered : AreNumbered names

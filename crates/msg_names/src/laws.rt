@@ -1,7 +1,15 @@
 //! Laws of names and numbers, over every list of names.
 
 ghost use Rattle.std.specs.Prelude.{◌≡◌, ◌+◌, ℕ, List, Some, None, length};
+ghost use Rattle.msg_names.specs.Number.{imp_number};
 ghost use Rattle.msg_names.specs.Numbering.{number_of, name_at, with_name};
+
+use crate::value::ImpRef;
+
+/// Forwarding has number 0, which no implementation of a document has.
+pub fn forwarding_has_number_0()
+    ensures { imp_number ImpRef.FORWARD ≡ 0 }
+{}
 
 /// Two texts with one number are one text.
 pub fn one_number_is_one_name()

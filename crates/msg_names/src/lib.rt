@@ -6,6 +6,6 @@ mod name;
 mod names;
 mod value;
 
-pub use name::{is_identifier, is_selector_name};
+pub use name::{MAX_ARGUMENTS, MAX_NAME_BYTES, is_identifier, is_selector_name};
 pub use names::{MAX_NAMES, NameFault, Names};
 pub use value::{ClassRef, ImpRef, ObjectRef, Selector, Value};

@@ -4,6 +4,12 @@ ghost use Rattle.std.specs.Prelude.{◌≡◌, ◌<◌, length, IsTrue};
 ghost use Rattle.std.specs.List.{list_all};
 ghost use Rattle.msg_names.specs.Name as spec;
 
+/// How many bytes a name has at most.
+pub const MAX_NAME_BYTES: usize = 64;
+
+/// How many arguments a selector takes at most: a colon for each.
+pub const MAX_ARGUMENTS: usize = 4;
+
 /// Whether a text is a name of a class, an object or an implementation.
 #[tactic(auto, unfolding(crate::specs::Name::is_identifier))]
 pub fn is_identifier(text: &str) -> bool
@@ -30,7 +36,7 @@ fn is_sized(bytes: &[u8]) -> bool
     ensures value { result ≡ spec.is_sized bytes.now }
     ensures some { IsTrue result → 0 < length bytes.now }
 {
-    1 <= bytes.len() && bytes.len() <= 64
+    1 <= bytes.len() && bytes.len() <= MAX_NAME_BYTES
 }
 
 fn are_word_bytes(bytes: &[u8]) -> bool
@@ -65,7 +71,7 @@ fn ends_in_its_colons(bytes: &[u8]) -> bool
     ensures { result ≡ spec.ends_in_its_colons bytes.now }
 {
     let colons = colon_count(bytes);
-    colons <= 4 && (colons == 0 || bytes[bytes.len() - 1] == b':')
+    colons <= MAX_ARGUMENTS && (colons == 0 || bytes[bytes.len() - 1] == b':')
 }
 
 /// How many colons there are.

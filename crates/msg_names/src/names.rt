@@ -7,7 +7,7 @@ ghost use Rattle.msg_names.specs.Name as spec;
 ghost use Rattle.msg_names.specs.Number.{selector_number};
 ghost use Rattle.msg_names.specs.Numbering.{number_of, name_at, with_name, AreNames};
 
-use crate::name::{colon_count, is_selector_name};
+use crate::name::{MAX_ARGUMENTS, colon_count, is_selector_name};
 use crate::value::Selector;
 use indexmap::IndexSet;
 use std::alloc::Global;
@@ -89,7 +89,7 @@ impl Names {
     /// How many arguments a selector takes: the colons of its name.
     pub fn colons(&self, selector: Selector) -> Option<u8>
         ensures colons { result ≡ option_map spec.colons_of (name_at self.now (selector_number selector)) }
-        ensures few { IfSome result (λ n. n ≤ 4) }
+        ensures few { IfSome result (λ n. n ≤ MAX_ARGUMENTS) }
     {
         let text = text_in(&self.set, selector)?;
         Some(colon_count(text.as_bytes()) as u8)
@@ -101,7 +101,7 @@ impl Names {
         ensures names { OnOk result (self.new ≡ with_name self.old text.now) }
         ensures bad { IsErrOf result NameFault.BadName ↔ (spec.is_selector_name text.now ≡ false) }
         ensures many { IsErrOf result NameFault.TooMany
-            ↔ ((spec.is_selector_name text.now ≡ true) × (length self.old ≡ 4096) × (list_any (bytes_eq text.now) self.old ≡ false)) }
+            ↔ ((spec.is_selector_name text.now ≡ true) × (length self.old ≡ MAX_NAMES) × (list_any (bytes_eq text.now) self.old ≡ false)) }
         ensures memory { IsErrOf result NameFault.Memory → list_any (bytes_eq text.now) self.old ≡ false }
         ensures err { OnErr result (self.new ≡ self.old) }
     {
@@ -113,14 +113,14 @@ impl Names {
 }
 
 fn selector_at(index: usize) -> Selector
-    requires { index < 4096 }
+    requires { index < MAX_NAMES }
     ensures { selector_number result ≡ index + 1 }
 {
     Selector::of(index as u32 + 1).unwrap()
 }
 
 fn find_in(set: &IndexSet<String>, text: &str) -> Option<Selector>
-    requires { length set.now.keys ≤ 4096 }
+    requires { length set.now.keys ≤ MAX_NAMES }
     ensures { option_map selector_number result ≡ number_of (map string_bytes set.now.keys) text.now }
 {
     let index = set.get_index_of(text)?;
@@ -136,13 +136,13 @@ fn text_in(set: &IndexSet<String>, selector: Selector) -> Option<&str>
 
 // The selector of a selector name.
 fn intern_in(set: &mut IndexSet<String>, text: &str) -> Result<Selector, NameFault>
-    requires few { length set.old.keys ≤ 4096 }
+    requires few { length set.old.keys ≤ MAX_NAMES }
     ensures ok { IfOk result (λ s. number_of (map string_bytes set.new.keys) text.now ≡ Some (selector_number s)) }
     ensures names { OnOk result (map string_bytes set.new.keys ≡ with_name (map string_bytes set.old.keys) text.now) }
-    ensures few { length set.new.keys ≤ 4096 }
+    ensures few { length set.new.keys ≤ MAX_NAMES }
     ensures bad { IsErrOf result NameFault.BadName → ⊥ }
     ensures many { IsErrOf result NameFault.TooMany
-        ↔ ((length set.old.keys ≡ 4096) × (list_any (bytes_eq text.now) (map string_bytes set.old.keys) ≡ false)) }
+        ↔ ((length set.old.keys ≡ MAX_NAMES) × (list_any (bytes_eq text.now) (map string_bytes set.old.keys) ≡ false)) }
     ensures memory { IsErrOf result NameFault.Memory → list_any (bytes_eq text.now) (map string_bytes set.old.keys) ≡ false }
     ensures err { OnErr result (set.new.keys ≡ set.old.keys) }
 {

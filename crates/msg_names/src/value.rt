@@ -70,6 +70,35 @@ pub struct ClassRef {
     pub meta: bool,
 }
 
+impl ClassRef {
+    ghost use Rattle.std.specs.Prelude.{◌≡◌};
+    ghost use Rattle.msg_names.specs.ClassRef.{slot_of, above};
+
+    /// Its number among the class references in one line, each class and its metaclass after it.
+    #[inline(always)]
+    pub fn slot(self) -> usize
+        ensures { result ≡ slot_of self }
+    {
+        2 * self.class as usize + usize::from(self.meta)
+    }
+
+    /// Its superclass, where that of its class is given: for a metaclass the superclass's metaclass, and for a root metaclass the root class itself
+    /// (Objective-C Runtime Reference).
+    #[inline(always)]
+    pub fn above(self, superclass: Option<u32>) -> Option<ClassRef>
+        ensures { result ≡ above self superclass }
+    {
+        match superclass {
+            Some(class) => Some(ClassRef { class, ..self }),
+            None if self.meta => Some(ClassRef {
+                meta: false,
+                ..self
+            }),
+            None => None,
+        }
+    }
+}
+
 /// An object. Objects are numbered from 0.
 #[derive(Clone, Copy, Debug, PartialEq, Eq)]
 pub struct ObjectRef {

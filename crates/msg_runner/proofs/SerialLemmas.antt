@@ -12,7 +12,7 @@ use Rattle.msg_tables.specs.Stands.{StandsAt}
 use Rattle.msg_tables.specs.View.{TablesView}
 use Rattle.msg_tables.specs.declared.fault.ChangeFault.{ChangeFault}
 use Rattle.msg_runner.specs.Serial.{answer_at, history_after, longer_by, serial_from, serial}
-use Rattle.msg_runner.specs.Text.{line_of, text_of, output_of}
+use Rattle.msg_runner.specs.Text.{answer_line, text_of, output_of}
 
 -- the tables stand at the history after the items before, and the text with the lines of those left is the whole
 pub record IsSoFar (d : DocumentParts) (tables : TablesView) (text : List ℕ) (left : List ItemParts) : Type 0 where
@@ -34,13 +34,13 @@ image_after h (SendItem r s args) = refl
 image_after h (ChangeItem x) = same_image h x (refusal h x)
 
 pub step : (d : DocumentParts) (old new : TablesView) (text more : List ℕ) (item : ItemParts) (left : List ItemParts) (so_far : IsSoFar d old text (item ∷ left))
-    → (more ≡ text ++ line_of d.image (answer_at so_far.history item)) × StandsAt new (history_after so_far.history item) → IsSoFar d new more left
+    → (more ≡ text ++ answer_line d.image (answer_at so_far.history item)) × StandsAt new (history_after so_far.history item) → IsSoFar d new more left
 step d old new text more item left so_far made = record {
   history = history_after so_far.history item;
   stands = made.1;
   image = image_after so_far.history item ∙ so_far.image;
   whole =
-      let line = line_of d.image (answer_at so_far.history item) in
+      let line = answer_line d.image (answer_at so_far.history item) in
       let rest = text_of d.image (serial_from (history_after so_far.history item) left) in
       ap (λ t. t ++ rest) made.0 ∙ append_assoc text line rest ∙ so_far.whole;
 }

@@ -9,7 +9,7 @@ ghost use Rattle.msg_tables.specs.History.{History};
 ghost use Rattle.msg_tables.specs.Stands.{StandsAt};
 ghost use Rattle.msg_eval.specs.Finder.{sizes_of, table_sizes};
 ghost use Rattle.msg_runner.specs.Serial.{answer_at, history_after};
-ghost use Rattle.msg_runner.specs.Text.{line_of, output_of};
+ghost use Rattle.msg_runner.specs.Text.{answer_line, output_of};
 
 use crate::text::{push_accepted, push_refusal, push_reply};
 use msg_eval::laws::{tables_are_of_their_image, tables_reply_plainly};
@@ -31,7 +31,7 @@ fn push_sent(
     requires receiver { IsOf image.now receiver }
     requires args { All (IsOf image.now) args.now.items }
     ensures { (h : History) → StandsAt tables.now h → h.image ≡ image.now
-        → OnOk result (text.new.items ≡ text.old.items ++ line_of image.now (answer_at h (SendItem receiver sel args.now.items))) }
+        → OnOk result (text.new.items ≡ text.old.items ++ answer_line image.now (answer_at h (SendItem receiver sel args.now.items))) }
 {
     tables_reply_plainly();
     let mut finder = Tabled { tables };
@@ -46,7 +46,7 @@ fn push_changed(
     change: &Change,
 ) -> Result<(), AllocError>
     ensures { (h : History) → StandsAt tables.old h → OnOk result
-        ((text.new.items ≡ text.old.items ++ line_of image.now (answer_at h (ChangeItem change.now))) × StandsAt tables.new (history_after h (ChangeItem change.now))) }
+        ((text.new.items ≡ text.old.items ++ answer_line image.now (answer_at h (ChangeItem change.now))) × StandsAt tables.new (history_after h (ChangeItem change.now))) }
 {
     match tables.apply(change) {
         Ok(()) => push_accepted(text),
@@ -64,7 +64,7 @@ fn push_answer(
     requires sizes { table_sizes tables.old ≡ sizes_of image.now }
     requires item { IsSoundItem image.now (item_parts item.now) }
     ensures { (h : History) → StandsAt tables.old h → h.image ≡ image.now → OnOk result
-        ((text.new.items ≡ text.old.items ++ line_of image.now (answer_at h (item_parts item.now))) × StandsAt tables.new (history_after h (item_parts item.now))) }
+        ((text.new.items ≡ text.old.items ++ answer_line image.now (answer_at h (item_parts item.now))) × StandsAt tables.new (history_after h (item_parts item.now))) }
 {
     match item {
         Item::Send {

@@ -5,31 +5,31 @@ use Rattle.std.specs.List.{list_any}
 use Rattle.std.proofs.lemmas.List.{length-reverse}
 use Rattle.msg_names.specs.Number.{selector_number, imp_number}
 use Rattle.msg_image.specs.declared.change.Change.{Change}
-use Rattle.msg_image.specs.declared.change.Change.TheVariants.{Add, Replace, SetImp, Exchange, Attach}
+use Rattle.msg_image.specs.declared.change.Change.TheVariants.{Add, Replace, SetImp, Exchange, Attach, AddClass}
 use Rattle.msg_tables.specs.declared.edit.Edit.{Edit}
 use Rattle.msg_tables.specs.declared.edit.Edit.TheVariants as edit
 use Rattle.msg_tables.specs.declared.fault.ChangeFault.{ChangeFault}
-use Rattle.msg_tables.specs.declared.fault.ChangeFault.TheVariants.{NoClass, NoImp, ArgumentCount, MethodPresent, NoMethod, Limit, Memory}
+use Rattle.msg_tables.specs.declared.fault.ChangeFault.TheVariants.{NoClass, NoImp, ArgumentCount, MethodPresent, NoMethod, Limit, Memory, DuplicateClass}
 use Rattle.msg_tables.specs.Rows.{Row}
-use Rattle.msg_tables.specs.After.{of_class, of_meta, rows_at, rows_after, after}
-use Rattle.msg_tables.specs.Edits.{edited, added, rewritten, Writes}
+use Rattle.msg_tables.specs.After.{of_class, of_meta, rows_at, rows_after, supers_after, table_after}
+use Rattle.msg_tables.specs.Edits.{edited, supers_edited, added, rewritten, Writes}
 use Rattle.msg_tables.specs.History.{History, and_then, table}
-use Rattle.msg_tables.specs.Refusal.{refusal, least, conditions}
+use Rattle.msg_tables.specs.Refusal.{refusal, least_change_fault, conditions}
 use Rattle.msg_tables.specs.Stands.{Holds, StandsAt}
 use Rattle.msg_tables.specs.View.{TablesView}
-use Rattle.msg_tables.proofs.HistoryLemmas.{table-and_then, supers-table, history-and_then}
+use Rattle.msg_tables.proofs.HistoryLemmas.{table-and_then, history-and_then}
 use Rattle.msg_tables.proofs.HoldsLemmas.{length-set_own, length-rows_at}
 
 is_memory : ChangeFault → Bool
 is_memory Memory = true
 is_memory _ = false
 
-not_memory : (fs : List (Bool × ChangeFault)) → list_any (λ f. is_memory f.1) fs ≡ false → least fs ≡ Some Memory → ⊥
+not_memory : (fs : List (Bool × ChangeFault)) → list_any (λ f. is_memory f.1) fs ≡ false → least_change_fault fs ≡ Some Memory → ⊥
 unfolding is_memory
 not_memory [] others e = cc
 not_memory (f ∷ fs) others e = step f.0 f.1 others (not_memory fs) e
   where
-    step : (b : Bool) (g : ChangeFault) → is_memory g || list_any (λ f. is_memory f.1) fs ≡ false → (list_any (λ f. is_memory f.1) fs ≡ false → least fs ≡ Some Memory → ⊥) → cond b (Some g) (least fs) ≡ Some Memory → ⊥
+    step : (b : Bool) (g : ChangeFault) → is_memory g || list_any (λ f. is_memory f.1) fs ≡ false → (list_any (λ f. is_memory f.1) fs ≡ false → least_change_fault fs ≡ Some Memory → ⊥) → cond b (Some g) (least_change_fault fs) ≡ Some Memory → ⊥
     step false Memory others rest e = cc
     step true Memory others rest e = cc
     step true NoClass others rest e = cc
@@ -38,12 +38,14 @@ not_memory (f ∷ fs) others e = step f.0 f.1 others (not_memory fs) e
     step true MethodPresent others rest e = cc
     step true NoMethod others rest e = cc
     step true Limit others rest e = cc
+    step true DuplicateClass others rest e = cc
     step false NoClass others rest e = rest others e
     step false NoImp others rest e = rest others e
     step false ArgumentCount others rest e = rest others e
     step false MethodPresent others rest e = rest others e
     step false NoMethod others rest e = rest others e
     step false Limit others rest e = rest others e
+    step false DuplicateClass others rest e = rest others e
 
 -- no change is refused for want of memory
 pub refused-not_memory : (h : History) (x : Change) → refusal h x ≡ Some Memory → ⊥
@@ -53,6 +55,7 @@ refused-not_memory h (Replace c s i) e = not_memory (conditions h (Replace c s i
 refused-not_memory h (SetImp c s i) e = not_memory (conditions h (SetImp c s i)) refl e
 refused-not_memory h (Exchange c s d u) e = not_memory (conditions h (Exchange c s d u)) refl e
 refused-not_memory h (Attach k methods class_methods) e = not_memory (conditions h (Attach k methods class_methods)) refl e
+refused-not_memory h (AddClass k d) e = not_memory (conditions h (AddClass k d)) refl e
 
 -- how many rows an edit leaves
 pub length-edited : (e : Edit) (rows : List Row) → length (edited e rows) ≡ length rows + added e
@@ -64,12 +67,13 @@ length-edited (edit.Attach k methods class_methods) rows =
     let meta = rows_at (of_meta k) (reverse class_methods.now) in
     let total : length (rows ++ own ++ meta) ≡ length rows + (length methods.now + length class_methods.now) = omega (arith, length-append (rows ++ own) meta, length-append rows own, length-rows_at (of_class k) (reverse methods.now), length-rows_at (of_meta k) (reverse class_methods.now), length-reverse methods.now, length-reverse class_methods.now) in
     total
+length-edited (edit.Make k d) rows = omega arith
 
-pub stands-after : (old new : TablesView) (h : History) (x : Change) (e : Edit) → StandsAt old h → refusal h x ≡ None → rows_after (table h) x ≡ edited e (table h).rows → Writes old new e → StandsAt (record new { change_count = new.change_count + 1 }) (and_then h x)
-unfolding after
-stands-after old new h x e stands none is writes = record {
+pub stands-after : (old new : TablesView) (h : History) (x : Change) (e : Edit) → StandsAt old h → refusal h x ≡ None → rows_after (table h) x ≡ edited e (table h).rows → supers_after (table h).supers x ≡ supers_edited e (table h).supers → Writes old new e → StandsAt (record new { change_count = new.change_count + 1 }) (and_then h x)
+unfolding table_after
+stands-after old new h x e stands none is makes writes = record {
   history = history-and_then h x stands.history none;
-  supers = ap (λ t. t.supers) writes.rest ∙ stands.supers ∙ supers-table h ∙ sym (supers-table (and_then h x));
+  supers = ap (λ t. t.supers) writes.rest ∙ ap (supers_edited e) stands.supers ∙ sym makes ∙ sym (ap (λ t. t.supers) (table-and_then h x));
   rows = subst (Holds new.lists) (sym now) (writes.rows (table h).rows stands.rows);
   row_count = writes.row_count ∙ ap (λ n. n + added e) stands.row_count ∙ sym (length-edited e (table h).rows) ∙ sym (ap length now);
   changes = ap (λ (t : TablesView). t.change_count + 1) writes.rest ∙ ap (λ n. n + 1) stands.changes ∙ sym (length-append h.changes (x ∷ []));

@@ -5,6 +5,7 @@ use Rattle.std.specs.List.{list_any}
 use Rattle.std.proofs.lemmas.Bool.Decides.{nat_tests}
 use Rattle.std.proofs.lemmas.List.{length-map}
 use Rattle.std.proofs.lemmas.List.Folds.{list_any-append}
+use Rattle.msg_names.proofs.TestLemmas.{neither, list_any-map}
 use Rattle.msg_names.specs.declared.value.Selector.{Selector}
 use Rattle.msg_names.specs.declared.value.ImpRef.{ImpRef}
 use Rattle.msg_names.specs.Number.{selector_number, imp_number}
@@ -14,23 +15,15 @@ use Rattle.msg_tables.specs.declared.fault.ChangeFault.{ChangeFault}
 use Rattle.msg_tables.specs.declared.fault.ChangeFault.TheVariants.{NoClass, Limit}
 use Rattle.msg_tables.specs.After.{of_class}
 use Rattle.msg_tables.specs.History.{History}
-use Rattle.msg_tables.specs.Refusal.{least, unfit_methods, no_class, no_imp, misfits, is_full, refusal}
+use Rattle.msg_tables.specs.Refusal.{least_change_fault, unfit_methods, no_class, no_imp, misfits, is_full, refusal}
 use Rattle.msg_tables.specs.Stands.{StandsAt}
 use Rattle.msg_tables.specs.View.{TablesView, lacks_imp, misfits_in, are_listed}
 use Rattle.msg_tables.proofs.JudgeLemmas.{least-first, least-next}
 use Rattle.msg_tables.proofs.StandsLemmas.{imp_count, colons-stand, args-stand}
 
-list_any-map : {A B : Type 0} (p : B → Bool) (f : A → B) (xs : List A) → list_any p (map f xs) ≡ list_any (λ x. p (f x)) xs
-list_any-map p f [] = refl
-list_any-map p f (x ∷ xs) = ap (λ r. p (f x) || r) (list_any-map p f xs)
-
 list_any-same : {A : Type 0} (p q : A → Bool) → ((x : A) → p x ≡ q x) → (xs : List A) → list_any p xs ≡ list_any q xs
 list_any-same p q same [] = refl
 list_any-same p q same (x ∷ xs) = rw (same x, list_any-same p q same xs) refl
-
-pub neither : (a b : Bool) → (a || b) ≡ false → (a ≡ false) × (b ≡ false)
-neither true b e = cc
-neither false b e = (refl, e)
 
 abbrev numbers : Selector × ImpRef → ℕ × ℕ
 numbers m = (selector_number m.0, imp_number m.1)
@@ -80,11 +73,11 @@ pub attach-absent : (h : History) (k : ℕ) (ms cs : List (ℕ × ℕ)) → no_c
 unfolding refusal
 attach-absent h k ms cs e = rw e refl
 
-pub attach-unfit : (h : History) (k : ℕ) (ms cs : List (ℕ × ℕ)) (f : ChangeFault) → no_class h (of_class k) ≡ false → least (unfit_methods h (ms ++ cs)) ≡ Some f → refusal h (Attach k ms cs) ≡ Some f
+pub attach-unfit : (h : History) (k : ℕ) (ms cs : List (ℕ × ℕ)) (f : ChangeFault) → no_class h (of_class k) ≡ false → least_change_fault (unfit_methods h (ms ++ cs)) ≡ Some f → refusal h (Attach k ms cs) ≡ Some f
 unfolding refusal
 attach-unfit h k ms cs f e u = rw e (least-first (unfit_methods h (ms ++ cs)) ((is_full h (length (ms ++ cs)), Limit) ∷ []) f u)
 
-pub attach-fit : (h : History) (k : ℕ) (ms cs : List (ℕ × ℕ)) (full : Bool) → no_class h (of_class k) ≡ false → least (unfit_methods h (ms ++ cs)) ≡ None → is_full h (length (ms ++ cs)) ≡ full → refusal h (Attach k ms cs) ≡ least ((full, Limit) ∷ [])
+pub attach-fit : (h : History) (k : ℕ) (ms cs : List (ℕ × ℕ)) (full : Bool) → no_class h (of_class k) ≡ false → least_change_fault (unfit_methods h (ms ++ cs)) ≡ None → is_full h (length (ms ++ cs)) ≡ full → refusal h (Attach k ms cs) ≡ least_change_fault ((full, Limit) ∷ [])
 unfolding refusal
 attach-fit h k ms cs full e u f = rw e (least-next (unfit_methods h (ms ++ cs)) ((is_full h (length (ms ++ cs)), Limit) ∷ []) u ∙ rw f refl)
 

@@ -1,6 +1,8 @@
 -- What is found after a change, by what it writes.
 use Rattle.std.proofs.Common.{◌≡◌, ◌≢◌, ◌<◌, ◌≤◌, ℕ, zero, suc, ◌+◌, List, [], ◌∷◌, ◌++◌, length, reverse, take, get_or, Option, Some, None, option_map, Bool, true, false, cond, refl, sym, ap, ◌∙◌, subst, arith}
 use Rattle.std.specs.Prelude.{◌==◌, ◌&&◌, is_some}
+use Rattle.msg_tables.proofs.OrElseLemmas.{or_else_none, or_else-assoc}
+use Rattle.msg_names.proofs.TestLemmas.{both, equal, same_number}
 use Rattle.msg_names.specs.declared.value.ClassRef.{ClassRef}
 use Rattle.std.proofs.lemmas.List.{reverse-append}
 use Rattle.std.proofs.lemmas.Option.{same_Some}
@@ -9,24 +11,18 @@ use Rattle.msg_names.specs.declared.value.ImpRef.{ImpRef}
 use Rattle.msg_image.specs.Methods.{method_numbers}
 use Rattle.msg_names.specs.Number.{selector_number, imp_number}
 use Rattle.msg_image.specs.declared.change.Change.{Change}
-use Rattle.msg_image.specs.declared.change.Change.TheVariants.{Add, Replace, SetImp, Exchange, Attach}
-use Rattle.msg_tables.specs.Chain.{same_class, chain_of, chain_up}
+use Rattle.msg_image.specs.declared.change.Change.TheVariants.{Add, Replace, SetImp, Exchange, Attach, AddClass}
+use Rattle.msg_names.specs.ClassRef.{same_class}
+use Rattle.msg_tables.specs.Chain.{chain_of, chain_up, super_of, is_present}
+use Rattle.msg_tables.specs.declared.presence.Presence.{Presence}
 use Rattle.msg_tables.specs.Rows.{Row, own, or_else, chain, holder_in, lookup_in, holder_at, lookup_at}
 use Rattle.msg_tables.specs.RowList.{own_in}
-use Rattle.msg_tables.specs.After.{of_class, of_meta, row, rows_at, set_own, set_method, rows_after}
+use Rattle.msg_tables.specs.After.{of_class, of_meta, row, rows_at, set_own, set_method, rows_after, supers_after}
 use Rattle.msg_tables.specs.History.{History, and_then, table, lookup, holder, superclass}
-use Rattle.msg_tables.proofs.LawLemmas.{lookup-after, held}
-use Rattle.msg_tables.proofs.OwnLemmas.{same, equal, own-append, own-rows_at, own-rows_other, own-set_same, own-set_other, some-set_own, lookup-holder, lookup-own}
-use Rattle.msg_tables.proofs.PlaceLemmas.{same_class-is, same_class-refl}
-use Rattle.msg_tables.specs.Written.{written, at_place}
-
-or_else_none : (o : Option ℕ) → or_else o None ≡ o
-or_else_none None = refl
-or_else_none (Some i) = refl
-
-or_else-assoc : (a b c : Option ℕ) → or_else (or_else a b) c ≡ or_else a (or_else b c)
-or_else-assoc None b c = refl
-or_else-assoc (Some i) b c = refl
+use Rattle.msg_tables.proofs.LawLemmas.{lookup-after, held, some-set_method}
+use Rattle.msg_tables.proofs.OwnLemmas.{own-append, own-rows_at, own-rows_other, own-set_same, own-set_other, some-set_own, lookup-holder, lookup-own}
+use Rattle.msg_names.proofs.ClassRefLemmas.{same_class-is, same_class-refl}
+use Rattle.msg_tables.specs.Written.{written, at_ref}
 
 pub own_in-append : (s : ℕ) (xs ys : List (ℕ × ℕ)) → own_in s (xs ++ ys) ≡ or_else (own_in s ys) (own_in s xs)
 own_in-append s [] ys = sym (or_else_none (own_in s ys))
@@ -53,27 +49,19 @@ listed_found s (p ∷ ps) (suc i) m inside read none sel =
 
 -- ---- own rows after a change
 
-both : (a b : Bool) → (a && b) ≡ true → (a ≡ true) × (b ≡ true)
-both true b e = (refl, e)
-both false b e = cc
-
-own_set : (c d : ClassRef) (s u i : ℕ) (rows : List Row) → is_some (own rows c s) ≡ true → own (set_own c s i rows) d u ≡ or_else (at_place (Some c) d s u i) (own rows d u)
+own_set : (c d : ClassRef) (s u i : ℕ) (rows : List Row) → is_some (own rows c s) ≡ true → own (set_own c s i rows) d u ≡ or_else (at_ref (Some c) d s u i) (own rows d u)
 own_set c d s u i rows some = step (same_class c d && (s == u)) refl
   where
     step : (b : Bool) → (same_class c d && (s == u)) ≡ b → own (set_own c s i rows) d u ≡ or_else (cond b (Some i) None) (own rows d u)
     step true e =
         let (class, sel) = both (same_class c d) (s == u) e in
-        subst (λ z. own (set_own c s i rows) z u ≡ Some i) (same_class-is c d class) (subst (λ z. own (set_own c s i rows) c z ≡ Some i) (same s u sel) (own-set_same c s i rows some))
+        subst (λ z. own (set_own c s i rows) z u ≡ Some i) (same_class-is c d class) (subst (λ z. own (set_own c s i rows) c z ≡ Some i) (same_number s u sel) (own-set_same c s i rows some))
     step false e = own-set_other c d s u i rows e
 
 own_set_method : (o : Option ClassRef) (d : ClassRef) (s u i : ℕ) (rows : List Row) → ((p : ClassRef) → o ≡ Some p → is_some (own rows p s) ≡ true)
-    → own (set_method o s i rows) d u ≡ or_else (at_place o d s u i) (own rows d u)
+    → own (set_method o s i rows) d u ≡ or_else (at_ref o d s u i) (own rows d u)
 own_set_method None d s u i rows some = refl
 own_set_method (Some p) d s u i rows some = own_set p d s u i rows (some p refl)
-
-some-set_method : (o : Option ClassRef) (s i : ℕ) (rows : List Row) (d : ClassRef) (u : ℕ) → is_some (own (set_method o s i rows) d u) ≡ is_some (own rows d u)
-some-set_method None s i rows d u = refl
-some-set_method (Some p) s i rows d u = some-set_own p d s u i rows
 
 held_some : (rows : List Row) (cs : List ClassRef) (s : ℕ) (p : ClassRef) → holder_in rows cs s ≡ Some p → is_some (own rows p s) ≡ true
 held_some rows cs s p e = sym (ap is_some (lookup-holder rows cs s p e))
@@ -91,7 +79,7 @@ own_written h (Add c s i) d u = own-append (table h).rows (row c s i ∷ []) d u
 own_written h (Replace c s i) d u = step (is_some (own (table h).rows c (selector_number s))) refl
   where
     step : (b : Bool) → is_some (own (table h).rows c (selector_number s)) ≡ b
-        → own (cond b (set_own c (selector_number s) (imp_number i) (table h).rows) ((table h).rows ++ row c s i ∷ [])) d u ≡ or_else (at_place (Some c) d (selector_number s) u (imp_number i)) (own (table h).rows d u)
+        → own (cond b (set_own c (selector_number s) (imp_number i) (table h).rows) ((table h).rows ++ row c s i ∷ [])) d u ≡ or_else (at_ref (Some c) d (selector_number s) u (imp_number i)) (own (table h).rows d u)
     step true e = own_set c d (selector_number s) u (imp_number i) (table h).rows e
     step false e = own-append (table h).rows (row c s i ∷ []) d u
 own_written h (SetImp c s i) d u =
@@ -105,81 +93,67 @@ own_written h (Exchange c s e v) d u =
     let p = holder_at (table h) c n in
     let q = holder_at (table h) e m in
     own_set_method p d n u second (set_method q m first rows) (λ z is. some-set_method q m first rows z n ∙ held_some rows (chain (table h) c) n z is)
-    ∙ ap (or_else (at_place p d n u second)) (own_set_method q d m u first rows (held_some rows (chain (table h) e) m))
-    ∙ sym (or_else-assoc (at_place p d n u second) (at_place q d m u first) (own rows d u))
+    ∙ ap (or_else (at_ref p d n u second)) (own_set_method q d m u first rows (held_some rows (chain (table h) e) m))
+    ∙ sym (or_else-assoc (at_ref p d n u second) (at_ref q d m u first) (own rows d u))
 own_written h (Attach k ms cs) d u =
     let rows = (table h).rows in
     own_added (of_meta k) d (reverse cs) u (rows ++ rows_at (of_class k) (reverse ms))
     ∙ ap (or_else (cond (same_class (of_meta k) d) (own_in u (reverse cs)) None)) (own_added (of_class k) d (reverse ms) u rows)
     ∙ sym (or_else-assoc (cond (same_class (of_meta k) d) (own_in u (reverse cs)) None) (cond (same_class (of_class k) d) (own_in u (reverse ms)) None) (own rows d u))
+own_written h (AddClass k e) d u = refl
 
 -- where something is written it is the own row, and elsewhere the own row stays
 pub own_seen : (h : History) (x : Change) (d : ClassRef) (u i : ℕ) (o : Option ImpRef) → option_map imp_number o ≡ written h x d u → option_map imp_number o ≡ Some i → own (rows_after (table h) x) d u ≡ Some i
 own_seen h x d u i o is e = own_written h x d u ∙ ap (λ w. or_else w (own (table h).rows d u)) (sym is ∙ e)
 
--- a class reference that doesn't hold the method has none of its own
-pub own_nowhere : (h : History) (c : ClassRef) (s : ℕ) → holder h c s ≢ Some c → own (table h).rows c s ≡ None
-unfolding holder chain_of
-own_nowhere h c s ne = step (own (table h).rows c s) refl
-  where
-    here : (i n : ℕ) → own (table h).rows c s ≡ Some i → holder_in (table h).rows (chain_up n (table h).supers c) s ≡ Some c
-    here i zero e = rw e refl
-    here i (suc n) e = rw e refl
+-- where nothing is written the own row stays
+pub own_kept : (h : History) (x : Change) (d : ClassRef) (u : ℕ) (o : Option ImpRef) (a : Option ℕ) → option_map imp_number o ≡ written h x d u → o ≡ None
+    → a ≡ own (table h).rows d u → a ≡ own (rows_after (table h) x) d u
+own_kept h x d u o a is none at = at ∙ sym (own_written h x d u ∙ ap (λ w. or_else w (own (table h).rows d u)) (sym is ∙ ap (option_map imp_number) none))
 
-    step : (o : Option ℕ) → own (table h).rows c s ≡ o → own (table h).rows c s ≡ None
-    step None e = e
-    step (Some i) e = absurd (ne (here i (length (table h).supers) e))
-
--- the own row, by the class reference that holds the method
-own_is : (h : History) (d : ClassRef) (s : ℕ) → own (table h).rows d s ≡ at_place (holder h d s) d s s (lookup h d s)
-own_is h d s = step (holder h d s) refl
-  where
-    test : (p : ClassRef) → holder h d s ≡ Some p → (b : Bool) → same_class p d ≡ b → own (table h).rows d s ≡ cond (b && (s == s)) (Some (lookup h d s)) None
-    test p e true is = held h d d s (e ∙ ap (λ (c : ClassRef). Some c) (same_class-is p d is)) ∙ sym (ap (λ b. cond b (Some (lookup h d s)) None) (equal s))
-    test p e false is = own_nowhere h d s (λ there. let same_p : p ≡ d = same_Some p d (sym e ∙ there) in let u : true ≡ false = sym (same_class-refl d) ∙ ap (λ c. same_class c d) (sym same_p) ∙ is in cc)
-
-    step : (o : Option ClassRef) → holder h d s ≡ o → own (table h).rows d s ≡ at_place o d s s (lookup h d s)
-    step None e = own_nowhere h d s (λ there. let u : None ≡ Some d = sym e ∙ there in cc)
-    step (Some p) e = test p e (same_class p d) refl
-
-pub own_kept : (h : History) (x : Change) (d : ClassRef) (u : ℕ) (o : Option ImpRef) (p : Option ClassRef) (i : ℕ) (a : Option ℕ) → option_map imp_number o ≡ written h x d u → o ≡ None
-    → p ≡ holder h d u → i ≡ lookup h d u → a ≡ at_place p d u u i → a ≡ own (rows_after (table h) x) d u
-own_kept h x d u o p i a is none hold found at =
-    at ∙ ap (λ (q : Option ClassRef × ℕ). at_place q.0 d u u q.1) (λ k. (hold k, found k)) ∙ sym (own_is h d u)
-    ∙ sym (own_written h x d u ∙ ap (λ w. or_else w (own (table h).rows d u)) (sym is ∙ ap (option_map imp_number) none))
+-- the classes after a change
+abbrev pub supers_then : History → Change → List (Option Presence)
+supers_then h x = supers_after (table h).supers x
 
 -- ---- a lookup on its way
 
 -- of the chain from a class reference at most n
-abbrev pub chain_rest : ℕ → List (Option ℕ) → ClassRef → List ClassRef
+abbrev pub chain_rest : ℕ → List (Option Presence) → ClassRef → List ClassRef
 chain_rest zero supers c = []
 chain_rest (suc n) supers c = chain_up n supers c
 
 -- the lookup from c has come to a class reference, with at most m to go
 pub record Comes (h : History) (x : Change) (c : ClassRef) (s m : ℕ) (here : ClassRef) : Type 0 where
-  pub rest : lookup (and_then h x) c s ≡ lookup_in (rows_after (table h) x) (chain_rest m (table h).supers here) s
+  pub rest : lookup (and_then h x) c s ≡ lookup_in (rows_after (table h) x) (chain_rest m (supers_then h x) here) s
 
 module _ (h : History) (x : Change) (c : ClassRef) (s : ℕ) where
-  pub comes_first : (m : ℕ) → m ≡ suc (length (table h).supers) → Comes h x c s m c
+  -- where the class will be present
+  pub comes_first : (m : ℕ) → m ≡ suc (length (supers_then h x)) → is_present (supers_then h x) c.class ≡ true → Comes h x c s m c
   unfolding chain_of
-  comes_first m e = record { rest = lookup-after h x c s ∙ ap (λ k. lookup_in (rows_after (table h) x) (chain_rest k (table h).supers c) s) (sym e) }
+  comes_first m e here = record {
+    rest = lookup-after h x c s ∙ ap (λ b. lookup_in (rows_after (table h) x) (cond b (chain_up (length (supers_then h x)) (supers_then h x) c) []) s) here
+        ∙ ap (λ k. lookup_in (rows_after (table h) x) (chain_rest k (supers_then h x) c) s) (sym e);
+  }
+
+  -- and where it won't
+  pub comes_nowhere : is_present (supers_then h x) c.class ≡ false → lookup (and_then h x) c s ≡ 0
+  unfolding chain_of
+  comes_nowhere none = lookup-after h x c s ∙ ap (λ b. lookup_in (rows_after (table h) x) (cond b (chain_up (length (supers_then h x)) (supers_then h x) c) []) s) none
 
   pub comes_stop : (m i : ℕ) (here : ClassRef) → Comes h x c s (suc m) here → own (rows_after (table h) x) here s ≡ Some i → lookup (and_then h x) c s ≡ i
-  comes_stop m i here on e = on.rest ∙ lookup-own m (table h).supers (rows_after (table h) x) here s i e
+  comes_stop m i here on e = on.rest ∙ lookup-own m (supers_then h x) (rows_after (table h) x) here s i e
 
-  pub comes_up : (m : ℕ) (here d : ClassRef) → Comes h x c s (suc m) here → own (rows_after (table h) x) here s ≡ None → superclass h here ≡ Some d → Comes h x c s m d
-  unfolding superclass
+  pub comes_up : (m : ℕ) (here d : ClassRef) → Comes h x c s (suc m) here → own (rows_after (table h) x) here s ≡ None → super_of (supers_then h x) here ≡ Some d → Comes h x c s m d
   comes_up m here d on none up = record { rest = on.rest ∙ step m }
     where
-      step : (n : ℕ) → lookup_in (rows_after (table h) x) (chain_up n (table h).supers here) s ≡ lookup_in (rows_after (table h) x) (chain_rest n (table h).supers d) s
+      step : (n : ℕ) → lookup_in (rows_after (table h) x) (chain_up n (supers_then h x) here) s ≡ lookup_in (rows_after (table h) x) (chain_rest n (supers_then h x) d) s
       step zero = rw none refl
       step (suc n) = rw (none, up) refl
 
-  pub comes_end : (m : ℕ) (here : ClassRef) → Comes h x c s (suc m) here → own (rows_after (table h) x) here s ≡ None → superclass h here ≡ None → lookup (and_then h x) c s ≡ 0
-  unfolding superclass
+  pub comes_end : (m : ℕ) (here : ClassRef) → Comes h x c s (suc m) here → own (rows_after (table h) x) here s ≡ None → super_of (supers_then h x) here ≡ None → lookup (and_then h x) c s ≡ 0
   comes_end m here on none up = on.rest ∙ step m
     where
-      step : (n : ℕ) → lookup_in (rows_after (table h) x) (chain_up n (table h).supers here) s ≡ 0
+      step : (n : ℕ) → lookup_in (rows_after (table h) x) (chain_up n (supers_then h x) here) s ≡ 0
       step zero = rw none refl
       step (suc n) = rw (none, up) refl
 
@@ -191,11 +165,11 @@ module _ (h : History) (x : Change) (c : ClassRef) (s : ℕ) where
   way_stop n k i here (zero, e, on) le is = absurd (omega arith)
   way_stop n k i here (suc m, e, on) le is = comes_stop m i here on is
 
-  pub way_end : (n k : ℕ) (here : ClassRef) → OnTheWay n k here → k ≤ n → own (rows_after (table h) x) here s ≡ None → superclass h here ≡ None → lookup (and_then h x) c s ≡ 0
+  pub way_end : (n k : ℕ) (here : ClassRef) → OnTheWay n k here → k ≤ n → own (rows_after (table h) x) here s ≡ None → super_of (supers_then h x) here ≡ None → lookup (and_then h x) c s ≡ 0
   way_end n k here (zero, e, on) le none up = absurd (omega arith)
   way_end n k here (suc m, e, on) le none up = comes_end m here on none up
 
-  pub way_up : (n k : ℕ) (here d : ClassRef) → OnTheWay n k here → k ≤ n → own (rows_after (table h) x) here s ≡ None → superclass h here ≡ Some d → OnTheWay n (k + 1) d
+  pub way_up : (n k : ℕ) (here d : ClassRef) → OnTheWay n k here → k ≤ n → own (rows_after (table h) x) here s ≡ None → super_of (supers_then h x) here ≡ Some d → OnTheWay n (k + 1) d
   way_up n k here d (zero, e, on) le none up = absurd (omega arith)
   way_up n k here d (suc m, e, on) le none up = (m, omega arith, comes_up m here d on none up)
 

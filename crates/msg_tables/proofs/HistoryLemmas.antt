@@ -1,30 +1,47 @@
 -- Histories that are longer by a change.
-use Rattle.std.proofs.Common.{◌≡◌, List, [], ◌∷◌, ◌++◌, map, None, refl, sym, subst, append_assoc, append-nil}
+use Rattle.std.proofs.Common.{◌≡◌, List, [], ◌∷◌, ◌++◌, ◌+◌, map, replicate, length, length-append, Option, Some, None, refl, sym, ap₂, ◌∙◌, subst, append_assoc, append-nil}
+use Rattle.std.proofs.lemmas.List.{length-map, length-replicate}
+use Rattle.std.proofs.Math.ListN.{length-set}
 use Rattle.msg_image.specs.declared.change.Change.{Change}
-use Rattle.msg_image.specs.Parts.{ClassParts}
+use Rattle.msg_image.specs.Parts.{ClassParts, class_total}
+use Rattle.msg_tables.specs.declared.presence.Presence.{Presence}
+use Rattle.msg_image.specs.declared.change.Change.TheVariants.{Add, Replace, SetImp, Exchange, Attach, AddClass}
 use Rattle.msg_tables.specs.Rows.{ClassTable}
-use Rattle.msg_tables.specs.After.{opening, after}
-use Rattle.msg_tables.specs.History.{History, BeginsWith, empty, and_then, after_all, table}
+use Rattle.msg_tables.specs.After.{opening_table, table_after, supers_after}
+use Rattle.msg_tables.specs.History.{History, BeginsWith, empty, and_then, table_after_all, table}
 use Rattle.msg_tables.specs.Refusal.{refusal, AreAccepted, IsHistory}
 
-after_all-append : (t : ClassTable) (xs ys : List Change) → after_all t (xs ++ ys) ≡ after_all (after_all t xs) ys
+after_all-append : (t : ClassTable) (xs ys : List Change) → table_after_all t (xs ++ ys) ≡ table_after_all (table_after_all t xs) ys
 after_all-append t [] ys = refl
-after_all-append t (x ∷ xs) ys = after_all-append (after t x) xs ys
+after_all-append t (x ∷ xs) ys = after_all-append (table_after t x) xs ys
 
 -- the tables at a longer history
-pub table-and_then : (h : History) (x : Change) → table (and_then h x) ≡ after (table h) x
+pub table-and_then : (h : History) (x : Change) → table (and_then h x) ≡ table_after (table h) x
 unfolding table
-table-and_then h x = after_all-append (opening h.image) h.changes (x ∷ [])
+table-and_then h x = after_all-append (opening_table h.image) h.changes (x ∷ [])
 
-supers-after_all : (t : ClassTable) (xs : List Change) → (after_all t xs).supers ≡ t.supers
-unfolding after
-supers-after_all t [] = refl
-supers-after_all t (x ∷ xs) = supers-after_all (after t x) xs
+pub length-supers_after : (supers : List (Option Presence)) (x : Change) → length (supers_after supers x) ≡ length supers
+length-supers_after supers (Add c s i) = refl
+length-supers_after supers (Replace c s i) = refl
+length-supers_after supers (SetImp c s i) = refl
+length-supers_after supers (Exchange c s d u) = refl
+length-supers_after supers (Attach k ms cs) = refl
+length-supers_after supers (AddClass k d) = length-set supers k (Some (record { superclass = d }))
 
--- a change makes no class
-pub supers-table : (h : History) → (table h).supers ≡ map (λ (c : ClassParts). c.superclass) h.image.classes
-unfolding table opening
-supers-table h = supers-after_all (opening h.image) h.changes
+length-after_all : (t : ClassTable) (xs : List Change) → length (table_after_all t xs).supers ≡ length t.supers
+unfolding table_after
+length-after_all t [] = refl
+length-after_all t (x ∷ xs) = length-after_all (table_after t x) xs ∙ length-supers_after t.supers x
+
+-- no change gives a class a number
+pub length-supers : (h : History) → length (table h).supers ≡ class_total h.image
+unfolding table opening_table
+length-supers h =
+    length-after_all (opening_table h.image) h.changes ∙ length-append (map listed h.image.classes) (replicate (length h.image.made) None)
+    ∙ ap₂ (λ n m. n + m) (length-map h.image.classes listed) (length-replicate (length h.image.made) None)
+  where
+    listed : ClassParts → Option Presence
+    listed c = Some (record { superclass = c.superclass })
 
 accepted-push : (h : History) (xs : List Change) (x : Change) → AreAccepted h xs → refusal (record { image = h.image; changes = h.changes ++ xs }) x ≡ None → AreAccepted h (xs ++ x ∷ [])
 accepted-push h [] x all none = (subst (λ cs. refusal (record { image = h.image; changes = cs }) x ≡ None) (append-nil h.changes) none, tt)
@@ -51,3 +68,8 @@ history-before h g begins is =
 pub history-empty : (h : History) → h.changes ≡ [] → IsHistory h
 unfolding IsHistory
 history-empty h e = rw e tt
+
+-- what comes later is accepted where it comes
+pub accepted-suffix : (h : History) (xs ys : List Change) → AreAccepted h (xs ++ ys) → AreAccepted (record { image = h.image; changes = h.changes ++ xs }) ys
+accepted-suffix h [] ys all = subst (λ cs. AreAccepted (record { image = h.image; changes = cs }) ys) (sym (append-nil h.changes)) all
+accepted-suffix h (x ∷ xs) ys all = subst (λ cs. AreAccepted (record { image = h.image; changes = cs }) ys) (append_assoc h.changes (x ∷ []) xs) (accepted-suffix (and_then h x) xs ys all.1)

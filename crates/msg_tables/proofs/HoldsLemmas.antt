@@ -8,35 +8,35 @@ use Rattle.msg_names.specs.declared.value.ImpRef.{ImpRef}
 use Rattle.msg_names.specs.declared.value.Selector.{Selector}
 use Rattle.msg_names.specs.Number.{selector_number, imp_number}
 use Rattle.msg_image.specs.Methods.{method_numbers}
-use Rattle.msg_tables.specs.Chain.{same_class}
+use Rattle.msg_names.specs.ClassRef.{same_class, slot_of}
 use Rattle.msg_tables.specs.Rows.{Row, own}
 use Rattle.msg_tables.specs.RowList.{own_in, set_last}
 use Rattle.msg_tables.specs.After.{rows_at, of_class, of_meta, set_own}
 use Rattle.msg_tables.specs.Stands.{Holds, pairs_at}
-use Rattle.msg_tables.specs.View.{kept, place_of}
+use Rattle.msg_tables.specs.View.{kept}
 use Rattle.msg_tables.proofs.ListedLemmas.{own_in-set_last}
 use Rattle.msg_tables.proofs.LookupLemmas.{own-pairs_at}
-use Rattle.msg_tables.proofs.PlaceLemmas.{place_of-same, same_class-is, same_class-refl}
+use Rattle.msg_names.proofs.ClassRefLemmas.{slot_of-same, same_class-is, same_class-refl}
 
 -- two class references that test as two have two places
-place_of-apart : (c d : ClassRef) → same_class c d ≡ false → place_of d ≢ place_of c
-place_of-apart c d e h =
-    let same : d ≡ c = place_of-same d c h in
+slot_of-apart : (c d : ClassRef) → same_class c d ≡ false → slot_of d ≢ slot_of c
+slot_of-apart c d e h =
+    let same : d ≡ c = slot_of-same d c h in
     let yes' : same_class c d ≡ true = subst (λ z. same_class c z ≡ true) (sym same) (same_class-refl c) in
     let clash : true ≡ false = sym yes' ∙ e in
     cc
 
 -- what the other class references keep
-pub kept-other : (lists : List (List (ℕ × ℕ))) (c d : ClassRef) (ms : List (ℕ × ℕ)) → same_class c d ≡ false → kept (slice_set lists (place_of c) ms) d ≡ kept lists d
-kept-other lists c d ms e = get_or-set_other lists (place_of c) (place_of d) ms [] (place_of-apart c d e)
+pub kept-other : (lists : List (List (ℕ × ℕ))) (c d : ClassRef) (ms : List (ℕ × ℕ)) → same_class c d ≡ false → kept (slice_set lists (slot_of c) ms) d ≡ kept lists d
+kept-other lists c d ms e = get_or-set_other lists (slot_of c) (slot_of d) ms [] (slot_of-apart c d e)
 
 -- one list is written
-holds-put : (lists : List (List (ℕ × ℕ))) (rows after : List Row) (c : ClassRef) (ms : List (ℕ × ℕ)) → place_of c < length lists → Holds lists rows
-    → ms ≡ pairs_at c after → ((d : ClassRef) → same_class c d ≡ false → pairs_at d after ≡ pairs_at d rows) → Holds (slice_set lists (place_of c) ms) after
+holds-put : (lists : List (List (ℕ × ℕ))) (rows after : List Row) (c : ClassRef) (ms : List (ℕ × ℕ)) → slot_of c < length lists → Holds lists rows
+    → ms ≡ pairs_at c after → ((d : ClassRef) → same_class c d ≡ false → pairs_at d after ≡ pairs_at d rows) → Holds (slice_set lists (slot_of c) ms) after
 holds-put lists rows after c ms inside holds here others = record { at = λ d. at d (same_class c d) refl }
   where
-    at : (d : ClassRef) (b : Bool) → same_class c d ≡ b → kept (slice_set lists (place_of c) ms) d ≡ pairs_at d after
-    at d true e = subst (λ z. kept (slice_set lists (place_of c) ms) z ≡ pairs_at z after) (same_class-is c d e) (get_or-set_same lists (place_of c) ms [] inside ∙ here)
+    at : (d : ClassRef) (b : Bool) → same_class c d ≡ b → kept (slice_set lists (slot_of c) ms) d ≡ pairs_at d after
+    at d true e = subst (λ z. kept (slice_set lists (slot_of c) ms) z ≡ pairs_at z after) (same_class-is c d e) (get_or-set_same lists (slot_of c) ms [] inside ∙ here)
     at d false e = kept-other lists c d ms e ∙ holds.at d ∙ sym (others d e)
 
 pairs_at-append : (d : ClassRef) (xs ys : List Row) → pairs_at d (xs ++ ys) ≡ pairs_at d xs ++ pairs_at d ys
@@ -54,7 +54,7 @@ pairs_at-rows_at c d true (m ∷ ms) e = rw e (ap (λ ps. m ∷ ps) (pairs_at-ro
 pairs_at-rows_at c d false (m ∷ ms) e = rw e (pairs_at-rows_at c d false ms e)
 
 -- methods are added
-pub holds-append : (lists : List (List (ℕ × ℕ))) (rows : List Row) (c : ClassRef) (ms : List (ℕ × ℕ)) → place_of c < length lists → Holds lists rows → Holds (slice_set lists (place_of c) (kept lists c ++ ms)) (rows ++ rows_at c ms)
+pub holds-append : (lists : List (List (ℕ × ℕ))) (rows : List Row) (c : ClassRef) (ms : List (ℕ × ℕ)) → slot_of c < length lists → Holds lists rows → Holds (slice_set lists (slot_of c) (kept lists c ++ ms)) (rows ++ rows_at c ms)
 holds-append lists rows c ms inside holds =
     holds-put lists rows (rows ++ rows_at c ms) c (kept lists c ++ ms) inside holds
     (ap (λ ps. ps ++ ms) (holds.at c) ∙ ap (λ ps. pairs_at c rows ++ ps) (sym (pairs_at-rows_at c c true ms (same_class-refl c))) ∙ sym (pairs_at-append c rows (rows_at c ms)))
@@ -76,14 +76,14 @@ meta-apart k = step (k == k)
     step false = refl
 
 -- methods are added to a class and to its metaclass
-pub holds-attach : (lists : List (List (ℕ × ℕ))) (rows : List Row) (k at : ℕ) (ms cs : List (ℕ × ℕ)) → at ≡ place_of (of_class k) → at + 1 < length lists → Holds lists rows
+pub holds-attach : (lists : List (List (ℕ × ℕ))) (rows : List Row) (k at : ℕ) (ms cs : List (ℕ × ℕ)) → at ≡ slot_of (of_class k) → at + 1 < length lists → Holds lists rows
     → Holds (slice_set (slice_set lists at (slice_index_or lists at [] ++ ms)) (at + 1) (slice_index_or lists (at + 1) [] ++ cs)) (rows ++ rows_at (of_class k) ms ++ rows_at (of_meta k) cs)
 holds-attach lists rows k at ms cs here inside holds =
-    let after = slice_set lists (place_of (of_class k)) (kept lists (of_class k) ++ ms) in
+    let after = slice_set lists (slot_of (of_class k)) (kept lists (of_class k) ++ ms) in
     let first = holds-append lists rows (of_class k) ms (omega arith) holds in
-    let room : place_of (of_meta k) < length after = omega (arith, length-set lists (place_of (of_class k)) (kept lists (of_class k) ++ ms)) in
+    let room : slot_of (of_meta k) < length after = omega (arith, length-set lists (slot_of (of_class k)) (kept lists (of_class k) ++ ms)) in
     let second = holds-append after (rows ++ rows_at (of_class k) ms) (of_meta k) cs room first in
-    let beside : at + 1 ≡ place_of (of_meta k) = omega arith in
+    let beside : at + 1 ≡ slot_of (of_meta k) = omega arith in
     let same : kept after (of_meta k) ≡ kept lists (of_meta k) = kept-other lists (of_class k) (of_meta k) (kept lists (of_class k) ++ ms) (class-apart k) in
     rw (beside, here, ← same) second
 
@@ -121,7 +121,7 @@ pairs_at-set_other c d s i (r ∷ rs) apart = step (same_class r.class c) refl (
     step true e false n rest = kept-row rest
     step false e x n rest = kept-row rest
 
-pub holds-rewrite : (lists : List (List (ℕ × ℕ))) (rows : List Row) (c : ClassRef) (s i : ℕ) → place_of c < length lists → Holds lists rows → Holds (slice_set lists (place_of c) (set_last s i (kept lists c))) (set_own c s i rows)
+pub holds-rewrite : (lists : List (List (ℕ × ℕ))) (rows : List Row) (c : ClassRef) (s i : ℕ) → slot_of c < length lists → Holds lists rows → Holds (slice_set lists (slot_of c) (set_last s i (kept lists c))) (set_own c s i rows)
 holds-rewrite lists rows c s i inside holds =
     holds-put lists rows (set_own c s i rows) c (set_last s i (kept lists c)) inside holds (ap (set_last s i) (holds.at c) ∙ sym (pairs_at-set_own c s i rows)) (λ d e. pairs_at-set_other c d s i rows e)
 
@@ -130,14 +130,14 @@ length-set_own c s i [] = refl
 length-set_own c s i (r ∷ rs) = ap suc (length-set_own c s i rs)
 
 -- the others' own rows stay
-pub own-rewritten : (lists : List (List (ℕ × ℕ))) (c d : ClassRef) (q s i : ℕ) → place_of c < length lists → is_some (own_in q (kept (slice_set lists (place_of c) (set_last s i (kept lists c))) d)) ≡ is_some (own_in q (kept lists d))
+pub own-rewritten : (lists : List (List (ℕ × ℕ))) (c d : ClassRef) (q s i : ℕ) → slot_of c < length lists → is_some (own_in q (kept (slice_set lists (slot_of c) (set_last s i (kept lists c))) d)) ≡ is_some (own_in q (kept lists d))
 own-rewritten lists c d q s i inside = step (same_class c d) refl
   where
     after : List (List (ℕ × ℕ))
-    after = slice_set lists (place_of c) (set_last s i (kept lists c))
+    after = slice_set lists (slot_of c) (set_last s i (kept lists c))
 
     step : (b : Bool) → same_class c d ≡ b → is_some (own_in q (kept after d)) ≡ is_some (own_in q (kept lists d))
-    step true e = subst (λ z. is_some (own_in q (kept after z)) ≡ is_some (own_in q (kept lists z))) (same_class-is c d e) (ap (λ ms. is_some (own_in q ms)) (get_or-set_same lists (place_of c) (set_last s i (kept lists c)) [] inside) ∙ own_in-set_last q s i (kept lists c))
+    step true e = subst (λ z. is_some (own_in q (kept after z)) ≡ is_some (own_in q (kept lists z))) (same_class-is c d e) (ap (λ ms. is_some (own_in q ms)) (get_or-set_same lists (slot_of c) (set_last s i (kept lists c)) [] inside) ∙ own_in-set_last q s i (kept lists c))
     step false e = ap (λ ms. is_some (own_in q ms)) (kept-other lists c d (set_last s i (kept lists c)) e)
 
 pub length-rows_at : (c : ClassRef) (ms : List (ℕ × ℕ)) → length (rows_at c ms) ≡ length ms

@@ -9,7 +9,7 @@ use Rattle.msg_names.specs.declared.value.Selector.{Selector}
 use Rattle.msg_names.specs.declared.value.ImpRef.{ImpRef}
 use Rattle.msg_names.specs.Number.{selector_number, imp_number}
 use Rattle.msg_image.specs.Methods.{method_numbers}
-use Rattle.msg_tables.specs.RowList.{own_in, last_place, set_last}
+use Rattle.msg_tables.specs.RowList.{own_in, last_index, set_last}
 use Rattle.msg_tables.proofs.RowLemmas.{last_none, last_some, last_place-push, set-last_place, last_place-set_last}
 
 abbrev numbers : Selector × ImpRef → ℕ × ℕ
@@ -17,13 +17,13 @@ numbers m = (selector_number m.0, imp_number m.1)
 
 -- each selector's last row is found by its number
 abbrev pub Indexes : {S : Type 0} → HashMap ℕ ℕ S → List (Selector × ImpRef) → Type 0
-Indexes own rows = (s : ℕ) → get nat_eq own s ≡ last_place s (method_numbers rows)
+Indexes own rows = (s : ℕ) → get nat_eq own s ≡ last_index s (method_numbers rows)
 
 module _ {S : Type 0} (own : HashMap ℕ ℕ S) (rows : List (Selector × ImpRef)) (index : Indexes own rows) (s : ℕ) (found : Option (Bor ℕ)) (is : option_copied found ≡ get_by (nat_eq s) own) where
   pub none_found : found ≡ None → own_in s (method_numbers rows) ≡ None
   none_found e = last_none s (method_numbers rows) (sym (index s) ∙ sym is ∙ ap option_copied e)
 
-  pub place_found : (place : Bor ℕ) → found ≡ Some place → last_place s (method_numbers rows) ≡ Some place.now
+  pub place_found : (place : Bor ℕ) → found ≡ Some place → last_index s (method_numbers rows) ≡ Some place.now
   place_found place e = sym (index s) ∙ sym is ∙ ap option_copied e
 
   pub place_inside : (place : Bor ℕ) → found ≡ Some place → place.now < length rows
@@ -49,7 +49,7 @@ module _ {S : Type 0} (own : HashMap ℕ ℕ S) (rows : List (Selector × ImpRef
 
   pub indexes-set : (place : Bor ℕ) (sel : Selector) (imp : ImpRef) → selector_number sel ≡ s → found ≡ Some place → Indexes own (slice_set rows place.now (sel, imp))
   indexes-set place sel imp named e q =
-      index q ∙ sym (ap (last_place q) (rows-set place sel imp named e) ∙ last_place-set_last q s (imp_number imp) (method_numbers rows))
+      index q ∙ sym (ap (last_index q) (rows-set place sel imp named e) ∙ last_place-set_last q s (imp_number imp) (method_numbers rows))
 
 -- one more row, at the end
 pub indexes-push : {S : Type 0} (own after : HashMap ℕ ℕ S) (rows : List (Selector × ImpRef)) (sel : Selector) (imp : ImpRef) (number place : ℕ) → number ≡ selector_number sel → place ≡ length rows → Indexes own rows
@@ -57,6 +57,6 @@ pub indexes-push : {S : Type 0} (own after : HashMap ℕ ℕ S) (rows : List (Se
 indexes-push own after rows sel imp number place named last index updates q =
     updates q
     ∙ ap (λ o. cond (nat_eq number q) (Some place) o) (index q)
-    ∙ ap (λ n. cond (nat_eq number q) (Some n) (last_place q (method_numbers rows))) (last ∙ sym (length-map rows numbers))
-    ∙ ap (λ n. cond (nat_eq n q) (Some (length (method_numbers rows))) (last_place q (method_numbers rows))) named
-    ∙ sym (ap (last_place q) (map-append numbers rows ((sel, imp) ∷ [])) ∙ last_place-push q (method_numbers rows) (selector_number sel) (imp_number imp))
+    ∙ ap (λ n. cond (nat_eq number q) (Some n) (last_index q (method_numbers rows))) (last ∙ sym (length-map rows numbers))
+    ∙ ap (λ n. cond (nat_eq n q) (Some (length (method_numbers rows))) (last_index q (method_numbers rows))) named
+    ∙ sym (ap (last_index q) (map-append numbers rows ((sel, imp) ∷ [])) ∙ last_place-push q (method_numbers rows) (selector_number sel) (imp_number imp))

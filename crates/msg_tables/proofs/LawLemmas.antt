@@ -1,63 +1,62 @@
 -- What lookups find after a change.
-use Rattle.std.proofs.Common.{◌≡◌, ◌<◌, ℕ, List, [], ◌∷◌, ◌++◌, length, Option, Some, None, Bool, true, false, cond, slice_get, refl, sym, ap, ap₂, ◌∙◌, subst, arith}
-use Rattle.std.specs.Prelude.{◌==◌, ◌&&◌, ◌||◌, is_some, unwrap_or, reverse, All}
+use Rattle.std.proofs.Common.{◌≡◌, ◌<◌, ℕ, List, [], ◌∷◌, ◌++◌, length, Option, Some, None, Bool, true, false, cond, slice_get, get_or, length-append, refl, sym, ap, ap₂, ◌∙◌, subst, arith}
+use Rattle.std.specs.Prelude.{◌==◌, ◌&&◌, ◌||◌, is_some, not, unwrap_or, reverse, All}
 use Rattle.std.specs.Option.{option_map_or}
 use Rattle.std.specs.List.{list_any}
 use Rattle.std.proofs.lemmas.Bool.Decides.{nat_tests}
-use Rattle.std.proofs.lemmas.List.{length-map}
+use Rattle.std.proofs.Math.Seq.{get_or-append_seam}
 use Rattle.std.proofs.lemmas.List.Elements.{All-head, All-tail}
 use Rattle.std.proofs.lemmas.Option.{same_Some}
+use Rattle.msg_names.proofs.TestLemmas.{neither, equal, same_number}
 use Rattle.msg_names.specs.declared.value.ClassRef.{ClassRef}
 use Rattle.msg_names.specs.declared.value.ImpRef.{ImpRef}
 use Rattle.msg_names.specs.declared.value.Selector.{Selector}
 use Rattle.msg_names.specs.Number.{selector_number, imp_number}
 use Rattle.msg_image.specs.declared.change.Change.{Change}
 use Rattle.msg_image.specs.declared.image.Category.{Category}
-use Rattle.msg_image.specs.Parts.{ImageParts, ClassParts, above}
-use Rattle.msg_image.specs.Sound.{IsSound}
-use Rattle.msg_image.specs.declared.change.Change.TheVariants.{Add, Replace, SetImp, Exchange, Attach}
-use Rattle.msg_tables.specs.Chain.{same_class, chain_of, is_among}
+use Rattle.msg_names.specs.ClassRef.{above, same_class}
+use Rattle.msg_image.specs.Parts.{ImageParts, ClassParts}
+use Rattle.msg_image.specs.Sound.{IsSound, IsSoundCategory}
+use Rattle.msg_image.specs.declared.change.Change.TheVariants.{Add, Replace, SetImp, Exchange, Attach, AddClass}
+use Rattle.msg_tables.specs.Chain.{chain_of, chain_up, is_present, is_member}
+use Rattle.msg_tables.specs.declared.presence.Presence.{Presence}
 use Rattle.msg_tables.specs.Rows.{Row, own, or_else, chain, lookup_in, holder_at, lookup_at}
 use Rattle.msg_tables.specs.RowList.{own_in}
-use Rattle.msg_tables.specs.After.{of_class, of_meta, row, rows_at, set_own, set_method, rows_after, after, class_rows, category_rows, opening}
-use Rattle.msg_tables.specs.Affected.{at_most_one, if_any, places, is_affected}
+use Rattle.msg_tables.specs.After.{of_class, of_meta, row, rows_at, set_own, set_method, rows_after, supers_after, table_after, class_rows, category_rows, opening_table}
+use Rattle.msg_tables.specs.Affected.{at_most_one, if_any, written_refs, is_affected, is_of_made}
 use Rattle.msg_tables.specs.History.{History, empty, and_then, table, lookup, holder, superclass, chain_at}
-use Rattle.msg_tables.specs.Marking.{Before}
 use Rattle.msg_tables.specs.Opening.{rows_of_category, Lacks}
 use Rattle.msg_tables.specs.Refusal.{no_class, has_own}
-use Rattle.msg_tables.proofs.HistoryLemmas.{table-and_then, supers-table}
+use Rattle.msg_tables.proofs.HistoryLemmas.{table-and_then}
 use Rattle.msg_tables.proofs.HoldsLemmas.{meta-apart}
+use Rattle.msg_tables.proofs.ListedOrderLemmas.{opened-is_present}
 use Rattle.msg_tables.proofs.MarkLemmas.{chain_of-step}
-use Rattle.msg_tables.proofs.OwnLemmas.{equal, same, own-append, own-rows_at, own-rows_other, own-set_other, own-set_same, set_own-own, some-set_own, lookup-same, lookup-own, lookup-nowhere, lookup-holder, holder-same}
+use Rattle.msg_tables.proofs.OwnLemmas.{own-append, own-rows_at, own-rows_other, own-set_other, own-set_same, set_own-own, some-set_own, lookup-same, lookup-own, lookup-nowhere, lookup-holder, holder-same}
 use Rattle.msg_tables.proofs.OpeningLemmas.{category_rows-append, supers-before}
 use Rattle.msg_tables.proofs.TakeLemmas.{element}
-use Rattle.msg_tables.proofs.PlaceLemmas.{same_class-is}
+use Rattle.msg_names.proofs.ClassRefLemmas.{same_class-is}
 
--- a lookup after a change goes up the same chain
-pub lookup-after : (h : History) (x : Change) (c : ClassRef) (s : ℕ) → lookup (and_then h x) c s ≡ lookup_in (rows_after (table h) x) (chain (table h) c) s
-unfolding lookup after
+-- a lookup after a change goes up the chain that the change leaves
+pub lookup-after : (h : History) (x : Change) (c : ClassRef) (s : ℕ) → lookup (and_then h x) c s ≡ lookup_in (rows_after (table h) x) (chain_of (supers_after (table h).supers x) c) s
+unfolding lookup table_after
 lookup-after h x c s = ap (λ t. lookup_at t c s) (table-and_then h x)
-
-both_false : (a b : Bool) → (a || b) ≡ false → (a ≡ false) × (b ≡ false)
-both_false true b e = cc
-both_false false b e = (refl, e)
 
 -- ---- what a change touches
 
--- none of the places is the class reference
+-- none of the places written is the class reference
 abbrev Apart : ClassRef → List ClassRef → Type 0
 Apart d ps = list_any (λ p. same_class p d) ps ≡ false
 
 apart-append : (d : ClassRef) (ps qs : List ClassRef) → Apart d (ps ++ qs) → Apart d ps × Apart d qs
 apart-append d [] qs e = (refl, e)
 apart-append d (p ∷ ps) qs e =
-    let (first, rest) = both_false (same_class p d) (list_any (λ p. same_class p d) (ps ++ qs)) e in
+    let (first, rest) = neither (same_class p d) (list_any (λ p. same_class p d) (ps ++ qs)) e in
     let (more, last) = apart-append d ps qs rest in
     (rw (first, more) refl, last)
 
 own-method : (holder : Option ClassRef) (d : ClassRef) (s u i : ℕ) (rows : List Row) → Apart d (at_most_one holder) → own (set_method holder s i rows) d u ≡ own rows d u
 own-method None d s u i rows apart = refl
-own-method (Some p) d s u i rows apart = own-set_other p d s u i rows (and_false (same_class p d) (s == u) (both_false (same_class p d) false apart).0)
+own-method (Some p) d s u i rows apart = own-set_other p d s u i rows (and_false (same_class p d) (s == u) (neither (same_class p d) false apart).0)
   where
     and_false : (a b : Bool) → a ≡ false → (a && b) ≡ false
     and_false a b e = rw e refl
@@ -66,15 +65,15 @@ own-more : (c d : ClassRef) (ms : List (ℕ × ℕ)) (u : ℕ) (rows : List Row)
 own-more c d ms u rows apart = own-append rows (rows_at c ms) d u ∙ ap (λ o. or_else o (own rows d u)) (own-rows_other c d ms u apart)
 
 apart-first : (c d : ClassRef) (ps : List ClassRef) → Apart d (c ∷ ps) → same_class c d ≡ false
-apart-first c d ps e = (both_false (same_class c d) (list_any (λ p. same_class p d) ps) e).0
+apart-first c d ps e = (neither (same_class c d) (list_any (λ p. same_class p d) ps) e).0
 
 own-attached : (c d : ClassRef) (ms : List (ℕ × ℕ)) (u : ℕ) (rows : List Row) → Apart d (if_any ms c) → own (rows ++ rows_at c (reverse ms)) d u ≡ own rows d u
 own-attached c d [] u rows apart = own-append rows [] d u
 own-attached c d (m ∷ ms) u rows apart = own-more c d (reverse (m ∷ ms)) u rows (apart-first c d [] apart)
 
--- away from its places a change leaves the own rows
-own-after : (h : History) (x : Change) (d : ClassRef) (u : ℕ) → Apart d (places h x) → own (rows_after (table h) x) d u ≡ own (table h).rows d u
-unfolding places holder
+-- away from where it writes a change leaves the own rows
+own-after : (h : History) (x : Change) (d : ClassRef) (u : ℕ) → Apart d (written_refs h x) → own (rows_after (table h) x) d u ≡ own (table h).rows d u
+unfolding written_refs holder
 own-after h (Add c s i) d u apart = own-more c d ((selector_number s, imp_number i) ∷ []) u (table h).rows (apart-first c d [] apart)
 own-after h (Replace c s i) d u apart = step (is_some (own (table h).rows c (selector_number s)))
   where
@@ -91,48 +90,69 @@ own-after h (Exchange c s e v) d u apart =
     let q = holder_at (table h) e m in
     let (away, other) = apart-append d (at_most_one p) (at_most_one q) apart in
     own-method p d n u second (set_method q m first (table h).rows) away ∙ own-method q d m u first (table h).rows other
+own-after h (AddClass k e) d u apart = refl
 own-after h (Attach k ms cs) d u apart =
     let (away, other) = apart-append d (if_any ms (of_class k)) (if_any cs (of_meta k)) apart in
     own-attached (of_meta k) d cs u ((table h).rows ++ rows_at (of_class k) (reverse ms)) other ∙ own-attached (of_class k) d ms u (table h).rows away
 
 -- a class reference that is not affected has no place of the change above it
-unaffected : (cs ps : List ClassRef) (d : ClassRef) → list_any (λ p. is_among p cs) ps ≡ false → is_among d cs ≡ true → Apart d ps
+unaffected : (cs ps : List ClassRef) (d : ClassRef) → list_any (λ p. is_member p cs) ps ≡ false → is_member d cs ≡ true → Apart d ps
 unaffected cs [] d e among = refl
 unaffected cs (p ∷ ps) d e among =
-    let (first, rest) = both_false (is_among p cs) (list_any (λ p. is_among p cs) ps) e in
+    let (first, rest) = neither (is_member p cs) (list_any (λ p. is_member p cs) ps) e in
     rw (other cs first among, unaffected cs ps d rest among) refl
   where
-    other : (cs : List ClassRef) → is_among p cs ≡ false → is_among d cs ≡ true → same_class p d ≡ false
+    other : (cs : List ClassRef) → is_member p cs ≡ false → is_member d cs ≡ true → same_class p d ≡ false
     other cs e among = at (same_class p d) refl
       where
         at : (b : Bool) → same_class p d ≡ b → same_class p d ≡ false
         at false is = is
         at true is =
-            let same = same_class-is p d is in
-            let clash : is_among p cs ≡ true = subst (λ z. is_among z cs ≡ true) (sym same) among in
+            let same_number = same_class-is p d is in
+            let clash : is_member p cs ≡ true = subst (λ z. is_member z cs ≡ true) (sym same_number) among in
             let absurdity : true ≡ false = sym clash ∙ e in
             cc
 
-pub lookup-unaffected : (h : History) (x : Change) (c : ClassRef) (s : ℕ) → is_affected h x c ≡ false → lookup (and_then h x) c s ≡ lookup h c s
+pub lookup-unaffected : (h : History) (x : Change) (c : ClassRef) (s : ℕ) → supers_after (table h).supers x ≡ (table h).supers → is_affected h x c ≡ false → lookup (and_then h x) c s ≡ lookup h c s
 unfolding is_affected chain_at lookup
-lookup-unaffected h x c s e =
-    lookup-after h x c s ∙ lookup-same (table h).rows (rows_after (table h) x) (chain (table h) c) s (λ d among. own-after h x d s (unaffected (chain (table h) c) (places h x) d e among))
+lookup-unaffected h x c s stay e =
+    lookup-after h x c s ∙ ap (λ supers. lookup_in (rows_after (table h) x) (chain_of supers c) s) stay ∙ lookup-same (table h).rows (rows_after (table h) x) (chain (table h) c) s (λ d among. own-after h x d s (unaffected (chain (table h) c) (written_refs h x) d (neither (is_of_made x c) _ e).1 among))
 
 -- ---- what is found after each change
 
-found-own : (h : History) (x : Change) (c : ClassRef) (s i : ℕ) → own (rows_after (table h) x) c s ≡ Some i → lookup (and_then h x) c s ≡ i
+found-own : (h : History) (x : Change) (c : ClassRef) (s i : ℕ) → is_present (supers_after (table h).supers x) c.class ≡ true → own (rows_after (table h) x) c s ≡ Some i → lookup (and_then h x) c s ≡ i
 unfolding chain_of
-found-own h x c s i e = lookup-after h x c s ∙ lookup-own (length (table h).supers) (table h).supers (rows_after (table h) x) c s i e
+found-own h x c s i here e =
+    let supers = supers_after (table h).supers x in
+    lookup-after h x c s ∙ ap (λ b. lookup_in (rows_after (table h) x) (cond b (chain_up (length supers) supers c) []) s) here ∙ lookup-own (length supers) supers (rows_after (table h) x) c s i e
+
+-- a class that isn't lacking is present
+pub is-there : (h : History) (c : ClassRef) → no_class h c ≡ false → is_present (table h).supers c.class ≡ true
+unfolding no_class
+is-there h c e = at (is_present (table h).supers c.class) e
+  where
+    at : (b : Bool) → not b ≡ false → b ≡ true
+    at true e = refl
+    at false e = cc
+
+-- before a class is made its lookups forward
+pub absent-forwards : (h : History) (c : ClassRef) (s : ℕ) → no_class h c ≡ true → lookup h c s ≡ 0
+unfolding lookup no_class chain_of
+absent-forwards h c s e = at (is_present (table h).supers c.class) e
+  where
+    at : (b : Bool) → not b ≡ true → lookup_in (table h).rows (cond b (chain_up (length (table h).supers) (table h).supers c) []) s ≡ 0
+    at true e = cc
+    at false e = refl
 
 own-one : (c : ClassRef) (s i : ℕ) (rows : List Row) → own (rows ++ rows_at c ((s, i) ∷ [])) c s ≡ Some i
 own-one c s i rows =
     own-append rows (rows_at c ((s, i) ∷ [])) c s ∙ ap (λ o. or_else o (own rows c s)) (own-rows_at c ((s, i) ∷ []) s ∙ ap (λ b. cond b (Some i) None) (equal s))
 
-pub found-added : (h : History) (c : ClassRef) (s : Selector) (i : ImpRef) → lookup (and_then h (Add c s i)) c (selector_number s) ≡ imp_number i
-found-added h c s i = found-own h (Add c s i) c (selector_number s) (imp_number i) (own-one c (selector_number s) (imp_number i) (table h).rows)
+pub found-added : (h : History) (c : ClassRef) (s : Selector) (i : ImpRef) → no_class h c ≡ false → lookup (and_then h (Add c s i)) c (selector_number s) ≡ imp_number i
+found-added h c s i here = found-own h (Add c s i) c (selector_number s) (imp_number i) (is-there h c here) (own-one c (selector_number s) (imp_number i) (table h).rows)
 
-pub found-replaced : (h : History) (c : ClassRef) (s : Selector) (i : ImpRef) → lookup (and_then h (Replace c s i)) c (selector_number s) ≡ imp_number i
-found-replaced h c s i = found-own h (Replace c s i) c (selector_number s) (imp_number i) (step (is_some (own (table h).rows c (selector_number s))) refl)
+pub found-replaced : (h : History) (c : ClassRef) (s : Selector) (i : ImpRef) → no_class h c ≡ false → lookup (and_then h (Replace c s i)) c (selector_number s) ≡ imp_number i
+found-replaced h c s i here = found-own h (Replace c s i) c (selector_number s) (imp_number i) (is-there h c here) (step (is_some (own (table h).rows c (selector_number s))) refl)
   where
     step : (b : Bool) → is_some (own (table h).rows c (selector_number s)) ≡ b
         → own (cond b (set_own c (selector_number s) (imp_number i) (table h).rows) ((table h).rows ++ row c s i ∷ [])) c (selector_number s) ≡ Some (imp_number i)
@@ -140,12 +160,12 @@ found-replaced h c s i = found-own h (Replace c s i) c (selector_number s) (imp_
     step false e = own-one c (selector_number s) (imp_number i) (table h).rows
 
 -- a lookup that finds a method where it was, with what it now has
-found-there : (h : History) (x : Change) (e p : ClassRef) (s i : ℕ) → holder h e s ≡ Some p → ((d : ClassRef) → is_some (own (rows_after (table h) x) d s) ≡ is_some (own (table h).rows d s)) → own (rows_after (table h) x) p s ≡ Some i
+found-there : (h : History) (x : Change) (e p : ClassRef) (s i : ℕ) → supers_after (table h).supers x ≡ (table h).supers → holder h e s ≡ Some p → ((d : ClassRef) → is_some (own (rows_after (table h) x) d s) ≡ is_some (own (table h).rows d s)) → own (rows_after (table h) x) p s ≡ Some i
     → lookup (and_then h x) e s ≡ i
 unfolding holder
-found-there h x e p s i is kept own-is =
+found-there h x e p s i stay is kept own-is =
     let there = holder-same (table h).rows (rows_after (table h) x) (chain (table h) e) s kept ∙ is in
-    lookup-after h x e s ∙ same_Some (lookup_in (rows_after (table h) x) (chain (table h) e) s) i (lookup-holder (rows_after (table h) x) (chain (table h) e) s p there ∙ own-is)
+    lookup-after h x e s ∙ ap (λ supers. lookup_in (rows_after (table h) x) (chain_of supers e) s) stay ∙ same_Some (lookup_in (rows_after (table h) x) (chain (table h) e) s) i (lookup-holder (rows_after (table h) x) (chain (table h) e) s p there ∙ own-is)
 
 -- the method that a lookup finds is there
 pub held : (h : History) (c p : ClassRef) (s : ℕ) → holder h c s ≡ Some p → own (table h).rows p s ≡ Some (lookup h c s)
@@ -159,7 +179,7 @@ pub nowhere : (h : History) (c : ClassRef) (s : ℕ) → holder h c s ≡ None �
 unfolding holder lookup
 nowhere h c s e = lookup-nowhere (table h).rows (chain (table h) c) s e
 
-some-set_method : (o : Option ClassRef) (s i : ℕ) (rows : List Row) (d : ClassRef) (u : ℕ) → is_some (own (set_method o s i rows) d u) ≡ is_some (own rows d u)
+pub some-set_method : (o : Option ClassRef) (s i : ℕ) (rows : List Row) (d : ClassRef) (u : ℕ) → is_some (own (set_method o s i rows) d u) ≡ is_some (own rows d u)
 some-set_method None s i rows d u = refl
 some-set_method (Some p) s i rows d u = some-set_own p d s u i rows
 
@@ -169,7 +189,7 @@ found-set h c d p s i first second =
     let n = selector_number s in
     let kept = λ (e : ClassRef). some-set_method (holder_at (table h) c n) n (imp_number i) (table h).rows e n in
     let written = own-set_same p n (imp_number i) (table h).rows (ap is_some (held h c p n first)) in
-    found-there h (SetImp c s i) d p n (imp_number i) second kept (ap (λ o. own (set_method o n (imp_number i) (table h).rows) p n) first ∙ written)
+    found-there h (SetImp c s i) d p n (imp_number i) refl second kept (ap (λ o. own (set_method o n (imp_number i) (table h).rows) p n) first ∙ written)
 
 module _ (h : History) (c d : ClassRef) (s u : Selector) where
   some-exchanged : (v : ℕ) (e : ClassRef) → is_some (own (rows_after (table h) (Exchange c s d u)) e v) ≡ is_some (own (table h).rows e v)
@@ -184,14 +204,14 @@ module _ (h : History) (c d : ClassRef) (s u : Selector) where
       let inner = set_method (holder_at (table h) d (selector_number u)) (selector_number u) (lookup_at (table h) c n) (table h).rows in
       let there : is_some (own inner p n) ≡ true = some-set_method (holder_at (table h) d (selector_number u)) (selector_number u) (lookup_at (table h) c n) (table h).rows p n ∙ ap is_some (held h c p n first) in
       let written = own-set_same p n (lookup_at (table h) d (selector_number u)) inner there in
-      found-there h (Exchange c s d u) e p n (lookup_at (table h) d (selector_number u)) at (some-exchanged n) (ap (λ o. own (set_method o n (lookup_at (table h) d (selector_number u)) inner) p n) first ∙ written)
+      found-there h (Exchange c s d u) e p n (lookup_at (table h) d (selector_number u)) refl at (some-exchanged n) (ap (λ o. own (set_method o n (lookup_at (table h) d (selector_number u)) inner) p n) first ∙ written)
 
   pub found-second : (e p q : ClassRef) → holder h c (selector_number s) ≡ Some p → holder h d (selector_number u) ≡ Some q → holder h e (selector_number u) ≡ Some q → lookup (and_then h (Exchange c s d u)) e (selector_number u) ≡ lookup h c (selector_number s)
   unfolding holder lookup
   found-second e p q first second at =
       let inner' = ap (λ o. set_method o m one (table h).rows) second in
       let outer = ap₂ (λ o rows. own (set_method o n two rows) q m) first inner' in
-      found-there h (Exchange c s d u) e q m one at (some-exchanged m) (outer ∙ written (same_class p q) refl (n == m) refl)
+      found-there h (Exchange c s d u) e q m one refl at (some-exchanged m) (outer ∙ written (same_class p q) refl (n == m) refl)
     where
       n : ℕ
       n = selector_number s
@@ -222,12 +242,12 @@ module _ (h : History) (c d : ClassRef) (s u : Selector) where
       written true e false f = apart (rw (e, f) refl)
       written true e true f =
           let class = same_class-is p q e in
-          let sel = same n m f in
+          let sel = same_number n m f in
           let one-is : Some two ≡ Some one = sym held-second ∙ sym (ap₂ (λ z k. own (table h).rows z k) class sel) ∙ held h c p n first in
           ap₂ (λ z k. own (set_own z k two inner) q m) class sel ∙ own-set_same q m two inner (ap is_some here) ∙ one-is
 
 pub exchanged-with-itself : (h : History) (c d : ClassRef) (s : Selector) → holder h c (selector_number s) ≡ holder h d (selector_number s) → table (and_then h (Exchange c s d s)) ≡ table h
-unfolding after holder lookup
+unfolding table_after holder lookup
 exchanged-with-itself h c d s e =
     table-and_then h (Exchange c s d s) ∙ ap (λ rows. record { supers = (table h).supers; rows = rows }) (at (holder_at (table h) d n) refl)
   where
@@ -243,17 +263,17 @@ exchanged-with-itself h c d s e =
 
 -- ---- attached methods
 
-pub found-attached : (h : History) (k : ℕ) (ms cs : List (ℕ × ℕ)) (s i : ℕ) → own_in s (reverse ms) ≡ Some i → lookup (and_then h (Attach k ms cs)) (of_class k) s ≡ i
-found-attached h k ms cs s i e =
+pub found-attached : (h : History) (k : ℕ) (ms cs : List (ℕ × ℕ)) (s i : ℕ) → no_class h (of_class k) ≡ false → own_in s (reverse ms) ≡ Some i → lookup (and_then h (Attach k ms cs)) (of_class k) s ≡ i
+found-attached h k ms cs s i here e =
     let first = (table h).rows ++ rows_at (of_class k) (reverse ms) in
-    found-own h (Attach k ms cs) (of_class k) s i
+    found-own h (Attach k ms cs) (of_class k) s i (is-there h (of_class k) here)
     (own-more (of_meta k) (of_class k) (reverse cs) s first (meta-apart k)
     ∙ own-append (table h).rows (rows_at (of_class k) (reverse ms)) (of_class k) s ∙ ap (λ o. or_else o (own (table h).rows (of_class k) s)) (own-rows_at (of_class k) (reverse ms) s ∙ e))
 
-pub found-attached-meta : (h : History) (k : ℕ) (ms cs : List (ℕ × ℕ)) (s i : ℕ) → own_in s (reverse cs) ≡ Some i → lookup (and_then h (Attach k ms cs)) (of_meta k) s ≡ i
-found-attached-meta h k ms cs s i e =
+pub found-attached-meta : (h : History) (k : ℕ) (ms cs : List (ℕ × ℕ)) (s i : ℕ) → no_class h (of_class k) ≡ false → own_in s (reverse cs) ≡ Some i → lookup (and_then h (Attach k ms cs)) (of_meta k) s ≡ i
+found-attached-meta h k ms cs s i here e =
     let first = (table h).rows ++ rows_at (of_class k) (reverse ms) in
-    found-own h (Attach k ms cs) (of_meta k) s i (own-append first (rows_at (of_meta k) (reverse cs)) (of_meta k) s ∙ ap (λ o. or_else o (own first (of_meta k) s)) (own-rows_at (of_meta k) (reverse cs) s ∙ e))
+    found-own h (Attach k ms cs) (of_meta k) s i (is-there h (of_class k) here) (own-append first (rows_at (of_meta k) (reverse cs)) (of_meta k) s ∙ ap (λ o. or_else o (own first (of_meta k) s)) (own-rows_at (of_meta k) (reverse cs) s ∙ e))
 
 -- categories without a method bring no row of it
 own-later : (later : List Category) (k : ClassRef) (s : ℕ) → All (Lacks k s) later → own (category_rows later) k s ≡ None
@@ -264,58 +284,38 @@ own-later (d ∷ ds) k s all =
 -- the method of a category that is the last with one
 own-opened : (image : ImageParts) (before later : List Category) (c : Category) (k : ClassRef) (s i : ℕ) → image.categories ≡ before ++ c ∷ later → All (Lacks k s) later → own (rows_of_category c) k s ≡ Some i
     → own (table (empty image)).rows k s ≡ Some i
-unfolding table opening
+unfolding table opening_table
 own-opened image before later c k s i e all is =
     let last = own-append (rows_of_category c) (category_rows later) k s ∙ ap₂ or_else (own-later later k s all) is in
     let brought = ap (λ rows. own rows k s) (category_rows-append before (c ∷ later)) ∙ own-append (category_rows before) (category_rows (c ∷ later)) k s ∙ ap (λ o. or_else o (own (category_rows before) k s)) last in
     ap (λ cs. own (class_rows 0 image.classes ++ category_rows cs) k s) e ∙ own-append (class_rows 0 image.classes) (category_rows (before ++ c ∷ later)) k s
     ∙ ap (λ o. or_else o (own (class_rows 0 image.classes) k s)) brought
 
-found-opened : (image : ImageParts) (c : ClassRef) (s i : ℕ) → own (table (empty image)).rows c s ≡ Some i → lookup (empty image) c s ≡ i
-unfolding lookup chain_of
-found-opened image c s i e = lookup-own (length (table (empty image)).supers) (table (empty image)).supers (table (empty image)).rows c s i e
+found-opened : (image : ImageParts) (c : ClassRef) (s i : ℕ) → c.class < length image.classes → own (table (empty image)).rows c s ≡ Some i → lookup (empty image) c s ≡ i
+unfolding lookup chain_of table opening_table
+found-opened image c s i inside e =
+    let supers = (table (empty image)).supers in
+    ap (λ b. lookup_in (table (empty image)).rows (cond b (chain_up (length supers) supers c) []) s) (opened-is_present image c.class inside) ∙ lookup-own (length supers) supers (table (empty image)).rows c s i e
 
-pub found-category : (image : ImageParts) (before later : List Category) (c : Category) (s i : ℕ) → image.categories ≡ before ++ c ∷ later → All (Lacks (of_class c.class) s) later → own_in s c.methods ≡ Some i
+-- the class of a category
+category-class : (image : ImageParts) (before later : List Category) (c : Category) → IsSound image → image.categories ≡ before ++ c ∷ later → c.class < length image.classes
+category-class image before later c sound e =
+    let all : All (IsSoundCategory image) (before ++ c ∷ later) = subst (All (IsSoundCategory image)) e sound.categories in
+    let n = length-append before (c ∷ later) in
+    let at : IsSoundCategory image (get_or (before ++ c ∷ later) (length before) c) = all (length before) c (omega (arith, n)) in
+    (subst (IsSoundCategory image) (get_or-append_seam before c later c) at).class
+
+pub found-category : (image : ImageParts) (before later : List Category) (c : Category) (s i : ℕ) → IsSound image → image.categories ≡ before ++ c ∷ later → All (Lacks (of_class c.class) s) later → own_in s c.methods ≡ Some i
     → lookup (empty image) (of_class c.class) s ≡ i
-found-category image before later c s i e all is =
+found-category image before later c s i sound e all is =
     let class = of_class c.class in
-    found-opened image class s i
+    found-opened image class s i (category-class image before later c sound e)
     (own-opened image before later c class s i e all (own-more (of_meta c.class) class c.class_methods s (rows_at class c.methods) (meta-apart c.class) ∙ own-rows_at class c.methods s ∙ is))
 
-pub found-category-meta : (image : ImageParts) (before later : List Category) (c : Category) (s i : ℕ) → image.categories ≡ before ++ c ∷ later → All (Lacks (of_meta c.class) s) later → own_in s c.class_methods ≡ Some i
+pub found-category-meta : (image : ImageParts) (before later : List Category) (c : Category) (s i : ℕ) → IsSound image → image.categories ≡ before ++ c ∷ later → All (Lacks (of_meta c.class) s) later → own_in s c.class_methods ≡ Some i
     → lookup (empty image) (of_meta c.class) s ≡ i
-found-category-meta image before later c s i e all is =
+found-category-meta image before later c s i sound e all is =
     let own_rows = rows_at (of_class c.class) c.methods in
     let meta = of_meta c.class in
-    found-opened image meta s i
+    found-opened image meta s i (category-class image before later c sound e)
     (own-opened image before later c meta s i e all (own-append own_rows (rows_at meta c.class_methods) meta s ∙ ap (λ o. or_else o (own own_rows meta s)) (own-rows_at meta c.class_methods s ∙ is)))
-
--- ---- inheritance
-
-module _ (h : History) where
-  listed-before : IsSound h.image → Before (table h).supers
-  listed-before sound k d e = supers-before h.image sound k d (ap (λ ss. slice_get ss k) (sym (supers-table h)) ∙ e)
-
-  inside : (c : ClassRef) → no_class h c ≡ false → c.class < length (table h).supers
-  unfolding no_class
-  inside c e = let count = ap length (supers-table h) ∙ length-map h.image.classes (λ (k : ClassParts). k.superclass) in grind (arith, nat_tests, count, e)
-
-  pub inherits : (c d : ClassRef) (s : ℕ) → IsSound h.image → no_class h c ≡ false → has_own h c s ≡ false → superclass h c ≡ Some d → lookup h c s ≡ lookup h d s
-  unfolding lookup has_own superclass
-  inherits c d s sound listed none above =
-      ap (λ cs. lookup_in (table h).rows cs s) (chain_of-step (table h).supers c (listed-before sound) (inside c listed) ∙ ap (λ o. c ∷ option_map_or (chain_of (table h).supers) o []) above)
-      ∙ at (own (table h).rows c s) none
-    where
-      at : (o : Option ℕ) → is_some o ≡ false → unwrap_or o (lookup_in (table h).rows (chain (table h) d) s) ≡ lookup_in (table h).rows (chain (table h) d) s
-      at None e = refl
-      at (Some i) e = cc
-
-  pub root-meta : (k : ℕ) → no_class h (of_class k) ≡ false → superclass h (of_class k) ≡ None → superclass h (of_meta k) ≡ Some (of_class k)
-  unfolding superclass
-  root-meta k listed none =
-      let (o, at) = element (table h).supers k (inside (of_class k) listed) in
-      ap (λ x. option_map_or (above (of_meta k)) x None) at ∙ root o (sym (ap (λ x. option_map_or (above (of_class k)) x None) at) ∙ none)
-    where
-      root : (o : Option ℕ) → above (of_class k) o ≡ None → above (of_meta k) o ≡ Some (of_class k)
-      root None e = refl
-      root (Some d) e = cc

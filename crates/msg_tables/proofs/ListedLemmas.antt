@@ -5,13 +5,10 @@ use Rattle.std.specs.List.{list_all}
 use Rattle.std.proofs.lemmas.Bool.Decides.{nat_tests}
 use Rattle.std.proofs.lemmas.Option.{same_Some}
 use Rattle.std.proofs.lemmas.List.{get_or-map, reverse-append}
+use Rattle.msg_names.proofs.TestLemmas.{both}
 use Rattle.msg_tables.specs.Rows.{or_else}
 use Rattle.msg_tables.specs.RowList.{RowList, own_in, set_last, rows_of}
 use Rattle.msg_tables.specs.View.{are_listed}
-
-pub both : (a b : Bool) → (a && b) ≡ true → (a ≡ true) × (b ≡ true)
-both true b e = (refl, e)
-both false b e = cc
 
 pub and_both : (a b : Bool) → a ≡ true → b ≡ true → (a && b) ≡ true
 and_both a b e f = rw (e, f) refl

@@ -1,19 +1,18 @@
 -- Lookups in lists that hold the rows.
-use Rattle.std.proofs.Common.{◌≡◌, ◌<◌, ℕ, zero, suc, List, [], ◌∷◌, Option, Some, None, option_map, Bool, true, false, cond, refl, sym, ◌∙◌, ap}
+use Rattle.std.proofs.Common.{◌≡◌, length, ◌<◌, ℕ, zero, suc, List, [], ◌∷◌, Option, Some, None, option_map, Bool, true, false, cond, refl, sym, ◌∙◌, ap}
 use Rattle.std.specs.Prelude.{◌==◌, ◌&&◌, unwrap_or, is_some}
 use Rattle.std.specs.Option.{option_map_or}
+use Rattle.msg_tables.proofs.OrElseLemmas.{or_else_none}
 use Rattle.msg_names.specs.declared.value.ClassRef.{ClassRef}
-use Rattle.msg_tables.specs.Chain.{chain_up, chain_of, super_of, steps_of, same_class}
+use Rattle.msg_names.specs.ClassRef.{same_class}
+use Rattle.msg_tables.specs.Chain.{chain_up, chain_of, super_of, steps_of, only_present, is_present}
+use Rattle.msg_tables.specs.declared.presence.Presence.{Presence}
 use Rattle.msg_tables.specs.Rows.{Row, own, or_else, holder_in, lookup_in}
 use Rattle.msg_tables.specs.RowList.{own_in}
 use Rattle.msg_tables.specs.History.{History, table, lookup, holder, superclass}
 use Rattle.msg_tables.specs.Stands.{Holds, StandsAt, pairs_at}
 use Rattle.msg_tables.specs.View.{TablesView, kept, kept_method}
 use Rattle.msg_tables.proofs.ChainLemmas.{chain_from, Suffices, chain_up-step}
-
-or_else_none : (o : Option ℕ) → or_else o None ≡ o
-or_else_none None = refl
-or_else_none (Some i) = refl
 
 -- the own row is the last of the pairs
 pub own-pairs_at : (c : ClassRef) (s : ℕ) (rows : List Row) → own rows c s ≡ own_in s (pairs_at c rows)
@@ -61,8 +60,17 @@ module _ (t : TablesView) (h : History) (stands : StandsAt t h) (c : ClassRef) w
   unfolding lookup
   lookup-stands s = lookup_in-kept t.lists (table h).rows stands.rows (chain_of (table h).supers c) s ∙ ap (λ supers. option_map_or (λ (m : ClassRef × ℕ). m.1) (kept_method t.lists (chain_of supers c) s) 0) (sym stands.supers)
 
+-- the chain begins at the class reference, where that is present
+pub chain-begins : (supers : List (Option Presence)) (c : ClassRef) → chain_of supers c ≡ chain_from (length supers) supers (only_present supers c)
+unfolding chain_of
+chain-begins supers c = at (is_present supers c.class)
+  where
+    at : (b : Bool) → cond b (chain_up (length supers) supers c) [] ≡ chain_from (length supers) supers (cond b (Some c) None)
+    at true = refl
+    at false = refl
+
 -- one turn up the chain
-module _ (lists : List (List (ℕ × ℕ))) (supers : List (Option ℕ)) (s n : ℕ) (at : Option ClassRef) (here : ClassRef) (whole : Option (ClassRef × ℕ)) (is : at ≡ Some here) where
+module _ (lists : List (List (ℕ × ℕ))) (supers : List (Option Presence)) (order : List ℕ) (s n : ℕ) (at : Option ClassRef) (here : ClassRef) (whole : Option (ClassRef × ℕ)) (is : at ≡ Some here) where
   pub stops : (i : ℕ) → own_in s (kept lists here) ≡ Some i → kept_method lists (chain_from n supers at) s ≡ whole → Some (here, i) ≡ whole
   stops i found so_far = sym (answer n) ∙ (rw is at so_far)
     where
@@ -70,10 +78,10 @@ module _ (lists : List (List (ℕ × ℕ))) (supers : List (Option ℕ)) (s n : 
       answer zero = rw found refl
       answer (suc m) = rw found refl
 
-  pub goes_on : (up : Option ClassRef) → Suffices n at → own_in s (kept lists here) ≡ None → up ≡ super_of supers here → ((d : ClassRef) → up ≡ Some d → steps_of d < steps_of here) → kept_method lists (chain_from n supers at) s ≡ whole
-      → (m : ℕ) × Suffices m up × (kept_method lists (chain_from m supers up) s ≡ whole)
+  pub goes_on : (up : Option ClassRef) → Suffices order n at → own_in s (kept lists here) ≡ None → up ≡ super_of supers here → ((d : ClassRef) → up ≡ Some d → steps_of order d < steps_of order here) → kept_method lists (chain_from n supers at) s ≡ whole
+      → (m : ℕ) × Suffices order m up × (kept_method lists (chain_from m supers up) s ≡ whole)
   goes_on up enough none above fewer so_far =
-      let (m, more, split) = chain_up-step n supers here up (sym above) (rw is at enough) fewer in
+      let (m, more, split) = chain_up-step order n supers here up (sym above) (rw is at enough) fewer in
       (m, more, sym (ap (λ cs. kept_method lists cs s) split ∙ rw none refl) ∙ (rw is at so_far))
 
 pub is_some-map : {A B : Type 0} (f : A → B) (o : Option A) → is_some (option_map f o) ≡ is_some o

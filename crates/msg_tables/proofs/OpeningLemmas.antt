@@ -7,14 +7,15 @@ use Rattle.std.proofs.lemmas.List.Sums.{sum_by-cons, sum_by_push, sum_by-take-le
 use Rattle.std.proofs.lemmas.List.Elements.{All-head, All-tail}
 use Rattle.std.proofs.lemmas.Option.{slice_get-map, same_Some}
 use Rattle.msg_image.specs.declared.image.Category.{Category}
-use Rattle.msg_image.specs.Parts.{ImageParts, ClassParts}
-use Rattle.msg_image.specs.Sound.{IsSound, AreListed}
+use Rattle.msg_image.specs.Parts.{ImageParts, ClassParts, class_total}
+use Rattle.msg_image.specs.Sound.{IsSound, AreListed, IsMethodOf}
 use Rattle.msg_tables.specs.Rows.{Row}
-use Rattle.msg_tables.specs.After.{rows_at, of_class, of_meta, class_rows, category_rows, opening}
+use Rattle.msg_tables.specs.After.{rows_at, of_class, of_meta, class_rows, category_rows, opening_table}
 use Rattle.msg_tables.specs.History.{empty, table}
 use Rattle.msg_tables.specs.Stands.{Holds, StandsAt}
 use Rattle.msg_tables.specs.Opening.{Adds, IsBlank, rows_of_class, size_of_class, rows_of_category, size_of_category}
-use Rattle.msg_tables.specs.View.{TablesView, are_listed, kept, place_of}
+use Rattle.msg_names.specs.ClassRef.{slot_of}
+use Rattle.msg_tables.specs.View.{TablesView, are_listed, kept}
 use Rattle.msg_tables.proofs.HistoryLemmas.{history-empty}
 use Rattle.msg_tables.proofs.HoldsLemmas.{length-rows_at}
 use Rattle.msg_tables.proofs.ListedLemmas.{and_both}
@@ -40,8 +41,8 @@ listed-blank n (suc count) = listed-blank n count
 pub listed-test : (image : ImageParts) (ms : List (ℕ × ℕ)) → AreListed image ms → are_listed (length image.imps) ms ≡ true
 listed-test image [] all = refl
 listed-test image (m ∷ ms) all =
-    let inside = (All-head (λ x. (0 < x.1) × (x.1 ≤ length image.imps)) m ms all).1 in
-    and_both (nat_le m.1 (length image.imps)) (are_listed (length image.imps) ms) (grind (arith, nat_tests, inside)) (listed-test image ms (All-tail (λ x. (0 < x.1) × (x.1 ≤ length image.imps)) m ms all))
+    let inside = (All-head (IsMethodOf image) m ms all).1 in
+    and_both (nat_le m.1 (length image.imps)) (are_listed (length image.imps) ms) (grind (arith, nat_tests, inside)) (listed-test image ms (All-tail (IsMethodOf image) m ms all))
 
 length-rows_of_class : (k : ℕ) (c : ClassParts) → length (rows_of_class k c) ≡ size_of_class c
 length-rows_of_class k c = omega (arith, length-append (rows_at (of_class k) c.methods) (rows_at (of_meta k) c.class_methods), length-rows_at (of_class k) c.methods, length-rows_at (of_meta k) c.class_methods)
@@ -106,13 +107,13 @@ kept-blank (suc n) (suc k) = kept-blank n k
 
 -- opened tables stand where nothing was changed yet
 pub stands-open : (image : ImageParts) (a b c : TablesView) → IsBlank image a → Adds a b (class_rows 0 image.classes) → Adds b c (category_rows image.categories) → StandsAt c (empty image)
-unfolding table opening
+unfolding table opening_table
 stands-open image a b c blank classes categories =
     let both = adds-both a b c (class_rows 0 image.classes) (category_rows image.categories) classes categories in
     record {
       history = history-empty (empty image) refl;
       supers = ap (λ t. t.supers) both.rest ∙ blank.supers;
-      rows = both.rows [] (record { at = λ k. ap (λ ls. kept ls k) blank.lists ∙ kept-blank (2 * length image.classes) (place_of k) });
+      rows = both.rows [] (record { at = λ k. ap (λ ls. kept ls k) blank.lists ∙ kept-blank (2 * class_total image) (slot_of k) });
       row_count = let count : c.row_count ≡ length (class_rows 0 image.classes ++ category_rows image.categories) = omega (arith, both.row_count, blank.row_count) in count;
       changes = ap (λ t. t.change_count) both.rest ∙ blank.change_count;
       colons = ap (λ t. t.colons) both.rest ∙ blank.colons;

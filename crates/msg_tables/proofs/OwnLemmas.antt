@@ -3,8 +3,12 @@ use Rattle.std.proofs.Common.{◌≡◌, ℕ, zero, suc, List, [], ◌∷◌, �
 use Rattle.std.specs.Prelude.{◌==◌, ◌&&◌, ◌||◌, is_some, is_none, unwrap_or}
 use Rattle.std.proofs.lemmas.Bool.Decides.{nat_tests}
 use Rattle.std.proofs.lemmas.Option.{same_Some}
+use Rattle.msg_tables.proofs.OrElseLemmas.{or_else_none, or_else-assoc}
+use Rattle.msg_names.proofs.TestLemmas.{equal, same_number}
 use Rattle.msg_names.specs.declared.value.ClassRef.{ClassRef}
-use Rattle.msg_tables.specs.Chain.{same_class, chain_up, is_among}
+use Rattle.msg_names.specs.ClassRef.{same_class}
+use Rattle.msg_tables.specs.Chain.{chain_up, is_member}
+use Rattle.msg_tables.specs.declared.presence.Presence.{Presence}
 use Rattle.msg_tables.specs.Rows.{Row, is_at, own, or_else, holder_in, lookup_in}
 use Rattle.msg_tables.specs.RowList.{own_in, set_last}
 use Rattle.msg_tables.specs.After.{rows_at, set_own}
@@ -12,21 +16,7 @@ use Rattle.msg_tables.specs.Stands.{pairs_at}
 use Rattle.msg_tables.proofs.HoldsLemmas.{pairs_at-rows_at, pairs_at-set_own, pairs_at-set_other}
 use Rattle.msg_tables.proofs.ListedLemmas.{own_in-set_last}
 use Rattle.msg_tables.proofs.LookupLemmas.{own-pairs_at}
-use Rattle.msg_tables.proofs.PlaceLemmas.{same_class-is, same_class-refl}
-
-pub equal : (n : ℕ) → (n == n) ≡ true
-equal n = grind (arith, nat_tests)
-
-pub same : (n m : ℕ) → (n == m) ≡ true → n ≡ m
-same n m e = grind (arith, nat_tests)
-
-or_else_none : (o : Option ℕ) → or_else o None ≡ o
-or_else_none None = refl
-or_else_none (Some i) = refl
-
-or_else-assoc : (a b c : Option ℕ) → or_else (or_else a b) c ≡ or_else a (or_else b c)
-or_else-assoc None b c = refl
-or_else-assoc (Some i) b c = refl
+use Rattle.msg_names.proofs.ClassRefLemmas.{same_class-is, same_class-refl}
 
 -- ---- rows that are added
 
@@ -69,7 +59,7 @@ some-set_own c d s u i (r ∷ rs) = step (is_at c s r) refl (is_none (own rs c s
     here : (a b : Bool) → same_class r.class c ≡ a → (r.sel == s) ≡ b → (a && b) ≡ true → is_some (own (set_own c s i rs) d u) ≡ is_some (own rs d u) → is_some (own (new ∷ set_own c s i rs) d u) ≡ is_some (own (r ∷ rs) d u)
     here true true e f g rest =
         let class = same_class-is r.class c e in
-        let sel = same r.sel s f in
+        let sel = same_number r.sel s f in
         let at : is_at d u new ≡ is_at d u r = sym (ap₂ (λ k n. same_class k d && (n == u)) class sel) in
         some-or_else (own (set_own c s i rs) d u) (own rs d u) (cond (is_at d u new) (Some i) None) (cond (is_at d u r) (Some r.imp) None) rest
         (ap (λ b. is_some (cond b (Some i) None)) at ∙ some-cond (is_at d u r) i r.imp)
@@ -101,7 +91,7 @@ own_in-set_other s u i (m ∷ ms) apart = step (m.0 == s) refl (is_none (own_in 
   where
     step : (b : Bool) → (m.0 == s) ≡ b → (n : Bool) → own_in u (set_last s i ms) ≡ own_in u ms → own_in u (cond (b && n) (s, i) m ∷ set_last s i ms) ≡ own_in u (m ∷ ms)
     step true e true rest =
-        let other : (m.0 == u) ≡ false = ap (λ n. n == u) (same m.0 s e) ∙ apart in
+        let other : (m.0 == u) ≡ false = ap (λ n. n == u) (same_number m.0 s e) ∙ apart in
         rw (apart, other) (ap (λ o. or_else o None) rest)
     step true e false rest = ap (λ o. or_else o (cond (m.0 == u) (Some m.1) None)) rest
     step false e n rest = ap (λ o. or_else o (cond (m.0 == u) (Some m.1) None)) rest
@@ -139,7 +129,7 @@ set_own-own c s i (r ∷ rs) is = step (own rs c s) refl (is_at c s r) refl (set
     here : (a b : Bool) → same_class r.class c ≡ a → (r.sel == s) ≡ b → (a && b) ≡ true → r.imp ≡ i → record { class = c; sel = s; imp = i } ≡ r
     here true true e f g imp =
         let class = sym (same_class-is r.class c e) in
-        let sel = sym (same r.sel s f) in
+        let sel = sym (same_number r.sel s f) in
         let value = sym imp in
         λ k. record { class = class k; sel = sel k; imp = value k }
     here true false e f g imp = cc
@@ -155,7 +145,7 @@ set_own-own c s i (r ∷ rs) is = step (own rs c s) refl (is_at c s r) refl (set
 -- ---- lookups
 
 -- the class itself comes first
-pub lookup-own : (n : ℕ) (supers : List (Option ℕ)) (rows : List Row) (c : ClassRef) (s i : ℕ) → own rows c s ≡ Some i → lookup_in rows (chain_up n supers c) s ≡ i
+pub lookup-own : (n : ℕ) (supers : List (Option Presence)) (rows : List Row) (c : ClassRef) (s i : ℕ) → own rows c s ≡ Some i → lookup_in rows (chain_up n supers c) s ≡ i
 lookup-own zero supers rows c s i e = rw e refl
 lookup-own (suc n) supers rows c s i e = rw e refl
 
@@ -182,10 +172,10 @@ holder-same rows after [] u e = refl
 holder-same rows after (c ∷ cs) u e = ap₂ (λ b o. cond b (Some c) o) (e c) (holder-same rows after cs u e)
 
 -- a lookup that meets the same own rows
-pub lookup-same : (rows after : List Row) (cs : List ClassRef) (s : ℕ) → ((d : ClassRef) → is_among d cs ≡ true → own after d s ≡ own rows d s) → lookup_in after cs s ≡ lookup_in rows cs s
+pub lookup-same : (rows after : List Row) (cs : List ClassRef) (s : ℕ) → ((d : ClassRef) → is_member d cs ≡ true → own after d s ≡ own rows d s) → lookup_in after cs s ≡ lookup_in rows cs s
 lookup-same rows after [] s e = refl
 lookup-same rows after (c ∷ cs) s e =
-    ap₂ (λ o i. unwrap_or o i) (e c (here (is_among c cs))) (lookup-same rows after cs s (λ d among. e d (there (same_class d c) (is_among d cs) among)))
+    ap₂ (λ o i. unwrap_or o i) (e c (here (is_member c cs))) (lookup-same rows after cs s (λ d among. e d (there (same_class d c) (is_member d cs) among)))
   where
     here : (b : Bool) → (same_class c c || b) ≡ true
     here b = rw (same_class-refl c) refl

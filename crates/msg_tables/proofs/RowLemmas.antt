@@ -3,16 +3,14 @@ use Rattle.std.proofs.Common.{◌≡◌, ◌<◌, ℕ, suc, List, [], ◌∷◌,
 use Rattle.std.specs.Prelude.{◌==◌, ◌&&◌, slice_set, is_none}
 use Rattle.std.proofs.lemmas.Bool.Decides.{nat_tests}
 use Rattle.std.proofs.lemmas.Option.{same_Some}
+use Rattle.msg_names.proofs.TestLemmas.{same_number}
 use Rattle.msg_tables.specs.Rows.{or_else}
-use Rattle.msg_tables.specs.RowList.{own_in, last_place, set_last}
-
-same : (a b : ℕ) → (a == b) ≡ true → a ≡ b
-same a b e = grind (arith, nat_tests)
+use Rattle.msg_tables.specs.RowList.{own_in, last_index, set_last}
 
 -- where no row is last there is none
-pub last_none : (s : ℕ) (ms : List (ℕ × ℕ)) → last_place s ms ≡ None → own_in s ms ≡ None
+pub last_none : (s : ℕ) (ms : List (ℕ × ℕ)) → last_index s ms ≡ None → own_in s ms ≡ None
 last_none s [] e = refl
-last_none s (m ∷ ms) e = step (last_place s ms) (m.0 == s) (last_none s ms) e
+last_none s (m ∷ ms) e = step (last_index s ms) (m.0 == s) (last_none s ms) e
   where
     step : (o : Option ℕ) (b : Bool) → (o ≡ None → own_in s ms ≡ None) → or_else (option_map suc o) (cond b (Some 0) None) ≡ None → or_else (own_in s ms) (cond b (Some m.1) None) ≡ None
     step (Some q) b rest e = cc
@@ -20,9 +18,9 @@ last_none s (m ∷ ms) e = step (last_place s ms) (m.0 == s) (last_none s ms) e
     step None false rest e = rw (rest refl) refl
 
 -- the own row is the row at the last place
-pub last_some : (s : ℕ) (ms : List (ℕ × ℕ)) (p : ℕ) (d : ℕ × ℕ) → last_place s ms ≡ Some p → (p < length ms) × (own_in s ms ≡ Some (get_or ms p d).1)
+pub last_some : (s : ℕ) (ms : List (ℕ × ℕ)) (p : ℕ) (d : ℕ × ℕ) → last_index s ms ≡ Some p → (p < length ms) × (own_in s ms ≡ Some (get_or ms p d).1)
 last_some s [] p d e = cc
-last_some s (m ∷ ms) p d e = step (last_place s ms) (m.0 == s) (λ q. last_some s ms q d) (last_none s ms) e
+last_some s (m ∷ ms) p d e = step (last_index s ms) (m.0 == s) (λ q. last_some s ms q d) (last_none s ms) e
   where
     step : (o : Option ℕ) (b : Bool) → ((q : ℕ) → o ≡ Some q → (q < length ms) × (own_in s ms ≡ Some (get_or ms q d).1)) → (o ≡ None → own_in s ms ≡ None) → or_else (option_map suc o) (cond b (Some 0) None) ≡ Some p
         → (p < length (m ∷ ms)) × (or_else (own_in s ms) (cond b (Some m.1) None) ≡ Some (get_or (m ∷ ms) p d).1)
@@ -40,16 +38,16 @@ place_suc true o q t = refl
 place_suc false o q t = refl
 
 -- one more row is the last of its selector
-pub last_place-push : (q : ℕ) (ms : List (ℕ × ℕ)) (s i : ℕ) → last_place q (ms ++ (s, i) ∷ []) ≡ cond (s == q) (Some (length ms)) (last_place q ms)
+pub last_place-push : (q : ℕ) (ms : List (ℕ × ℕ)) (s i : ℕ) → last_index q (ms ++ (s, i) ∷ []) ≡ cond (s == q) (Some (length ms)) (last_index q ms)
 last_place-push q [] s i = refl
 last_place-push q (m ∷ ms) s i =
     ap (λ o. or_else (option_map suc o) (cond (m.0 == q) (Some 0) None)) (last_place-push q ms s i)
-    ∙ place_suc (s == q) (last_place q ms) (length ms) (cond (m.0 == q) (Some 0) None)
+    ∙ place_suc (s == q) (last_index q ms) (length ms) (cond (m.0 == q) (Some 0) None)
 
 -- there is an own row exactly where one is last
-pub is_none-own_in : (s : ℕ) (ms : List (ℕ × ℕ)) → is_none (own_in s ms) ≡ is_none (last_place s ms)
+pub is_none-own_in : (s : ℕ) (ms : List (ℕ × ℕ)) → is_none (own_in s ms) ≡ is_none (last_index s ms)
 is_none-own_in s [] = refl
-is_none-own_in s (m ∷ ms) = step (own_in s ms) (last_place s ms) (m.0 == s) (is_none-own_in s ms)
+is_none-own_in s (m ∷ ms) = step (own_in s ms) (last_index s ms) (m.0 == s) (is_none-own_in s ms)
   where
     step : (o p : Option ℕ) (b : Bool) → is_none o ≡ is_none p → is_none (or_else o (cond b (Some m.1) None)) ≡ is_none (or_else (option_map suc p) (cond b (Some 0) None))
     step None None true e = refl
@@ -59,9 +57,9 @@ is_none-own_in s (m ∷ ms) = step (own_in s ms) (last_place s ms) (m.0 == s) (i
     step (Some x) None b e = cc
 
 -- where no row is last none is rewritten
-set_last-none : (s i : ℕ) (ms : List (ℕ × ℕ)) → last_place s ms ≡ None → ms ≡ set_last s i ms
+set_last-none : (s i : ℕ) (ms : List (ℕ × ℕ)) → last_index s ms ≡ None → ms ≡ set_last s i ms
 set_last-none s i [] e = refl
-set_last-none s i (m ∷ ms) e = step (last_place s ms) (m.0 == s) (set_last-none s i ms) e
+set_last-none s i (m ∷ ms) e = step (last_index s ms) (m.0 == s) (set_last-none s i ms) e
   where
     step : (o : Option ℕ) (b : Bool) → (o ≡ None → ms ≡ set_last s i ms) → or_else (option_map suc o) (cond b (Some 0) None) ≡ None → m ∷ ms ≡ cond (b && is_none (own_in s ms)) (s, i) m ∷ set_last s i ms
     step (Some q) b rest e = cc
@@ -69,9 +67,9 @@ set_last-none s i (m ∷ ms) e = step (last_place s ms) (m.0 == s) (set_last-non
     step None false rest e = ap (λ ys. m ∷ ys) (rest refl)
 
 -- writing at the last place rewrites the last row
-pub set-last_place : (s i : ℕ) (ms : List (ℕ × ℕ)) (p : ℕ) → last_place s ms ≡ Some p → slice_set ms p (s, i) ≡ set_last s i ms
+pub set-last_place : (s i : ℕ) (ms : List (ℕ × ℕ)) (p : ℕ) → last_index s ms ≡ Some p → slice_set ms p (s, i) ≡ set_last s i ms
 set-last_place s i [] p e = cc
-set-last_place s i (m ∷ ms) p e = step (last_place s ms) (m.0 == s) (is_none-own_in s ms) (set-last_place s i ms) (set_last-none s i ms) e
+set-last_place s i (m ∷ ms) p e = step (last_index s ms) (m.0 == s) (is_none-own_in s ms) (set-last_place s i ms) (set_last-none s i ms) e
   where
     tail : (b : Bool) (q : ℕ) → slice_set ms q (s, i) ≡ set_last s i ms → m ∷ slice_set ms q (s, i) ≡ cond (b && false) (s, i) m ∷ set_last s i ms
     tail true q h = ap (λ xs. m ∷ xs) h
@@ -88,11 +86,11 @@ set-last_place s i (m ∷ ms) p e = step (last_place s ms) (m.0 == s) (is_none-o
     step None false some rest none e = cc
 
 -- the places stay where the last row of a selector is rewritten
-pub last_place-set_last : (q s i : ℕ) (ms : List (ℕ × ℕ)) → last_place q (set_last s i ms) ≡ last_place q ms
+pub last_place-set_last : (q s i : ℕ) (ms : List (ℕ × ℕ)) → last_index q (set_last s i ms) ≡ last_index q ms
 last_place-set_last q s i [] = refl
 last_place-set_last q s i (m ∷ ms) =
     ap (λ o. or_else (option_map suc o) (cond ((cond ((m.0 == s) && is_none (own_in s ms)) (s, i) m).0 == q) (Some 0) None)) (last_place-set_last q s i ms)
-    ∙ ap (λ n. or_else (option_map suc (last_place q ms)) (cond (n == q) (Some 0) None)) (selector (m.0 == s) (is_none (own_in s ms)) (same m.0 s))
+    ∙ ap (λ n. or_else (option_map suc (last_index q ms)) (cond (n == q) (Some 0) None)) (selector (m.0 == s) (is_none (own_in s ms)) (same_number m.0 s))
   where
     selector : (b n : Bool) → (b ≡ true → m.0 ≡ s) → (cond (b && n) (s, i) m).0 ≡ m.0
     selector true true h = sym (h refl)

@@ -3,16 +3,16 @@ use Rattle.std.proofs.Common.{◌≡◌, ◌-◌, ℕ, length, slice_get, ap, �
 use Rattle.std.proofs.lemmas.List.{length-map}
 use Rattle.std.proofs.lemmas.Option.{slice_get-map}
 use Rattle.msg_names.specs.Name.{colons_of}
-use Rattle.msg_image.specs.Parts.{ClassParts, ImpParts}
+use Rattle.msg_image.specs.Parts.{ImpParts, class_total}
 use Rattle.msg_tables.specs.History.{History}
 use Rattle.msg_tables.specs.Refusal.{colons_at, args_at}
 use Rattle.msg_tables.specs.Stands.{StandsAt}
 use Rattle.msg_tables.specs.View.{TablesView}
-use Rattle.msg_tables.proofs.HistoryLemmas.{supers-table}
+use Rattle.msg_tables.proofs.HistoryLemmas.{length-supers}
 
 module _ (t : TablesView) (h : History) (stands : StandsAt t h) where
-  pub class_count : length t.supers ≡ length h.image.classes
-  class_count = ap length (stands.supers ∙ supers-table h) ∙ length-map h.image.classes (λ (c : ClassParts). c.superclass)
+  pub class_count : length t.supers ≡ class_total h.image
+  class_count = ap length stands.supers ∙ length-supers h
 
   pub imp_count : length t.args ≡ length h.image.imps
   imp_count = ap length stands.args ∙ length-map h.image.imps (λ (m : ImpParts). m.args)

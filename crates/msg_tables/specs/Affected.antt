@@ -1,11 +1,11 @@
 -- Which lookups a change may alter.
-use Rattle.std.specs.Prelude.{Bool, List, [], ◌∷◌, ◌++◌, Option, Some, None, ℕ}
+use Rattle.std.specs.Prelude.{Bool, false, ◌==◌, ◌||◌, List, [], ◌∷◌, ◌++◌, Option, Some, None, ℕ}
 use Rattle.std.specs.List.{list_any}
 use Rattle.msg_names.specs.declared.value.ClassRef.{ClassRef}
 use Rattle.msg_names.specs.Number.{selector_number}
 use Rattle.msg_image.specs.declared.change.Change.{Change}
-use Rattle.msg_image.specs.declared.change.Change.TheVariants.{Add, Replace, SetImp, Exchange, Attach}
-use Rattle.msg_tables.specs.Chain.{is_among}
+use Rattle.msg_image.specs.declared.change.Change.TheVariants.{Add, Replace, SetImp, Exchange, Attach, AddClass}
+use Rattle.msg_tables.specs.Chain.{is_member}
 use Rattle.msg_tables.specs.After.{of_class, of_meta}
 use Rattle.msg_tables.specs.History.{History, holder, chain_at}
 
@@ -19,13 +19,19 @@ if_any [] c = []
 if_any (m ∷ ms) c = c ∷ []
 
 -- the class references at which a change adds or rewrites a row
-unfoldable pub places : History → Change → List ClassRef
-places h (Add c s i) = c ∷ []
-places h (Replace c s i) = c ∷ []
-places h (SetImp c s i) = at_most_one (holder h c (selector_number s))
-places h (Exchange c s d u) = at_most_one (holder h c (selector_number s)) ++ at_most_one (holder h d (selector_number u))
-places h (Attach k methods class_methods) = if_any methods (of_class k) ++ if_any class_methods (of_meta k)
+unfoldable pub written_refs : History → Change → List ClassRef
+written_refs h (Add c s i) = c ∷ []
+written_refs h (Replace c s i) = c ∷ []
+written_refs h (SetImp c s i) = at_most_one (holder h c (selector_number s))
+written_refs h (Exchange c s d u) = at_most_one (holder h c (selector_number s)) ++ at_most_one (holder h d (selector_number u))
+written_refs h (Attach k methods class_methods) = if_any methods (of_class k) ++ if_any class_methods (of_meta k)
+written_refs h (AddClass k d) = []
 
--- the class reference is below a place of the change, or such a place
+-- the class reference is of the class that a change makes
+abbrev pub is_of_made : Change → ClassRef → Bool
+is_of_made (AddClass k d) c = c.class == k
+is_of_made _ c = false
+
+-- the class reference is of the class that is made, or is below a place of the change, or such a place
 unfoldable pub is_affected : History → Change → ClassRef → Bool
-is_affected h x c = list_any (λ place. is_among place (chain_at h c)) (places h x)
+is_affected h x c = is_of_made x c || list_any (λ place. is_member place (chain_at h c)) (written_refs h x)

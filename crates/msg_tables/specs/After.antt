@@ -1,5 +1,5 @@
 -- What the changes do to the rows.
-use Rattle.std.specs.Prelude.{ℕ, ◌+◌, ◌&&◌, true, false, List, [], ◌∷◌, ◌++◌, Option, Some, None, if◌then◌else◌, is_some, is_none, map, reverse}
+use Rattle.std.specs.Prelude.{ℕ, ◌+◌, ◌&&◌, true, false, List, [], ◌∷◌, ◌++◌, Option, Some, None, if◌then◌else◌, is_some, is_none, map, replicate, reverse, slice_set, length}
 use Rattle.msg_names.specs.declared.value.ClassRef.{ClassRef}
 use Rattle.msg_names.specs.declared.value.Selector.{Selector}
 use Rattle.msg_names.specs.declared.value.ImpRef.{ImpRef}
@@ -7,13 +7,15 @@ use Rattle.msg_names.specs.Number.{selector_number, imp_number}
 use Rattle.msg_image.specs.Parts.{ImageParts, ClassParts}
 use Rattle.msg_image.specs.declared.image.Category.{Category}
 use Rattle.msg_image.specs.declared.change.Change.{Change}
-use Rattle.msg_image.specs.declared.change.Change.TheVariants.{Add, Replace, SetImp, Exchange, Attach}
+use Rattle.msg_image.specs.declared.change.Change.TheVariants.{Add, Replace, SetImp, Exchange, Attach, AddClass}
+use Rattle.msg_tables.specs.declared.presence.Presence.{Presence}
 use Rattle.msg_tables.specs.Rows.{Row, ClassTable, is_at, own, holder_at, lookup_at}
 
--- the class itself, and its metaclass
+-- the class itself
 abbrev pub of_class : ℕ → ClassRef
 of_class k = record { class = k; meta = false }
 
+-- its metaclass
 abbrev pub of_meta : ℕ → ClassRef
 of_meta k = record { class = k; meta = true }
 
@@ -31,10 +33,14 @@ abbrev pub category_rows : List Category → List Row
 category_rows [] = []
 category_rows (c ∷ cs) = rows_at (of_class c.class) c.methods ++ rows_at (of_meta c.class) c.class_methods ++ category_rows cs
 
+-- the listed classes are present as an image is opened, and the classes that may be made aren't
+abbrev pub opened_supers : ImageParts → List (Option Presence)
+opened_supers image = map (λ (c : ClassParts). Some (record { superclass = c.superclass })) image.classes ++ replicate (length image.made) None
+
 -- the tables as an image is opened
-unfoldable pub opening : ImageParts → ClassTable
-opening image = record {
-  supers = map (λ (c : ClassParts). c.superclass) image.classes;
+unfoldable pub opening_table : ImageParts → ClassTable
+opening_table image = record {
+  supers = opened_supers image;
   rows = class_rows 0 image.classes ++ category_rows image.categories;
 }
 
@@ -63,7 +69,17 @@ rows_after t (Exchange c s d u) =
     set_method (holder_at t c (selector_number s)) (selector_number s) second (set_method (holder_at t d (selector_number u)) (selector_number u) first t.rows)
 rows_after t (Attach k methods class_methods) =
     t.rows ++ rows_at (of_class k) (reverse methods) ++ rows_at (of_meta k) (reverse class_methods)
+rows_after t (AddClass k d) = t.rows
+
+-- The classes after a change. A class that is made has the superclass that is named.
+abbrev pub supers_after : List (Option Presence) → Change → List (Option Presence)
+supers_after supers (Add c s i) = supers
+supers_after supers (Replace c s i) = supers
+supers_after supers (SetImp c s i) = supers
+supers_after supers (Exchange c s d u) = supers
+supers_after supers (Attach k methods class_methods) = supers
+supers_after supers (AddClass k d) = slice_set supers k (Some (record { superclass = d }))
 
 -- the tables after a change
-unfoldable pub after : ClassTable → Change → ClassTable
-after t x = record { supers = t.supers; rows = rows_after t x }
+unfoldable pub table_after : ClassTable → Change → ClassTable
+table_after t x = record { supers = supers_after t.supers x; rows = rows_after t x }

@@ -1,36 +1,44 @@
 -- Chains of superclasses.
-use Rattle.std.specs.Prelude.{ℕ, zero, suc, ◌+◌, if◌then◌else◌, ◌==◌, ◌&&◌, Bool, true, false, List, [], ◌∷◌, Option, None, slice_get, length}
+use Rattle.std.specs.Prelude.{ℕ, zero, suc, ◌+◌, if◌then◌else◌, ◌==◌, ◌&&◌, Bool, true, false, List, [], ◌∷◌, Option, Some, None, slice_index_or, length, is_some}
 use Rattle.std.specs.Option.{option_map_or}
 use Rattle.std.specs.List.{list_any}
 use Rattle.msg_names.specs.declared.value.ClassRef.{ClassRef}
-use Rattle.msg_image.specs.Parts.{above}
+use Rattle.msg_names.specs.ClassRef.{same_class, above}
+use Rattle.msg_tables.specs.declared.presence.Presence.{Presence}
 
--- a test of two truth values
-abbrev pub same_truth : Bool → Bool → Bool
-same_truth true b = b
-same_truth false true = false
-same_truth false false = true
+-- the class with this number, where it is present
+abbrev pub presence_of : List (Option Presence) → ℕ → Option Presence
+presence_of supers k = slice_index_or supers k None
 
-abbrev pub same_class : ClassRef → ClassRef → Bool
-same_class c d = (c.class == d.class) && same_truth c.meta d.meta
+abbrev pub is_present : List (Option Presence) → ℕ → Bool
+is_present supers k = is_some (presence_of supers k)
 
--- the superclass of a class reference, where each class has the superclass that is listed here
-abbrev pub super_of : List (Option ℕ) → ClassRef → Option ClassRef
-super_of supers c = option_map_or (above c) (slice_get supers c.class) None
+-- the superclass of a class reference, where each class that is present has the superclass that is given here
+abbrev pub super_of : List (Option Presence) → ClassRef → Option ClassRef
+super_of supers c = option_map_or (λ p. above c p.superclass) (presence_of supers c.class) None
 
 -- a class reference, and at most n above it
-abbrev pub chain_up : ℕ → List (Option ℕ) → ClassRef → List ClassRef
+abbrev pub chain_up : ℕ → List (Option Presence) → ClassRef → List ClassRef
 chain_up zero supers c = c ∷ []
 chain_up (suc n) supers c = c ∷ option_map_or (chain_up n supers) (super_of supers c) []
 
--- From a class reference upward, to a root class. No more stand above it than there are classes: at most the other metaclasses and the root class.
-unfoldable pub chain_of : List (Option ℕ) → ClassRef → List ClassRef
-chain_of supers c = chain_up (length supers) supers c
+-- From a class reference upward, to a root class, and nothing from one that isn't present. No more stand above it than there are class numbers: at most the other metaclasses and the root class.
+unfoldable pub chain_of : List (Option Presence) → ClassRef → List ClassRef
+chain_of supers c = if is_present supers c.class then chain_up (length supers) supers c else []
 
--- at least as many as stand above a class reference, where each superclass is listed before its subclasses
-abbrev pub steps_of : ClassRef → ℕ
-steps_of c = c.class + (if c.meta then 1 else 0)
+-- the class reference, where its class is present
+abbrev pub only_present : List (Option Presence) → ClassRef → Option ClassRef
+only_present supers c = if is_present supers c.class then Some c else None
+
+-- the first place of a class in an order
+abbrev pub index_in : List ℕ → ℕ → ℕ
+index_in [] k = 0
+index_in (x ∷ xs) k = if x == k then 0 else suc (index_in xs k)
+
+-- at least as many as stand above a class reference, where each superclass stands before its subclasses in the order
+abbrev pub steps_of : List ℕ → ClassRef → ℕ
+steps_of order c = index_in order c.class + (if c.meta then 1 else 0)
 
 -- one of the list
-abbrev pub is_among : ClassRef → List ClassRef → Bool
-is_among c cs = list_any (same_class c) cs
+abbrev pub is_member : ClassRef → List ClassRef → Bool
+is_member c cs = list_any (same_class c) cs

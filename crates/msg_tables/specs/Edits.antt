@@ -1,14 +1,17 @@
 -- What an accepted change writes.
-use Rattle.std.specs.Prelude.{◌≡◌, ◌<◌, ◌≤◌, ℕ, ◌+◌, List, [], ◌∷◌, ◌++◌, Some, None, Result, Ok, Err, IsSome, length, reverse, true}
+use Rattle.std.specs.Prelude.{◌≡◌, ◌<◌, ◌≤◌, ℕ, ◌+◌, List, [], ◌∷◌, ◌++◌, Some, None, Result, Ok, Err, IsSome, length, reverse, true, false, Option, IfSome, slice_set}
+use Rattle.msg_tables.specs.declared.tables.TheConstants.{MAX_ROWS, MAX_CHANGES}
 use Rattle.msg_names.specs.Number.{selector_number, imp_number}
 use Rattle.msg_image.specs.declared.change.Change.{Change}
 use Rattle.msg_tables.specs.declared.edit.MethodRow.{MethodRow}
 use Rattle.msg_tables.specs.declared.edit.Edit.{Edit}
-use Rattle.msg_tables.specs.declared.edit.Edit.TheVariants.{Append, Rewrite, RewriteBoth, Attach}
+use Rattle.msg_tables.specs.declared.edit.Edit.TheVariants.{Append, Rewrite, RewriteBoth, Attach, Make}
 use Rattle.msg_tables.specs.declared.fault.ChangeFault.{ChangeFault}
+use Rattle.msg_tables.specs.declared.presence.Presence.{Presence}
+use Rattle.msg_tables.specs.Chain.{is_present}
 use Rattle.msg_tables.specs.Rows.{Row}
 use Rattle.msg_tables.specs.RowList.{own_in}
-use Rattle.msg_tables.specs.After.{row, rows_at, of_class, of_meta, set_own, rows_after}
+use Rattle.msg_tables.specs.After.{row, rows_at, of_class, of_meta, set_own, rows_after, supers_after}
 use Rattle.msg_tables.specs.History.{History, table}
 use Rattle.msg_tables.specs.Refusal.{refusal}
 use Rattle.msg_tables.specs.Stands.{Holds}
@@ -24,6 +27,12 @@ edited (Append r) rows = rows ++ row r.class r.sel r.imp ∷ []
 edited (Rewrite r) rows = rewritten r rows
 edited (RewriteBoth first second) rows = rewritten first (rewritten second rows)
 edited (Attach k methods class_methods) rows = rows ++ rows_at (of_class k) (reverse methods.now) ++ rows_at (of_meta k) (reverse class_methods.now)
+edited (Make k d) rows = rows
+
+-- the classes after it
+abbrev pub supers_edited : Edit → List (Option Presence) → List (Option Presence)
+supers_edited (Make k d) supers = slice_set supers k (Some (record { superclass = d }))
+supers_edited _ supers = supers
 
 -- how many rows it adds
 abbrev pub added : Edit → ℕ
@@ -31,6 +40,7 @@ added (Append r) = 1
 added (Rewrite r) = 0
 added (RewriteBoth first second) = 0
 added (Attach k methods class_methods) = length methods.now + length class_methods.now
+added (Make k d) = 0
 
 -- there is such an own row, and the implementation is listed
 pub record IsOwn (t : TablesView) (r : MethodRow) : Type 0 where
@@ -44,23 +54,24 @@ IsOfTables t (Append r) = (r.class.class < length t.supers) × (imp_number r.imp
 IsOfTables t (Rewrite r) = IsOwn t r
 IsOfTables t (RewriteBoth first second) = IsOwn t first × IsOwn t second
 IsOfTables t (Attach k methods class_methods) = (k < length t.supers) × (are_listed (length t.args) methods.now ≡ true) × (are_listed (length t.args) class_methods.now ≡ true)
+IsOfTables t (Make k d) = (k < length t.supers) × (is_present t.supers k ≡ false) × IfSome d (λ e. is_present t.supers e ≡ true)
 
 -- there is room for it, and it names what there is
 pub record Fits (t : TablesView) (e : Edit) : Type 0 where
   pub named : IsOfTables t e
-  pub rows : t.row_count + added e ≤ 16384
-  pub changes : t.change_count < 65536
+  pub rows : t.row_count + added e ≤ MAX_ROWS
+  pub changes : t.change_count < MAX_CHANGES
 
 -- a change was judged at a history
 abbrev pub Judges : History → Change → Result Edit ChangeFault → Type 0
-Judges h x (Ok e) = (refusal h x ≡ None) × (rows_after (table h) x ≡ edited e (table h).rows)
+Judges h x (Ok e) = (refusal h x ≡ None) × (rows_after (table h) x ≡ edited e (table h).rows) × (supers_after (table h).supers x ≡ supers_edited e (table h).supers)
 Judges h x (Err f) = refusal h x ≡ Some f
 
 -- the tables' rows were changed by an edit, and nothing else
 pub record Writes (old new : TablesView) (e : Edit) : Type 0 where
   pub rows : (rows : List Row) → Holds old.lists rows → Holds new.lists (edited e rows)
   pub row_count : new.row_count ≡ old.row_count + added e
-  pub rest : new ≡ record old { lists = new.lists; row_count = new.row_count }
+  pub rest : new ≡ record old { supers = supers_edited e old.supers; order = new.order; lists = new.lists; row_count = new.row_count }
 
 -- more rows stand after a change than before
 abbrev pub AddsRows : History → Change → Type 0

@@ -5,7 +5,7 @@ use Rattle.msg_image.specs.Parts.{ImageParts}
 use Rattle.msg_image.specs.declared.change.Change.{Change}
 use Rattle.msg_tables.specs.Chain.{super_of}
 use Rattle.msg_tables.specs.Rows.{ClassTable, chain, holder_at, lookup_at}
-use Rattle.msg_tables.specs.After.{opening, after}
+use Rattle.msg_tables.specs.After.{opening_table, table_after}
 
 -- an image and the changes that were accepted, oldest first
 pub record History : Type 0 where
@@ -20,13 +20,13 @@ empty image = record { image = image; changes = [] }
 abbrev pub and_then : History → Change → History
 and_then h x = record { image = h.image; changes = h.changes ++ x ∷ [] }
 
-abbrev pub after_all : ClassTable → List Change → ClassTable
-after_all t [] = t
-after_all t (x ∷ xs) = after_all (after t x) xs
+abbrev pub table_after_all : ClassTable → List Change → ClassTable
+table_after_all t [] = t
+table_after_all t (x ∷ xs) = table_after_all (table_after t x) xs
 
 -- the tables at a history
 unfoldable pub table : History → ClassTable
-table h = after_all (opening h.image) h.changes
+table h = table_after_all (opening_table h.image) h.changes
 
 -- the implementation that a lookup finds at a history, by number, or 0 for forwarding
 unfoldable pub lookup : History → ClassRef → ℕ → ℕ

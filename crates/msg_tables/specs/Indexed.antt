@@ -3,9 +3,10 @@ use Rattle.std.specs.Prelude.{◌≡◌, ℕ, ◌-◌, min, nat_eq, vec_len}
 use Rattle.std.specs.Vec.{vec_capacity}
 use Rattle.std.specs.HashMap.{get, spare}
 use Rattle.msg_image.specs.Methods.{method_numbers}
-use Rattle.msg_tables.specs.RowList.{RowList, last_place}
+use Rattle.msg_tables.specs.RowList.{RowList, last_index}
 use Rattle.msg_tables.specs.declared.rows.MethodRows.TheInside.{Inside}
 
+-- what contracts see of the methods of a class reference
 abbrev pub row_list : Inside → RowList
 row_list i = record {
   rows = method_numbers i.rows.items;
@@ -14,4 +15,4 @@ row_list i = record {
 
 -- each selector's last row is found by its number
 pub record IsIndexed (i : Inside) : Type 0 where
-  pub index : (s : ℕ) → get nat_eq i.own s ≡ last_place s (method_numbers i.rows.items)
+  pub index : (s : ℕ) → get nat_eq i.own s ≡ last_index s (method_numbers i.rows.items)

@@ -1,13 +1,18 @@
 -- The fields of `Tables`.
 use Rattle.std.specs.Prelude.{◌≡◌, ◌<◌, ◌≤◌, ◌*◌, ℕ, Some, true, length, slice_get}
 use Rattle.std.specs.List.{list_all}
+use Rattle.std.specs.Vec.{vec_capacity}
+use Rattle.msg_tables.specs.declared.tables.TheConstants.{MAX_ROWS, MAX_CHANGES}
+use Rattle.msg_tables.specs.Order.{IsOrder}
 use Rattle.msg_tables.specs.RowList.{rows_of}
 use Rattle.msg_tables.specs.View.{TablesView, are_listed}
 use Rattle.msg_tables.specs.declared.tables.Tables.TheInside.{Inside}
 
+-- what contracts see of tables
 abbrev pub view_of : Inside → TablesView
 view_of t = record {
   supers = t.supers.items;
+  order = t.order.items;
   lists = rows_of t.lists.items;
   colons = t.colons.items;
   args = t.args.items;
@@ -15,12 +20,15 @@ view_of t = record {
   change_count = t.change_count;
 }
 
-pub record IsSound (t : Inside) : Type 0 where
-  -- a superclass is numbered before its subclasses
-  pub before : (k d : ℕ) → slice_get t.supers.items k ≡ Some (Some d) → d < k
+-- the invariant of tables
+pub record AreSoundTables (t : Inside) : Type 0 where
+  -- the classes that are present stand in an order in which each comes after its superclass
+  pub order : IsOrder t.supers.items t.order.items
+  -- and there is room for the others
+  pub room : length t.supers.items ≤ vec_capacity t.order
   -- there is a list for each class reference
   pub lists : length t.lists.items ≡ 2 * length t.supers.items
   pub listed : list_all (are_listed (length t.args.items)) (rows_of t.lists.items) ≡ true
   pub few_classes : length t.supers.items ≤ 1024
-  pub few_rows : t.row_count ≤ 16384
-  pub few_changes : t.change_count ≤ 65536
+  pub few_rows : t.row_count ≤ MAX_ROWS
+  pub few_changes : t.change_count ≤ MAX_CHANGES

@@ -8,6 +8,8 @@ pub mod Indexed
 pub mod Inside
 pub mod Marking
 pub mod Opening
+pub mod Order
+pub mod Presence
 pub mod Refusal
 pub mod RowList
 pub mod Rows

@@ -3,9 +3,9 @@ use Rattle.std.specs.Prelude.{◌≡◌, ℕ, ◌+◌, ◌*◌, List, [], ◌++�
 use Rattle.msg_names.specs.declared.value.ClassRef.{ClassRef}
 use Rattle.msg_names.specs.Name.{colons_of}
 use Rattle.msg_image.specs.declared.image.Category.{Category}
-use Rattle.msg_image.specs.Parts.{ClassParts, ImpParts, ImageParts}
+use Rattle.msg_image.specs.Parts.{ClassParts, ImpParts, ImageParts, class_total}
 use Rattle.msg_tables.specs.Rows.{Row, own}
-use Rattle.msg_tables.specs.After.{rows_at, of_class, of_meta}
+use Rattle.msg_tables.specs.After.{opened_supers, rows_at, of_class, of_meta}
 use Rattle.msg_tables.specs.Stands.{Holds}
 use Rattle.msg_tables.specs.View.{TablesView}
 
@@ -35,13 +35,13 @@ size_of_category c = length c.methods + length c.class_methods
 
 -- the tables list the image's classes and implementations
 pub record IsFor (image : ImageParts) (t : TablesView) : Type 0 where
-  pub classes : length t.supers ≡ length image.classes
+  pub classes : length t.supers ≡ class_total image
   pub imps : length t.args ≡ length image.imps
 
 -- the tables of an image, without rows
 pub record IsBlank (image : ImageParts) (t : TablesView) : Type 0 where
-  pub supers : t.supers ≡ map (λ (c : ClassParts). c.superclass) image.classes
-  pub lists : t.lists ≡ replicate (2 * length image.classes) []
+  pub supers : t.supers ≡ opened_supers image
+  pub lists : t.lists ≡ replicate (2 * class_total image) []
   pub colons : t.colons ≡ map colons_of image.names
   pub args : t.args ≡ map (λ (m : ImpParts). m.args) image.imps
   pub row_count : t.row_count ≡ 0

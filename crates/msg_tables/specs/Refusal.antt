@@ -1,24 +1,35 @@
 -- When changes are refused, and which lists of changes are histories.
-use Rattle.std.specs.Prelude.{◌≡◌, ℕ, ◌+◌, ◌-◌, ◌==◌, ◌||◌, not, nat_lt, nat_le, Bool, true, List, [], ◌∷◌, ◌++◌, Option, Some, None, option_map, if◌then◌else◌, slice_get, length, is_some, is_none}
+use Rattle.std.specs.Prelude.{◌≡◌, ℕ, ◌+◌, ◌-◌, ◌==◌, ◌||◌, not, nat_lt, nat_le, Bool, true, false, List, [], ◌∷◌, ◌++◌, Option, Some, None, option_map, if◌then◌else◌, slice_get, length, is_some, is_none}
 use Rattle.std.specs.List.{list_any}
+use Rattle.msg_tables.specs.declared.tables.TheConstants.{MAX_CHANGES, MAX_ROWS}
 use Rattle.msg_names.specs.declared.value.ClassRef.{ClassRef}
 use Rattle.msg_names.specs.declared.value.Selector.{Selector}
 use Rattle.msg_names.specs.declared.value.ImpRef.{ImpRef}
 use Rattle.msg_names.specs.Name.{colons_of}
 use Rattle.msg_names.specs.Number.{selector_number, imp_number}
 use Rattle.msg_names.specs.Numbering.{name_at}
-use Rattle.msg_image.specs.Parts.{ImpParts}
+use Rattle.msg_image.specs.Parts.{ImpParts, class_total}
 use Rattle.msg_image.specs.declared.change.Change.{Change}
-use Rattle.msg_image.specs.declared.change.Change.TheVariants.{Add, Replace, SetImp, Exchange, Attach}
+use Rattle.msg_image.specs.declared.change.Change.TheVariants.{Add, Replace, SetImp, Exchange, Attach, AddClass}
 use Rattle.msg_tables.specs.declared.fault.ChangeFault.{ChangeFault}
-use Rattle.msg_tables.specs.declared.fault.ChangeFault.TheVariants.{NoClass, NoImp, ArgumentCount, MethodPresent, NoMethod, Limit}
+use Rattle.msg_tables.specs.declared.fault.ChangeFault.TheVariants.{NoClass, NoImp, ArgumentCount, MethodPresent, NoMethod, Limit, DuplicateClass}
+use Rattle.msg_tables.specs.Chain.{is_present}
 use Rattle.msg_tables.specs.Rows.{own}
 use Rattle.msg_tables.specs.After.{of_class}
 use Rattle.msg_tables.specs.History.{History, empty, and_then, table, holder}
 
--- no class has this number
+-- no class that is present has this number
 unfoldable pub no_class : History → ClassRef → Bool
-no_class h c = nat_le (length h.image.classes) c.class
+no_class h c = not (is_present (table h).supers c.class)
+
+-- no class can be made with this number
+unfoldable pub no_number : History → ℕ → Bool
+no_number h k = nat_le (class_total h.image) k
+
+-- the superclass that is named isn't present
+abbrev pub no_superclass : History → Option ℕ → Bool
+no_superclass h None = false
+no_superclass h (Some d) = no_class h (of_class d)
 
 -- no implementation has this number
 unfoldable pub no_imp : History → ℕ → Bool
@@ -55,12 +66,12 @@ no_method h c s = is_none (holder h c s)
 
 -- no more changes are accepted, or n more rows would be too many
 unfoldable pub is_full : History → ℕ → Bool
-is_full h n = nat_le 65536 (length h.changes) || nat_lt 16384 (length (table h).rows + n)
+is_full h n = nat_le MAX_CHANGES (length h.changes) || nat_lt MAX_ROWS (length (table h).rows + n)
 
 -- the first fault whose condition holds
-abbrev pub least : List (Bool × ChangeFault) → Option ChangeFault
-least [] = None
-least (f ∷ fs) = if f.0 then Some f.1 else least fs
+abbrev pub least_change_fault : List (Bool × ChangeFault) → Option ChangeFault
+least_change_fault [] = None
+least_change_fault (f ∷ fs) = if f.0 then Some f.1 else least_change_fault fs
 
 -- a method that could not stand at the class, whatever stands there
 abbrev pub unfit : History → ClassRef → Selector → ImpRef → List (Bool × ChangeFault)
@@ -81,10 +92,11 @@ conditions h (Exchange c s d u) =
 conditions h (Attach k methods class_methods) =
     let all = methods ++ class_methods in
     (no_class h (of_class k), NoClass) ∷ unfit_methods h all ++ (is_full h (length all), Limit) ∷ []
+conditions h (AddClass k d) = (no_number h k || no_superclass h d, NoClass) ∷ (is_full h 0, Limit) ∷ (not (no_class h (of_class k)), DuplicateClass) ∷ []
 
 -- the least fault for which a change is refused
 unfoldable pub refusal : History → Change → Option ChangeFault
-refusal h x = least (conditions h x)
+refusal h x = least_change_fault (conditions h x)
 
 -- each change is accepted at the history before it
 abbrev pub AreAccepted : History → List Change → Type 0

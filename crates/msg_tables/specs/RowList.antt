@@ -17,9 +17,9 @@ own_in s [] = None
 own_in s (m ∷ ms) = or_else (own_in s ms) (if m.0 == s then Some m.1 else None)
 
 -- the place of the last row of a selector
-abbrev pub last_place : ℕ → List (ℕ × ℕ) → Option ℕ
-last_place s [] = None
-last_place s (m ∷ ms) = or_else (option_map suc (last_place s ms)) (if m.0 == s then Some 0 else None)
+abbrev pub last_index : ℕ → List (ℕ × ℕ) → Option ℕ
+last_index s [] = None
+last_index s (m ∷ ms) = or_else (option_map suc (last_index s ms)) (if m.0 == s then Some 0 else None)
 
 -- another implementation in the last row of a selector
 abbrev pub set_last : ℕ → ℕ → List (ℕ × ℕ) → List (ℕ × ℕ)

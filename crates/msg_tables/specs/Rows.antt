@@ -1,7 +1,9 @@
 -- Rows of the class tables, and lookup.
 use Rattle.std.specs.Prelude.{ℕ, ◌==◌, ◌&&◌, List, [], ◌∷◌, Bool, Option, Some, None, if◌then◌else◌, unwrap_or, is_some}
 use Rattle.msg_names.specs.declared.value.ClassRef.{ClassRef}
-use Rattle.msg_tables.specs.Chain.{same_class, chain_of}
+use Rattle.msg_names.specs.ClassRef.{same_class}
+use Rattle.msg_tables.specs.Chain.{chain_of}
+use Rattle.msg_tables.specs.declared.presence.Presence.{Presence}
 
 -- at a class reference a selector has an implementation, both by number
 pub record Row : Type 0 where
@@ -9,9 +11,9 @@ pub record Row : Type 0 where
   pub sel : ℕ
   pub imp : ℕ
 
--- the superclass of each class, and the rows, oldest first
+-- of each class number the class with its superclass, where it is present, and the rows, oldest first
 pub record ClassTable : Type 0 where
-  pub supers : List (Option ℕ)
+  pub supers : List (Option Presence)
   pub rows : List Row
 
 -- the row is one of this class reference and selector

@@ -3,7 +3,7 @@ use Rattle.std.specs.Prelude.{◌≡◌, ℕ, List, [], ◌∷◌, map, length, 
 use Rattle.msg_names.specs.declared.value.ClassRef.{ClassRef}
 use Rattle.msg_names.specs.Name.{colons_of}
 use Rattle.msg_image.specs.Parts.{ImpParts}
-use Rattle.msg_tables.specs.Chain.{same_class}
+use Rattle.msg_names.specs.ClassRef.{same_class}
 use Rattle.msg_tables.specs.Rows.{Row}
 use Rattle.msg_tables.specs.History.{History, table}
 use Rattle.msg_tables.specs.Refusal.{IsHistory}

@@ -2,13 +2,18 @@
 use Rattle.std.specs.Prelude.{ℕ, ◌+◌, ◌-◌, ◌*◌, ◌==◌, ◌||◌, nat_lt, length, slice_get, nat_le, List, [], ◌∷◌, Option, Some, None, Bool, slice_index_or, if◌then◌else◌}
 use Rattle.std.specs.List.{list_all}
 use Rattle.std.specs.Option.{option_map_or}
+use Rattle.msg_names.specs.ClassRef.{slot_of}
 use Rattle.msg_names.specs.declared.value.ClassRef.{ClassRef}
+use Rattle.msg_tables.specs.declared.presence.Presence.{Presence}
 use Rattle.msg_tables.specs.Refusal.{differ}
 use Rattle.msg_tables.specs.RowList.{own_in}
 
+-- what contracts see of tables
 pub record TablesView : Type 0 where
-  -- the superclass of each class
-  pub supers : List (Option ℕ)
+  -- of each class number the class with its superclass, where it is present
+  pub supers : List (Option Presence)
+  -- the classes that are present, each after its superclass
+  pub order : List ℕ
   -- the rows of each class reference, at its place, oldest first
   pub lists : List (List (ℕ × ℕ))
   -- how many arguments each selector and each implementation takes, from number 1
@@ -17,13 +22,9 @@ pub record TablesView : Type 0 where
   pub row_count : ℕ
   pub change_count : ℕ
 
--- class references stand in one line: each class, and its metaclass after it
-abbrev pub place_of : ClassRef → ℕ
-place_of c = 2 * c.class + (if c.meta then 1 else 0)
-
 -- the rows kept for a class reference
 abbrev pub kept : List (List (ℕ × ℕ)) → ClassRef → List (ℕ × ℕ)
-kept lists c = slice_index_or lists (place_of c) []
+kept lists c = slice_index_or lists (slot_of c) []
 
 -- the first of the class references that has the method, and its implementation
 abbrev pub kept_method : List (List (ℕ × ℕ)) → List ClassRef → ℕ → Option (ClassRef × ℕ)

@@ -1,36 +1,38 @@
 -- What a change writes where, before it is made.
-use Rattle.std.specs.Prelude.{ℕ, ◌<◌, ◌==◌, ◌&&◌, Option, Some, None, reverse, if◌then◌else◌}
+use Rattle.std.specs.Prelude.{ℕ, ◌<◌, ◌==◌, ◌&&◌, Option, Some, None, reverse, IfSome, if◌then◌else◌}
 use Rattle.msg_names.specs.declared.value.ClassRef.{ClassRef}
 use Rattle.msg_names.specs.Number.{selector_number, imp_number}
 use Rattle.msg_image.specs.declared.change.Change.{Change}
-use Rattle.msg_image.specs.declared.change.Change.TheVariants.{Add, Replace, SetImp, Exchange, Attach}
-use Rattle.msg_tables.specs.Chain.{same_class}
+use Rattle.msg_image.specs.declared.change.Change.TheVariants.{Add, Replace, SetImp, Exchange, Attach, AddClass}
+use Rattle.msg_names.specs.ClassRef.{same_class}
 use Rattle.msg_tables.specs.Rows.{or_else}
 use Rattle.msg_tables.specs.RowList.{own_in}
 use Rattle.msg_tables.specs.After.{of_class, of_meta}
 use Rattle.msg_tables.specs.History.{History, lookup, holder}
 
 -- the implementation of a selector, where the method is written at this class reference
-abbrev pub at_place : Option ClassRef → ClassRef → ℕ → ℕ → ℕ → Option ℕ
-at_place None d s u i = None
-at_place (Some c) d s u i = if same_class c d && (s == u) then Some i else None
+abbrev pub at_ref : Option ClassRef → ClassRef → ℕ → ℕ → ℕ → Option ℕ
+at_ref None d s u i = None
+at_ref (Some c) d s u i = if same_class c d && (s == u) then Some i else None
 
 -- the implementation that a change writes at a class reference for a selector, if it writes one
 abbrev pub written : History → Change → ClassRef → ℕ → Option ℕ
-written h (Add c s i) d u = at_place (Some c) d (selector_number s) u (imp_number i)
-written h (Replace c s i) d u = at_place (Some c) d (selector_number s) u (imp_number i)
-written h (SetImp c s i) d u = at_place (holder h c (selector_number s)) d (selector_number s) u (imp_number i)
+written h (Add c s i) d u = at_ref (Some c) d (selector_number s) u (imp_number i)
+written h (Replace c s i) d u = at_ref (Some c) d (selector_number s) u (imp_number i)
+written h (SetImp c s i) d u = at_ref (holder h c (selector_number s)) d (selector_number s) u (imp_number i)
 written h (Exchange c s e v) d u = or_else
-    (at_place (holder h c (selector_number s)) d (selector_number s) u (lookup h e (selector_number v)))
-    (at_place (holder h e (selector_number v)) d (selector_number v) u (lookup h c (selector_number s)))
+    (at_ref (holder h c (selector_number s)) d (selector_number s) u (lookup h e (selector_number v)))
+    (at_ref (holder h e (selector_number v)) d (selector_number v) u (lookup h c (selector_number s)))
 written h (Attach k methods class_methods) d u = or_else
     (if same_class (of_meta k) d then own_in u (reverse class_methods) else None)
     (if same_class (of_class k) d then own_in u (reverse methods) else None)
+written h (AddClass k d) e u = None
 
 -- the classes at which a change's methods are sought are among the first n
-abbrev pub AreListed : ℕ → Change → Type 0
-AreListed n (Add c s i) = Unit {0}
-AreListed n (Replace c s i) = Unit {0}
-AreListed n (SetImp c s i) = c.class < n
-AreListed n (Exchange c s d u) = (c.class < n) × (d.class < n)
-AreListed n (Attach k methods class_methods) = Unit {0}
+abbrev pub SeeksAmong : ℕ → Change → Type 0
+SeeksAmong n (Add c s i) = Unit {0}
+SeeksAmong n (Replace c s i) = Unit {0}
+SeeksAmong n (SetImp c s i) = c.class < n
+SeeksAmong n (Exchange c s d u) = (c.class < n) × (d.class < n)
+SeeksAmong n (Attach k methods class_methods) = Unit {0}
+SeeksAmong n (AddClass k d) = IfSome d (λ e. e < n)

@@ -12,7 +12,8 @@ ghost use Rattle.msg_tables.specs.Stands.{StandsAt};
 use crate::edit::{Edit, MethodRow};
 use crate::fault::ChangeFault;
 use crate::lists::{append_row, attach_rows, rewrite_row};
-use crate::tables::{Tables, place};
+use crate::presence::Presence;
+use crate::tables::Tables;
 use msg_image::{Change, MethodList};
 use msg_names::ClassRef;
 use std::alloc::AllocError;
@@ -23,7 +24,7 @@ impl Tables {
         ensures ok { OnOk result (Writes self.old self.new (Edit.Append row)) }
         ensures err { OnErr result (self.new ≡ self.old) }
     {
-        append_row(&mut self.lists, place(row.class), row.sel, row.imp)?;
+        append_row(&mut self.lists, row.class.slot(), row.sel, row.imp)?;
         self.row_count += 1;
         Ok(())
     }
@@ -33,7 +34,7 @@ impl Tables {
         ensures writes { Writes self.old self.new (Edit.Rewrite row) }
         ensures own { (other : MethodRow) → IsOwn self.old other → IsOwn self.new other }
     {
-        rewrite_row(&mut self.lists, place(row.class), row.sel, row.imp);
+        rewrite_row(&mut self.lists, row.class.slot(), row.sel, row.imp);
     }
 
     fn rewrite_both(&mut self, first: MethodRow, second: MethodRow)
@@ -57,10 +58,19 @@ impl Tables {
     {
         let own = methods.as_slice();
         let meta = class_methods.as_slice();
-        let at = place(ClassRef { class, meta: false });
+        let at = ClassRef { class, meta: false }.slot();
         attach_rows(&mut self.lists, at, own, meta)?;
         self.row_count += (own.len() + meta.len()) as u32;
         Ok(())
+    }
+
+    fn make(&mut self, class: u32, superclass: Option<u32>)
+        requires { Fits self.old (Edit.Make class superclass) }
+        ensures { Writes self.old self.new (Edit.Make class superclass) }
+    {
+        let pushed: Result<_, _> = self.order.push(class);
+        pushed.unwrap();
+        self.supers[class as usize] = Some(Presence { superclass });
     }
 
     fn write(&mut self, edit: Edit) -> Result<(), AllocError>
@@ -83,6 +93,10 @@ impl Tables {
                 methods,
                 class_methods,
             } => self.attach(class, methods, class_methods),
+            Edit::Make(class, superclass) => {
+                self.make(class, superclass);
+                Ok(())
+            }
         }
     }
 
@@ -100,6 +114,8 @@ impl Tables {
         ensures ok { OnOk result ((h : History) → StandsAt self.old h → (refusal h change.now ≡ None) × StandsAt self.new (and_then h change.now)) }
         ensures err { OnErr result (self.new ≡ self.old) }
         ensures fault { IfErr result (λ f. f ≢ ChangeFault.Memory → (h : History) → StandsAt self.old h → refusal h change.now ≡ Some f) }
+        ensures classes { length self.new.supers ≡ length self.old.supers }
+        ensures imps { length self.new.args ≡ length self.old.args }
         ensures memory { IsErrOf result ChangeFault.Memory → (h : History) → StandsAt self.old h → (refusal h change.now ≡ None) × AddsRows h change.now }
     {
         let edit = self.judge(change)?;

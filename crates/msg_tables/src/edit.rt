@@ -22,4 +22,5 @@ pub(crate) enum Edit<'c> {
         methods: &'c MethodList,
         class_methods: &'c MethodList,
     },
+    Make(u32, Option<u32>),
 }

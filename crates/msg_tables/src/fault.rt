@@ -1,7 +1,7 @@
 //! Why changes are refused.
 
 ghost use Rattle.std.specs.Prelude.{◌≡◌};
-ghost use Rattle.msg_tables.specs.FaultNumber.{fault_number};
+ghost use Rattle.msg_tables.specs.FaultNumber.{change_fault_number};
 ghost use Rattle.msg_tables.specs.declared.fault.ChangeFault.TheVariants.{Memory};
 
 use std::alloc::AllocError;
@@ -31,6 +31,9 @@ pub enum ChangeFault {
     /// A growth was refused.
     #[error("out of memory")]
     Memory,
+    /// The class is present already.
+    #[error("duplicate class")]
+    DuplicateClass,
 }
 
 impl From<AllocError> for ChangeFault {
@@ -44,7 +47,7 @@ impl From<AllocError> for ChangeFault {
 impl ChangeFault {
     /// The number of the fault, from 1.
     pub fn number(self) -> u32
-        ensures { result ≡ fault_number self }
+        ensures { result ≡ change_fault_number self }
     {
         self as u32 + 1
     }

@@ -3,14 +3,15 @@
 //! The chain stays, and at each class reference what the change writes comes before the class's own method. So the answer is
 //! known before the change is made, and takes no memory.
 
-ghost use Rattle.std.specs.Prelude.{◌≡◌, ◌<◌, length, option_map, reverse};
+ghost use Rattle.std.specs.Prelude.{◌≡◌, ◌<◌, length, option_map, reverse, IfSome, true};
 ghost use Rattle.msg_names.specs.Number.{selector_number, imp_number};
 ghost use Rattle.msg_tables.specs.History.{History, lookup, and_then, table};
-ghost use Rattle.msg_tables.specs.After.{rows_after};
+ghost use Rattle.msg_tables.specs.After.{rows_after, supers_after};
+ghost use Rattle.msg_tables.specs.Chain.{super_of, is_present};
 ghost use Rattle.msg_tables.specs.RowList.{own_in};
 ghost use Rattle.msg_tables.specs.Rows.{own};
 ghost use Rattle.msg_tables.specs.Stands.{StandsAt};
-ghost use Rattle.msg_tables.specs.Written.{written, at_place, AreListed};
+ghost use Rattle.msg_tables.specs.Written.{written, at_ref, SeeksAmong};
 
 use crate::tables::Tables;
 use msg_image::{Change, MethodList};
@@ -30,14 +31,14 @@ fn listed(methods: &MethodList, sel: Selector) -> Option<ImpRef>
 }
 
 // The implementation, where the method of a class reference and a selector that is written is the one that is sought.
-fn at_place(
+fn at_ref(
     place: Option<ClassRef>,
     here: ClassRef,
     named: Selector,
     sel: Selector,
     imp: ImpRef,
 ) -> Option<ImpRef>
-    ensures { option_map imp_number result ≡ at_place place here (selector_number named) (selector_number sel) (imp_number imp) }
+    ensures { option_map imp_number result ≡ at_ref place here (selector_number named) (selector_number sel) (imp_number imp) }
 {
     match place {
         Some(class) if class == here && named == sel => Some(imp),
@@ -47,7 +48,7 @@ fn at_place(
 
 // The implementation that the change writes at a class reference for a selector.
 fn written(tables: &Tables, change: &Change, here: ClassRef, sel: Selector) -> Option<ImpRef>
-    requires { AreListed (length tables.now.supers) change.now }
+    requires { SeeksAmong (length tables.now.supers) change.now }
     ensures { (h : History) → StandsAt tables.now h → option_map imp_number result ≡ written h change.now here (selector_number sel) }
 {
     match change {
@@ -55,17 +56,17 @@ fn written(tables: &Tables, change: &Change, here: ClassRef, sel: Selector) -> O
             class,
             sel: named,
             imp,
-        } => at_place(Some(*class), here, *named, sel, *imp),
+        } => at_ref(Some(*class), here, *named, sel, *imp),
         Change::Replace {
             class,
             sel: named,
             imp,
-        } => at_place(Some(*class), here, *named, sel, *imp),
+        } => at_ref(Some(*class), here, *named, sel, *imp),
         Change::SetImp {
             class,
             sel: named,
             imp,
-        } => at_place(tables.holder(*class, *named), here, *named, sel, *imp),
+        } => at_ref(tables.holder(*class, *named), here, *named, sel, *imp),
         Change::Exchange {
             class,
             sel: named,
@@ -77,6 +78,33 @@ fn written(tables: &Tables, change: &Change, here: ClassRef, sel: Selector) -> O
             methods,
             class_methods,
         } => attached(*class, methods, class_methods, here, sel),
+        Change::AddClass { .. } => None,
+    }
+}
+
+// Whether the class will be present.
+fn is_present_after(tables: &Tables, change: &Change, here: ClassRef) -> bool
+    requires { here.class < length tables.now.supers }
+    ensures { result ≡ is_present (supers_after tables.now.supers change.now) here.class }
+{
+    match change {
+        Change::AddClass { class, .. } if *class == here.class => true,
+        _ => tables.present(here).is_some(),
+    }
+}
+
+// What will stand above a class reference.
+fn above_after(tables: &Tables, change: &Change, here: ClassRef) -> Option<ClassRef>
+    requires here { here.class < length tables.now.supers }
+    requires listed { SeeksAmong (length tables.now.supers) change.now }
+    ensures value { result ≡ super_of (supers_after tables.now.supers change.now) here }
+    ensures listed { IfSome result (λ above. above.class < length tables.now.supers) }
+{
+    match change {
+        Change::AddClass { class, superclass } if *class == here.class => {
+            here.above(*superclass)
+        }
+        _ => tables.above(here),
     }
 }
 
@@ -116,33 +144,27 @@ fn exchanged(
 {
     let first = tables.holder(class, named);
     let second = tables.holder(other, other_sel);
-    let by_first = at_place(first, here, named, sel, tables.lookup(other, other_sel));
+    let by_first = at_ref(first, here, named, sel, tables.lookup(other, other_sel));
     if by_first.is_some() {
         return by_first;
     }
-    at_place(second, here, other_sel, sel, tables.lookup(class, named))
+    at_ref(second, here, other_sel, sel, tables.lookup(class, named))
 }
 
 // The implementation that a class reference itself will have for a selector.
 fn own_after(tables: &Tables, change: &Change, here: ClassRef, sel: Selector) -> Option<ImpRef>
     requires here { here.class < length tables.now.supers }
-    requires listed { AreListed (length tables.now.supers) change.now }
+    requires listed { SeeksAmong (length tables.now.supers) change.now }
     ensures { (h : History) → StandsAt tables.now h → option_map imp_number result ≡ own (rows_after (table h) change.now) here (selector_number sel) }
 {
     match written(tables, change, here, sel) {
         Some(imp) => Some(imp),
-        None => at_place(
-            tables.holder(here, sel),
-            here,
-            sel,
-            sel,
-            tables.lookup(here, sel),
-        ),
+        None => tables.rows(here).find(sel),
     }
 }
 
-// The implementation that a lookup will find. `classes` is how many there are.
-fn found_after(
+// The implementation that a lookup will find which begins at a class that will be present. `classes` is how many there are.
+fn found_from(
     tables: &Tables,
     classes: usize,
     change: &Change,
@@ -151,7 +173,8 @@ fn found_after(
 ) -> ImpRef
     requires classes { classes ≡ length tables.now.supers }
     requires class { class.class < length tables.now.supers }
-    requires listed { AreListed (length tables.now.supers) change.now }
+    requires present { is_present (supers_after tables.now.supers change.now) class.class ≡ true }
+    requires listed { SeeksAmong (length tables.now.supers) change.now }
     ensures { (h : History) → StandsAt tables.now h → imp_number result ≡ lookup (and_then h change.now) class (selector_number sel) }
 {
     let mut here = class;
@@ -159,7 +182,7 @@ fn found_after(
         if let Some(imp) = own_after(tables, change, here, sel) {
             return imp;
         }
-        match tables.superclass(here) {
+        match above_after(tables, change, here) {
             Some(above) => here = above,
             None => return ImpRef::FORWARD,
         }
@@ -173,13 +196,16 @@ fn found_after(
 impl Tables {
     /// The implementation that [`Tables::lookup`] will find once a change is made, which is of listed classes.
     ///
-    /// Each class on the way costs a few lookups: of the selector from there, and of the methods that the change names. So the time grows with the
-    /// square of the chain. No memory is taken.
+    /// Each class on the way costs a search in its own methods and, where the change names methods by `SetImp` or `Exchange`, a lookup of those. No memory is taken.
     pub fn lookup_after(&self, change: &Change, class: ClassRef, sel: Selector) -> ImpRef
         requires class { class.class < length self.now.supers }
-        requires listed { AreListed (length self.now.supers) change.now }
+        requires listed { SeeksAmong (length self.now.supers) change.now }
         ensures { (h : History) → StandsAt self.now h → imp_number result ≡ lookup (and_then h change.now) class (selector_number sel) }
     {
-        found_after(self, self.supers.len(), change, class, sel)
+        if is_present_after(self, change, class) {
+            found_from(self, self.supers.len(), change, class, sel)
+        } else {
+            ImpRef::FORWARD
+        }
     }
 }

@@ -1,6 +1,7 @@
 //! Judging changes: each fault is a test of its own, they come in their order, and a method is looked up once: the edit that is answered says where it stands.
 
-ghost use Rattle.std.specs.Prelude.{◌≡◌, ◌<◌, ◌≤◌, ◌+◌, ◌-◌, ◌++◌, ◌||◌, length, true, false, if◌then◌else◌, slice_get, IfOk, IfSome, IsSome, Option, Some, None, option_map, nat_lt};
+ghost use Rattle.std.specs.Prelude.{◌≡◌, ◌<◌, ◌≤◌, ◌+◌, ◌-◌, ◌++◌, ◌||◌, length, true, false, if◌then◌else◌, slice_get, IfOk, IfSome, IsSome, Option, Some, None, option_map, nat_lt, not};
+ghost use Rattle.msg_tables.specs.Chain.{is_present};
 ghost use Rattle.std.specs.List.{list_any};
 ghost use Rattle.msg_names.specs.Number.{selector_number, imp_number};
 ghost use Rattle.msg_image.specs.declared.change.Change.{Change};
@@ -34,11 +35,42 @@ fn row(class: ClassRef, sel: Selector, imp: ImpRef) -> MethodRow
 }
 
 impl Tables {
+    // No class that is present has this number.
+    fn lacks(&self, class: u32) -> bool
+        ensures present { result ≡ not (is_present self.now.supers class) }
+        ensures listed { result ≡ false → class < length self.now.supers }
+    {
+        match self.supers.get(class as usize) {
+            Some(Some(_)) => false,
+            _ => true,
+        }
+    }
+
     fn no_class(&self, class: ClassRef) -> bool
         ensures meaning { (h : History) → StandsAt self.now h → result ≡ spec.no_class h class }
         ensures listed { result ≡ false → class.class < length self.now.supers }
+        ensures present { result ≡ not (is_present self.now.supers class.class) }
     {
-        class.class as usize >= self.supers.len()
+        self.lacks(class.class)
+    }
+
+    // No class can be made with this number.
+    fn no_number(&self, class: u32) -> bool
+        ensures meaning { (h : History) → StandsAt self.now h → result ≡ spec.no_number h class }
+        ensures listed { result ≡ false → class < length self.now.supers }
+    {
+        self.supers.len() <= class as usize
+    }
+
+    // The superclass that is named isn't present.
+    fn no_superclass(&self, superclass: Option<u32>) -> bool
+        ensures meaning { (h : History) → StandsAt self.now h → result ≡ spec.no_superclass h superclass }
+        ensures present { result ≡ false → IfSome superclass (λ d. is_present self.now.supers d ≡ true) }
+    {
+        match superclass {
+            Some(class) => self.no_class(ClassRef { class, meta: false }),
+            None => false,
+        }
     }
 
     fn no_imp(&self, imp: ImpRef) -> bool
@@ -89,14 +121,14 @@ impl Tables {
     // Whether there is no room for so many more rows, or for one more change.
     fn is_full(&self, more: usize) -> bool
         ensures meaning { (h : History) → StandsAt self.now h → result ≡ spec.is_full h more }
-        ensures room { result ≡ false → (self.now.row_count + more ≤ 16384) × (self.now.change_count < 65536) }
+        ensures room { result ≡ false → (self.now.row_count + more ≤ MAX_ROWS) × (self.now.change_count < MAX_CHANGES) }
     {
         self.change_count >= MAX_CHANGES || more > (MAX_ROWS - self.row_count) as usize
     }
 
     // Why the row could not stand, whatever stands there.
     fn unfit(&self, row: MethodRow) -> Option<ChangeFault>
-        ensures meaning { (h : History) → StandsAt self.now h → result ≡ spec.least (spec.unfit h row.class row.sel row.imp) }
+        ensures meaning { (h : History) → StandsAt self.now h → result ≡ spec.least_change_fault (spec.unfit h row.class row.sel row.imp) }
         ensures class { result ≡ None → row.class.class < length self.now.supers }
         ensures imp { result ≡ None → imp_number row.imp ≤ length self.now.args }
     {
@@ -240,7 +272,7 @@ impl Tables {
 
     // Why the methods could not be attached, whatever stands there.
     fn unfit_methods(&self, methods: &MethodList, class_methods: &MethodList) -> Option<ChangeFault>
-        ensures meaning { (h : History) → StandsAt self.now h → result ≡ spec.least (spec.unfit_methods h (methods.now ++ class_methods.now)) }
+        ensures meaning { (h : History) → StandsAt self.now h → result ≡ spec.least_change_fault (spec.unfit_methods h (methods.now ++ class_methods.now)) }
         ensures methods { result ≡ None → are_listed (length self.now.args) methods.now ≡ true }
         ensures class_methods { result ≡ None → are_listed (length self.now.args) class_methods.now ≡ true }
     {
@@ -282,6 +314,25 @@ impl Tables {
         })
     }
 
+    fn judge_make<'c>(&self, class: u32, superclass: Option<u32>) -> Result<Edit<'c>, ChangeFault>
+        ensures meaning { (h : History) → StandsAt self.now h → Judges h (Change.AddClass class superclass) result }
+        ensures fits { IfOk result (Fits self.now) }
+    {
+        if self.no_number(class) {
+            return Err(ChangeFault::NoClass);
+        }
+        if self.no_superclass(superclass) {
+            return Err(ChangeFault::NoClass);
+        }
+        if self.is_full(0) {
+            return Err(ChangeFault::Limit);
+        }
+        if !self.no_class(ClassRef { class, meta: false }) {
+            return Err(ChangeFault::DuplicateClass);
+        }
+        Ok(Edit::Make(class, superclass))
+    }
+
     // What the change would write, or the least fault for which it is refused.
     pub(crate) fn judge<'c>(&self, change: &'c Change) -> Result<Edit<'c>, ChangeFault>
         ensures meaning { (h : History) → StandsAt self.now h → Judges h change.now result }
@@ -302,6 +353,7 @@ impl Tables {
                 methods,
                 class_methods,
             } => self.judge_attach(*class, methods, class_methods),
+            Change::AddClass { class, superclass } => self.judge_make(*class, *superclass),
         }
     }
 }

@@ -1,11 +1,11 @@
 //! Laws of lookup and of changes, over every history.
 
-ghost use Rattle.std.specs.Prelude.{◌≡◌, ℕ, List, ◌∷◌, ◌++◌, Some, None, false, reverse, All};
+ghost use Rattle.std.specs.Prelude.{◌≡◌, ◌≢◌, ◌<◌, ◌≤◌, ℕ, List, length, Option, ◌∷◌, ◌++◌, Some, None, true, false, reverse, All};
 ghost use Rattle.msg_names.specs.Number.{selector_number, imp_number};
 ghost use Rattle.msg_names.specs.declared.value.ClassRef.{ClassRef};
 ghost use Rattle.msg_names.specs.declared.value.ImpRef.{ImpRef};
 ghost use Rattle.msg_names.specs.declared.value.Selector.{Selector};
-ghost use Rattle.msg_image.specs.Parts.{ImageParts};
+ghost use Rattle.msg_image.specs.Parts.{ImageParts, class_total};
 ghost use Rattle.msg_image.specs.Sound.{IsSound};
 ghost use Rattle.msg_image.specs.declared.image.Category.{Category};
 ghost use Rattle.msg_image.specs.declared.change.Change.{Change};
@@ -13,17 +13,60 @@ ghost use Rattle.msg_tables.specs.Affected.{is_affected};
 ghost use Rattle.msg_tables.specs.After.{of_class, of_meta};
 ghost use Rattle.msg_tables.specs.History.{History, BeginsWith, empty, and_then, table, lookup, holder, superclass};
 ghost use Rattle.msg_tables.specs.Opening.{Lacks};
-ghost use Rattle.msg_tables.specs.Refusal.{IsHistory, has_own, no_class};
+ghost use Rattle.msg_tables.specs.Presence.{EndsAtRoot};
+ghost use Rattle.msg_tables.specs.Refusal.{IsHistory, refusal, has_own, no_class};
 ghost use Rattle.msg_tables.specs.RowList.{own_in};
+ghost use Rattle.msg_tables.specs.Stands.{StandsAt};
+ghost use Rattle.msg_tables.specs.View.{TablesView};
 
-/// A class reference that a change doesn't affect finds what it found.
+use crate::tables::MAX_CHANGES;
+
+/// A class reference that an accepted change doesn't affect finds what it found.
 pub fn a_change_affects_no_more()
-    ensures { (h : History) (x : Change) (c : ClassRef) (s : ℕ) → is_affected h x c ≡ false → lookup (and_then h x) c s ≡ lookup h c s }
+    ensures { (h : History) (x : Change) (c : ClassRef) (s : ℕ) → IsSound h.image → IsHistory h → refusal h x ≡ None → is_affected h x c ≡ false
+        → lookup (and_then h x) c s ≡ lookup h c s }
 {}
 
 /// What a history of accepted changes begins with is one, too: each earlier point of a history is a history.
 pub fn an_earlier_point_is_a_history()
     ensures { (h g : History) → BeginsWith h g → IsHistory h → IsHistory g }
+{}
+
+/// A change is accepted after fewer than 65,536 others.
+pub fn an_accepted_change_is_among_65536()
+    ensures { (h : History) (x : Change) → refusal h x ≡ None → length h.changes < MAX_CHANGES }
+{}
+
+/// What a lookup finds is an implementation of the image, or forwarding.
+pub fn a_found_implementation_is_listed()
+    ensures { (h : History) (c : ClassRef) (s : ℕ) → IsSound h.image → IsHistory h → lookup h c s ≤ length h.image.imps }
+{}
+
+/// Tables have as many classes and implementations as the image of the history at which they stand.
+pub fn tables_are_of_their_image()
+    ensures classes { (tables : TablesView) (h : History) → StandsAt tables h → length tables.supers ≡ class_total h.image }
+    ensures imps { (tables : TablesView) (h : History) → StandsAt tables h → length tables.args ≡ length h.image.imps }
+{}
+
+/// Before a class is made its lookups, and those of its metaclass, answer forwarding.
+pub fn a_class_that_is_not_made_forwards()
+    ensures { (h : History) (c : ClassRef) (s : ℕ) → no_class h c ≡ true → lookup h c s ≡ 0 }
+{}
+
+/// Making a class changes no lookup but its own and its metaclass's.
+pub fn a_made_class_changes_no_other()
+    ensures { (h : History) (k : ℕ) (superclass : Option ℕ) (c : ClassRef) (s : ℕ) → IsSound h.image → IsHistory h → refusal h (Change.AddClass k superclass) ≡ None → c.class ≢ k
+        → lookup (and_then h (Change.AddClass k superclass)) c s ≡ lookup h c s }
+{}
+
+/// A class that is present keeps its superclass, and so does its metaclass.
+pub fn a_superclass_stays()
+    ensures { (later h : History) (c : ClassRef) → BeginsWith later h → IsHistory later → no_class h c ≡ false → superclass later c ≡ superclass h c }
+{}
+
+/// The chain of a class that is present ends at a root class.
+pub fn a_chain_ends_at_a_root_class()
+    ensures { (h : History) (c : ClassRef) → IsSound h.image → IsHistory h → no_class h c ≡ false → EndsAtRoot h c }
 {}
 
 /// Where no method is found the answer is forwarding.
@@ -38,7 +81,7 @@ pub fn one_method_is_one_implementation()
 
 /// What a class doesn't have it inherits.
 pub fn a_class_inherits()
-    ensures { (h : History) (c d : ClassRef) (s : ℕ) → IsSound h.image → no_class h c ≡ false → has_own h c s ≡ false → superclass h c ≡ Some d → lookup h c s ≡ lookup h d s }
+    ensures { (h : History) (c d : ClassRef) (s : ℕ) → IsSound h.image → IsHistory h → no_class h c ≡ false → has_own h c s ≡ false → superclass h c ≡ Some d → lookup h c s ≡ lookup h d s }
 {}
 
 /// The superclass of a root metaclass is its own class.
@@ -48,12 +91,12 @@ pub fn a_root_metaclass_is_below_its_class()
 
 /// A method that was added is found.
 pub fn an_added_method_is_found()
-    ensures { (h : History) (c : ClassRef) (s : Selector) (i : ImpRef) → lookup (and_then h (Change.Add c s i)) c (selector_number s) ≡ imp_number i }
+    ensures { (h : History) (c : ClassRef) (s : Selector) (i : ImpRef) → no_class h c ≡ false → lookup (and_then h (Change.Add c s i)) c (selector_number s) ≡ imp_number i }
 {}
 
 /// After `Replace` the class itself has the implementation, whatever it inherited.
 pub fn a_replaced_method_is_found()
-    ensures { (h : History) (c : ClassRef) (s : Selector) (i : ImpRef) → lookup (and_then h (Change.Replace c s i)) c (selector_number s) ≡ imp_number i }
+    ensures { (h : History) (c : ClassRef) (s : Selector) (i : ImpRef) → no_class h c ≡ false → lookup (and_then h (Change.Replace c s i)) c (selector_number s) ≡ imp_number i }
 {}
 
 /// A method that is set anew is seen by all that find it there.
@@ -77,16 +120,16 @@ pub fn one_method_exchanged_is_unchanged()
 
 /// Of attached methods of one selector the earlier is found, whatever the class had.
 pub fn an_attached_method_is_found()
-    ensures class { (h : History) (k : ℕ) (methods class_methods : List (ℕ × ℕ)) (s i : ℕ) → own_in s (reverse methods) ≡ Some i
+    ensures class { (h : History) (k : ℕ) (methods class_methods : List (ℕ × ℕ)) (s i : ℕ) → no_class h (of_class k) ≡ false → own_in s (reverse methods) ≡ Some i
         → lookup (and_then h (Change.Attach k methods class_methods)) (of_class k) s ≡ i }
-    ensures metaclass { (h : History) (k : ℕ) (methods class_methods : List (ℕ × ℕ)) (s i : ℕ) → own_in s (reverse class_methods) ≡ Some i
+    ensures metaclass { (h : History) (k : ℕ) (methods class_methods : List (ℕ × ℕ)) (s i : ℕ) → no_class h (of_class k) ≡ false → own_in s (reverse class_methods) ≡ Some i
         → lookup (and_then h (Change.Attach k methods class_methods)) (of_meta k) s ≡ i }
 {}
 
 /// Of the categories of a class with a method of a selector the one that is listed last wins, over the others and over the class; later categories without such a method change nothing.
 pub fn the_last_category_wins()
-    ensures class { (image : ImageParts) (before later : List Category) (c : Category) (s i : ℕ) → image.categories ≡ before ++ c ∷ later → All (Lacks (of_class c.class) s) later → own_in s c.methods ≡ Some i
+    ensures class { (image : ImageParts) (before later : List Category) (c : Category) (s i : ℕ) → IsSound image → image.categories ≡ before ++ c ∷ later → All (Lacks (of_class c.class) s) later → own_in s c.methods ≡ Some i
         → lookup (empty image) (of_class c.class) s ≡ i }
-    ensures metaclass { (image : ImageParts) (before later : List Category) (c : Category) (s i : ℕ) → image.categories ≡ before ++ c ∷ later → All (Lacks (of_meta c.class) s) later → own_in s c.class_methods ≡ Some i
+    ensures metaclass { (image : ImageParts) (before later : List Category) (c : Category) (s i : ℕ) → IsSound image → image.categories ≡ before ++ c ∷ later → All (Lacks (of_meta c.class) s) later → own_in s c.class_methods ≡ Some i
         → lookup (empty image) (of_meta c.class) s ≡ i }
 {}

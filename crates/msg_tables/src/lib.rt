@@ -10,6 +10,7 @@ pub mod laws;
 mod lists;
 mod marks;
 mod opening;
+mod presence;
 mod rows;
 mod tables;
 

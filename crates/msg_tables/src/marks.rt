@@ -1,15 +1,16 @@
 //! Marks on class references, and the descendants of one.
 
 ghost use Rattle.std.specs.Option.{option_map_or};
-ghost use Rattle.std.specs.Prelude.{◌≡◌, ◌<◌, ◌+◌, ◌*◌, ◌||◌, ℕ, IfOk, length, count_by, replicate, slice_index_or, false};
+ghost use Rattle.std.specs.Prelude.{◌≡◌, ◌<◌, ◌+◌, ◌*◌, ◌||◌, ℕ, IfOk, length, count_by, replicate, slice_index_or, slice_get, Some, false};
 ghost use Rattle.msg_names.specs.declared.value.ClassRef.{ClassRef};
-ghost use Rattle.msg_tables.specs.Chain.{same_class, super_of, is_among};
+ghost use Rattle.msg_names.specs.ClassRef.{same_class, slot_of};
+ghost use Rattle.msg_tables.specs.Chain.{super_of, is_member};
 ghost use Rattle.msg_tables.specs.History.{History, chain_at};
-ghost use Rattle.msg_tables.specs.Marking.{Before, is_marked, AreNoted};
+ghost use Rattle.msg_tables.specs.Order.{IsOrder};
+ghost use Rattle.msg_tables.specs.Marking.{is_marked, descends, AreNoted};
 ghost use Rattle.msg_tables.specs.Stands.{StandsAt};
-ghost use Rattle.msg_tables.specs.View.{place_of};
 
-use crate::tables::{Tables, place};
+use crate::tables::Tables;
 use msg_names::ClassRef;
 use std::alloc::{AllocError, Global};
 use std::marker::Model;
@@ -28,20 +29,20 @@ impl Model for Marks {
 
     ghost Value = { List Bool };
 
-    ghost use Rattle.msg_tables.specs.Marking.{marks_of, IsSound};
+    ghost use Rattle.msg_tables.specs.Marking.{marks_of, AreSoundMarks};
 
     ghost view = { marks_of };
 
-    ghost invariant = { IsSound };
+    ghost invariant = { AreSoundMarks };
 }
 
 impl Marks {
     /// Whether a class reference is marked.
     pub fn has(&self, class: ClassRef) -> bool
-        requires { place_of class < length self.now }
+        requires { slot_of class < length self.now }
         ensures { result ≡ is_marked self.now class }
     {
-        self.marked[place(class)]
+        self.marked[class.slot()]
     }
 
     /// How many class references are marked, classes and metaclasses together. Each place is looked at.
@@ -57,6 +58,13 @@ impl Marks {
     {
         self.marked.fill(false);
     }
+}
+
+fn unmark(noted: &mut [bool])
+    ensures room { length noted.new ≡ length noted.old }
+    ensures none { noted.new ≡ replicate (length noted.old) false }
+{
+    noted.fill(false);
 }
 
 // Marks what was noted.
@@ -92,33 +100,34 @@ impl Tables {
             return true;
         }
         match self.above(class) {
-            Some(above) => noted[place(above)],
+            Some(above) => noted[above.slot()],
             None => false,
         }
     }
 
-    // Notes a class and its metaclass, where they descend from the origin. Those before them are noted already.
+    // Notes a class and its metaclass, where they descend from the origin. Those before them in the order are noted already.
     fn note_class(&self, origin: ClassRef, class: u32, noted: &mut [bool])
-        requires before { Before self.now.supers }
         requires class { class < length self.now.supers }
+        requires order { IsOrder self.now.supers self.now.order }
         requires room { length noted.old ≡ 2 * length self.now.supers }
         ensures room { length noted.new ≡ length noted.old }
-        ensures before { AreNoted self.now.supers origin class noted.old → AreNoted self.now.supers origin (class + 1) noted.new }
+        ensures before { (place : ℕ) → slice_get self.now.order place ≡ Some class → AreNoted self.now origin place noted.old → AreNoted self.now origin (place + 1) noted.new }
     {
         let own = ClassRef { class, meta: false };
-        noted[place(own)] = self.is_below(origin, own, noted);
+        noted[own.slot()] = self.is_below(origin, own, noted);
         let meta = ClassRef { class, meta: true };
-        noted[place(meta)] = self.is_below(origin, meta, noted);
+        noted[meta.slot()] = self.is_below(origin, meta, noted);
     }
 
-    // Notes the descendants of a class reference. Superclasses come first, so one pass suffices.
+    // Notes the descendants of a class reference. Superclasses come first in the order, so one pass suffices.
     fn note_descendants(&self, origin: ClassRef, noted: &mut [bool])
         requires { length noted.old ≡ 2 * length self.now.supers }
         ensures room { length noted.new ≡ length noted.old }
-        ensures noted { AreNoted self.now.supers origin (length self.now.supers) noted.new }
+        ensures noted { (c : ClassRef) → is_marked noted.new c ≡ descends self.now.supers origin c }
     {
-        for class in 0..self.supers.len() as u32 {
-            self.note_class(origin, class, noted);
+        unmark(noted);
+        for place in 0..self.order.len() {
+            self.note_class(origin, self.order[place], noted);
         }
     }
 
@@ -129,7 +138,7 @@ impl Tables {
         requires class { class.class < length self.now.supers }
         requires marks { length marks.old ≡ 2 * length self.now.supers }
         ensures marks { (h : History) → StandsAt self.now h → (c : ClassRef) → c.class < length self.now.supers
-            → is_marked marks.new c ≡ (is_marked marks.old c || is_among class (chain_at h c)) }
+            → is_marked marks.new c ≡ (is_marked marks.old c || is_member class (chain_at h c)) }
         ensures room { length marks.new ≡ length marks.old }
     {
         self.note_descendants(class, &mut marks.descending);

@@ -5,18 +5,21 @@ ghost use Rattle.msg_names.specs.Name.{colons_of};
 ghost use Rattle.msg_names.specs.Numbering.{AreNames};
 ghost use Rattle.msg_image.specs.declared.image.Category.{Category};
 ghost use Rattle.msg_image.specs.Methods.{method_numbers};
-ghost use Rattle.msg_image.specs.Parts.{ImpParts, ClassParts};
+ghost use Rattle.msg_image.specs.Parts.{ImpParts, ClassParts, class_total};
 ghost use Rattle.msg_image.specs.Sound.{IsSoundCategory, row_count};
-ghost use Rattle.msg_tables.specs.After.{rows_at, of_class, of_meta, class_rows, category_rows};
+ghost use Rattle.msg_tables.specs.After.{opened_supers, rows_at, of_class, of_meta, class_rows, category_rows};
 ghost use Rattle.msg_tables.specs.History.{empty};
 ghost use Rattle.msg_tables.specs.Opening.{Adds, IsFor, IsBlank, rows_of_class, size_of_class, rows_of_category, size_of_category};
+ghost use Rattle.std.specs.Vec.{vec_capacity};
+ghost use Rattle.msg_tables.specs.Order.{IsOrder};
 ghost use Rattle.msg_tables.specs.RowList.{rows_of};
 ghost use Rattle.msg_tables.specs.Stands.{StandsAt};
 ghost use Rattle.msg_tables.specs.View.{are_listed};
 
 use crate::lists::append_rows;
+use crate::presence::Presence;
 use crate::rows::MethodRows;
-use crate::tables::{Tables, place};
+use crate::tables::{MAX_ROWS, Tables};
 use msg_image::{Category, Image};
 use msg_names::{ClassRef, ImpRef, Names, Selector};
 use std::alloc::{AllocError, Global};
@@ -30,15 +33,40 @@ fn superclass_of(image: &Image, class: u32) -> Option<u32>
     Some(above.class)
 }
 
-fn superclasses(alloc: Global, image: &Image) -> Result<Vec<Option<u32>>, AllocError>
-    ensures { IfOk result (λ supers. supers.items ≡ map (λ (c : ClassParts). c.superclass) image.now.classes) }
+// A class as the image is opened: a listed one is present, and one that may be made isn't.
+fn opened(image: &Image, class: u32) -> Option<Presence>
+    requires { class < class_total image.now }
+    ensures { slice_get (opened_supers image.now) class ≡ Some result }
+{
+    if class < image.listed_count() {
+        let superclass = superclass_of(image, class);
+        Some(Presence { superclass })
+    } else {
+        None
+    }
+}
+
+fn opened_classes(alloc: Global, image: &Image) -> Result<Vec<Option<Presence>>, AllocError>
+    ensures { IfOk result (λ supers. supers.items ≡ opened_supers image.now) }
 {
     let count = image.class_count();
     let mut supers = Vec::with_capacity(alloc, count as usize)?;
     for class in 0..count {
-        supers.push(superclass_of(image, class))?;
+        supers.push(opened(image, class))?;
     }
     Ok(supers)
+}
+
+// The listed classes, each after its superclass, with room for all that may be made.
+fn listed_order(alloc: Global, image: &Image) -> Result<Vec<u32>, AllocError>
+    ensures order { IfOk result (λ order. IsOrder (opened_supers image.now) order.items) }
+    ensures room { IfOk result (λ order. class_total image.now ≤ vec_capacity order) }
+{
+    let mut order = Vec::with_capacity(alloc, image.class_count() as usize)?;
+    for class in 0..image.listed_count() {
+        order.push(class)?;
+    }
+    Ok(order)
 }
 
 // How many arguments each implementation takes.
@@ -90,7 +118,8 @@ impl Tables {
         ensures { IfOk result (IsBlank image.now) }
     {
         Ok(Tables {
-            supers: superclasses(alloc, image)?,
+            supers: opened_classes(alloc, image)?,
+            order: listed_order(alloc, image)?,
             lists: empty_lists(alloc, 2 * image.class_count() as usize)?,
             colons: colon_counts(alloc, image.names())?,
             args: argument_counts(alloc, image)?,
@@ -107,10 +136,10 @@ impl Tables {
     ) -> Result<(), AllocError>
         requires class { class.class < length self.old.supers }
         requires listed { are_listed (length self.old.args) (method_numbers methods.now) ≡ true }
-        requires room { self.old.row_count + length methods.now ≤ 16384 }
+        requires room { self.old.row_count + length methods.now ≤ MAX_ROWS }
         ensures { OnOk result (Adds self.old self.new (rows_at class (method_numbers methods.now))) }
     {
-        append_rows(&mut self.lists, place(class), methods)?;
+        append_rows(&mut self.lists, class.slot(), methods)?;
         self.row_count += methods.len() as u32;
         Ok(())
     }
@@ -118,7 +147,7 @@ impl Tables {
     fn open_class(&mut self, image: &Image, class: u32) -> Result<(), AllocError>
         requires class { class < length image.now.classes }
         requires image { IsFor image.now self.old }
-        requires room { (c : ClassParts) → slice_get image.now.classes class ≡ Some c → self.old.row_count + size_of_class c ≤ 16384 }
+        requires room { (c : ClassParts) → slice_get image.now.classes class ≡ Some c → self.old.row_count + size_of_class c ≤ MAX_ROWS }
         ensures { (c : ClassParts) → slice_get image.now.classes class ≡ Some c → OnOk result (Adds self.old self.new (rows_of_class class c)) }
     {
         let own = ClassRef { class, meta: false };
@@ -131,9 +160,9 @@ impl Tables {
         requires image { IsFor image.now self.old }
         requires blank { self.old.row_count ≡ 0 }
         ensures rows { OnOk result (Adds self.old self.new (class_rows 0 image.now.classes)) }
-        ensures room { OnOk result (self.new.row_count + sum_by size_of_category image.now.categories ≤ 16384) }
+        ensures room { OnOk result (self.new.row_count + sum_by size_of_category image.now.categories ≤ MAX_ROWS) }
     {
-        for class in 0..image.class_count() {
+        for class in 0..image.listed_count() {
             self.open_class(image, class)?;
         }
         Ok(())
@@ -142,7 +171,7 @@ impl Tables {
     fn open_category(&mut self, image: &Image, category: &Category) -> Result<(), AllocError>
         requires category { IsSoundCategory image.now category.now }
         requires image { IsFor image.now self.old }
-        requires room { self.old.row_count + size_of_category category.now ≤ 16384 }
+        requires room { self.old.row_count + size_of_category category.now ≤ MAX_ROWS }
         ensures { OnOk result (Adds self.old self.new (rows_of_category category.now)) }
     {
         let own = ClassRef {
@@ -159,7 +188,7 @@ impl Tables {
 
     fn open_categories(&mut self, image: &Image) -> Result<(), AllocError>
         requires image { IsFor image.now self.old }
-        requires room { self.old.row_count + sum_by size_of_category image.now.categories ≤ 16384 }
+        requires room { self.old.row_count + sum_by size_of_category image.now.categories ≤ MAX_ROWS }
         ensures { OnOk result (Adds self.old self.new (category_rows image.now.categories)) }
     {
         for category in image.categories() {
@@ -172,7 +201,8 @@ impl Tables {
     ///
     /// Each method of the image is copied once.
     pub fn open(alloc: Global, image: &Image) -> Result<Tables, AllocError>
-        ensures { IfOk result (λ tables. StandsAt tables (empty image.now)) }
+        ensures stands { IfOk result (λ tables. StandsAt tables (empty image.now)) }
+        ensures classes { IfOk result (λ tables. length tables.supers ≡ class_total image.now) }
     {
         let mut tables = Tables::blank(alloc, image)?;
         tables.open_classes(image)?;

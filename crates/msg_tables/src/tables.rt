@@ -2,13 +2,14 @@
 
 ghost use Rattle.std.specs.Prelude.{◌≡◌, ◌<◌, ◌≤◌, length, option_map, IfSome, Some, None, true};
 ghost use Rattle.msg_names.specs.Number.{selector_number, imp_number};
-ghost use Rattle.msg_image.specs.Parts.{above};
-ghost use Rattle.msg_tables.specs.Chain.{super_of, chain_of, steps_of};
+ghost use Rattle.msg_names.specs.ClassRef.{above, slot_of};
+ghost use Rattle.msg_tables.specs.Chain.{super_of, chain_of, steps_of, is_present, only_present};
 ghost use Rattle.msg_tables.specs.History.{History, lookup, holder, superclass};
 ghost use Rattle.msg_tables.specs.RowList.{own_in};
 ghost use Rattle.msg_tables.specs.Stands.{StandsAt};
-ghost use Rattle.msg_tables.specs.View.{place_of, kept, kept_method, are_listed};
+ghost use Rattle.msg_tables.specs.View.{kept, kept_method, are_listed};
 
+use crate::presence::Presence;
 use crate::rows::MethodRows;
 use msg_names::{ClassRef, ImpRef, Selector};
 use std::marker::Model;
@@ -24,7 +25,9 @@ pub const MAX_CHANGES: u32 = 65_536;
 /// A lookup goes up the superclasses, and at each hashes the selector once, however many methods the class has.
 #[derive(Drop)]
 pub struct Tables {
-    pub(crate) supers: Vec<Option<u32>>,
+    pub(crate) supers: Vec<Option<Presence>>,
+    // The classes that are present, each after its superclass. There is room for all that may be made.
+    pub(crate) order: Vec<u32>,
     pub(crate) lists: Vec<MethodRows>,
     pub(crate) colons: Vec<u8>,
     pub(crate) args: Vec<u8>,
@@ -37,11 +40,11 @@ impl Model for Tables {
 
     ghost Value = { TablesView };
 
-    ghost use Rattle.msg_tables.specs.Inside.{view_of, IsSound};
+    ghost use Rattle.msg_tables.specs.Inside.{view_of, AreSoundTables};
 
     ghost view = { view_of };
 
-    ghost invariant = { IsSound };
+    ghost invariant = { AreSoundTables };
 }
 
 // A method that was found.
@@ -49,29 +52,6 @@ impl Model for Tables {
 pub(crate) struct Method {
     pub(crate) holder: ClassRef,
     pub(crate) imp: ImpRef,
-}
-
-// Where the rows of a class reference are kept.
-#[inline(always)]
-pub(crate) fn place(class: ClassRef) -> usize
-    ensures { result ≡ place_of class }
-{
-    2 * class.class as usize + usize::from(class.meta)
-}
-
-// What stands above a class reference whose class is a root class.
-#[inline(always)]
-fn above_root(class: ClassRef) -> Option<ClassRef>
-    ensures { result ≡ above class None }
-{
-    if class.meta {
-        Some(ClassRef {
-            class: class.class,
-            meta: false,
-        })
-    } else {
-        None
-    }
 }
 
 impl Tables {
@@ -85,20 +65,28 @@ impl Tables {
         self.above(class)
     }
 
+    // The class reference, where its class is present.
+    #[inline(always)]
+    pub(crate) fn present(&self, class: ClassRef) -> Option<ClassRef>
+        requires { class.class < length self.now.supers }
+        ensures value { result ≡ only_present self.now.supers class }
+        ensures enough { IfSome result (λ c. steps_of self.now.order c ≤ length self.now.supers) }
+    {
+        match self.supers[class.class as usize] {
+            Some(_) => Some(class),
+            None => None,
+        }
+    }
+
     #[inline(always)]
     pub(crate) fn above(&self, class: ClassRef) -> Option<ClassRef>
         requires { class.class < length self.now.supers }
         ensures value { result ≡ super_of self.now.supers class }
         ensures listed { IfSome result (λ above. above.class < length self.now.supers) }
-        ensures fewer { IfSome result (λ above. steps_of above < steps_of class) }
+        ensures fewer { IfSome result (λ above. steps_of self.now.order above < steps_of self.now.order class) }
     {
-        match self.supers[class.class as usize] {
-            Some(above) => Some(ClassRef {
-                class: above,
-                meta: class.meta,
-            }),
-            None => above_root(class),
-        }
+        let presence = self.supers[class.class as usize]?;
+        class.above(presence.superclass)
     }
 
     // The rows that are kept for a class reference.
@@ -108,7 +96,7 @@ impl Tables {
         ensures rows { result.now.rows ≡ kept self.now.lists class }
         ensures listed { are_listed (length self.now.args) result.now.rows ≡ true }
     {
-        &self.lists[place(class)]
+        &self.lists[class.slot()]
     }
 
     // The method of a class reference and a selector.
@@ -121,7 +109,7 @@ impl Tables {
         ensures imp { IfSome result (λ m. imp_number m.imp ≤ length self.now.args) }
         ensures own { IfSome result (λ m. own_in (selector_number sel) (kept self.now.lists m.holder) ≡ Some (imp_number m.imp)) }
     {
-        let mut at = Some(class);
+        let mut at = self.present(class);
         while let Some(here) = at {
             if let Some(imp) = self.rows(here).find(sel) {
                 return Some(Method { holder: here, imp });

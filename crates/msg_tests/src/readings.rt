@@ -251,6 +251,9 @@ fn items_come_as_listed(rt: HostRuntime) -> Result<(), Fail> {
                 assert_eq!(rt; (other, other_sel.number()), (at(0, true), 3));
                 assert_eq!(rt; seen, 5);
             }
+            Item::Change(Change::AddClass { class, .. }) => {
+                assert!(rt; false, "class {class} is made by no item");
+            }
             Item::Change(
                 Change::Attach {
                     class,

@@ -3,7 +3,6 @@
 ghost use Rattle.std.specs.Prelude.{◌≡◌, ◌<◌, IfOk, length};
 
 use crate::images::IMAGE;
-use msg_eval::laws::tables_are_of_their_image;
 use msg_image::{Change, Image, MethodList, read_document};
 use msg_names::{ClassRef, ImpRef, Selector};
 use msg_tables::{ChangeFault, MAX_CHANGES, Tables};
@@ -53,19 +52,11 @@ fn selector(image: &Image, name: &str) -> Result<Selector, Fail> {
     Ok(image.names().find(name).ok_or("no selector")?)
 }
 
-// Tables of as many classes as the image.
-fn opened(alloc: Global, image: &Image) -> Result<Tables, AllocError>
-    ensures { IfOk result (λ tables. length tables.supers ≡ length image.now.classes) }
-{
-    tables_are_of_their_image();
-    Tables::open(alloc, image)
-}
-
 #[test]
 fn methods_are_found_along_the_superclasses(rt: HostRuntime) -> Result<(), Fail> {
     let alloc = rt.alloc();
     let image = image(alloc)?;
-    let tables = opened(alloc, &image)?;
+    let tables = Tables::open(alloc, &image)?;
     assert_eq!(rt; image.class_count(), 5);
     for (class, name, imp, holder) in [
         (ROOT, "value", 1, Some(ROOT)),
@@ -134,7 +125,7 @@ fn descendants(
 fn descendants_are_marked(rt: HostRuntime) -> Result<(), Fail> {
     let alloc = rt.alloc();
     let image = image(alloc)?;
-    let tables = opened(alloc, &image)?;
+    let tables = Tables::open(alloc, &image)?;
     for (class, other, count, is_below) in [
         (ROOT, GRAND, 8, true),
         (ROOT, metaclass(SIDE), 8, true),
@@ -254,7 +245,6 @@ fn found_after(
     class: ClassRef,
     sel: Selector,
 ) -> Result<u32, Fail> {
-    tables_are_of_their_image();
     let mut tables = Tables::open(alloc, image)?;
     tables.apply(change)?;
     assert!(rt; class.class < image.class_count());

@@ -15,10 +15,10 @@ use msg_json::Value;
 use std::alloc::Global;
 
 /// A method's name, which takes three values from a place on.
-#[tactic(auto, unfolding(crate::specs::Shape::method_of))]
+#[tactic(auto, unfolding(crate::specs::Shape::method_form_of))]
 fn method<'v>(values: &[Value<'v>], place: usize) -> Result<MethodName<'v>, ReadFault>
     requires { place + 3 ≤ length values.now }
-    ensures { Gives method_view result (spec.method_of place (map view values.now)) }
+    ensures { Gives method_view result (spec.method_form_of place (map view values.now)) }
 {
     Ok(MethodName {
         class: name(&values[place])?,
@@ -94,9 +94,9 @@ fn worded_change<'v>(
     }
 }
 
-#[tactic(auto, unfolding(crate::specs::Shape::change_of))]
+#[tactic(auto, unfolding(crate::specs::Shape::change_form_of))]
 fn change<'v>(alloc: Global, value: &Value<'v>) -> Result<Change<'v>, ReadFault>
-    ensures { Gives change_view result (spec.change_of (view value.now)) }
+    ensures { Gives change_view result (spec.change_form_of (view value.now)) }
 {
     let values = list(value)?;
     if values.is_empty() {
@@ -125,9 +125,9 @@ impl<'v> FromValue<'v> for Item<'v> {
 
     ghost plain = { item_view };
 
-    ghost spelled = { spec.item_of };
+    ghost spelled = { spec.item_form_of };
 
-    #[tactic(auto, unfolding(crate::specs::Shape::item_of))]
+    #[tactic(auto, unfolding(crate::specs::Shape::item_form_of))]
     fn from_value(alloc: Global, value: &Value<'v>) -> Result<Item<'v>, ReadFault> {
         keys(value, 1)?;
         match msg_json::get(value, "send") {

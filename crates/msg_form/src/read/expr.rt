@@ -185,9 +185,9 @@ fn choice<'v>(alloc: Global, values: &[Value<'v>]) -> Result<Expr<'v>, ReadFault
 }
 
 #[cycle(expr)]
-#[tactic(auto, unfolding(crate::specs::ExprShape::send_of))]
+#[tactic(auto, unfolding(crate::specs::ExprShape::send_expression_of))]
 fn send<'v>(alloc: Global, values: &[Value<'v>]) -> Result<Expr<'v>, ReadFault>
-    ensures { Gives expr_view result (spec.send_of (map view values.now) (readings values.now)) }
+    ensures { Gives expr_view result (spec.send_expression_of (map view values.now) (readings values.now)) }
 {
     if values.len() < 3 {
         return Err(ReadFault::Shape);
@@ -204,9 +204,9 @@ fn send<'v>(alloc: Global, values: &[Value<'v>]) -> Result<Expr<'v>, ReadFault>
 }
 
 #[cycle(expr)]
-#[tactic(auto, unfolding(crate::specs::ExprShape::super_of))]
+#[tactic(auto, unfolding(crate::specs::ExprShape::super_expression_of))]
 fn super_send<'v>(alloc: Global, values: &[Value<'v>]) -> Result<Expr<'v>, ReadFault>
-    ensures { Gives expr_view result (spec.super_of (map view values.now) (readings values.now)) }
+    ensures { Gives expr_view result (spec.super_expression_of (map view values.now) (readings values.now)) }
 {
     if values.len() < 2 {
         return Err(ReadFault::Shape);

@@ -20,9 +20,9 @@ impl<'v> FromValue<'v> for Pair<'v> {
 
     ghost plain = { pair_view };
 
-    ghost spelled = { spec.pair_of };
+    ghost spelled = { spec.pair_form_of };
 
-    #[tactic(auto, unfolding(crate::specs::Shape::pair_of))]
+    #[tactic(auto, unfolding(crate::specs::Shape::pair_form_of))]
     fn from_value(_alloc: Global, value: &Value<'v>) -> Result<Pair<'v>, ReadFault> {
         let values = list(value)?;
         if values.len() != 2 {
@@ -51,9 +51,9 @@ impl<'v> FromValue<'v> for Class<'v> {
 
     ghost plain = { class_view };
 
-    ghost spelled = { spec.class_of };
+    ghost spelled = { spec.class_form_of };
 
-    #[tactic(auto, unfolding(crate::specs::Shape::class_of))]
+    #[tactic(auto, unfolding(crate::specs::Shape::class_form_of))]
     fn from_value(alloc: Global, value: &Value<'v>) -> Result<Class<'v>, ReadFault> {
         keys(value, 4)?;
         Ok(Class {
@@ -70,9 +70,9 @@ impl<'v> FromValue<'v> for Category<'v> {
 
     ghost plain = { category_view };
 
-    ghost spelled = { spec.category_of };
+    ghost spelled = { spec.category_form_of };
 
-    #[tactic(auto, unfolding(crate::specs::Shape::category_of))]
+    #[tactic(auto, unfolding(crate::specs::Shape::category_form_of))]
     fn from_value(alloc: Global, value: &Value<'v>) -> Result<Category<'v>, ReadFault> {
         keys(value, 3)?;
         Ok(Category {
@@ -88,9 +88,9 @@ impl<'v> FromValue<'v> for Object<'v> {
 
     ghost plain = { object_view };
 
-    ghost spelled = { spec.object_of };
+    ghost spelled = { spec.object_form_of };
 
-    #[tactic(auto, unfolding(crate::specs::Shape::object_of))]
+    #[tactic(auto, unfolding(crate::specs::Shape::object_form_of))]
     fn from_value(_alloc: Global, value: &Value<'v>) -> Result<Object<'v>, ReadFault> {
         keys(value, 2)?;
         Ok(Object {
@@ -117,9 +117,9 @@ impl<'v> FromValue<'v> for Imp<'v> {
 
     ghost plain = { imp_view };
 
-    ghost spelled = { spec.imp_of };
+    ghost spelled = { spec.imp_form_of };
 
-    #[tactic(auto, unfolding(crate::specs::Shape::imp_of))]
+    #[tactic(auto, unfolding(crate::specs::Shape::imp_form_of))]
     fn from_value(alloc: Global, value: &Value<'v>) -> Result<Imp<'v>, ReadFault> {
         keys(value, 5)?;
         Ok(Imp {

@@ -1,4 +1,5 @@
 use Rattle.std.proofs.Common.{◌≡◌, ◌<◌, ◌≤◌, ◌+◌, ◌*◌, ℕ, length, List, [], drop, All}
+use Rattle.msg_image.specs.Parts.{class_total}
 use Rattle.msg_names.specs.declared.value.Value.{Value}
 use Rattle.msg_image.specs.Plain.{plain, plain_all}
 use Rattle.msg_image.specs.Sizes.{count, count_all}
@@ -49,8 +50,8 @@ abbrev pub invariant-dispatch-loop-imp : goal.invariant-dispatch-loop-imp
 invariant-dispatch-loop-imp g l = record {
   kept : g.F.Finder.kept l.finder ≡ g.F.Finder.kept l.fn.finder;
   me_of : IsOf l.message.image.now l.me;
-  class_listed : l.class.class < length l.message.image.now.classes;
-  from_listed : l.from.class < length l.message.image.now.classes;
+  class_listed : l.class.class < class_total l.message.image.now;
+  from_listed : l.from.class < class_total l.message.image.now;
   no_more : l.left ≤ l.fn.left;
   rest : (h : History) → g.F.Finder.stands l.fn.finder h → (t : ℕ) × (l.left ≤ t) × ComesTo {A = Value} (g.F.Finder.stands l.finder) h
       (dispatched l.message l.fn.left l.fn.me l.fn.class l.fn.from l.fn.left)

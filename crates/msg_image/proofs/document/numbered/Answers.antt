@@ -1,6 +1,6 @@
 use Rattle.std.proofs.Common.{map}
 use Rattle.msg_image.specs.Plain.{item_parts}
-use Rattle.msg_image.proofs.ImageLemmas.{items_are, document_is, sound_items}
+use Rattle.msg_image.proofs.ImageLemmas.{items_are, document_is, sound_items, few_items}
 use Rattle.msg_image.proofs.document.numbered.Goals as goal
 
 pub returns-clause-document : goal.returns-clause-document
@@ -8,3 +8,6 @@ returns-clause-document c = document_is c.args.form.now c.in_ok-image.image (map
 
 pub returns-clause-sound : goal.returns-clause-sound
 returns-clause-sound c = sound_items c.args.form.now c.in_ok-image.image (map item_parts c.in_ok-items.items.items) c.requires c.in_ok-image.ensures (items_are c.in_ok-numbers.numbers c.args.form.now c.in_ok-items.items.items c.deref.result.now c.in_ok-numbers.ensures c.deref.ensures.value c.in_ok-items.ensures)
+
+pub returns-clause-few : goal.returns-clause-few
+returns-clause-few c = few_items c.args.form.now c.in_ok-items.items.items c.deref.result.now c.in_ok-numbers.numbers c.requires c.deref.ensures.value c.in_ok-items.ensures

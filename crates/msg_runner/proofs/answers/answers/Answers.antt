@@ -8,7 +8,7 @@ use Rattle.msg_runner.proofs.answers.answers.Goals as goal
 
 pub loop-item-init : goal.loop-item-init
 loop-item-init c =
-    let start = at_start (document_parts c.args.document.now) c.in_ok-tables.tables c.new-text.result.items c.new-text.ensures.items c.in_ok-tables.ensures in
+    let start = at_start (document_parts c.args.document.now) c.in_ok-tables.tables c.new-text.result.items c.new-text.ensures.items c.in_ok-tables.ensures.stands in
     (c.deref-item-items.ensures.value, subst (λ is. IsSoFar (document_parts c.args.document.now) c.in_ok-tables.tables c.new-text.result.items (map item_parts is)) (sym c.deref-item-items.ensures.value) start)
 
 pub push_answer-requires-clause-sizes : goal.push_answer-requires-clause-sizes

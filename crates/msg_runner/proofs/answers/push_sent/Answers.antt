@@ -3,7 +3,7 @@ use Rattle.msg_tables.specs.Stands.{StandsAt}
 use Rattle.msg_eval.specs.Evaluation.{send_of}
 use Rattle.msg_eval.specs.Points.{RepliesFrom, plain_reply}
 use Rattle.msg_runner.specs.Serial.{Replied}
-use Rattle.msg_runner.specs.Text.{line_of}
+use Rattle.msg_runner.specs.Text.{answer_line}
 use Rattle.msg_runner.proofs.answers.push_sent.Goals as goal
 
 pub returns : goal.returns
@@ -12,4 +12,4 @@ returns c h stands same =
     let replies : RepliesFrom (StandsAt c.args.tables.now) h send c.send-reply.result = subst (λ t. RepliesFrom (StandsAt t) h send c.send-reply.result) c.send-reply.ensures.kept (c.send-reply.ensures.meaning h stands) in
     let plain = c.tables_reply_plainly.ensures c.args.tables.now h send c.send-reply.result stands replies in
     let here = plain ∙ ap (λ image. plain_reply h (send_of image c.args.receiver c.args.sel c.args.args.now.items)) (sym same) in
-    subst (λ reply. OnOk c.push_reply.result (c.push_reply.new.text.items ≡ c.args.text.now.items ++ line_of c.args.image.now (Replied reply))) here c.push_reply.ensures
+    subst (λ reply. OnOk c.push_reply.result (c.push_reply.new.text.items ≡ c.args.text.now.items ++ answer_line c.args.image.now (Replied reply))) here c.push_reply.ensures

@@ -1,6 +1,9 @@
 -- what is written, and else the class's own method
-use Rattle.std.proofs.Common.{sym, ap, option_map}
+use Rattle.std.proofs.Common.{sym, ap, option_map, ◌∙◌}
 use Rattle.msg_names.specs.Number.{selector_number, imp_number}
+use Rattle.msg_tables.specs.RowList.{own_in}
+use Rattle.msg_tables.specs.History.{table}
+use Rattle.msg_tables.proofs.LookupLemmas.{own-pairs_at}
 use Rattle.msg_tables.proofs.ForeseeLemmas.{own_seen, own_kept}
 use Rattle.msg_tables.proofs.foresee.own_after.Goals as goal
 
@@ -10,5 +13,6 @@ returns-in-Some c = λ h stands.
 
 pub returns-in-None : goal.returns-in-None
 returns-in-None c = λ h stands.
-    own_kept h c.args.change.now c.args.here (selector_number c.args.sel) c.written.result c.holder.result (imp_number c.lookup.result) (option_map imp_number c.at_place.result)
-    (c.written.ensures h stands) c.in-None.is (c.holder.ensures.meaning h stands) (c.lookup.ensures.meaning h stands) c.at_place.ensures
+    own_kept h c.args.change.now c.args.here (selector_number c.args.sel) c.written.result (option_map imp_number c.find.result)
+    (c.written.ensures h stands) c.in-None.is
+    (c.find.ensures ∙ ap (own_in (selector_number c.args.sel)) (c.rows.ensures.rows ∙ stands.rows.at c.args.here) ∙ sym (own-pairs_at c.args.here (selector_number c.args.sel) (table h).rows))

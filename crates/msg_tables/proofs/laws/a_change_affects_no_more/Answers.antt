@@ -1,5 +1,5 @@
-use Rattle.msg_tables.proofs.LawLemmas.{lookup-unaffected}
+use Rattle.msg_tables.proofs.PresenceLemmas.{lookup-kept}
 use Rattle.msg_tables.proofs.laws.a_change_affects_no_more.Goals as goal
 
 pub returns : goal.returns
-returns c = lookup-unaffected
+returns c = lookup-kept

@@ -1,4 +1,4 @@
-use Rattle.msg_tables.proofs.LawLemmas.{inherits}
+use Rattle.msg_tables.proofs.PresenceLemmas.{inherits}
 use Rattle.msg_tables.proofs.laws.a_class_inherits.Goals as goal
 
 pub returns : goal.returns

@@ -1,6 +1,7 @@
 -- the array's words, and the tables' classes
 use Rattle.std.proofs.Common.{◌≡◌, ◌<◌, length, map, sym, ◌∙◌, ap, subst}
 use Rattle.std.specs.Prelude.{None, slice_index}
+use Rattle.msg_image.specs.Parts.{class_total}
 use Rattle.msg_tables.specs.History.{lookup, and_then}
 use Rattle.msg_tables.specs.Refusal.{refusal}
 use Rattle.msg_tables.proofs.StandsLemmas.{class_count}
@@ -8,18 +9,19 @@ use Rattle.msg_core.specs.declared.state.Standing.TheVariants.{Live}
 use Rattle.msg_core.specs.Inside.{view_of}
 use Rattle.msg_core.specs.Steps.{is_spoiled}
 use Rattle.msg_core.specs.View.{MachineView, word_at, standing_at}
-use Rattle.msg_tables.specs.Written.{AreListed}
-use Rattle.msg_core.proofs.WholeLemmas.{class_listed, change_listed, spoiled_as}
+use Rattle.msg_tables.specs.Written.{SeeksAmong}
+use Rattle.msg_core.proofs.WholeLemmas.{class_listed, spoiled_as}
+use Rattle.msg_tables.proofs.PresenceLemmas.{seeks-listed}
 use Rattle.msg_core.proofs.machine.Machine.is_spoiled.Goals as goal
 
 pub has_spoiled_word-requires-clause-class : goal.has_spoiled_word-requires-clause-class
 has_spoiled_word-requires-clause-class c = class_listed c.self.inside.tables _ c.self.invariant.tables c.in-Live.class.class
-    (subst (λ v. c.in-Live.class.class < length v.history.image.classes) (sym c.self.view_is) c.in-Live.ensures.listed)
+    (subst (λ v. c.in-Live.class.class < class_total v.history.image) (sym c.self.view_is) c.in-Live.ensures.listed)
 
 pub has_spoiled_word-requires-clause-listed : goal.has_spoiled_word-requires-clause-listed
 has_spoiled_word-requires-clause-listed c =
-    subst (λ n. AreListed n c.args.change.now) (sym (class_count c.self.inside.tables _ c.self.invariant.tables))
-    (change_listed _ c.args.change.now (subst (λ v. refusal v.history c.args.change.now ≡ None) (sym c.self.view_is) c.requires.accepted))
+    subst (λ n. SeeksAmong n c.args.change.now) (sym (class_count c.self.inside.tables _ c.self.invariant.tables))
+    (seeks-listed _ c.args.change.now (subst (λ v. refusal v.history c.args.change.now ≡ None) (sym c.self.view_is) c.requires.accepted))
 
 pub returns-in-Live : goal.returns-in-Live
 returns-in-Live c =

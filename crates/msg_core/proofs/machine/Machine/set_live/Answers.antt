@@ -1,9 +1,10 @@
 use Rattle.std.proofs.Common.{◌<◌, length, sym, subst}
+use Rattle.msg_image.specs.Parts.{class_total}
 use Rattle.msg_core.specs.View.{MachineView}
 use Rattle.msg_core.proofs.EffectLemmas.{live_set}
 use Rattle.msg_core.proofs.machine.Machine.set_live.Goals as goal
 
 pub returns : goal.returns
 returns c =
-    rw (c.place.ensures, ← c.self.view_is)
-    (live_set _ c.self.invariant.whole c.args.class c.args.array (subst (λ (v : MachineView). c.args.class.class < length v.history.image.classes) (sym c.self.view_is) c.requires.class))
+    rw (c.slot.ensures, ← c.self.view_is)
+    (live_set _ c.self.invariant.whole c.args.class c.args.array (subst (λ (v : MachineView). c.args.class.class < class_total v.history.image) (sym c.self.view_is) c.requires.class))

@@ -1,19 +1,19 @@
-use Rattle.std.proofs.Common.{◌<◌, sym, ◌∙◌, arith, None}
+use Rattle.std.proofs.Common.{◌<◌, sym, ◌∙◌, refl, subst, length, Option}
+use Rattle.std.specs.Prelude.{IfSome}
+use Rattle.msg_names.specs.declared.value.ClassRef.{ClassRef}
+use Rattle.msg_names.proofs.ClassRefLemmas.{above-listed}
 use Rattle.msg_image.specs.Plain.{class_parts}
-use Rattle.msg_image.proofs.PartLemmas.{class_seen, class_sound, above-root, above-none, superclass_in-at}
+use Rattle.msg_image.proofs.PartLemmas.{class_seen, class_sound, superclass-listed, superclass_in-at}
 use Rattle.msg_image.proofs.image.Image.superclass.Goals as goal
 
-pub returns-in-Some-clause-listed : goal.returns-in-Some-clause-listed
-returns-in-Some-clause-listed c =
-    let before : c.in-Some.above < c.args.class.class = (class_sound c.self.inside c.args.self.now c.self.view_is c.args.class.class c.index.result.now c.self.invariant c.requires c.index.ensures).before c.in-Some.above c.in-Some.is in
-    omega arith
-
-pub returns-in-None-clause-value : goal.returns-in-None-clause-value
-returns-in-None-clause-value c =
+pub returns-clause-value : goal.returns-clause-value
+returns-clause-value c =
     let listed = class_seen c.self.inside c.args.self.now c.self.view_is c.args.class.class c.index.result.now c.requires c.index.ensures in
-    sym (superclass_in-at c.args.self.now c.args.class (class_parts c.index.result.now) None listed c.in-None.is ∙ above-root c.args.class c.if-class.true)
+    c.above.ensures ∙ sym (superclass_in-at c.args.self.now c.args.class (class_parts c.index.result.now) c.index.result.now.superclass listed refl)
 
-pub returns-in-None-2-clause-value : goal.returns-in-None-2-clause-value
-returns-in-None-2-clause-value c =
-    let listed = class_seen c.self.inside c.args.self.now c.self.view_is c.args.class.class c.index.result.now c.requires c.index.ensures in
-    sym (superclass_in-at c.args.self.now c.args.class (class_parts c.index.result.now) None listed c.in-None.is ∙ above-none c.args.class c.if-class.false)
+pub returns-clause-listed : goal.returns-clause-listed
+returns-clause-listed c =
+    let n = length c.args.self.now.classes in
+    let sound = class_sound c.self.inside c.args.self.now c.self.view_is c.args.class.class c.index.result.now c.self.invariant c.requires c.index.ensures in
+    let superclass = superclass-listed c.index.result.now.superclass c.args.class.class n c.requires sound.before in
+    subst (λ (o : Option ClassRef). IfSome o (λ above. above.class < n)) (sym c.above.ensures) (above-listed c.args.class c.index.result.now.superclass n c.requires superclass)

@@ -5,9 +5,10 @@ use Rattle.msg_names.specs.Number.{selector_number, imp_number}
 use Rattle.msg_tables.specs.RowList.{rows_of}
 use Rattle.msg_tables.specs.After.{rows_at}
 use Rattle.msg_tables.specs.Stands.{Holds}
-use Rattle.msg_tables.specs.View.{place_of, kept}
+use Rattle.msg_names.specs.ClassRef.{slot_of}
+use Rattle.msg_tables.specs.View.{kept}
 use Rattle.msg_tables.proofs.ListedLemmas.{listed-append}
-use Rattle.msg_tables.proofs.PlaceLemmas.{place_of-inside}
+use Rattle.msg_names.proofs.ClassRefLemmas.{slot_of-inside}
 use Rattle.msg_tables.proofs.PutLemmas.{put-length, put-listed, length-rows_of}
 use Rattle.msg_tables.proofs.HoldsLemmas.{holds-append}
 use Rattle.msg_tables.proofs.tables.Tables.append.Goals as goal
@@ -18,9 +19,10 @@ invariant_of-self-2 c =
     let now = c.in_ok-append_row.ensures.ok in
     let row : List (ℕ × ℕ) = (selector_number c.args.row.sel, imp_number c.args.row.imp) ∷ [] in
     record {
-      before = c.self.invariant.before;
-      lists = put-length c.self.inside.lists.items c.append_row.new.lists.items c.place.result _ now ∙ c.self.invariant.lists;
-      listed = put-listed (length c.self.inside.args.items) c.self.inside.lists.items c.append_row.new.lists.items c.place.result (λ ms. ms ++ row) now c.self.invariant.listed
+      order = c.self.invariant.order;
+      room = c.self.invariant.room;
+      lists = put-length c.self.inside.lists.items c.append_row.new.lists.items c.slot.result _ now ∙ c.self.invariant.lists;
+      listed = put-listed (length c.self.inside.args.items) c.self.inside.lists.items c.append_row.new.lists.items c.slot.result (λ ms. ms ++ row) now c.self.invariant.listed
           (λ ms all. listed-append (length c.self.inside.args.items) ms row all (grind (arith, nat_tests, fits.named.1)));
       few_classes = c.self.invariant.few_classes;
       few_rows = fits.rows;
@@ -33,10 +35,10 @@ returns-clause-ok c =
     let was = c.self.inside.lists.items in
     let class = c.args.row.class in
     let row : List (ℕ × ℕ) = (selector_number c.args.row.sel, imp_number c.args.row.imp) ∷ [] in
-    let is : rows_of c.append_row.new.lists.items ≡ slice_set (rows_of was) (place_of class) (kept (rows_of was) class ++ row) =
-    c.in_ok-append_row.ensures.ok ∙ ap (λ p. slice_set (rows_of was) p (slice_index_or (rows_of was) p [] ++ row)) c.place.ensures in
-    let inside = place_of-inside class (length c.self.inside.supers.items) (length was) c.self.invariant.lists fits.named.0 in
-    let room : place_of class < length (rows_of was) = omega (arith, length-rows_of was, inside) in
+    let is : rows_of c.append_row.new.lists.items ≡ slice_set (rows_of was) (slot_of class) (kept (rows_of was) class ++ row) =
+    c.in_ok-append_row.ensures.ok ∙ ap (λ p. slice_set (rows_of was) p (slice_index_or (rows_of was) p [] ++ row)) c.slot.ensures in
+    let inside = slot_of-inside class (length c.self.inside.supers.items) (length was) c.self.invariant.lists fits.named.0 in
+    let room : slot_of class < length (rows_of was) = omega (arith, length-rows_of was, inside) in
     rw (← c.self.view_is) record {
       rows = λ rows holds. subst (λ lists. Holds lists (rows ++ rows_at class row)) (sym is) (holds-append (rows_of was) rows class row room holds);
       row_count = refl;

@@ -12,6 +12,6 @@ returns-in_err-edit-clause-memory c is h stands =
 
 pub returns-clause-ok : goal.returns-clause-ok
 returns-clause-ok c h stands =
-    let (none, same) = rw (c.in_ok-edit.was) at (c.judge.ensures.meaning h stands) in
-    let after = stands-after c.args.self.now c.write.new.self h c.args.change.now c.in_ok-edit.edit stands none same c.in_ok-write.ensures.ok in
+    let (none, same, makes) = rw (c.in_ok-edit.was) at (c.judge.ensures.meaning h stands) in
+    let after = stands-after c.args.self.now c.write.new.self h c.args.change.now c.in_ok-edit.edit stands none same makes c.in_ok-write.ensures.ok in
     (none, rw (← c.self.view_is) at after)

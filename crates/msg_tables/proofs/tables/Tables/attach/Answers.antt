@@ -5,7 +5,7 @@ use Rattle.msg_tables.specs.RowList.{rows_of}
 use Rattle.msg_tables.specs.After.{rows_at, of_class, of_meta}
 use Rattle.msg_tables.specs.Stands.{Holds}
 use Rattle.msg_tables.proofs.ListedLemmas.{listed-reverse}
-use Rattle.msg_tables.proofs.PlaceLemmas.{place_of-inside}
+use Rattle.msg_names.proofs.ClassRefLemmas.{slot_of-inside}
 use Rattle.msg_tables.proofs.PutLemmas.{put_two-length, put_two-listed, length-rows_of}
 use Rattle.msg_tables.proofs.HoldsLemmas.{holds-attach, length-method_numbers}
 use Rattle.msg_tables.proofs.tables.Tables.attach.Goals as goal
@@ -21,9 +21,10 @@ invariant_of-self-2 c =
     let own = sym (length-method_numbers c.as_slice-own.result.now) ∙ ap length c.as_slice-own.ensures in
     let meta = sym (length-method_numbers c.as_slice-meta.result.now) ∙ ap length c.as_slice-meta.ensures in
     record {
-      before = c.self.invariant.before;
-      lists = put_two-length was c.attach_rows.new.lists.items c.place-at.result _ _ now ∙ c.self.invariant.lists;
-      listed = put_two-listed n was c.attach_rows.new.lists.items c.place-at.result ms cs now c.self.invariant.listed
+      order = c.self.invariant.order;
+      room = c.self.invariant.room;
+      lists = put_two-length was c.attach_rows.new.lists.items c.slot-at.result _ _ now ∙ c.self.invariant.lists;
+      listed = put_two-listed n was c.attach_rows.new.lists.items c.slot-at.result ms cs now c.self.invariant.listed
           (rw c.as_slice-own.ensures (listed-reverse n c.args.methods.now fits.named.1)) (rw c.as_slice-meta.ensures (listed-reverse n c.args.class_methods.now fits.named.2));
       few_classes = c.self.invariant.few_classes;
       few_rows = rw (own, meta) fits.rows;
@@ -35,19 +36,19 @@ returns-clause-ok c =
     let fits = rw (← c.self.view_is) at c.requires in
     let was = c.self.inside.lists.items in
     let k = c.args.class in
-    let at = c.place-at.result in
+    let at = c.slot-at.result in
     let ms = reverse (method_numbers c.as_slice-own.result.now) in
     let cs = reverse (method_numbers c.as_slice-meta.result.now) in
     let is : rows_of c.attach_rows.new.lists.items ≡ slice_set (slice_set (rows_of was) at (slice_index_or (rows_of was) at [] ++ ms)) (at + 1) (slice_index_or (rows_of was) (at + 1) [] ++ cs) = c.in_ok-attach_rows.ensures.ok in
-    let inside = place_of-inside (of_meta k) (length c.self.inside.supers.items) (length was) c.self.invariant.lists fits.named.0 in
-    let room : at + 1 < length (rows_of was) = omega (arith, length-rows_of was, inside, c.place-at.ensures) in
+    let inside = slot_of-inside (of_meta k) (length c.self.inside.supers.items) (length was) c.self.invariant.lists fits.named.0 in
+    let room : at + 1 < length (rows_of was) = omega (arith, length-rows_of was, inside, c.slot-at.ensures) in
     let own = ap reverse c.as_slice-own.ensures in
     let meta = ap reverse c.as_slice-meta.ensures in
     let counted = sym (length-method_numbers c.as_slice-own.result.now) ∙ ap length c.as_slice-own.ensures in
     let counted-meta = sym (length-method_numbers c.as_slice-meta.result.now) ∙ ap length c.as_slice-meta.ensures in
     rw (← c.self.view_is) record {
       rows = λ rows holds.
-          let after = subst (λ lists. Holds lists (rows ++ rows_at (of_class k) ms ++ rows_at (of_meta k) cs)) (sym is) (holds-attach (rows_of was) rows k at ms cs c.place-at.ensures room holds) in
+          let after = subst (λ lists. Holds lists (rows ++ rows_at (of_class k) ms ++ rows_at (of_meta k) cs)) (sym is) (holds-attach (rows_of was) rows k at ms cs c.slot-at.ensures room holds) in
           rw (← own, ← meta) after;
       row_count = rw (counted, counted-meta) refl;
       rest = refl;

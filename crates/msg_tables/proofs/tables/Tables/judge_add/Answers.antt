@@ -17,4 +17,4 @@ returns-then-is_full-clause-meaning c = λ h stands.
 pub returns-clause-meaning : goal.returns-clause-meaning
 returns-clause-meaning c = λ h stands.
     let none = fit-add h c.args.row.class c.args.row.sel c.args.row.imp false false (sym (c.unfit.ensures.meaning h stands) ∙ c.in_default.is) (sym (c.has_own.ensures.meaning h stands) ∙ c.if-has_own.false) (sym (c.is_full.ensures.meaning h stands) ∙ c.if-is_full.false) in
-    (none, refl)
+    (none, refl, refl)

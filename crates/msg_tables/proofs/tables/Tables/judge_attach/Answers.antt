@@ -21,4 +21,4 @@ returns-clause-meaning c = λ h stands.
     let count = count-both c.as_slice-own.result.now c.as_slice-meta.result.now c.args.methods.now c.args.class_methods.now c.as_slice-own.ensures c.as_slice-meta.ensures in
     let none = attach-fit h c.args.class c.args.methods.now c.args.class_methods.now false (sym (c.no_class.ensures.meaning h stands) ∙ c.if-no_class.false) (sym (c.unfit_methods.ensures.meaning h stands) ∙ c.in_default.is)
     (ap (is_full h) count ∙ sym (c.is_full.ensures.meaning h stands) ∙ c.if-is_full.false) in
-    (none, refl)
+    (none, refl, refl)

@@ -46,4 +46,4 @@ returns-clause-meaning c = λ h stands.
     let j : lookup h c.args.other (selector_number c.args.other_sel) ≡ imp_number c.in-Some-method.second.imp = lookup-stands c.args.self.now h stands c.args.other (selector_number c.args.other_sel) ∙ ap (λ o. option_map_or (λ (m : ClassRef × ℕ). m.1) o 0) (sym c.in-Some-method.ensures.method) in
     let none = refusal-exchange h c.args.class c.args.sel c.args.other c.args.other_sel false false (Some c.in-Some.first.holder) (Some c.in-Some-method.second.holder) false
     (sym (c.no_class_of_two.ensures.meaning h stands) ∙ c.if-no_class_of_two.false) (sym (c.unlike.ensures h stands) ∙ c.if-unlike.false) first second (sym (c.is_full.ensures.meaning h stands) ∙ c.if-is_full.false) in
-    (none, rows-exchange h c.args.class c.args.sel c.args.other c.args.other_sel c.in-Some.first.holder c.in-Some-method.second.holder (imp_number c.in-Some.first.imp) (imp_number c.in-Some-method.second.imp) first second i j)
+    (none, rows-exchange h c.args.class c.args.sel c.args.other c.args.other_sel c.in-Some.first.holder c.in-Some-method.second.holder (imp_number c.in-Some.first.imp) (imp_number c.in-Some-method.second.imp) first second i j, refl)

@@ -1,4 +1,4 @@
-use Rattle.std.proofs.Common.{◌∙◌, sym, true, false}
+use Rattle.std.proofs.Common.{refl, ◌∙◌, sym, true, false}
 use Rattle.msg_tables.proofs.JudgeLemmas.{unfit-replace, fit-replace, rows-replace}
 use Rattle.msg_tables.proofs.tables.Tables.judge_replace.Goals as goal
 
@@ -13,7 +13,7 @@ pub returns-then-has_own-clause-meaning : goal.returns-then-has_own-clause-meani
 returns-then-has_own-clause-meaning c = λ h stands.
     let present = sym (c.has_own.ensures.meaning h stands) ∙ c.if-has_own.true in
     let none = fit-replace h c.args.row.class c.args.row.sel c.args.row.imp true false (sym (c.unfit.ensures.meaning h stands) ∙ c.in_default.is) present (sym (c.is_full.ensures.meaning h stands) ∙ c.if-is_full.false) in
-    (none, rows-replace h c.args.row.class c.args.row.sel c.args.row.imp true present)
+    (none, rows-replace h c.args.row.class c.args.row.sel c.args.row.imp true present, refl)
 
 pub returns-then-is_full-2-clause-meaning : goal.returns-then-is_full-2-clause-meaning
 returns-then-is_full-2-clause-meaning c = λ h stands.
@@ -23,4 +23,4 @@ pub returns-clause-meaning : goal.returns-clause-meaning
 returns-clause-meaning c = λ h stands.
     let absent = sym (c.has_own.ensures.meaning h stands) ∙ c.if-has_own.false in
     let none = fit-replace h c.args.row.class c.args.row.sel c.args.row.imp false false (sym (c.unfit.ensures.meaning h stands) ∙ c.in_default.is) absent (sym (c.is_full-2.ensures.meaning h stands) ∙ c.if-is_full-2.false) in
-    (none, rows-replace h c.args.row.class c.args.row.sel c.args.row.imp false absent)
+    (none, rows-replace h c.args.row.class c.args.row.sel c.args.row.imp false absent, refl)

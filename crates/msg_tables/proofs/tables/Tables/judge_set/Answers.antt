@@ -24,4 +24,4 @@ pub returns-clause-meaning : goal.returns-clause-meaning
 returns-clause-meaning c = λ h stands.
     let found : holder h c.args.row.class (selector_number c.args.row.sel) ≡ Some c.in-Some-method.found.holder = holder-stands c.args.self.now h stands c.args.row.class (selector_number c.args.row.sel) ∙ ap (λ o. option_map (λ (m : ClassRef × ℕ). m.0) o) (sym c.in-Some-method.ensures.method) in
     let none = fit-set h c.args.row.class c.args.row.sel c.args.row.imp (Some c.in-Some-method.found.holder) false (sym (c.unfit.ensures.meaning h stands) ∙ c.in_default.is) found (sym (c.is_full.ensures.meaning h stands) ∙ c.if-is_full.false) in
-    (none, rows-set h c.args.row.class c.args.row.sel c.args.row.imp c.in-Some-method.found.holder found)
+    (none, rows-set h c.args.row.class c.args.row.sel c.args.row.imp c.in-Some-method.found.holder found, refl)

@@ -10,9 +10,9 @@ use Rattle.msg_tables.proofs.tables.Tables.method.Given as goal
 abbrev pub invariant-loop-at : goal.invariant-loop-at
 invariant-loop-at l = record {
   listed : IfSome l.at (λ c. c.class < length l.self.supers);
-  rest : (n : ℕ) × Suffices n l.at
+  rest : (n : ℕ) × Suffices l.self.order n l.at
       × (kept_method l.self.lists (chain_from n l.self.supers l.at) (selector_number l.sel) ≡ kept_method l.self.lists (chain_of l.self.supers l.fn.class) (selector_number l.sel));
 }
 
 abbrev pub decreases-loop-at : goal.decreases-loop-at
-decreases-loop-at l = steps_left l.at
+decreases-loop-at l = steps_left l.self.order l.at

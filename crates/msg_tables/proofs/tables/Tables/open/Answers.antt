@@ -1,5 +1,14 @@
+use Rattle.msg_tables.specs.History.{empty}
+use Rattle.msg_tables.specs.Stands.{StandsAt}
 use Rattle.msg_tables.proofs.OpeningLemmas.{stands-open}
+use Rattle.msg_tables.proofs.StandsLemmas.{class_count}
 use Rattle.msg_tables.proofs.tables.Tables.open.Goals as goal
 
-pub returns : goal.returns
-returns c = stands-open c.args.image.now c.in_ok-tables.tables c.open_classes.new.self c.open_categories.new.self c.in_ok-tables.ensures c.in_ok-open_classes.ensures.rows c.in_ok-open_categories.ensures
+stands : (c : goal.In_ok-open_categories) → StandsAt c.open_categories.new.self (empty c.args.image.now)
+stands c = stands-open c.args.image.now c.in_ok-tables.tables c.open_classes.new.self c.open_categories.new.self c.in_ok-tables.ensures c.in_ok-open_classes.ensures.rows c.in_ok-open_categories.ensures
+
+pub returns-clause-stands : goal.returns-clause-stands
+returns-clause-stands c = stands c
+
+pub returns-clause-classes : goal.returns-clause-classes
+returns-clause-classes c = class_count c.open_categories.new.self (empty c.args.image.now) (stands c)

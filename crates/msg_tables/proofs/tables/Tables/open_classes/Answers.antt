@@ -9,13 +9,13 @@ pub open_class-requires-clause-room : goal.open_class-requires-clause-room
 open_class-requires-clause-room c k at =
     let classes = c.args.image.now.classes in
     let now = c.loop-class.invariant.row_count in
-    omega (arith, now, c.requires.blank, length-class_rows 0 (take c.loop-class.class classes), take-room size_of_class classes c.loop-class.class k at, c.class_count-class-end.ensures.sound.few_rows)
+    omega (arith, now, c.requires.blank, length-class_rows 0 (take c.loop-class.class classes), take-room size_of_class classes c.loop-class.class k at, c.listed_count-class-end.ensures.sound.few_rows)
 
 pub loop-class-preserved : goal.loop-class-preserved
 loop-class-preserved c =
     let classes = c.args.image.now.classes in
     let place = c.loop-class.class in
-    let inside : place < length classes = omega (arith, c.loop-class-test.true, c.class_count-class-end.ensures.count) in
+    let inside : place < length classes = omega (arith, c.loop-class-test.true, c.listed_count-class-end.ensures.count) in
     let (k, at) = element classes place inside in
     let so_far = class_rows 0 (take place classes) in
     let both = adds-both c.args.self.now c.loop-class.self c.open_class.new.self so_far (rows_of_class place k) c.loop-class.invariant (c.in_ok-open_class.ensures k at) in
@@ -26,5 +26,5 @@ loop-class-preserved c =
 pub returns-clause-room : goal.returns-clause-room
 returns-clause-room c =
     let classes = c.args.image.now.classes in
-    let whole : take c.loop-class.class classes ≡ classes = take_all c.loop-class.class classes (omega (arith, c.loop-class-test.false, c.class_count-class-end.ensures.count)) in
-    omega (arith, c.loop-class.invariant.row_count, c.requires.blank, length-class_rows 0 (take c.loop-class.class classes), ap (sum_by size_of_class) whole, c.class_count-class-end.ensures.sound.few_rows)
+    let whole : take c.loop-class.class classes ≡ classes = take_all c.loop-class.class classes (omega (arith, c.loop-class-test.false, c.listed_count-class-end.ensures.count)) in
+    omega (arith, c.loop-class.invariant.row_count, c.requires.blank, length-class_rows 0 (take c.loop-class.class classes), ap (sum_by size_of_class) whole, c.listed_count-class-end.ensures.sound.few_rows)

@@ -4,10 +4,11 @@ use Rattle.msg_image.specs.Methods.{method_numbers}
 use Rattle.msg_tables.specs.RowList.{rows_of}
 use Rattle.msg_tables.specs.After.{rows_at}
 use Rattle.msg_tables.specs.Stands.{Holds}
-use Rattle.msg_tables.specs.View.{place_of, kept}
+use Rattle.msg_names.specs.ClassRef.{slot_of}
+use Rattle.msg_tables.specs.View.{kept}
 use Rattle.msg_tables.proofs.HoldsLemmas.{holds-append, length-rows_at, length-method_numbers}
 use Rattle.msg_tables.proofs.ListedLemmas.{listed-append}
-use Rattle.msg_tables.proofs.PlaceLemmas.{place_of-inside}
+use Rattle.msg_names.proofs.ClassRefLemmas.{slot_of-inside}
 use Rattle.msg_tables.proofs.PutLemmas.{put-length, put-listed, length-rows_of}
 use Rattle.msg_tables.proofs.tables.Tables.open_methods.Goals as goal
 
@@ -18,9 +19,10 @@ invariant_of-self-2 c =
     let methods = method_numbers c.args.methods.now in
     let n = length c.self.inside.args.items in
     record {
-      before = c.self.invariant.before;
-      lists = put-length c.self.inside.lists.items c.append_rows.new.lists.items c.place.result _ now ∙ c.self.invariant.lists;
-      listed = put-listed n c.self.inside.lists.items c.append_rows.new.lists.items c.place.result (λ ms. ms ++ methods) now c.self.invariant.listed
+      order = c.self.invariant.order;
+      room = c.self.invariant.room;
+      lists = put-length c.self.inside.lists.items c.append_rows.new.lists.items c.slot.result _ now ∙ c.self.invariant.lists;
+      listed = put-listed n c.self.inside.lists.items c.append_rows.new.lists.items c.slot.result (λ ms. ms ++ methods) now c.self.invariant.listed
           (λ ms all. listed-append n ms methods all given.listed);
       few_classes = c.self.invariant.few_classes;
       few_rows = given.room;
@@ -33,10 +35,10 @@ returns c =
     let was = c.self.inside.lists.items in
     let class = c.args.class in
     let methods = method_numbers c.args.methods.now in
-    let is : rows_of c.append_rows.new.lists.items ≡ slice_set (rows_of was) (place_of class) (kept (rows_of was) class ++ methods) =
-    c.in_ok-append_rows.ensures.ok ∙ ap (λ p. slice_set (rows_of was) p (slice_index_or (rows_of was) p [] ++ methods)) c.place.ensures in
-    let inside = place_of-inside class (length c.self.inside.supers.items) (length was) c.self.invariant.lists given.class in
-    let room : place_of class < length (rows_of was) = omega (arith, length-rows_of was, inside) in
+    let is : rows_of c.append_rows.new.lists.items ≡ slice_set (rows_of was) (slot_of class) (kept (rows_of was) class ++ methods) =
+    c.in_ok-append_rows.ensures.ok ∙ ap (λ p. slice_set (rows_of was) p (slice_index_or (rows_of was) p [] ++ methods)) c.slot.ensures in
+    let inside = slot_of-inside class (length c.self.inside.supers.items) (length was) c.self.invariant.lists given.class in
+    let room : slot_of class < length (rows_of was) = omega (arith, length-rows_of was, inside) in
     rw (← c.self.view_is) record {
       rows = λ rows holds. subst (λ lists. Holds lists (rows ++ rows_at class methods)) (sym is) (holds-append (rows_of was) rows class methods room holds);
       row_count = omega (arith, length-rows_at class methods, length-method_numbers c.args.methods.now);

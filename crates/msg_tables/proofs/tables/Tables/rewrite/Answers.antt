@@ -4,9 +4,10 @@ use Rattle.msg_names.specs.Number.{selector_number, imp_number}
 use Rattle.msg_tables.specs.RowList.{rows_of, set_last}
 use Rattle.msg_tables.specs.After.{set_own}
 use Rattle.msg_tables.specs.Stands.{Holds}
-use Rattle.msg_tables.specs.View.{place_of, kept}
+use Rattle.msg_names.specs.ClassRef.{slot_of}
+use Rattle.msg_tables.specs.View.{kept}
 use Rattle.msg_tables.proofs.ListedLemmas.{listed-set_last}
-use Rattle.msg_tables.proofs.PlaceLemmas.{place_of-inside}
+use Rattle.msg_names.proofs.ClassRefLemmas.{slot_of-inside}
 use Rattle.msg_tables.proofs.PutLemmas.{put-length, put-listed, length-rows_of}
 use Rattle.msg_tables.proofs.HoldsLemmas.{holds-rewrite, own-rewritten}
 use Rattle.msg_tables.proofs.tables.Tables.rewrite.Goals as goal
@@ -18,9 +19,10 @@ invariant_of-self c =
     let n = length c.self.inside.args.items in
     let write = set_last (selector_number c.args.row.sel) (imp_number c.args.row.imp) in
     record {
-      before = c.self.invariant.before;
-      lists = put-length c.self.inside.lists.items c.rewrite_row.new.lists.items c.place.result _ now ∙ c.self.invariant.lists;
-      listed = put-listed n c.self.inside.lists.items c.rewrite_row.new.lists.items c.place.result write now c.self.invariant.listed
+      order = c.self.invariant.order;
+      room = c.self.invariant.room;
+      lists = put-length c.self.inside.lists.items c.rewrite_row.new.lists.items c.slot.result _ now ∙ c.self.invariant.lists;
+      listed = put-listed n c.self.inside.lists.items c.rewrite_row.new.lists.items c.slot.result write now c.self.invariant.listed
           (λ ms all. listed-set_last n (selector_number c.args.row.sel) (imp_number c.args.row.imp) ms own.imp all);
       few_classes = c.self.invariant.few_classes;
       few_rows = c.self.invariant.few_rows;
@@ -34,10 +36,10 @@ returns-clause-writes c =
     let class = c.args.row.class in
     let s = selector_number c.args.row.sel in
     let i = imp_number c.args.row.imp in
-    let is : rows_of c.rewrite_row.new.lists.items ≡ slice_set (rows_of was) (place_of class) (set_last s i (kept (rows_of was) class)) =
-    c.rewrite_row.ensures ∙ ap (λ p. slice_set (rows_of was) p (set_last s i (slice_index_or (rows_of was) p []))) c.place.ensures in
-    let inside = place_of-inside class (length c.self.inside.supers.items) (length was) c.self.invariant.lists own.class in
-    let room : place_of class < length (rows_of was) = omega (arith, length-rows_of was, inside) in
+    let is : rows_of c.rewrite_row.new.lists.items ≡ slice_set (rows_of was) (slot_of class) (set_last s i (kept (rows_of was) class)) =
+    c.rewrite_row.ensures ∙ ap (λ p. slice_set (rows_of was) p (set_last s i (slice_index_or (rows_of was) p []))) c.slot.ensures in
+    let inside = slot_of-inside class (length c.self.inside.supers.items) (length was) c.self.invariant.lists own.class in
+    let room : slot_of class < length (rows_of was) = omega (arith, length-rows_of was, inside) in
     rw (← c.self.view_is) record {
       rows = λ rows holds. subst (λ lists. Holds lists (set_own class s i rows)) (sym is) (holds-rewrite (rows_of was) rows class s i room holds);
       row_count = omega arith;
@@ -50,12 +52,12 @@ returns-clause-own c other known =
     let class = c.args.row.class in
     let s = selector_number c.args.row.sel in
     let i = imp_number c.args.row.imp in
-    let is : rows_of c.rewrite_row.new.lists.items ≡ slice_set (rows_of was) (place_of class) (set_last s i (kept (rows_of was) class)) =
-    c.rewrite_row.ensures ∙ ap (λ p. slice_set (rows_of was) p (set_last s i (slice_index_or (rows_of was) p []))) c.place.ensures in
+    let is : rows_of c.rewrite_row.new.lists.items ≡ slice_set (rows_of was) (slot_of class) (set_last s i (kept (rows_of was) class)) =
+    c.rewrite_row.ensures ∙ ap (λ p. slice_set (rows_of was) p (set_last s i (slice_index_or (rows_of was) p []))) c.slot.ensures in
     let old = rw (← c.self.view_is) at known in
     let own = rw (← c.self.view_is) at c.requires in
-    let inside = place_of-inside class (length c.self.inside.supers.items) (length was) c.self.invariant.lists own.class in
-    let room : place_of class < length (rows_of was) = omega (arith, length-rows_of was, inside) in
+    let inside = slot_of-inside class (length c.self.inside.supers.items) (length was) c.self.invariant.lists own.class in
+    let room : slot_of class < length (rows_of was) = omega (arith, length-rows_of was, inside) in
     record {
       class = old.class;
       own = rw is (own-rewritten (rows_of was) class other.class (selector_number other.sel) s i room ∙ old.own);

@@ -1,5 +1,6 @@
 use Rattle.std.proofs.Common.{sym, ◌∙◌, refl}
-use Rattle.msg_tables.proofs.AttachLemmas.{neither, no_imp-both, misfits-both, listed}
+use Rattle.msg_names.proofs.TestLemmas.{neither}
+use Rattle.msg_tables.proofs.AttachLemmas.{no_imp-both, misfits-both, listed}
 use Rattle.msg_tables.proofs.tables.Tables.unfit_methods.Goals as goal
 
 pub returns-then-any_no_imp_of_two-clause-meaning : goal.returns-then-any_no_imp_of_two-clause-meaning

@@ -1,0 +1,22 @@
+//! Laws of the numbers of a document: of a form without fault each part has the number of its place.
+
+ghost use Rattle.std.specs.Prelude.{◌≡◌, ◌+◌, ℕ, None, Some, slice_get};
+ghost use Rattle.msg_form.specs.Faults.{fault_of};
+ghost use Rattle.msg_form.specs.Form.{Form, ClassForm, ObjectForm, ImpForm};
+ghost use Rattle.msg_image.specs.Numbers.{numbers_of, class_named, object_named, imp_named};
+ghost use Rattle.msg_names.specs.Number.{imp_number};
+
+/// A class is numbered as it is listed, from 0.
+pub fn a_class_has_the_number_of_its_place()
+    ensures { (f : Form) (place : ℕ) (c : ClassForm) → fault_of f ≡ None → slice_get f.classes place ≡ Some c → class_named (numbers_of f) c.name ≡ place }
+{}
+
+/// An object is numbered as it is listed, from 0.
+pub fn an_object_has_the_number_of_its_place()
+    ensures { (f : Form) (place : ℕ) (o : ObjectForm) → fault_of f ≡ None → slice_get f.objects place ≡ Some o → (object_named (numbers_of f) o.name).object ≡ place }
+{}
+
+/// An implementation is numbered as it is listed, from 1.
+pub fn an_implementation_has_the_number_of_its_place()
+    ensures { (f : Form) (place : ℕ) (i : ImpForm) → fault_of f ≡ None → slice_get f.imps place ≡ Some i → imp_number (imp_named (numbers_of f) i.name) ≡ place + 1 }
+{}

@@ -1,0 +1,259 @@
+-- The classes of a history of accepted changes.
+use Rattle.std.proofs.Common.{◌≡◌, ◌≢◌, ◌<◌, ◌≤◌, ◌+◌, ℕ, zero, suc, List, [], ◌∷◌, ◌++◌, length, Option, Some, None, Bool, true, false, cond, drop, refl, sym, ap, ◌∙◌, subst, append_assoc, append-nil, arith}
+use Rattle.std.specs.Prelude.{◌||◌, ◌==◌, not, nat_le, is_some, unwrap_or, slice_set, IfSome}
+use Rattle.std.specs.Option.{option_map_or}
+use Rattle.std.proofs.lemmas.Bool.Decides.{nat_tests}
+use Rattle.std.proofs.lemmas.List.{length-set, get_or-set_other}
+use Rattle.std.specs.List.{list_any, range_with_len}
+use Rattle.msg_names.proofs.TestLemmas.{neither, not_false}
+use Rattle.msg_names.specs.declared.value.ClassRef.{ClassRef}
+use Rattle.msg_names.specs.ClassRef.{above}
+use Rattle.msg_image.specs.Sound.{IsSound}
+use Rattle.msg_image.specs.Parts.{ImageParts, class_total}
+use Rattle.msg_image.specs.declared.change.Change.{Change}
+use Rattle.msg_image.specs.declared.change.Change.TheVariants.{Add, Replace, SetImp, Exchange, Attach, AddClass}
+use Rattle.msg_tables.specs.declared.fault.ChangeFault.{ChangeFault}
+use Rattle.msg_tables.specs.declared.fault.ChangeFault.TheVariants.{NoClass, Limit, DuplicateClass}
+use Rattle.msg_tables.specs.declared.presence.Presence.{Presence}
+use Rattle.msg_tables.specs.After.{of_class, of_meta, opening_table, opened_supers, table_after, supers_after}
+use Rattle.msg_tables.specs.Chain.{presence_of, is_present, super_of, chain_up, chain_of, steps_of, is_member}
+use Rattle.msg_tables.specs.History.{History, BeginsWith, empty, and_then, table, lookup, superclass, chain_at}
+use Rattle.msg_tables.specs.Affected.{is_affected, written_refs}
+use Rattle.msg_tables.specs.Order.{IsOrder}
+use Rattle.msg_tables.specs.Presence.{EndsAtRoot}
+use Rattle.msg_tables.specs.Rows.{own, chain, lookup_in}
+use Rattle.msg_tables.specs.Refusal.{refusal, AreAccepted, IsHistory, least_change_fault, no_class, no_number, no_superclass, is_full, has_own, conditions}
+use Rattle.msg_tables.specs.Written.{SeeksAmong}
+use Rattle.msg_tables.proofs.HistoryLemmas.{table-and_then, length-supers, accepted-suffix}
+use Rattle.msg_tables.proofs.LawLemmas.{lookup-after, lookup-unaffected, is-there}
+use Rattle.msg_tables.proofs.ListedOrderLemmas.{order-listed}
+use Rattle.msg_tables.proofs.MadeLemmas.{made-order}
+use Rattle.msg_tables.proofs.MarkLemmas.{chain_of-step}
+use Rattle.msg_tables.proofs.OrderLemmas.{present-inside, super-present, super-fewer, steps_suffice}
+
+-- ---- what is known of a class that is accepted
+
+-- it can be made, and its superclass is present
+pub record MayBeMade (h : History) (k : ℕ) (d : Option ℕ) : Type 0 where
+  pub inside : k < length (table h).supers
+  pub absent : is_present (table h).supers k ≡ false
+  pub superclass : IfSome d (λ e. is_present (table h).supers e ≡ true)
+
+not_true : (b : Bool) → not (not b) ≡ false → b ≡ false
+not_true true e = cc
+not_true false e = refl
+
+neither_fault : (a b c : Bool) → least_change_fault ((a, NoClass) ∷ (b, Limit) ∷ (c, DuplicateClass) ∷ []) ≡ None → (a ≡ false) × (c ≡ false)
+neither_fault true b c e = cc
+neither_fault false true c e = cc
+neither_fault false false true e = cc
+neither_fault false false false e = (refl, refl)
+
+pub may_be_made : (h : History) (k : ℕ) (d : Option ℕ) → refusal h (AddClass k d) ≡ None → MayBeMade h k d
+unfolding refusal no_number no_class
+may_be_made h k d accepted =
+    let none = neither_fault (no_number h k || no_superclass h d) (is_full h 0) (not (no_class h (of_class k))) accepted in
+    let parts = neither (no_number h k) (no_superclass h d) none.0 in
+    record {
+      inside = let n = length-supers h in let few : k < class_total h.image = grind (arith, nat_tests, parts.0) in omega (arith, n, few);
+      absent = not_true (is_present (table h).supers k) none.1;
+      superclass = there d parts.1;
+    }
+  where
+    there : (d : Option ℕ) → no_superclass h d ≡ false → IfSome d (λ e. is_present (table h).supers e ≡ true)
+    there None e = tt
+    there (Some e') e = not_false (is_present (table h).supers e') e
+
+-- ---- the order of the classes at a history
+
+pub record Ordered (supers : List (Option Presence)) : Type 0 where
+  pub order : List ℕ
+  pub is : IsOrder supers order
+
+ordered-after : (h : History) (x : Change) → Ordered (table h).supers → refusal h x ≡ None → Ordered (supers_after (table h).supers x)
+ordered-after h (Add c s i) o accepted = o
+ordered-after h (Replace c s i) o accepted = o
+ordered-after h (SetImp c s i) o accepted = o
+ordered-after h (Exchange c s d u) o accepted = o
+ordered-after h (Attach k ms cs) o accepted = o
+ordered-after h (AddClass k d) o accepted =
+    let may = may_be_made h k d accepted in
+    record { order = o.order ++ k ∷ []; is = made-order (table h).supers o.order o.is k d may.inside may.absent may.superclass }
+
+supers-and_then : (h : History) (x : Change) → (table (and_then h x)).supers ≡ supers_after (table h).supers x
+unfolding table_after
+supers-and_then h x = ap (λ t. t.supers) (table-and_then h x)
+
+ordered-on : (h : History) (xs : List Change) → Ordered (table h).supers → AreAccepted h xs → Ordered (table (record { image = h.image; changes = h.changes ++ xs })).supers
+ordered-on h [] o all = subst (λ cs. Ordered (table (record { image = h.image; changes = cs })).supers) (sym (append-nil h.changes)) o
+ordered-on h (x ∷ xs) o all =
+    let next = subst Ordered (sym (supers-and_then h x)) (ordered-after h x o all.0) in
+    subst (λ cs. Ordered (table (record { image = h.image; changes = cs })).supers) (append_assoc h.changes (x ∷ []) xs) (ordered-on (and_then h x) xs next all.1)
+
+ordered-opened : (image : ImageParts) → IsSound image → Ordered (table (empty image)).supers
+unfolding table opening_table
+ordered-opened image sound = record { order = range_with_len 0 (length image.classes); is = order-listed image sound }
+
+pub ordered : (h : History) → IsSound h.image → IsHistory h → Ordered (table h).supers
+unfolding IsHistory
+ordered h sound accepted = ordered-on (empty h.image) h.changes (ordered-opened h.image sound) accepted
+
+-- ---- a class that is made leaves the others as they are
+
+module _ (supers : List (Option Presence)) (order : List ℕ) (is : IsOrder supers order) (k : ℕ) (p : Presence) (absent : is_present supers k ≡ false) where
+  apart : (j : ℕ) → is_present supers j ≡ true → j ≢ k
+  apart j there same = let gone : is_present supers k ≡ true = subst (λ i. is_present supers i ≡ true) same there in cc
+
+  presence-stays : (j : ℕ) → j ≢ k → presence_of (slice_set supers k (Some p)) j ≡ presence_of supers j
+  presence-stays j ne = get_or-set_other supers k j (Some p) None ne
+
+  super-stays : (c : ClassRef) → c.class ≢ k → super_of (slice_set supers k (Some p)) c ≡ super_of supers c
+  super-stays c ne = ap (λ o. option_map_or (λ (q : Presence). above c q.superclass) o None) (presence-stays c.class ne)
+
+  chain_up-stays : (n : ℕ) (c : ClassRef) → is_present supers c.class ≡ true → chain_up n (slice_set supers k (Some p)) c ≡ chain_up n supers c
+  chain_up-stays zero c here = refl
+  chain_up-stays (suc n) c here =
+      ap (λ (o : Option ClassRef). c ∷ option_map_or (chain_up n (slice_set supers k (Some p))) o []) (super-stays c (apart c.class here))
+      ∙ ap (λ (cs : List ClassRef). c ∷ cs) (at (super_of supers c) (λ d e. chain_up-stays n d (super-present supers order is c d e)) refl)
+    where
+      at : (o : Option ClassRef) → ((d : ClassRef) → super_of supers c ≡ Some d → chain_up n (slice_set supers k (Some p)) d ≡ chain_up n supers d) → super_of supers c ≡ o
+          → option_map_or (chain_up n (slice_set supers k (Some p))) o [] ≡ option_map_or (chain_up n supers) o []
+      at None rest e = refl
+      at (Some d) rest e = rest d e
+
+  pub chain_of-stays : (c : ClassRef) → c.class ≢ k → chain_of (slice_set supers k (Some p)) c ≡ chain_of supers c
+  unfolding chain_of
+  chain_of-stays c ne =
+      ap (λ b. cond b (chain_up (length (slice_set supers k (Some p))) (slice_set supers k (Some p)) c) []) (ap is_some (presence-stays c.class ne))
+      ∙ ap (λ n. cond (is_present supers c.class) (chain_up n (slice_set supers k (Some p)) c) []) (length-set supers k (Some p))
+      ∙ step (is_present supers c.class) refl
+    where
+      step : (b : Bool) → is_present supers c.class ≡ b → cond b (chain_up (length supers) (slice_set supers k (Some p)) c) [] ≡ cond b (chain_up (length supers) supers c) []
+      step true here = chain_up-stays (length supers) c here
+      step false here = refl
+
+pub lookup-made : (h : History) (k : ℕ) (d : Option ℕ) (c : ClassRef) (s : ℕ) → IsSound h.image → IsHistory h → refusal h (AddClass k d) ≡ None → c.class ≢ k → lookup (and_then h (AddClass k d)) c s ≡ lookup h c s
+unfolding lookup
+lookup-made h k d c s sound history accepted ne =
+    let o = ordered h sound history in
+    let may = may_be_made h k d accepted in
+    lookup-after h (AddClass k d) c s ∙ ap (λ cs. lookup_in (table h).rows cs s) (chain_of-stays (table h).supers o.order o.is k (record { superclass = d }) may.absent c ne)
+
+-- what a change doesn't affect finds what it found
+pub lookup-kept : (h : History) (x : Change) (c : ClassRef) (s : ℕ) → IsSound h.image → IsHistory h → refusal h x ≡ None → is_affected h x c ≡ false → lookup (and_then h x) c s ≡ lookup h c s
+unfolding is_affected
+lookup-kept h (Add d u i) c s sound history accepted e = lookup-unaffected h (Add d u i) c s refl e
+lookup-kept h (Replace d u i) c s sound history accepted e = lookup-unaffected h (Replace d u i) c s refl e
+lookup-kept h (SetImp d u i) c s sound history accepted e = lookup-unaffected h (SetImp d u i) c s refl e
+lookup-kept h (Exchange d u f v) c s sound history accepted e = lookup-unaffected h (Exchange d u f v) c s refl e
+lookup-kept h (Attach k ms cs) c s sound history accepted e = lookup-unaffected h (Attach k ms cs) c s refl e
+lookup-kept h (AddClass k d) c s sound history accepted e =
+    let other = (neither (c.class == k) (list_any (λ place. is_member place (chain_at h c)) (written_refs h (AddClass k d))) e).0 in
+    lookup-made h k d c s sound history accepted (λ same. grind (arith, nat_tests, other, same))
+
+-- ---- what a class inherits
+
+module _ (h : History) where
+  pub inherits : (c d : ClassRef) (s : ℕ) → IsSound h.image → IsHistory h → no_class h c ≡ false → has_own h c s ≡ false → superclass h c ≡ Some d → lookup h c s ≡ lookup h d s
+  unfolding lookup has_own superclass
+  inherits c d s sound history listed none above' =
+      let o = ordered h sound history in
+      ap (λ cs. lookup_in (table h).rows cs s) (chain_of-step (table h).supers o.order c o.is (is-there h c listed) ∙ ap (λ o. c ∷ option_map_or (chain_of (table h).supers) o []) above')
+      ∙ at (own (table h).rows c s) none
+    where
+      at : (o : Option ℕ) → is_some o ≡ false → unwrap_or o (lookup_in (table h).rows (chain (table h) d) s) ≡ lookup_in (table h).rows (chain (table h) d) s
+      at None e = refl
+      at (Some i) e = cc
+
+  pub root-meta : (k : ℕ) → no_class h (of_class k) ≡ false → superclass h (of_class k) ≡ None → superclass h (of_meta k) ≡ Some (of_class k)
+  unfolding superclass
+  root-meta k listed none = at (presence_of (table h).supers k) refl (is-there h (of_class k) listed)
+    where
+      root : (o : Option ℕ) → above (of_class k) o ≡ None → above (of_meta k) o ≡ Some (of_class k)
+      root None e = refl
+      root (Some d) e = cc
+
+      at : (o : Option Presence) → presence_of (table h).supers k ≡ o → is_some o ≡ true → super_of (table h).supers (of_meta k) ≡ Some (of_class k)
+      at None here there = cc
+      at (Some p) here there =
+          let up : above (of_class k) p.superclass ≡ None = sym (ap (λ x. option_map_or (λ (q : Presence). above (of_class k) q.superclass) x None) here) ∙ none in
+          ap (λ x. option_map_or (λ (q : Presence). above (of_meta k) q.superclass) x None) here ∙ root p.superclass up
+
+  -- up to a class reference above which nothing stands
+  pub ends : (c : ClassRef) → IsSound h.image → IsHistory h → no_class h c ≡ false → EndsAtRoot h c
+  unfolding superclass chain_at chain_of
+  ends c sound history listed =
+      let o = ordered h sound history in
+      let here = is-there h c listed in
+      let (front, (last, (is, none))) = up o.order o.is (length (table h).supers) c here (steps_suffice (table h).supers o.order o.is c here) in
+      record { front = front; last = last; is = ap (λ b. cond b (chain_up (length (table h).supers) (table h).supers c) []) here ∙ is; root = none }
+    where
+      Ends : ℕ → ClassRef → Type 0
+      Ends n c = (front : List ClassRef) × ((last : ClassRef) × ((chain_up n (table h).supers c ≡ front ++ last ∷ []) × (super_of (table h).supers last ≡ None)))
+
+      up : (order : List ℕ) → IsOrder (table h).supers order → (n : ℕ) (c : ClassRef) → is_present (table h).supers c.class ≡ true → steps_of order c ≤ n → Ends n c
+      up order is zero c here enough = at (super_of (table h).supers c) refl
+        where
+          at : (o : Option ClassRef) → super_of (table h).supers c ≡ o → Ends zero c
+          at None e = ([], (c, (refl, e)))
+          at (Some d) e = let fewer = super-fewer (table h).supers order is c d e in absurd (omega (arith, fewer, enough))
+      up order is (suc n) c here enough = at (super_of (table h).supers c) refl (λ d e. up order is n d (super-present (table h).supers order is c d e) (let fewer = super-fewer (table h).supers order is c d e in omega (arith, fewer, enough)))
+        where
+          at : (o : Option ClassRef) → super_of (table h).supers c ≡ o → ((d : ClassRef) → super_of (table h).supers c ≡ Some d → Ends n d) → Ends (suc n) c
+          at None e rest = ([], (c, (ap (λ o. c ∷ option_map_or (chain_up n (table h).supers) o []) e, e)))
+          at (Some d) e rest =
+              let (front, (last, (is', none))) = rest d e in
+              (c ∷ front, (last, (ap (λ o. c ∷ option_map_or (chain_up n (table h).supers) o []) e ∙ ap (λ cs. c ∷ cs) is', none)))
+
+-- ---- a class that is present stays, with its superclass
+
+presence-after : (h : History) (x : Change) (k : ℕ) → refusal h x ≡ None → is_present (table h).supers k ≡ true → presence_of (supers_after (table h).supers x) k ≡ presence_of (table h).supers k
+presence-after h (Add c s i) k accepted here = refl
+presence-after h (Replace c s i) k accepted here = refl
+presence-after h (SetImp c s i) k accepted here = refl
+presence-after h (Exchange c s d u) k accepted here = refl
+presence-after h (Attach j ms cs) k accepted here = refl
+presence-after h (AddClass j d) k accepted here =
+    let may = may_be_made h j d accepted in
+    get_or-set_other (table h).supers j k (Some (record { superclass = d })) None (λ same. let gone : is_present (table h).supers j ≡ true = subst (λ i. is_present (table h).supers i ≡ true) same here in let clash : true ≡ false = sym gone ∙ may.absent in cc)
+
+presence-on : (h : History) (xs : List Change) (k : ℕ) → AreAccepted h xs → is_present (table h).supers k ≡ true
+    → presence_of (table (record { image = h.image; changes = h.changes ++ xs })).supers k ≡ presence_of (table h).supers k
+presence-on h [] k all here = ap (λ cs. presence_of (table (record { image = h.image; changes = cs })).supers k) (append-nil h.changes)
+presence-on h (x ∷ xs) k all here =
+    let first = ap (λ supers. presence_of supers k) (supers-and_then h x) ∙ presence-after h x k all.0 here in
+    ap (λ cs. presence_of (table (record { image = h.image; changes = cs })).supers k) (sym (append_assoc h.changes (x ∷ []) xs))
+    ∙ presence-on (and_then h x) xs k all.1 (ap is_some first ∙ here) ∙ first
+
+pub superclass-stays : (p h : History) (c : ClassRef) → BeginsWith p h → IsHistory p → no_class h c ≡ false → superclass p c ≡ superclass h c
+unfolding superclass IsHistory
+superclass-stays p h c begins history listed =
+    let (more, changes) = begins.rest in
+    let all = accepted-suffix (empty h.image) h.changes more (subst (λ image. AreAccepted (empty image) (h.changes ++ more)) begins.same (subst (AreAccepted (empty p.image)) changes history)) in
+    let same : p ≡ record { image = h.image; changes = h.changes ++ more } = λ i. record { image = begins.same i; changes = changes i } in
+    ap (λ (q : History). super_of (table q).supers c) same
+    ∙ ap (λ o. option_map_or (λ (q : Presence). above c q.superclass) o None) (presence-on h more c.class all (is-there h c listed))
+
+-- ---- the classes at which an accepted change seeks its methods
+
+there_inside : (h : History) (c : ClassRef) → no_class h c ≡ false → c.class < class_total h.image
+there_inside h c e = let n = length-supers h in let inside = present-inside (table h).supers c.class (is-there h c e) in omega (arith, n, inside)
+
+first_false : (b : Bool) (f : ChangeFault) (fs : List (Bool × ChangeFault)) → least_change_fault ((b, f) ∷ fs) ≡ None → b ≡ false
+first_false true f fs e = cc
+first_false false f fs e = refl
+
+pub seeks-listed : (h : History) (x : Change) → refusal h x ≡ None → SeeksAmong (class_total h.image) x
+unfolding refusal
+seeks-listed h (Add c s i) none = tt
+seeks-listed h (Replace c s i) none = tt
+seeks-listed h (Attach k ms cs) none = tt
+seeks-listed h (SetImp c s i) none = there_inside h c (first_false (no_class h c) NoClass (drop 1 (conditions h (SetImp c s i))) none)
+seeks-listed h (Exchange c s d u) none =
+    let (own', other) = neither (no_class h c) (no_class h d) (first_false (no_class h c || no_class h d) NoClass (drop 1 (conditions h (Exchange c s d u))) none) in
+    (there_inside h c own', there_inside h d other)
+seeks-listed h (AddClass k d) none = at d (may_be_made h k d none).superclass
+  where
+    at : (o : Option ℕ) → IfSome o (λ e. is_present (table h).supers e ≡ true) → IfSome o (λ e. e < class_total h.image)
+    at None there = tt
+    at (Some e) there = let n = length-supers h in let inside = present-inside (table h).supers e there in omega (arith, n, inside)

@@ -1,0 +1,34 @@
+use Rattle.std.proofs.Common.{◌≡◌, ◌<◌, ◌≤◌, ◌++◌, [], ◌∷◌, length, Some, cond, is_ok, ap, ◌∙◌, sym, subst, arith}
+use Rattle.std.specs.Prelude.{slice_set, vec_len}
+use Rattle.std.specs.Vec.{vec_capacity}
+use Rattle.std.proofs.lemmas.List.{length-set}
+use Rattle.msg_tables.specs.declared.presence.Presence.{Presence}
+use Rattle.msg_tables.specs.Order.{IsOrder}
+use Rattle.msg_tables.proofs.MadeLemmas.{made-order, order-room}
+use Rattle.msg_tables.proofs.tables.Tables.make.Goals as goal
+
+pub unwrap-requires : goal.unwrap-requires
+unwrap-requires c =
+    let fits = rw (← c.self.view_is) at c.requires in
+    let room = order-room c.self.inside.supers.items c.self.inside.order.items c.args.class c.self.invariant.order fits.named.0 fits.named.1 in
+    let len = c.self.inside.order.ok.0 in
+    c.push-pushed.ensures.succeeds (omega (arith, room, len, c.self.invariant.room))
+
+pub invariant_of-self : goal.invariant_of-self
+invariant_of-self c =
+    let fits = rw (← c.self.view_is) at c.requires in
+    let was = c.self.inside.supers.items in
+    let order = c.self.inside.order.items in
+    let made : Presence = record { superclass = c.args.superclass } in
+    let grown = length-set was c.args.class (Some made) in
+    let pushed : c.push-pushed.new.self.items ≡ order ++ c.args.class ∷ [] =
+    c.push-pushed.ensures.items ∙ ap (λ r. cond (is_ok r) (order ++ c.args.class ∷ []) order) c.unwrap.ensures in
+    record {
+      order = subst (λ o. IsOrder (slice_set was c.args.class (Some made)) o) (sym pushed) (made-order was order c.self.invariant.order c.args.class c.args.superclass fits.named.0 fits.named.1 fits.named.2);
+      room = omega (arith, grown, c.self.invariant.room, c.push-pushed.ensures.capacity);
+      lists = omega (arith, grown, c.self.invariant.lists);
+      listed = c.self.invariant.listed;
+      few_classes = omega (arith, grown, c.self.invariant.few_classes);
+      few_rows = c.self.invariant.few_rows;
+      few_changes = c.self.invariant.few_changes;
+    }
