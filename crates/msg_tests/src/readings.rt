@@ -60,7 +60,7 @@ fn classes_and_objects_come_as_listed(rt: HostRuntime) -> Result<(), Fail> {
         (3, "Side", Some(at(0, false)), Some(at(0, true))),
         (4, "Proxy", None, Some(at(4, false))),
     ] {
-        assert!(rt; class < image.class_count());
+        assert!(rt; class < image.listed_count());
         assert_eq!(rt; image.class_name(class).as_bytes(), name.as_bytes());
         assert_eq!(rt; image.superclass(at(class, false)), above, "{name}");
         assert_eq!(rt; image.superclass(at(class, true)), above_meta, "{name}");
@@ -92,7 +92,7 @@ fn methods_are(rt: &impl Abort, methods: &[(Selector, ImpRef)], want: &[(u32, u3
 #[test]
 fn methods_come_as_listed(rt: HostRuntime) -> Result<(), Fail> {
     let image = image(rt.alloc())?;
-    assert_eq!(rt; image.class_count(), 5);
+    assert_eq!(rt; image.listed_count(), 5);
     let root = [
         (2, 1),
         (3, 2),
