@@ -1,0 +1,74 @@
+-- What stays of the keeper's view by itself, and what it gives.
+use Rattle.std.proofs.Common.{◌≡◌, ◌≢◌, ℕ, zero, suc, ◌-◌, ◌<◌, length, Bool, true, false, Some, None, refl, sym, ap, ◌∙◌, arith}
+use Rattle.msg_image.specs.Parts.{class_total}
+use Rattle.std.specs.Prelude.{slice_index}
+use Rattle.std.proofs.Math.ListN.{length-set}
+use Rattle.msg_names.specs.declared.value.ClassRef.{ClassRef}
+use Rattle.msg_image.specs.declared.change.Change.{Change}
+use Rattle.msg_tables.specs.Affected.{is_affected}
+use Rattle.msg_tables.specs.History.{History, and_then}
+use Rattle.msg_core.specs.declared.state.Standing.TheVariants.{Live}
+use Rattle.msg_core.specs.State.{capacity, Agrees}
+use Rattle.msg_core.specs.View.{standing_at}
+use Rattle.msg_cache.specs.declared.view.KeeperView.{KeeperView}
+use Rattle.msg_cache.specs.Layout.{SettingView, layout_of, header_at}
+use Rattle.msg_cache.specs.Plays.{lent, given_out}
+use Rattle.msg_cache.specs.Rule.{TidyBy, named, live_in, word_in}
+use Rattle.msg_cache.proofs.ShownLemmas.{live_is}
+
+-- the turn was split off
+pub tidy_lent : (look : History → ClassRef → ℕ → ℕ) (key : SettingView) (k : KeeperView) → TidyBy look key k → TidyBy look key (lent k)
+tidy_lent look key k t = record {
+  kept = record {
+    words = t.kept.words;
+    standings = t.kept.standings;
+    given = t.kept.given;
+    version = t.kept.version;
+    begins = t.kept.begins;
+    accepted = t.kept.accepted;
+    told = t.kept.told;
+    home = λ g e. absurd (cc);
+    never = λ e. absurd (cc);
+    some_sender = t.kept.some_sender;
+  };
+  sound = t.sound;
+}
+
+-- a seat of a sender was split off
+pub tidy_given : (look : History → ClassRef → ℕ → ℕ) (key : SettingView) (k : KeeperView) (n : ℕ) → TidyBy look key k → TidyBy look key (given_out n k)
+tidy_given look key k n t = record {
+  kept = record {
+    words = t.kept.words;
+    standings = t.kept.standings;
+    given = length-set k.given n true ∙ t.kept.given;
+    version = t.kept.version;
+    begins = t.kept.begins;
+    accepted = t.kept.accepted;
+    told = t.kept.told;
+    home = t.kept.home;
+    never = t.kept.never;
+    some_sender = t.kept.some_sender;
+  };
+  sound = t.sound;
+}
+
+-- a header word names one of the arrays
+pub header_below : (look : History → ClassRef → ℕ → ℕ) (key : SettingView) (k : KeeperView) (c : ClassRef) (n : ℕ) → TidyBy look key k → c.class < class_total key.image → n ≡ slice_index k.words (header_at c) → n ≢ 0 → n - 1 < length k.standings
+header_below look key k c zero t lt e entry = absurd (entry refl)
+header_below look key k c (suc a) t lt e entry =
+    let live = t.sound.lawful.live_stands c a lt (live_is (layout_of key) k.words c lt ∙ ap named (sym e)) in
+    let l = t.sound.in_range.live_array c a live in let s = t.kept.standings in omega arith
+
+-- Where a change affects no class reference that has a live array, words of live arrays agree after it as before.
+pub agrees_after : (look : History → ClassRef → ℕ → ℕ) (key : SettingView) (k : KeeperView) (x : Change) → ((c : ClassRef) (s : ℕ) → is_affected k.history x c ≡ false → look (and_then k.history x) c s ≡ look k.history c s) → TidyBy look key k
+    → ((c : ClassRef) → c.class < class_total key.image → is_affected k.history x c ≡ true → live_in (layout_of key) k.words c ≡ None)
+    → (c : ClassRef) (b q : ℕ) → b < length key.capacities → standing_at k.standings b ≡ Live c → q < capacity (layout_of key) b → Agrees (look (and_then k.history x)) c (word_in (layout_of key) k.words b q)
+agrees_after look key k x unchanged t flushed c b q there live lt entry =
+    let before = t.sound.lawful.live_words c b q live lt entry in
+    (before.0, before.1 ∙ sym (unchanged c _ (step (is_affected k.history x c) refl)))
+  where
+    step : (b' : Bool) → is_affected k.history x c ≡ b' → is_affected k.history x c ≡ false
+    step false e = e
+    step true e =
+        let none = flushed c (t.sound.in_range.live_class c b live) e in
+        let u : Some b ≡ None = sym (t.sound.lawful.stands_live c b live) ∙ none in absurd (cc)

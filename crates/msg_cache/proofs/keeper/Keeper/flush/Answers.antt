@@ -1,0 +1,122 @@
+use Rattle.std.proofs.Common.{◌≡◌, ℕ, ◌-◌, ◌*◌, ◌<◌, List, length, get_or, refl, sym, ap, ◌∙◌, subst, arith}
+use Rattle.msg_image.specs.Parts.{class_total}
+use Rattle.std.specs.Prelude.{slice_index, slice_set}
+use Rattle.msg_names.specs.ClassRef.{slot_of}
+use Rattle.msg_names.proofs.ClassRefLemmas.{slot_of-inside}
+use Rattle.msg_core.specs.declared.state.Standing.{Standing}
+use Rattle.msg_core.specs.declared.state.Standing.TheVariants.{Retired}
+use Rattle.msg_core.specs.Steps.{is_free, everyone}
+use Rattle.msg_cache.specs.declared.view.KeeperView.{KeeperView}
+use Rattle.msg_cache.specs.Layout.{layout_of, header_at, SettingView}
+use Rattle.msg_cache.specs.Rule.{TidyBy, named}
+use Rattle.msg_cache.specs.Plays.{retire, flushed}
+use Rattle.msg_cache.specs.Keeping.{standing_of, header, remember, InOrder}
+use Rattle.std.proofs.Common.{rules}
+use Rattle.msg_tables.specs.History.{lookup}
+use Rattle.msg_cache.specs.Plays.{Sat, keeper_of}
+use Rattle.msg_cache.proofs.LayoutLemmas.{header_inside}
+use Rattle.msg_cache.proofs.SweepingLemmas.{sizes}
+use Rattle.msg_cache.proofs.OrderLemmas.{kept_flushed, header_read, live_of, flushed_busy}
+use Rattle.msg_cache.proofs.keeper.Keeper.flush.Goals as goal
+
+pub capacity-capacity-requires : goal.capacity-capacity-requires
+capacity-capacity-requires c =
+    let a = c.args.arena.now in
+    let key = a.key in
+    let s = c.args.self.now in
+    let k = keeper_of s.seat.me.0 in
+    let kept_is = c.requires.arena.1 in
+    let cl : c.args.class.class < class_total key.image = c.requires.class in
+    let hi = header_inside (layout_of key) c.args.class cl in
+    let n = c.index-header.result.now in
+    let read : n ≡ slice_index k.words (header_at c.args.class) = header_read s.words.items k.words (header_at c.args.class) n (length k.words) s.words_are (c.index-header.ensures ∙ ap (λ (i : ℕ). get_or s.words.items i n) c.header_at-place.ensures) refl (omega (arith, kept_is.tidy.kept.words, hi)) in
+    let live = live_of lookup key k s.remembered.items s.occupied.items kept_is c.args.class n cl read c.if-header-eq0.false in
+    live.1
+
+pub store_none-requires-clause-live : goal.store_none-requires-clause-live
+store_none-requires-clause-live c =
+    let a = c.args.arena.now in
+    let key = a.key in
+    let s = c.args.self.now in
+    let k = keeper_of s.seat.me.0 in
+    let kept_is = c.requires.arena.1 in
+    let cl : c.args.class.class < class_total key.image = c.requires.class in
+    let hi = header_inside (layout_of key) c.args.class cl in
+    let n = c.index-header.result.now in
+    let read : n ≡ slice_index k.words (header_at c.args.class) = header_read s.words.items k.words (header_at c.args.class) n (length k.words) s.words_are (c.index-header.ensures ∙ ap (λ (i : ℕ). get_or s.words.items i n) c.header_at-place.ensures) refl (omega (arith, kept_is.tidy.kept.words, hi)) in
+    let live = live_of lookup key k s.remembered.items s.occupied.items kept_is c.args.class n cl read c.if-header-eq0.false in
+    live.2
+
+pub index_mut-requires-2 : goal.index_mut-requires-2
+index_mut-requires-2 c =
+    let a = c.args.arena.now in
+    let key = a.key in
+    let s = c.args.self.now in
+    let k = keeper_of s.seat.me.0 in
+    let kept_is = c.requires.arena.1 in
+    let cl : c.args.class.class < class_total key.image = c.requires.class in
+    let hi = header_inside (layout_of key) c.args.class cl in
+    let n = c.index-header.result.now in
+    let read : n ≡ slice_index k.words (header_at c.args.class) = header_read s.words.items k.words (header_at c.args.class) n (length k.words) s.words_are (c.index-header.ensures ∙ ap (λ (i : ℕ). get_or s.words.items i n) c.header_at-place.ensures) refl (omega (arith, kept_is.tidy.kept.words, hi)) in
+    let live = live_of lookup key k s.remembered.items s.occupied.items kept_is c.args.class n cl read c.if-header-eq0.false in
+    omega (arith, live.1, kept_is.tidy.kept.standings, ap (λ (l : List Standing). length l) s.standings_are)
+
+pub index_mut-requires-3 : goal.index_mut-requires-3
+index_mut-requires-3 c =
+    let key = c.args.arena.now.key in
+    let t = slot_of-inside c.args.class (class_total key.image) (2 * class_total key.image) refl c.requires.class in
+    omega (arith, t, c.requires.arena.1.classes, c.header_at-place.ensures)
+
+pub returns-clause-arena : goal.returns-clause-arena
+returns-clause-arena c =
+    let a = c.args.arena.now in
+    let key = a.key in
+    let s = c.args.self.now in
+    let k = keeper_of s.seat.me.0 in
+    let kept_is = c.requires.arena.1 in
+    let cl : c.args.class.class < class_total key.image = c.requires.class in
+    let hi = header_inside (layout_of key) c.args.class cl in
+    let n = c.index-header.result.now in
+    let read : n ≡ slice_index k.words (header_at c.args.class) = header_read s.words.items k.words (header_at c.args.class) n (length k.words) s.words_are (c.index-header.ensures ∙ ap (λ (i : ℕ). get_or s.words.items i n) c.header_at-place.ensures) refl (omega (arith, kept_is.tidy.kept.words, hi)) in
+    let live = live_of lookup key k s.remembered.items s.occupied.items kept_is c.args.class n cl read c.if-header-eq0.false in
+    let view : keeper_of c.store_none.new.seat.me.0 ≡ flushed c.args.class k = ap (λ (x : Sat). keeper_of x.0) c.store_none.ensures.told in
+    let noted : slice_set s.remembered.items (slot_of c.args.class) c.capacity-capacity.result ≡ remember (layout_of key) c.args.class (header k c.args.class) s.remembered.items = (λ i. slice_set s.remembered.items (slot_of c.args.class) (c.capacity-capacity.ensures.capacity i)) ∙ ap (λ (h : ℕ). remember (layout_of key) c.args.class h s.remembered.items) (sym live.2) in
+    let at : c.header_at-place.result - 1 ≡ slot_of c.args.class = omega (arith, c.header_at-place.ensures) in (
+      c.store_none.ensures.seat.0 ∙ c.requires.arena.0,
+      subst (λ (x : KeeperView × List ℕ). InOrder lookup key x.0 x.1 s.occupied.items) (λ i. (sym view i, (sym noted ∙ ap (λ (p : ℕ). slice_set s.remembered.items p c.capacity-capacity.result) (sym at)) i))
+          (kept_flushed lookup key k s.remembered.items s.occupied.items kept_is (sizes key.capacities c.shared-shared.ensures.capacities) c.args.class cl (subst (λ (x : SettingView × KeeperView). TidyBy lookup x.0 x.1) (λ i. (c.shared-shared.ensures.key i, view i)) c.store_none.ensures.tidy)),
+      c.requires.arena.2,
+    )
+
+pub returns-clause-remembered : goal.returns-clause-remembered
+returns-clause-remembered c =
+    let a = c.args.arena.now in
+    let key = a.key in
+    let s = c.args.self.now in
+    let k = keeper_of s.seat.me.0 in
+    let kept_is = c.requires.arena.1 in
+    let cl : c.args.class.class < class_total key.image = c.requires.class in
+    let hi = header_inside (layout_of key) c.args.class cl in
+    let n = c.index-header.result.now in
+    let read : n ≡ slice_index k.words (header_at c.args.class) = header_read s.words.items k.words (header_at c.args.class) n (length k.words) s.words_are (c.index-header.ensures ∙ ap (λ (i : ℕ). get_or s.words.items i n) c.header_at-place.ensures) refl (omega (arith, kept_is.tidy.kept.words, hi)) in
+    let live = live_of lookup key k s.remembered.items s.occupied.items kept_is c.args.class n cl read c.if-header-eq0.false in
+    let at : c.header_at-place.result - 1 ≡ slot_of c.args.class = omega (arith, c.header_at-place.ensures) in
+    (λ i. slice_set s.remembered.items (at i) (c.capacity-capacity.ensures.capacity i)) ∙ ap (λ (h : ℕ). remember (layout_of key) c.args.class h s.remembered.items) (sym live.2)
+
+pub invariant_of-self-clause-searched : goal.invariant_of-self-clause-searched
+invariant_of-self-clause-searched c = λ i b low high. ap (λ (x : Sat). is_free (standing_of (keeper_of x.0) b)) c.store_none.ensures.told ∙ flushed_busy c.args.class b (keeper_of c.args.self.now.seat.me.0) (c.args.self.now.searched i b low high)
+
+pub invariant_of-self-clause-standings_are : goal.invariant_of-self-clause-standings_are
+invariant_of-self-clause-standings_are c =
+    let a = c.args.arena.now in
+    let key = a.key in
+    let s = c.args.self.now in
+    let k = keeper_of s.seat.me.0 in
+    let kept_is = c.requires.arena.1 in
+    let cl : c.args.class.class < class_total key.image = c.requires.class in
+    let hi = header_inside (layout_of key) c.args.class cl in
+    let n = c.index-header.result.now in
+    let read : n ≡ slice_index k.words (header_at c.args.class) = header_read s.words.items k.words (header_at c.args.class) n (length k.words) s.words_are (c.index-header.ensures ∙ ap (λ (i : ℕ). get_or s.words.items i n) c.header_at-place.ensures) refl (omega (arith, kept_is.tidy.kept.words, hi)) in
+    let live = live_of lookup key k s.remembered.items s.occupied.items kept_is c.args.class n cl read c.if-header-eq0.false in
+    let all : c.everyone-awaited.result ≡ everyone (length k.given) = search rules in
+    (λ i. slice_set (s.standings_are i) (n - 1) (Retired c.args.class (s.count_is i) (all i))) ∙ ap (λ (h : ℕ). retire c.args.class (named h) k) (sym live.2) ∙ ap (λ (x : Sat). (keeper_of x.0).standings) (sym c.store_none.ensures.told)

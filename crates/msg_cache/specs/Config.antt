@@ -1,0 +1,36 @@
+-- Which arrays an arena has, and when it can't be made.
+use Rattle.std.specs.Prelude.{ℕ, ◌+◌, ◌*◌, ◌==◌, nat_lt, List, [], ◌∷◌, ◌++◌, replicate, Option, Some, None, if◌then◌else◌}
+use Rattle.msg_buckets.specs.Capacity.{capacities}
+use Rattle.msg_image.specs.Parts.{ImageParts, class_total}
+use Rattle.msg_cache.specs.declared.config.Config.{Config}
+use Rattle.msg_cache.specs.declared.config.ArenaFault.{ArenaFault}
+use Rattle.msg_cache.specs.declared.config.ArenaFault.TheVariants.{NoSenders, TooManySenders, TooLarge}
+use Rattle.msg_cache.specs.Layout.{SettingView}
+
+-- each number, as often as is counted for it
+abbrev pub spread : List ℕ → List ℕ → List ℕ
+spread [] cs = []
+spread (n ∷ ns) [] = []
+spread (n ∷ ns) (c ∷ cs) = replicate n c ++ spread ns cs
+
+-- these, added up
+abbrev pub weigh : List ℕ → List ℕ → ℕ
+weigh [] cs = 0
+weigh (n ∷ ns) [] = 0
+weigh (n ∷ ns) (c ∷ cs) = n * c + weigh ns cs
+
+-- the setting of an image and a config: so many arrays of 4 words, then of 8, and so on
+abbrev pub setting_of : ImageParts → Config → SettingView
+setting_of image config = record { image = image; senders = config.senders; capacities = spread config.arrays capacities }
+
+-- The words in use: the count of changes, the headers, the buckets, and a probe word for each sender. The padding of probe words isn't counted.
+abbrev pub words_of : ImageParts → Config → ℕ
+words_of image config = 2 * class_total image + weigh config.arrays capacities + config.senders + 1
+
+-- the least fault for which an arena isn't made, but for memory
+abbrev pub refusal_of : ImageParts → Config → Option ArenaFault
+refusal_of image config =
+    if config.senders == 0 then Some NoSenders
+    else if nat_lt 64 config.senders then Some TooManySenders
+    else if nat_lt 1048576 (words_of image config) then Some TooLarge
+    else None

@@ -1,0 +1,42 @@
+-- What contracts see of an arena, of a sender and of the turn, and what holds of their fields.
+use Rattle.std.specs.Prelude.{◌≡◌, ℕ, ◌+◌, ◌^◌, ◌<◌, ◌≤◌, [], ◌∷◌, All, length, slice_index}
+use Rattle.msg_buckets.specs.Capacity.{IsCapacity, capacities as all_capacities}
+use Rattle.msg_core.specs.declared.state.Whereabouts.TheVariants.{Out}
+use Rattle.msg_cache.specs.declared.arena.Arena.TheInside.{Inside as ArenaInside}
+use Rattle.msg_cache.specs.declared.prober.Prober.TheInside.{Inside as ProberInside}
+use Rattle.msg_cache.specs.declared.keeper.Turn.TheInside.{Inside as TurnInside}
+use Rattle.msg_cache.specs.Layout.{layout_of, base, probes, word_count}
+use Rattle.msg_cache.specs.Keeping.{IsGroup}
+use Rattle.msg_cache.specs.Plays.{sender_in, sender_view, turn_in, turn_view}
+use Rattle.msg_cache.specs.Views.{ArenaView, ProberView, TurnView}
+
+abbrev pub arena_view : ArenaInside → ArenaView
+arena_view a = record { table = a.table.shared.table_id; key = a.table.shared.key }
+
+-- the fields say what the table was made for
+pub record IsArena (a : ArenaInside) : Type 0 where
+  pub capacities : a.capacities.items ≡ a.table.shared.key.capacities
+  pub are_capacities : All IsCapacity a.capacities.items
+  pub bases : (i : ℕ) → i < length a.capacities.items → slice_index a.bases.items i ≡ base (layout_of a.table.shared.key) i
+  pub bases_count : length a.bases.items ≡ length a.capacities.items
+  pub firsts : (i : ℕ) → i < 9 → IsGroup a.capacities.items (slice_index all_capacities i) (slice_index a.firsts i) (slice_index a.firsts (i + 1))
+  pub senders : a.senders ≡ a.table.shared.key.senders
+  pub few_senders : a.senders ≤ 64
+  pub probes : a.probes ≡ probes (layout_of a.table.shared.key)
+  pub words : a.table.shared.table_id.words ≡ word_count (layout_of a.table.shared.key)
+  pub few_words : a.table.shared.table_id.words < 2 ^ 32
+
+abbrev pub prober_view : ProberInside → ProberView
+prober_view p = record { table = p.badge.table_id; sender = sender_in p.badge.views }
+
+pub record IsProber (p : ProberInside) : Type 0 where
+  pub views : p.badge.views ≡ sender_view (sender_in p.badge.views) ∷ []
+  pub number : (sender_in p.badge.views).number ≡ p.number
+  pub out : (sender_in p.badge.views).whereabouts ≡ Out
+  pub loads : p.loads ≡ length (sender_in p.badge.views).last.reads
+
+abbrev pub turn_of_badge : TurnInside → TurnView
+turn_of_badge t = record { table = t.badge.table_id; history = turn_in t.badge.views }
+
+abbrev pub IsTurn : TurnInside → Type 0
+IsTurn t = t.badge.views ≡ turn_view (turn_in t.badge.views) ∷ []

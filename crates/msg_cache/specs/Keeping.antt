@@ -1,0 +1,210 @@
+-- What the keeper's calls do, as changes of its view.
+use Rattle.std.specs.Prelude.{◌≡◌, ◌↔◌, ℕ, zero, suc, ◌+◌, ◌*◌, ◌<◌, ◌≤◌, ◌==◌, ◌&&◌, not, List, [], ◌∷◌, length, take, drop, find, Bool, false, slice_index, slice_set, if◌then◌else◌, Option, None, MatchOption}
+use Rattle.msg_image.specs.Parts.{class_total}
+use Rattle.std.specs.List.{range_with_len, filter}
+use Rattle.msg_names.specs.declared.value.ClassRef.{ClassRef}
+use Rattle.msg_buckets.specs.declared.capacity.Plan.{Plan}
+use Rattle.msg_buckets.specs.declared.capacity.Plan.TheVariants.{Use as PlanUse, Take as PlanTake}
+use Rattle.msg_buckets.specs.Word.{word_of}
+use Rattle.msg_buckets.specs.Capacity.{IsCapacity, plan_of, fill_limit}
+use Rattle.msg_buckets.specs.Probing.{Found, hit, empty, wrapped, probe_place}
+use Rattle.msg_buckets.specs.Array.{find_in, occupied_in}
+use Rattle.msg_tables.specs.History.{History}
+use Rattle.msg_names.specs.ClassRef.{slot_of}
+use Rattle.msg_core.specs.declared.state.Standing.{Standing}
+use Rattle.msg_core.specs.declared.state.Standing.TheVariants.{Free, Live, Retired}
+use Rattle.msg_core.specs.State.{Layout, capacity, awaits}
+use Rattle.msg_core.specs.Steps.{is_free, seen_out}
+use Rattle.msg_core.specs.View.{standing_at}
+use Rattle.msg_cache.specs.declared.answer.Filled.{Filled}
+use Rattle.msg_cache.specs.declared.answer.Filled.TheVariants.{Present as DidNothing, Used, Grown, NoArray}
+use Rattle.msg_cache.specs.declared.answer.Way.{Way}
+use Rattle.msg_cache.specs.declared.answer.Way.TheVariants.{Present, Use, Take}
+use Rattle.msg_cache.specs.declared.view.KeeperView.{KeeperView}
+use Rattle.msg_cache.specs.Layout.{SettingView, layout_of, header_at, base}
+use Rattle.msg_cache.specs.Rule.{TidyBy}
+use Rattle.msg_cache.specs.Plays.{stored, installed, looked}
+
+-- ---- arrays
+
+-- all arrays, by number
+abbrev pub arrays : Layout → List ℕ
+arrays z = range_with_len 0 (length z.capacities)
+
+-- the arrays from this one up to that one are those of a capacity
+abbrev pub IsGroup : List ℕ → ℕ → ℕ → ℕ → Type 0
+IsGroup caps n from until = (until ≤ length caps) × ((a : ℕ) → a < length caps → slice_index caps a ≡ n → (from ≤ a) × (a < until)) × ((a : ℕ) → from ≤ a → a < until → slice_index caps a ≡ n)
+
+-- what an array is for
+abbrev pub standing_of : KeeperView → ℕ → Standing
+standing_of k a = standing_at k.standings a
+
+-- the words of an array
+abbrev pub array_words : Layout → KeeperView → ℕ → List ℕ
+array_words z k a = take (capacity z a) (drop (base z a) k.words)
+
+-- the header word of a class reference
+abbrev pub header : KeeperView → ClassRef → ℕ
+header k c = slice_index k.words (header_at c)
+
+-- the lowest free array of a capacity
+abbrev pub lowest_free : Layout → ℕ → KeeperView → Option ℕ
+lowest_free z n k = find (λ a. is_free (standing_of k a) && (capacity z a == n)) (arrays z)
+
+-- ---- a collection
+
+-- one Look at each of the first n sender numbers; outs says of each sender number whether it was seen out
+abbrev pub looks : ℕ → List Bool → KeeperView → KeeperView
+looks zero outs k = k
+looks (suc n) outs k = if awaits outs n then looked n (looks n outs k) else looks n outs k
+
+-- the same of one array's standing
+abbrev pub looked_by : ℕ → List Bool → Standing → Standing
+looked_by zero outs s = s
+looked_by (suc n) outs s = if awaits outs n then seen_out n (looked_by n outs s) else looked_by n outs s
+
+-- the sender numbers of a set that are left after that
+abbrev pub minus : ℕ → List Bool → List Bool → List Bool
+minus zero outs aw = aw
+minus (suc n) outs aw = if awaits outs n then slice_set (minus n outs aw) n false else minus n outs aw
+
+-- a Clear of the first n words of those that begin at b
+abbrev pub clears : ℕ → ℕ → KeeperView → KeeperView
+clears b zero k = k
+clears b (suc n) k = stored (b + n) 0 (clears b n k)
+
+-- a Clear of the words of an array
+abbrev pub emptied : Layout → ℕ → KeeperView → KeeperView
+emptied z a k = clears (base z a) (capacity z a) k
+
+-- the same of each of these arrays
+abbrev pub all_emptied : Layout → List ℕ → KeeperView → KeeperView
+all_emptied z [] k = k
+all_emptied z (a ∷ more) k = all_emptied z more (emptied z a k)
+
+-- the arrays that are free in the second view and were not in the first
+abbrev pub newly_free : Layout → KeeperView → KeeperView → List ℕ
+newly_free z k j = filter (λ a. is_free (standing_of j a) && not (is_free (standing_of k a))) (arrays z)
+
+-- the arrays that become free where one Look at each sender number sees these out
+abbrev pub freed : Layout → List Bool → KeeperView → List ℕ
+freed z outs k = newly_free z k (looks z.senders outs k)
+
+-- one Look at each sender number, then a Clear of the words of each array that became free
+abbrev pub collected : Layout → List Bool → KeeperView → KeeperView
+collected z outs k = all_emptied z (freed z outs k) (looks z.senders outs k)
+
+-- a collection took the view k to k', and n arrays became free
+pub record Collects (z : Layout) (k k' : KeeperView) (n : ℕ) : Type 0 where
+  pub outs : List Bool
+  pub view : k' ≡ collected z outs k
+  pub count : n ≡ length (freed z outs k)
+
+-- ---- a fill
+
+-- a capacity that is noted as 0 was never noted, and is 4
+abbrev pub or_least : ℕ → ℕ
+or_least n = if n == 0 then 4 else n
+
+-- the capacity that the next array of a class reference without one has
+abbrev pub remembered_capacity : List ℕ → ClassRef → ℕ
+remembered_capacity remembered c = or_least (slice_index remembered (slot_of c))
+
+-- the capacity of the array of a header word, if it names one, is noted
+abbrev pub remember : Layout → ClassRef → ℕ → List ℕ → List ℕ
+remember z c zero remembered = remembered
+remember z c (suc a) remembered = slice_set remembered (slot_of c) (capacity z a)
+
+abbrev pub way_by_plan : ℕ → ℕ → Plan → Way
+way_by_plan a p PlanUse = Use a p
+way_by_plan a p (PlanTake n) = Take n
+
+abbrev pub way_in : ℕ → Found → Plan → Way
+way_in a (hit i) plan = Present
+way_in a (empty p) plan = way_by_plan a p plan
+way_in a wrapped plan = way_by_plan a 0 plan
+
+abbrev pub way_by_header : Layout → List ℕ → KeeperView → ClassRef → ℕ → ℕ → Way
+way_by_header z remembered k c s zero = Take (remembered_capacity remembered c)
+way_by_header z remembered k c s (suc a) = way_in a (find_in (array_words z k a) s) (plan_of (capacity z a) (occupied_in (array_words z k a)))
+
+-- what an entry needs: nothing where the selector is in the live array, else the place of it where the array has room, else an array
+abbrev pub way_of : Layout → List ℕ → KeeperView → ClassRef → ℕ → Way
+way_of z remembered k c s = way_by_header z remembered k c s (header k c)
+
+-- facts of an entry that goes to the live array, and of one that needs an array
+abbrev pub OnUse : Way → (ℕ → ℕ → Type 0) → Type 0
+OnUse Present P = Unit {0}
+OnUse (Use a p) P = P a p
+OnUse (Take n) P = Unit {0}
+
+abbrev pub OnTake : Way → (ℕ → Type 0) → Type 0
+OnTake Present P = Unit {0}
+OnTake (Use a p) P = Unit {0}
+OnTake (Take n) P = P n
+
+-- the entry's probe ends at an empty place of the live array, which has room
+pub record CanUse (z : Layout) (k : KeeperView) (c : ClassRef) (s a p : ℕ) : Type 0 where
+  pub live : header k c ≡ suc a
+  pub found : find_in (array_words z k a) s ≡ empty p
+  pub room : occupied_in (array_words z k a) + 1 ≤ fill_limit (capacity z a)
+
+-- Fill, of a place of an array
+abbrev pub filled : Layout → ℕ → ℕ → ℕ → KeeperView → KeeperView
+filled z a p w k = stored (base z a + p) w k
+
+-- Install, then a Fill at the selector's first place
+abbrev pub grown : Layout → ClassRef → ℕ → ℕ → ℕ → KeeperView → KeeperView
+grown z c s i a k = filled z a (probe_place s (capacity z a) 0) (word_of s i) (installed c a k)
+
+-- an entry that needs an array of capacity n: the lowest that is free, at entry or after one collection
+abbrev pub Grows : Layout → ClassRef → ℕ → ℕ → ℕ → KeeperView → KeeperView → Filled → Type 0
+Grows z c s i n k k' answer = MatchOption (lowest_free z n k)
+    ((outs : List Bool) × MatchOption (lowest_free z n (collected z outs k))
+    ((answer ≡ NoArray) × (k' ≡ collected z outs k))
+    (λ a. (answer ≡ Grown) × (k' ≡ grown z c s i a (collected z outs k))))
+    (λ a. (answer ≡ Grown) × (k' ≡ grown z c s i a k))
+
+abbrev pub FillsBy : Layout → ClassRef → ℕ → ℕ → KeeperView → KeeperView → Filled → Way → Type 0
+FillsBy z c s i k k' answer Present = (answer ≡ DidNothing) × (k' ≡ k)
+FillsBy z c s i k k' answer (Use a p) = (answer ≡ Used) × (k' ≡ filled z a p (word_of s i) k)
+FillsBy z c s i k k' answer (Take n) = Grows z c s i n k k' answer
+
+-- a fill of the class reference c with the selector s and the implementation i took the view k to k', while these capacities were remembered
+abbrev pub Fills : Layout → List ℕ → ClassRef → ℕ → ℕ → KeeperView → KeeperView → Filled → Type 0
+Fills z remembered c s i k k' answer = FillsBy z c s i k k' answer (way_of z remembered k c s)
+
+-- the standings, once a class reference lost the array of its header word
+abbrev pub retired_at : ClassRef → ℕ → ℕ → List Bool → List Standing → List Standing
+retired_at c zero r all l = l
+retired_at c (suc a) r all l = slice_set l a (Retired c r all)
+
+-- ---- when each answer comes
+
+-- the selector is in the live array of the class reference
+abbrev pub IsPresent : Layout → KeeperView → ClassRef → ℕ → Type 0
+IsPresent z k c s = (a : ℕ) × (header k c ≡ suc a) × ((i : ℕ) × (find_in (array_words z k a) s ≡ hit i))
+
+-- the live array of the class reference takes one entry more
+abbrev pub HasRoom : Layout → KeeperView → ClassRef → Type 0
+HasRoom z k c = (a : ℕ) × (header k c ≡ suc a) × (plan_of (capacity z a) (occupied_in (array_words z k a)) ≡ PlanUse)
+
+-- no array of the capacity that is wanted was free, nor after one collection, which alone has changed the view
+abbrev pub NoneIsFree : Layout → KeeperView → KeeperView → Type 0
+NoneIsFree z k k' = (n : ℕ) × (lowest_free z n k ≡ None) × (outs : List Bool) × (lowest_free z n (collected z outs k) ≡ None) × (k' ≡ collected z outs k)
+
+abbrev pub FillLaw : Type 0
+FillLaw = (z : Layout) (remembered : List ℕ) (c : ClassRef) (s i : ℕ) (k k' : KeeperView) (answer : Filled) → Fills z remembered c s i k k' answer
+    → ((answer ≡ DidNothing) ↔ IsPresent z k c s) × ((answer ≡ Used) ↔ ((IsPresent z k c s → ⊥) × HasRoom z k c)) × ((answer ≡ DidNothing) → k' ≡ k) × ((answer ≡ NoArray) → NoneIsFree z k k')
+
+-- ---- between calls
+
+-- what holds of the keeper's view between its calls, with the capacities that are remembered, and how many entries each array has
+pub record InOrder (look : History → ClassRef → ℕ → ℕ) (key : SettingView) (k : KeeperView) (remembered occupied : List ℕ) : Type 0 where
+  pub tidy : TidyBy look key k
+  pub cleared : (a p : ℕ) → standing_of k a ≡ Free → p < capacity (layout_of key) a → slice_index k.words (base (layout_of key) a + p) ≡ 0
+  pub counted : (a : ℕ) → a < length key.capacities → slice_index occupied a ≡ occupied_in (array_words (layout_of key) k a)
+  pub counts : length occupied ≡ length key.capacities
+  pub within : (c : ClassRef) (a : ℕ) → standing_of k a ≡ Live c → slice_index occupied a ≤ fill_limit (capacity (layout_of key) a)
+  pub capacities : (i : ℕ) → IsCapacity (or_least (slice_index remembered i))
+  pub classes : length remembered ≡ 2 * class_total key.image

@@ -1,0 +1,174 @@
+-- What the steps on a table are to the machine of events.
+use Rattle.std.specs.Prelude.{◌≡◌, ◌≢◌, ℕ, suc, ◌+◌, ◌==◌, ◌<◌, [], ◌∷◌, ◌++◌, length, false, slice_index, slice_set, replicate, if◌then◌else◌}
+use Rattle.msg_image.specs.Parts.{class_total}
+use mathlib.Core.Option.{some}
+use lib.ListN.{get_elem?}
+use Rattle.atomic_table.specs.Table.{State as Table, keeps, stepped, opening as opened}
+use Rattle.msg_names.specs.declared.value.ClassRef.{ClassRef}
+use Rattle.msg_buckets.specs.Word.{sel_of, imp_of}
+use Rattle.msg_image.specs.Sound.{IsSound}
+use Rattle.msg_image.specs.declared.change.Change.{Change}
+use Rattle.msg_tables.specs.History.{History, lookup}
+use Rattle.msg_core.specs.declared.event.Event.{Event}
+use Rattle.msg_core.specs.declared.event.Event.TheVariants.{Enter, Header, Read, Leave, Fill, Install, Flush, Look, Clear, Commit}
+use Rattle.msg_core.specs.declared.state.Standing.TheVariants.{Free, Live}
+use Rattle.msg_core.specs.declared.state.Whereabouts.TheVariants.{Out, In, Holding}
+use Rattle.msg_core.specs.Runs.{opening}
+use Rattle.msg_core.specs.State.{State, capacity, size, awaits, Lawful, Sound}
+use Rattle.msg_core.specs.Steps.{after, Legal}
+use Rattle.msg_core.specs.View.{standing_at}
+use Rattle.msg_cache.specs.declared.view.SenderView.{SenderView}
+use Rattle.msg_cache.specs.declared.view.TurnAt.TheVariants.{Away, Home}
+use Rattle.msg_cache.specs.declared.view.KeeperView.{KeeperView}
+use Rattle.msg_cache.specs.declared.view.View.{View}
+use Rattle.msg_cache.specs.declared.view.View.TheVariants.{Sender, Keeper, Turn, Spent}
+use Rattle.msg_cache.specs.Layout.{SettingView, layout_of, header_at, base, probe_at, word_count}
+use Rattle.msg_cache.specs.Plays.{headed, read_on, gone_to, newcomer, stored, flushed, installed, committed, looked, given_out, taken_in, at_home, lent}
+use Rattle.msg_cache.specs.Rule.{holds, shown_by, first_keeper}
+
+-- the state that a table shows, while the rule holds of it
+abbrev pub shown_at : (key : SettingView) (s : Table ℕ View) → holds lookup key s → State
+shown_at key s r = shown_by lookup (layout_of key) key.image r
+
+-- From one state of the table to the next is this event: at the state that was shown it isn't refused, the rule holds of the next one, and that shows the state after the event.
+pub record IsEvent (key : SettingView) (s : Table ℕ View) (r : holds lookup key s) (e : Event) (s' : Table ℕ View) : Type 0 where
+  pub legal : Legal lookup (layout_of key) (shown_at key s r) e
+  pub keeps_rule : holds lookup key s'
+  pub shows : (r' : holds lookup key s') → shown_at key s' r' ≡ after (layout_of key) (shown_at key s r) e
+
+-- From one state of the table to the next is no event: the rule holds of the next one, and that shows the same.
+pub record IsNone (key : SettingView) (s : Table ℕ View) (r : holds lookup key s) (s' : Table ℕ View) : Type 0 where
+  pub keeps_rule : holds lookup key s'
+  pub shows : (r' : holds lookup key s') → shown_at key s' r' ≡ shown_at key s r
+
+-- ---- the state
+
+abbrev pub OneIsShown : Type 0
+OneIsShown = (key : SettingView) (s : Table ℕ View) (r r' : holds lookup key s) → shown_at key s r ≡ shown_at key s r'
+
+abbrev pub ShownIsLawful : Type 0
+ShownIsLawful = (key : SettingView) (s : Table ℕ View) (r : holds lookup key s) → Lawful lookup (layout_of key) (shown_at key s r)
+
+abbrev pub ShownIsSound : Type 0
+ShownIsSound = (key : SettingView) (s : Table ℕ View) (r : holds lookup key s) → Sound lookup (layout_of key) (shown_at key s r)
+
+-- a table of zeros, with the keeper's first view, shows the machine before the first event
+abbrev pub OpeningIsShown : Type 0
+OpeningIsShown = (key : SettingView) → IsSound key.image → 0 < key.senders
+    → let s = opened (replicate (word_count (layout_of key)) 0) [] (Keeper (first_keeper key)) in
+    holds lookup key s × ((r : holds lookup key s) → shown_at key s r ≡ opening key.image)
+
+-- ---- a sender's steps
+
+abbrev pub OfSender : ((key : SettingView) (s : Table ℕ View) → holds lookup key s → ℕ → SenderView → Type 0) → Type 0
+OfSender P = (key : SettingView) (s : Table ℕ View) (r : holds lookup key s) (id : ℕ) (v : SenderView) → get_elem? s.views id ≡ some (Sender v) → P key s r id v
+
+abbrev pub EnterIsEnter : Type 0
+EnterIsEnter = OfSender (λ key s r id v. v.whereabouts ≡ Out → IsEvent key s r (Enter v.number) (stepped s (probe_at (layout_of key) v.number) 1 id [] (Sender (gone_to v v.front In)) keeps))
+
+abbrev pub LeaveIsLeave : Type 0
+LeaveIsLeave = OfSender (λ key s r id v. v.whereabouts ≢ Out → IsEvent key s r (Leave v.number) (stepped s (probe_at (layout_of key) v.number) 0 id [] (Sender (gone_to v v.front Out)) keeps))
+
+-- the sender's front is then the history
+abbrev pub HeaderIsHeader : Type 0
+HeaderIsHeader = OfSender (λ key s r id v. (c : ClassRef) (sel : ℕ) → v.whereabouts ≡ In → c.class < class_total key.image
+    → let n = slice_index s.words (header_at c) in
+    IsEvent key s r (Header v.number c) (stepped s (header_at c) n id [] (Sender (headed c sel (shown_at key s r).history v n)) keeps))
+
+abbrev pub BucketIsRead : Type 0
+BucketIsRead = OfSender (λ key s r id v. (a p : ℕ) → v.whereabouts ≡ Holding v.last.class a → p < capacity (layout_of key) a → 0 < v.last.sel
+    → let i = base (layout_of key) a + p in let n = slice_index s.words i in
+    (front : History) × IsEvent key s r (Read v.number p) (stepped s i n id [] (Sender (read_on front v i n)) keeps))
+
+abbrev pub VersionIsNone : Type 0
+VersionIsNone = OfSender (λ key s r id v. ((c : ClassRef) (a : ℕ) → v.whereabouts ≢ Holding c a)
+    → IsNone key s r (stepped s 0 (slice_index s.words 0) id [] (Sender (gone_to v (shown_at key s r).history v.whereabouts)) keeps))
+
+-- ---- the keeper's steps
+
+abbrev pub OfAKeeper : Type 1
+OfAKeeper = (key : SettingView) (s : Table ℕ View) → holds lookup key s → ℕ → KeeperView → Type 0
+
+abbrev pub OfKeeper : OfAKeeper → Type 0
+OfKeeper P = (key : SettingView) (s : Table ℕ View) (r : holds lookup key s) (id : ℕ) (k : KeeperView) → get_elem? s.views id ≡ some (Keeper k) → P key s r id k
+
+abbrev pub Fills : OfAKeeper
+Fills key s r id k = (c : ClassRef) (a p w : ℕ) → standing_at k.standings a ≡ Live c → p < capacity (layout_of key) a
+    → let i = base (layout_of key) a + p in slice_index k.words i ≡ 0 → 0 < sel_of w → imp_of w ≡ lookup k.history c (sel_of w)
+    → IsEvent key s r (Fill c p w) (stepped s i w id [] (Keeper (stored i w k)) keeps)
+
+abbrev pub StoreIsFill : Type 0
+StoreIsFill = OfKeeper Fills
+
+abbrev pub Installs : OfAKeeper
+Installs key s r id k = (c : ClassRef) (a : ℕ) → c.class < class_total key.image → a < length key.capacities → standing_at k.standings a ≡ Free
+    → ((q : ℕ) → q < capacity (layout_of key) a → slice_index k.words (base (layout_of key) a + q) ≡ 0)
+    → IsEvent key s r (Install c a) (stepped s (header_at c) (suc a) id [] (Keeper (installed c a k)) keeps)
+
+abbrev pub StoreIsInstall : Type 0
+StoreIsInstall = OfKeeper Installs
+
+abbrev pub Flushes : OfAKeeper
+Flushes key s r id k = (c : ClassRef) (a : ℕ) → c.class < class_total key.image → slice_index k.words (header_at c) ≡ suc a
+    → IsEvent key s r (Flush c) (stepped s (header_at c) 0 id [] (Keeper (flushed c k)) keeps)
+
+abbrev pub StoreIsFlush : Type 0
+StoreIsFlush = OfKeeper Flushes
+
+abbrev pub Looks : OfAKeeper
+Looks key s r id k = (n : ℕ) → n < key.senders
+    → let i = probe_at (layout_of key) n in let f = slice_index s.words i in
+    IsEvent key s r (Look n) (stepped s i f id [] (Keeper (if f == 0 then looked n k else k)) keeps)
+
+abbrev pub LoadIsLook : Type 0
+LoadIsLook = OfKeeper Looks
+
+abbrev pub Clears : OfAKeeper
+Clears key s r id k = (a p : ℕ) → standing_at k.standings a ≡ Free → p < capacity (layout_of key) a
+    → let i = base (layout_of key) a + p in IsEvent key s r (Clear a p) (stepped s i 0 id [] (Keeper (stored i 0 k)) keeps)
+
+abbrev pub StoreIsClear : Type 0
+StoreIsClear = OfKeeper Clears
+
+abbrev pub Commits : OfAKeeper
+Commits key s r id k = (x : Change) (g : History) → k.turn ≡ Home g → Legal lookup (layout_of key) (shown_at key s r) (Commit x)
+    → IsEvent key s r (Commit x) (stepped s 0 (size k.history + 1) id [] (Keeper (committed x k)) keeps)
+
+abbrev pub StoreIsCommit : Type 0
+StoreIsCommit = OfKeeper Commits
+
+-- ---- what is no event
+
+abbrev pub Recalls : OfAKeeper
+Recalls key s r id k = IsNone key s r (stepped s 0 (slice_index s.words 0) id [] (Keeper k) keeps)
+
+abbrev pub RecallIsNone : Type 0
+RecallIsNone = OfKeeper Recalls
+
+abbrev pub Splits : OfAKeeper
+Splits key s r id k = (n : ℕ) → n < key.senders → awaits k.given n ≡ false
+    → IsNone key s r (record { words = s.words; homes = s.homes; views = slice_set s.views id (Keeper (given_out n k)) ++ Sender (newcomer n k.history) ∷ [] })
+
+abbrev pub SplitIsNone : Type 0
+SplitIsNone = OfKeeper Splits
+
+abbrev pub Joins : OfAKeeper
+Joins key s r id k = (other : ℕ) (v : SenderView) → ¬ (other ≡ id) → v.whereabouts ≡ Out → get_elem? (slice_set s.views id (Keeper (taken_in v k))) other ≡ some (Sender v)
+    → IsNone key s r (record { words = s.words; homes = s.homes; views = slice_set (slice_set s.views id (Keeper (taken_in v k))) other Spent })
+
+abbrev pub JoinIsNone : Type 0
+JoinIsNone = OfKeeper Joins
+
+abbrev pub SplitsTurn : OfAKeeper
+SplitsTurn key s r id k = k.turn ≢ Away
+    → IsNone key s r (record { words = s.words; homes = s.homes; views = slice_set s.views id (Keeper (lent k)) ++ Turn k.history ∷ [] })
+
+abbrev pub SplitTurnIsNone : Type 0
+SplitTurnIsNone = OfKeeper SplitsTurn
+
+abbrev pub JoinsTurn : OfAKeeper
+JoinsTurn key s r id k = (other : ℕ) (g : History) → ¬ (other ≡ id) → get_elem? (slice_set s.views id (Keeper (at_home g k))) other ≡ some (Turn g)
+    → IsNone key s r (record { words = s.words; homes = s.homes; views = slice_set (slice_set s.views id (Keeper (at_home g k))) other Spent })
+
+abbrev pub JoinTurnIsNone : Type 0
+JoinTurnIsNone = OfKeeper JoinsTurn

@@ -1,0 +1,39 @@
+-- Where the words of a table stand.
+use Rattle.std.specs.Prelude.{ℕ, ◌+◌, ◌*◌, List, [], ◌∷◌, take}
+use Rattle.msg_names.specs.declared.value.ClassRef.{ClassRef}
+use Rattle.msg_image.specs.Parts.{ImageParts, class_total}
+use Rattle.msg_names.specs.ClassRef.{slot_of}
+use Rattle.msg_core.specs.State.{Layout}
+
+-- what a table is made for: an image, so many senders, and arrays of these capacities
+pub record SettingView : Type 0 where
+  pub image : ImageParts
+  pub senders : ℕ
+  pub capacities : List ℕ
+
+abbrev pub layout_of : SettingView → Layout
+layout_of key = record { classes = class_total key.image; senders = key.senders; capacities = key.capacities }
+
+-- numbers, added up
+abbrev pub total : List ℕ → ℕ
+total [] = 0
+total (x ∷ xs) = x + total xs
+
+-- Word 0 counts the changes. Then comes the header word of each class reference, then the words of one array after another.
+abbrev pub header_at : ClassRef → ℕ
+header_at c = 1 + slot_of c
+
+-- where the words of an array begin
+abbrev pub base : Layout → ℕ → ℕ
+base z a = 1 + 2 * z.classes + total (take a z.capacities)
+
+-- where they end, and the senders' probe words begin
+abbrev pub probes : Layout → ℕ
+probes z = 1 + 2 * z.classes + total z.capacities
+
+-- Probe words stand 8 words apart, and 8 after the last word of an array, so that none shares a line of 64 bytes with another or with an array. What is between is never used.
+abbrev pub probe_at : Layout → ℕ → ℕ
+probe_at z n = probes z + 8 * n + 7
+
+abbrev pub word_count : Layout → ℕ
+word_count z = probes z + 8 * z.senders

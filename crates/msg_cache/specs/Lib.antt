@@ -1,0 +1,10 @@
+pub mod Config
+pub mod Inside
+pub mod Keeping
+pub mod Laws
+pub mod Layout
+pub mod Ours
+pub mod Plays
+pub mod Record
+pub mod Rule
+pub mod Views

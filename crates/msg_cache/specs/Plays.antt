@@ -1,0 +1,232 @@
+-- What each step tells the seat that makes it.
+use Rattle.std.specs.Prelude.{◌≡◌, ◌≢◌, ℕ, suc, ◌+◌, ◌==◌, ◌≤◌, List, [], ◌∷◌, ◌++◌, length, map, Bool, true, false, Option, Some, None, slice_set, slice_index, if◌then◌else◌}
+use Rattle.atomic_table.specs.Table.{Me, Step}
+use Rattle.msg_names.specs.declared.value.ClassRef.{ClassRef}
+use Rattle.msg_image.specs.declared.change.Change.{Change}
+use Rattle.msg_image.specs.declared.change.Change.TheVariants.{Attach}
+use Rattle.msg_tables.specs.History.{History, BeginsWith, and_then}
+use Rattle.msg_core.specs.declared.state.Standing.{Standing}
+use Rattle.msg_core.specs.declared.state.Standing.TheVariants.{Live, Retired}
+use Rattle.msg_core.specs.declared.state.Whereabouts.{Whereabouts}
+use Rattle.msg_core.specs.declared.state.Whereabouts.TheVariants.{Out}
+use Rattle.msg_core.specs.State.{size}
+use Rattle.msg_core.specs.Steps.{everyone, seeing, seen_out}
+use Rattle.msg_buckets.specs.Word.{sel_of, imp_of}
+use Rattle.msg_cache.specs.declared.view.SenderView.{SenderView}
+use Rattle.msg_cache.specs.declared.view.TurnAt.{TurnAt}
+use Rattle.msg_cache.specs.declared.view.TurnAt.TheVariants.{Never, Away, Home}
+use Rattle.msg_cache.specs.declared.view.KeeperView.{KeeperView}
+use Rattle.msg_cache.specs.declared.view.View.{View}
+use Rattle.msg_cache.specs.declared.view.View.TheVariants.{Sender, Keeper, Turn, Spent}
+use Rattle.msg_cache.specs.Layout.{SettingView, header_at}
+use Rattle.msg_cache.specs.Rule.{named, IsAccepted}
+
+abbrev pub Sat : Type 0
+Sat = Me ℕ View
+
+abbrev pub Telling : Type 1
+Telling = Step ℕ → Sat → ℕ → Sat → Type 0
+
+-- ---- what is said where a seat has no such view
+
+abbrev pub no_history : History
+no_history = record { image = record { names = []; classes = []; made = []; categories = []; objects = []; imps = [] }; changes = [] }
+
+abbrev pub no_class : ClassRef
+no_class = record { class = 0; meta = false }
+
+abbrev pub nobody : SenderView
+nobody = record { number = 0; front = no_history; whereabouts = Out; count = 0; last = record { class = no_class; sel = 0; array = None; reads = [] } }
+
+abbrev pub no_keeper : KeeperView
+no_keeper = record { history = no_history; words = []; standings = []; given = []; turn = Never; told = no_history }
+
+abbrev pub no_setting : SettingView
+no_setting = record { image = no_history.image; senders = 0; capacities = [] }
+
+abbrev pub no_change : Change
+no_change = Attach 0 [] []
+
+abbrev pub sender_of : View → SenderView
+sender_of (Sender v) = v
+sender_of (Keeper k) = nobody
+sender_of (Turn h) = nobody
+sender_of Spent = nobody
+
+abbrev pub keeper_of : View → KeeperView
+keeper_of (Keeper k) = k
+keeper_of (Sender v) = no_keeper
+keeper_of (Turn h) = no_keeper
+keeper_of Spent = no_keeper
+
+abbrev pub turn_of : View → History
+turn_of (Turn h) = h
+turn_of (Keeper k) = no_history
+turn_of (Sender v) = no_history
+turn_of Spent = no_history
+
+-- ---- a sender's views
+
+-- it has seen the word n in the header of c, where it seeks s
+abbrev pub headed : ClassRef → ℕ → History → SenderView → ℕ → SenderView
+headed c s g v n = record { number = v.number; front = g; whereabouts = seeing c (named n); count = v.count + 1; last = record { class = c; sel = s; array = named n; reads = [] } }
+
+-- it has read n in the word i
+abbrev pub read_on : History → SenderView → ℕ → ℕ → SenderView
+read_on g v i n =
+    record { number = v.number; front = g; whereabouts = v.whereabouts; count = v.count; last = record { class = v.last.class; sel = v.last.sel; array = v.last.array; reads = v.last.reads ++ (i, n) ∷ [] } }
+
+abbrev pub gone_to : SenderView → History → Whereabouts → SenderView
+gone_to v g p = record { number = v.number; front = g; whereabouts = p; count = v.count; last = v.last }
+
+abbrev pub newcomer : ℕ → History → SenderView
+newcomer n h = record { number = n; front = h; whereabouts = Out; count = 0; last = record { class = no_class; sel = 0; array = None; reads = [] } }
+
+-- ---- what a sender's steps tell
+
+abbrev pub seated : SenderView → Sat
+seated v = (Sender v, [])
+
+-- for a class reference and a selector, in a table of so many arrays, the word n was found
+pub record SawHeader (arrays : ℕ) (c : ClassRef) (s n : ℕ) (v : SenderView) (m' : Sat) : Type 0 where
+  pub front : History
+  pub seat : m' ≡ seated (headed c s front v n)
+  pub begins : BeginsWith front v.front
+  pub accepted : IsAccepted front
+  pub among : n ≤ arrays
+
+abbrev pub Headed : ℕ → ClassRef → ℕ → Telling
+Headed arrays c s st m n m' = SawHeader arrays c s n (sender_of m.0) m'
+
+-- the word i was n
+pub record SawWord (look : History → ClassRef → ℕ → ℕ) (i n : ℕ) (v : SenderView) (m' : Sat) : Type 0 where
+  pub front : History
+  pub seat : m' ≡ seated (read_on front v i n)
+  pub begins : BeginsWith front v.front
+  pub accepted : IsAccepted front
+  pub hit : sel_of n ≡ v.last.sel → imp_of n ≡ look front v.last.class v.last.sel
+  pub miss : sel_of n ≢ v.last.sel → front ≡ v.front
+
+abbrev pub Reads : (History → ClassRef → ℕ → ℕ) → Telling
+Reads look st m n m' = SawWord look st.word n (sender_of m.0) m'
+
+pub record SawVersion (n : ℕ) (v : SenderView) (m' : Sat) : Type 0 where
+  pub front : History
+  pub seat : m' ≡ seated (gone_to v front v.whereabouts)
+  pub begins : BeginsWith front v.front
+  pub accepted : IsAccepted front
+  pub length_is : size front ≡ n
+
+abbrev pub Published : Telling
+Published st m n m' = SawVersion n (sender_of m.0) m'
+
+abbrev pub Goes : Whereabouts → Telling
+Goes p st m n m' = m' ≡ seated (gone_to (sender_of m.0) (sender_of m.0).front p)
+
+-- ---- the keeper's views
+
+-- one word stored
+abbrev pub stored : ℕ → ℕ → KeeperView → KeeperView
+stored i w k = record k { words = slice_set k.words i w }
+
+-- an array, if there is one, is retired from the class reference and awaits all senders
+abbrev pub retire : ClassRef → Option ℕ → KeeperView → List Standing
+retire c None k = k.standings
+retire c (Some a) k = slice_set k.standings a (Retired c (size k.history) (everyone (length k.given)))
+
+abbrev pub flushed : ClassRef → KeeperView → KeeperView
+flushed c k = record k { words = slice_set k.words (header_at c) 0; standings = retire c (named (slice_index k.words (header_at c))) k }
+
+abbrev pub installed : ClassRef → ℕ → KeeperView → KeeperView
+installed c a k = record k { words = slice_set k.words (header_at c) (suc a); standings = slice_set (retire c (named (slice_index k.words (header_at c))) k) a (Live c) }
+
+abbrev pub committed : Change → KeeperView → KeeperView
+committed x k = record k { history = and_then k.history x; words = slice_set k.words 0 (size k.history + 1); turn = Home (and_then k.history x) }
+
+abbrev pub looked : ℕ → KeeperView → KeeperView
+looked n k = record k { standings = map (seen_out n) k.standings }
+
+abbrev pub given_out : ℕ → KeeperView → KeeperView
+given_out n k = record k { given = slice_set k.given n true }
+
+abbrev pub taken_in : SenderView → KeeperView → KeeperView
+taken_in v k = record k { given = slice_set k.given v.number false; told = v.front }
+
+abbrev pub at_home : History → KeeperView → KeeperView
+at_home g k = record k { turn = Home g }
+
+abbrev pub lent : KeeperView → KeeperView
+lent k = record k { turn = Away }
+
+-- ---- what the keeper's steps tell
+
+abbrev pub kept : KeeperView → Sat
+kept k = (Keeper k, [])
+
+-- what a joined sender had seen is a beginning of the history, and a joined turn's history is the history
+abbrev pub Recalls : KeeperView → Type 0
+Recalls k = BeginsWith k.history k.told × ((g : History) → k.turn ≡ Home g → g ≡ k.history)
+
+abbrev pub Stores : Telling
+Stores st m n m' = m' ≡ kept (stored st.word st.first (keeper_of m.0))
+
+abbrev pub Flushes : Telling
+Flushes st m n m' = (c : ClassRef) → st.word ≡ header_at c → m' ≡ kept (flushed c (keeper_of m.0))
+
+abbrev pub Installs : Telling
+Installs st m n m' = (c : ClassRef) (a : ℕ) → st.word ≡ header_at c → st.first ≡ suc a → m' ≡ kept (installed c a (keeper_of m.0))
+
+abbrev pub Commits : Change → Telling
+Commits x st m n m' = (m' ≡ kept (committed x (keeper_of m.0))) × Recalls (keeper_of m.0)
+
+abbrev pub Looks : ℕ → Telling
+Looks i st m n m' = m' ≡ kept (if n == 0 then looked i (keeper_of m.0) else keeper_of m.0)
+
+-- the keeper's load of the version word changes nothing
+abbrev pub Witnesses : Telling
+Witnesses st m n m' = (m' ≡ m) × Recalls (keeper_of m.0)
+
+-- ---- splits and joins
+
+abbrev pub joined : View → View → View
+joined (Keeper k) (Sender v) = Keeper (taken_in v k)
+joined (Keeper k) (Turn g) = Keeper (at_home g k)
+joined (Keeper k) (Keeper j) = Keeper k
+joined (Keeper k) Spent = Keeper k
+joined (Sender v) w = Sender v
+joined (Turn g) w = Turn g
+joined Spent w = Spent
+
+abbrev pub split_left : ℕ → View → View
+split_left n v = Keeper (given_out n (keeper_of v))
+
+abbrev pub split_right : ℕ → View → View
+split_right n v = Sender (newcomer n (keeper_of v).history)
+
+abbrev pub lent_left : View → View
+lent_left v = Keeper (lent (keeper_of v))
+
+abbrev pub lent_right : View → View
+lent_right v = Turn (keeper_of v).history
+
+-- a list of one view, which is the turn's
+abbrev pub turn_in : List View → History
+turn_in [] = no_history
+turn_in (v ∷ vs) = turn_of v
+
+abbrev pub turn_view : History → View
+turn_view h = Turn h
+
+-- or a sender's
+abbrev pub sender_in : List View → SenderView
+sender_in [] = nobody
+sender_in (v ∷ vs) = sender_of v
+
+abbrev pub sender_view : SenderView → View
+sender_view v = Sender v
+
+-- the turn was split off at some time
+abbrev pub is_lent : TurnAt → Bool
+is_lent Never = false
+is_lent Away = true
+is_lent (Home h) = true

@@ -1,0 +1,198 @@
+//! The arena: the words of all caches, which threads share.
+
+ghost use Rattle.std.specs.Prelude.{◌≡◌, ◌≢◌, ℕ, Some, None, IfErr, ◌+◌, ◌*◌, ◌^◌, ◌<◌, ◌≤◌, All, IfOk, length, slice_index};
+ghost use Rattle.msg_buckets.specs.Capacity.{IsCapacity, capacities as all_capacities};
+ghost use Rattle.msg_core.specs.State.{capacity};
+ghost use Rattle.msg_cache.specs.Layout.{layout_of, total, base as base_of, probes as probes_of, probe_at, word_count};
+ghost use Rattle.msg_tables.specs.History.{lookup};
+ghost use Rattle.msg_cache.specs.Config.{refusal_of, setting_of};
+ghost use Rattle.msg_cache.specs.declared.config.ArenaFault.TheVariants.{Memory};
+ghost use Rattle.msg_cache.specs.Plays.{kept, keeper_of};
+ghost use Rattle.msg_cache.specs.Rule.{first_keeper, TidyBy};
+ghost use Rattle.msg_cache.specs.Keeping.{IsGroup};
+
+use crate::config::{ArenaFault, Config, capacities_of, firsts_of};
+use crate::keeper::Keeper;
+use crate::law::Law;
+use crate::setting::Setting;
+use crate::steps::{Seat, Words};
+use crate::view::View;
+use atomic_table::Table;
+use msg_image::Image;
+use std::alloc::{AllocError, Global};
+use std::marker::Model;
+use std::snapshot::Snapshot;
+
+/// The words of the caches of an image.
+#[derive(Drop)]
+pub struct Arena {
+    table: Table<u8, View, Setting, Law, Global>,
+    capacities: Vec<u32>,
+    bases: Vec<usize>,
+    // the number of the first array of each capacity, and how many there are
+    firsts: [usize; 10],
+    senders: u32,
+    probes: usize,
+}
+
+impl Model for Arena {
+    ghost use Rattle.msg_cache.specs.Views.{ArenaView};
+
+    ghost Value = { ArenaView };
+
+    ghost use Rattle.std.specs.Coded.{codes};
+    ghost use Rattle.msg_image.specs.Coding.{coded_expression};
+    ghost use Rattle.atomic_table.specs.Seated.{table_id_coded};
+
+    ghost coded = { Prim.hlevel (codes, coded_expression, table_id_coded) };
+
+    ghost use Rattle.msg_cache.specs.Inside.{arena_view, IsArena};
+
+    ghost view = { arena_view };
+
+    ghost invariant = { IsArena };
+}
+
+impl Arena {
+    ghost use Rattle.msg_cache.specs.Ours.{view, IsOf};
+
+    /// An arena of an image, with no live array, and its keeper, who stands at the image's empty history.
+    pub fn open(alloc: Global, image: &Image, config: Config) -> Result<(Arena, Keeper), ArenaFault>
+        ensures ok { IfOk result (λ r. (refusal_of image.now config ≡ None) × (r.0.key ≡ setting_of image.now config)
+            × (view r.1 ≡ first_keeper (setting_of image.now config)) × IsOf r.0 r.1) }
+        ensures fault { IfErr result (λ fault. fault ≢ Memory → refusal_of image.now config ≡ Some fault) }
+        ensures memory { IfErr result (λ fault. fault ≡ Memory → refusal_of image.now config ≡ None) }
+    {
+        if let Some(fault) = config.refusal(image) {
+            return Err(fault);
+        }
+        let capacities = capacities_of(alloc, &config.arrays)?;
+        let arrays = capacities.len();
+        let (arena, seat) = Arena::of(
+            alloc,
+            image,
+            config.senders,
+            capacities,
+            firsts_of(&config.arrays),
+        )?;
+        let classes = image.class_count() as usize;
+        let senders = config.senders as usize;
+        let keeper = Keeper::first(alloc, seat, arena.probes(), arrays, classes, senders)?;
+        Ok((arena, keeper))
+    }
+
+    // The words, which threads share.
+    #[inline(always)]
+    pub(crate) fn shared(&self) -> &Words
+        ensures table { result.now.table_id ≡ self.now.table }
+        ensures key { result.now.key ≡ self.now.key }
+        ensures count { (self.now.table.words ≡ word_count (layout_of self.now.key)) × (self.now.table.words < 2 ^ 32) }
+        ensures capacities { All IsCapacity self.now.key.capacities }
+        ensures senders { self.now.key.senders ≤ 64 }
+    {
+        &self.table.shared
+    }
+
+    // Where the probe words begin, after the header words and the words of the arrays.
+    fn probes(&self) -> usize
+        ensures { result ≡ probes_of (layout_of self.now.key) }
+    {
+        self.probes
+    }
+
+    // How many arrays there are.
+    pub(crate) fn arrays(&self) -> usize
+        ensures count { result ≡ length self.now.key.capacities }
+        ensures few { result < 2 ^ 32 }
+    {
+        self.capacities.len()
+    }
+
+    // How many senders there may be.
+    #[inline(always)]
+    pub(crate) fn senders(&self) -> u32
+        ensures senders { result ≡ self.now.key.senders }
+        ensures few { result ≤ 64 }
+    {
+        self.senders
+    }
+
+    // Where the words of an array begin.
+    #[inline(always)]
+    pub(crate) fn base(&self, array: usize) -> usize
+        requires { array < length self.now.key.capacities }
+        ensures base { result ≡ base_of (layout_of self.now.key) array }
+        ensures few { base_of (layout_of self.now.key) array + capacity (layout_of self.now.key) array < 2 ^ 32 }
+    {
+        self.bases[array]
+    }
+
+    // How many there are.
+    #[inline(always)]
+    pub(crate) fn capacity(&self, array: usize) -> u32
+        requires { array < length self.now.key.capacities }
+        ensures capacity { result ≡ capacity (layout_of self.now.key) array }
+        ensures listed { IsCapacity result }
+    {
+        self.capacities[array]
+    }
+
+    // The arrays of a capacity, which lie beside one another.
+    pub(crate) fn group(&self, capacity: u32) -> (usize, usize)
+        requires { IsCapacity capacity }
+        ensures { IsGroup self.now.key.capacities capacity result.0 result.1 }
+    {
+        let at = capacity.trailing_zeros() as usize - 2;
+        (self.firsts[at], self.firsts[at + 1])
+    }
+
+    // Where the probe word of a sender stands.
+    #[inline(always)]
+    pub(crate) fn probe_at(&self, number: u32) -> usize
+        requires { number < self.now.key.senders }
+        ensures place { result ≡ probe_at (layout_of self.now.key) number }
+        ensures within { result < self.now.table.words }
+    {
+        self.probes + 8 * number as usize + 7
+    }
+
+    // An arena of these arrays, all empty, and the seat of its keeper.
+    pub(crate) fn of(
+        alloc: Global,
+        image: &Image,
+        senders: u32,
+        capacities: Vec<u32>,
+        firsts: [usize; 10],
+    ) -> Result<(Arena, Seat), AllocError>
+        requires senders { (0 < senders) × (senders ≤ 64) }
+        requires capacities { All IsCapacity capacities.items }
+        requires firsts { (i : ℕ) → i < 9 → IsGroup capacities.items (slice_index all_capacities i) (slice_index firsts i) (slice_index firsts (i + 1)) }
+        requires room { total capacities.items < 2 ^ 21 }
+        ensures seat { IfOk result (λ r. (r.1.table_id ≡ r.0.table) × (r.1.me ≡ kept (first_keeper r.0.key))) }
+        ensures key { IfOk result (λ r. r.0.key ≡ record { image = image.now; senders = senders; capacities = capacities.items }) }
+    {
+        let setting = Setting {
+            image: Snapshot::of(image),
+            senders,
+            capacities: Snapshot::of(&capacities),
+        };
+        let mut bases = Vec::new(alloc);
+        let mut probes = 1 + 2 * image.class_count() as usize;
+        for capacity in &capacities {
+            bases.push(probes)?;
+            probes += *capacity as usize;
+        }
+        let count = probes + 8 * senders as usize;
+        let words = vec![in alloc; 0u64; count]?;
+        let (table, seat) = Table::of_words(alloc, &words, &setting)?;
+        let arena = Arena {
+            table,
+            capacities,
+            bases,
+            firsts,
+            senders,
+            probes,
+        };
+        Ok((arena, seat))
+    }
+}

@@ -1,0 +1,447 @@
+//! The keeper, who changes the caches, one at a time.
+
+ghost use Rattle.std.specs.Prelude.{◌≡◌, ◌≢◌, ◌↔◌, ℕ, suc, zero, ◌+◌, ◌*◌, ◌^◌, ◌<◌, ◌≤◌, [], ◌∷◌, Option, Some, None, length, slice_index, true, false, not, cond, IfOk, replicate, MatchOption, IfSome, IsNone, is_some, ◌⊎◌};
+ghost use Rattle.msg_names.specs.Number.{selector_number, imp_number};
+ghost use Rattle.msg_buckets.specs.Word.{word_of};
+ghost use Rattle.msg_buckets.specs.Capacity.{IsCapacity, fill_limit};
+ghost use Rattle.msg_buckets.specs.Probing.{empty as empty_end};
+ghost use Rattle.msg_buckets.specs.Array.{find_in, occupied_in};
+ghost use Rattle.msg_names.specs.declared.value.ClassRef.{ClassRef};
+ghost use Rattle.msg_tables.specs.History.{lookup, and_then, empty, BeginsWith};
+ghost use Rattle.msg_tables.specs.Affected.{is_affected};
+ghost use Rattle.msg_tables.specs.Refusal.{refusal};
+ghost use Rattle.msg_core.specs.State.{capacity as capacity_of, size, awaits};
+ghost use Rattle.msg_core.specs.Steps.{is_free};
+ghost use Rattle.msg_core.specs.declared.state.Standing.TheVariants.{Free, Live};
+ghost use Rattle.msg_cache.specs.declared.view.TurnAt.TheVariants.{Never};
+ghost use Rattle.msg_cache.specs.Layout.{layout_of, header_at};
+ghost use Rattle.msg_cache.specs.Plays.{kept, keeper_of, flushed, installed, committed, lent, turn_in, turn_view, is_lent, sender_in, given_out, taken_in, newcomer};
+ghost use Rattle.msg_cache.specs.Keeping.{header as header_of, standing_of, array_words, remember, way_of, OnUse, OnTake, CanUse, lowest_free, filled, grown, Fills, Collects};
+ghost use Rattle.msg_cache.specs.Rule.{live_in};
+ghost use Rattle.msg_cache.specs.Views.{layout, classes, IsSenderOf};
+ghost use Rattle.msg_image.specs.Parts.{class_total};
+
+use crate::answer::{Filled, Report, Way};
+use crate::arena::Arena;
+use crate::collecting::collect_into;
+use crate::filling::{first_free, retire_in, start_of, way_in_array};
+use crate::prober::Prober;
+use crate::steps::{
+    Seat, header_at, join_sender, join_turn, recall, split_sender, split_turn, store_array,
+    store_count, store_entry, store_none,
+};
+use crate::view::View;
+use atomic_table::Badge;
+use msg_buckets::{first_place, pack};
+use msg_core::{Standing, everyone};
+use msg_image::Change;
+use msg_names::{ClassRef, ImpRef, Selector};
+use std::alloc::{AllocError, Global};
+use std::marker::Model;
+use std::mem::replace;
+
+/// The keeper, with its own copy of all words but the probe words.
+#[derive(Drop)]
+pub struct Keeper {
+    pub(crate) seat: Seat,
+    words: Vec<u64>,
+    standings: Vec<Standing>,
+    // how many entries each array has
+    pub(crate) occupied: Vec<u32>,
+    // the capacity that the next array of each class reference without one has, or 0 for the least
+    pub(crate) remembered: Vec<u32>,
+    given: Vec<bool>,
+    count: u64,
+    lent: bool,
+    // of each capacity, the arrays from this one up to that one aren't free
+    searched_from: [usize; 9],
+    searched_to: [usize; 9],
+    // the arrays that were installed before
+    pub(crate) used: Vec<bool>,
+    report: Report,
+    pub ghost keeper: { seat.me ≡ kept (keeper_of seat.me.0) },
+    pub ghost words_are: { words.items ≡ (keeper_of seat.me.0).words },
+    pub ghost standings_are: { standings.items ≡ (keeper_of seat.me.0).standings },
+    pub ghost given_are: { given.items ≡ (keeper_of seat.me.0).given },
+    pub ghost count_is: { count ≡ size (keeper_of seat.me.0).history },
+    pub ghost searched: { (i a : ℕ) → slice_index searched_from i ≤ a → a < slice_index searched_to i → is_free (standing_of (keeper_of seat.me.0) a) ≡ false },
+    pub ghost lent_is: { lent ≡ is_lent (keeper_of seat.me.0).turn },
+}
+
+/// The right to change the history.
+#[derive(Drop)]
+pub struct Turn {
+    badge: Badge<View>,
+}
+
+impl Model for Turn {
+    ghost use Rattle.msg_cache.specs.Views.{TurnView};
+
+    ghost Value = { TurnView };
+
+    ghost use Rattle.std.specs.Coded.{codes};
+    ghost use Rattle.msg_image.specs.Coding.{coded_expression};
+    ghost use Rattle.atomic_table.specs.Seated.{table_id_coded};
+
+    ghost coded = { Prim.hlevel (codes, coded_expression, table_id_coded) };
+
+    ghost use Rattle.msg_cache.specs.Inside.{turn_of_badge, IsTurn};
+
+    ghost view = { turn_of_badge };
+
+    ghost invariant = { IsTurn };
+}
+
+impl Keeper {
+    ghost use Rattle.msg_cache.specs.Ours.{view, IsOf};
+
+    // The keeper of an arena that was just made.
+    pub(crate) fn first(
+        alloc: Global,
+        seat: Seat,
+        words: usize,
+        arrays: usize,
+        classes: usize,
+        senders: usize,
+    ) -> Result<Keeper, AllocError>
+        requires classes { classes < 2 ^ 32 }
+        requires seat { (seat.me ≡ kept (keeper_of seat.me.0)) × (size (keeper_of seat.me.0).history ≡ 0) × ((keeper_of seat.me.0).turn ≡ Never) }
+        requires words { (keeper_of seat.me.0).words ≡ replicate words 0 }
+        requires arrays { (keeper_of seat.me.0).standings ≡ replicate arrays Free }
+        requires senders { (keeper_of seat.me.0).given ≡ replicate senders false }
+        ensures seat { IfOk result (λ keeper. (keeper.seat.table_id ≡ seat.table_id) × (keeper.seat.me ≡ seat.me)) }
+        ensures counts { IfOk result (λ keeper. (keeper.occupied.items ≡ replicate arrays 0) × (keeper.remembered.items ≡ replicate (2 * classes) 0) × (length keeper.used.items ≡ arrays)) }
+    {
+        Ok(Keeper {
+            words: vec![in alloc; 0; words]?,
+            standings: vec![in alloc; Standing::Free; arrays]?,
+            occupied: vec![in alloc; 0; arrays]?,
+            remembered: vec![in alloc; 0; 2 * classes]?,
+            given: vec![in alloc; false; senders]?,
+            used: vec![in alloc; false; arrays]?,
+            count: 0,
+            lent: false,
+            searched_from: [0; 9],
+            searched_to: [0; 9],
+            report: Report::default(),
+            seat,
+        })
+    }
+
+    // What an entry of a class reference needs.
+    fn way(&self, arena: &Arena, class: ClassRef, selector: Selector) -> Way
+        requires arena { IsOf arena.now self.now }
+        requires class { class.class < classes arena.now }
+        ensures way { result ≡ way_of (layout arena.now) self.now.remembered.items (view self.now) class (selector_number selector) }
+        ensures uses { OnUse result (CanUse (layout arena.now) (view self.now) class (selector_number selector)) }
+        ensures takes { OnTake result IsCapacity }
+    {
+        let at = header_at(class);
+        let header = self.words[at];
+        if header == 0 {
+            let remembered = self.remembered[at - 1];
+            return Way::Take(if remembered == 0 { 4 } else { remembered });
+        }
+        let array = (header - 1) as usize;
+        let base = arena.base(array);
+        let capacity = arena.capacity(array) as usize;
+        way_in_array(
+            &self.words[base..base + capacity],
+            self.occupied[array],
+            selector,
+            array,
+        )
+    }
+
+    // The lowest free array of a capacity.
+    fn free_array(&mut self, arena: &Arena, capacity: u32) -> Option<usize>
+        requires arena { IsOf arena.now self.old }
+        requires capacity { IsCapacity capacity }
+        ensures arena { IsOf arena.now self.new }
+        ensures remembered { self.new.remembered.items ≡ self.old.remembered.items }
+        ensures view { view self.new ≡ view self.old }
+        ensures lowest { result ≡ lowest_free (layout arena.now) capacity (view self.old) }
+        ensures free { IfSome result (λ a. (a < length arena.now.key.capacities) × (standing_of (view self.old) a ≡ Free)) }
+    {
+        let (from, until) = arena.group(capacity);
+        let at = capacity.trailing_zeros() as usize - 2;
+        let start = start_of(from, until, self.searched_from[at], self.searched_to[at]);
+        let end = first_free(&self.standings, start, until);
+        self.searched_from[at] = from;
+        self.searched_to[at] = end;
+        if end < until { Some(end) } else { None }
+    }
+
+    // Fill.
+    fn put(
+        &mut self,
+        arena: &Arena,
+        class: ClassRef,
+        array: usize,
+        place: usize,
+        selector: Selector,
+        implementation: ImpRef,
+    )
+        requires arena { IsOf arena.now self.old }
+        requires live { standing_of (view self.old) array ≡ Live class }
+        requires found { find_in (array_words (layout arena.now) (view self.old) array) (selector_number selector) ≡ empty_end place }
+        requires room { occupied_in (array_words (layout arena.now) (view self.old) array) + 1 ≤ fill_limit (capacity_of (layout arena.now) array) }
+        requires agrees { imp_number implementation ≡ lookup (view self.old).history class (selector_number selector) }
+        ensures arena { IsOf arena.now self.new }
+        ensures remembered { self.new.remembered.items ≡ self.old.remembered.items }
+        ensures view { view self.new ≡ filled (layout arena.now) array place (word_of (selector_number selector) (imp_number implementation)) (view self.old) }
+    {
+        let shared = arena.shared();
+        let base = arena.base(array);
+        let word = pack(selector, implementation);
+        store_entry(shared, &mut self.seat, class, array, base, place, word);
+        self.words[base + place] = word;
+        self.occupied[array] += 1;
+        self.report.fills = self.report.fills.saturating_add(1);
+    }
+
+    // Install.
+    fn install(&mut self, arena: &Arena, class: ClassRef, array: usize)
+        requires arena { IsOf arena.now self.old }
+        requires class { class.class < classes arena.now }
+        requires array { array < length arena.now.key.capacities }
+        requires free { standing_of (view self.old) array ≡ Free }
+        ensures arena { IsOf arena.now self.new }
+        ensures remembered { self.new.remembered.items ≡ self.old.remembered.items }
+        ensures view { view self.new ≡ installed class array (view self.old) }
+    {
+        let at = header_at(class);
+        let header = self.words[at];
+        let shared = arena.shared();
+        store_array(shared, &mut self.seat, class, array as u32);
+        let awaited = everyone(self.given.len());
+        retire_in(
+            &mut self.standings,
+            header,
+            class,
+            self.count as usize,
+            &awaited,
+        );
+        self.standings[array] = Standing::Live(class);
+        self.words[at] = array as u64 + 1;
+        if header != 0 {
+            self.report.retired = self.report.retired.saturating_add(1);
+        }
+        if self.used[array] {
+            self.report.given_again = self.report.given_again.saturating_add(1);
+        }
+        self.used[array] = true;
+        self.report.growths = self.report.growths.saturating_add(1);
+    }
+
+    // Install, then Fill.
+    fn grow(
+        &mut self,
+        arena: &Arena,
+        class: ClassRef,
+        array: usize,
+        selector: Selector,
+        implementation: ImpRef,
+    )
+        requires arena { IsOf arena.now self.old }
+        requires class { class.class < classes arena.now }
+        requires array { array < length arena.now.key.capacities }
+        requires free { standing_of (view self.old) array ≡ Free }
+        requires agrees { imp_number implementation ≡ lookup (view self.old).history class (selector_number selector) }
+        ensures arena { IsOf arena.now self.new }
+        ensures remembered { self.new.remembered.items ≡ self.old.remembered.items }
+        ensures view { view self.new ≡ grown (layout arena.now) class (selector_number selector) (imp_number implementation) array (view self.old) }
+    {
+        self.install(arena, class, array);
+        let place = first_place(selector, arena.capacity(array));
+        self.put(arena, class, array, place, selector, implementation);
+    }
+
+    /// Looks at each sender, and makes the arrays free that nobody holds any more. Answers how many.
+    pub fn collect(&mut self, arena: &Arena) -> u32
+        requires arena { IsOf arena.now self.old }
+        ensures arena { IsOf arena.now self.new }
+        ensures remembered { self.new.remembered.items ≡ self.old.remembered.items }
+        ensures collects { Collects (layout arena.now) (view self.old) (view self.new) result }
+    {
+        self.searched_to = [0; 9];
+        collect_into(
+            arena,
+            &mut self.seat,
+            &mut self.words,
+            &mut self.standings,
+            &mut self.occupied,
+            &self.remembered,
+        )
+    }
+
+    /// Caches what was found for a selector in a class reference.
+    pub fn fill(
+        &mut self,
+        arena: &Arena,
+        class: ClassRef,
+        selector: Selector,
+        implementation: ImpRef,
+    ) -> Filled
+        requires arena { IsOf arena.now self.old }
+        requires class { class.class < classes arena.now }
+        requires agrees { imp_number implementation ≡ lookup (view self.old).history class (selector_number selector) }
+        ensures arena { IsOf arena.now self.new }
+        ensures remembered { self.new.remembered.items ≡ self.old.remembered.items }
+        ensures fills { Fills (layout arena.now) self.old.remembered.items class (selector_number selector) (imp_number implementation) (view self.old) (view self.new) result }
+    {
+        match self.way(arena, class, selector) {
+            Way::Present => Filled::Present,
+            Way::Use(array, place) => {
+                self.put(arena, class, array, place, selector, implementation);
+                Filled::Used
+            }
+            Way::Take(capacity) => {
+                if let Some(array) = self.free_array(arena, capacity) {
+                    self.grow(arena, class, array, selector, implementation);
+                    return Filled::Grown;
+                }
+                let _freed = self.collect(arena);
+                if let Some(array) = self.free_array(arena, capacity) {
+                    self.grow(arena, class, array, selector, implementation);
+                    return Filled::Grown;
+                }
+                Filled::NoArray
+            }
+        }
+    }
+
+    /// What was done so far.
+    pub fn report(&self) -> Report
+        ensures { result ≡ self.now.report }
+    {
+        self.report
+    }
+
+    /// Takes the live array of a class reference away, and says whether there was one.
+    pub fn flush(&mut self, arena: &Arena, class: ClassRef) -> bool
+        requires arena { IsOf arena.now self.old }
+        requires class { class.class < classes arena.now }
+        ensures arena { IsOf arena.now self.new }
+        ensures flushed { view self.new ≡ cond result (flushed class (view self.old)) (view self.old) }
+        ensures none { result ≡ false → header_of (view self.old) class ≡ 0 }
+        ensures some { result ≡ true → (a : ℕ) × (header_of (view self.old) class ≡ suc a) }
+        ensures remembered { self.new.remembered.items ≡ remember (layout arena.now) class (header_of (view self.old) class) self.old.remembered.items }
+    {
+        let place = header_at(class);
+        let header = self.words[place];
+        if header == 0 {
+            return false;
+        }
+        let array = (header - 1) as usize;
+        let capacity = arena.capacity(array);
+        let shared = arena.shared();
+        store_none(shared, &mut self.seat, class, array);
+        self.words[place] = 0;
+        let awaited = everyone(self.given.len());
+        self.standings[array] = Standing::Retired(class, self.count as usize, awaited);
+        self.remembered[place - 1] = capacity;
+        self.report.flushes = self.report.flushes.saturating_add(1);
+        self.report.retired = self.report.retired.saturating_add(1);
+        true
+    }
+
+    /// Adds a change to the history, and answers how many there are.
+    pub fn commit(&mut self, arena: &Arena, turn: &mut Turn, change: &Change) -> u64
+        requires arena { IsOf arena.now self.old }
+        requires turn { turn.old.table ≡ arena.now.table }
+        requires accepted { refusal (view self.old).history change.now ≡ None }
+        requires flushed { (c : ClassRef) → c.class < classes arena.now → is_affected (view self.old).history change.now c ≡ true
+            → live_in (layout arena.now) (view self.old).words c ≡ None }
+        ensures arena { IsOf arena.now self.new }
+        ensures remembered { self.new.remembered.items ≡ self.old.remembered.items }
+        ensures turn { turn.new.table ≡ turn.old.table }
+        ensures committed { view self.new ≡ lent (committed change.now (view self.old)) }
+        ensures turn_was { turn.old.history ≡ (view self.old).history }
+        ensures turn_is { turn.new.history ≡ (view self.new).history }
+        ensures count { result ≡ size (view self.new).history }
+    {
+        let shared = arena.shared();
+        let badge = replace(&mut turn.badge, Badge::blank());
+        join_turn(shared, &mut self.seat, badge.into_seat());
+        let count = self.count + 1;
+        store_count(shared, &mut self.seat, count, change);
+        self.words[0] = count;
+        self.count = count;
+        turn.badge = split_turn(shared, &mut self.seat).into_badge();
+        self.lent = true;
+        count
+    }
+
+    /// Changes nothing, and shows that the turn's history is the keeper's.
+    pub fn face(&mut self, arena: &Arena, turn: &mut Turn)
+        requires arena { IsOf arena.now self.old }
+        requires turn { turn.old.table ≡ arena.now.table }
+        ensures arena { IsOf arena.now self.new }
+        ensures remembered { self.new.remembered.items ≡ self.old.remembered.items }
+        ensures turn { turn.new.table ≡ turn.old.table }
+        ensures same { view self.new ≡ lent (view self.old) }
+        ensures turn_was { turn.old.history ≡ (view self.old).history }
+        ensures turn_is { turn.new.history ≡ (view self.new).history }
+    {
+        let shared = arena.shared();
+        let badge = replace(&mut turn.badge, Badge::blank());
+        join_turn(shared, &mut self.seat, badge.into_seat());
+        recall(shared, &mut self.seat);
+        turn.badge = split_turn(shared, &mut self.seat).into_badge();
+        self.lent = true;
+    }
+
+    /// The right to change the history: once, and then none.
+    pub fn turn(&mut self, arena: &Arena) -> Option<Turn>
+        requires arena { IsOf arena.now self.old }
+        ensures arena { IsOf arena.now self.new }
+        ensures remembered { self.new.remembered.items ≡ self.old.remembered.items }
+        ensures view { view self.new ≡ cond (is_some result) (lent (view self.old)) (view self.old) }
+        ensures once { is_some result ≡ not (is_lent (view self.old).turn) }
+        ensures turn { IfSome result (λ turn. (turn.table ≡ arena.now.table) × (turn.history ≡ empty arena.now.key.image)) }
+    {
+        if self.lent {
+            return None;
+        }
+        let shared = arena.shared();
+        let badge = split_turn(shared, &mut self.seat).into_badge();
+        self.lent = true;
+        Some(Turn { badge })
+    }
+
+    /// A sender of this number, who has seen all that the keeper has.
+    pub fn give_out(&mut self, arena: &Arena, number: u32) -> Option<Prober>
+        requires arena { IsOf arena.now self.old }
+        ensures arena { IsOf arena.now self.new }
+        ensures remembered { self.new.remembered.items ≡ self.old.remembered.items }
+        ensures view { view self.new ≡ cond (is_some result) (given_out number (view self.old)) (view self.old) }
+        ensures none { IsNone result ↔ ((arena.now.key.senders ≤ number) ⊎ (awaits (view self.old).given number ≡ true)) }
+        ensures some { IfSome result (λ prober. IsSenderOf arena.now prober × (prober.sender ≡ newcomer number (view self.old).history)) }
+    {
+        let place = number as usize;
+        if place >= self.given.len() || self.given[place] {
+            return None;
+        }
+        let shared = arena.shared();
+        let seat = split_sender(shared, &mut self.seat, number);
+        self.given[place] = true;
+        Some(Prober::of(seat, number))
+    }
+
+    /// Takes a sender back.
+    pub fn take_in(&mut self, arena: &Arena, prober: Prober)
+        requires arena { IsOf arena.now self.old }
+        requires prober { IsSenderOf arena.now prober }
+        ensures arena { IsOf arena.now self.new }
+        ensures remembered { self.new.remembered.items ≡ self.old.remembered.items }
+        ensures taken { view self.new ≡ taken_in (prober.sender) (view self.old) }
+        ensures begins { BeginsWith (view self.new).history (prober.sender).front }
+    {
+        let shared = arena.shared();
+        let place = prober.number() as usize;
+        join_sender(shared, &mut self.seat, prober.into_seat());
+        recall(shared, &mut self.seat);
+        self.given[place] = false;
+    }
+}

@@ -1,0 +1,22 @@
+//! Method caches that threads share.
+#![tactic(auto)]
+
+mod answer;
+mod arena;
+mod collecting;
+mod config;
+mod filling;
+mod keeper;
+mod law;
+pub mod laws;
+mod plays;
+mod prober;
+mod setting;
+mod steps;
+mod view;
+
+pub use answer::{Filled, Report};
+pub use arena::Arena;
+pub use config::{ArenaFault, Config};
+pub use keeper::{Keeper, Turn};
+pub use prober::{Pause, Prober};

@@ -1,0 +1,196 @@
+//! Senders, who read caches without a lock.
+
+ghost use Rattle.std.specs.Prelude.{◌≡◌, ◌≢◌, ◌+◌, ◌<◌, [], ◌∷◌, length, IfSome, IfNone};
+ghost use Rattle.msg_names.specs.Number.{selector_number, imp_number};
+ghost use Rattle.msg_tables.specs.History.{BeginsWith, lookup};
+ghost use Rattle.msg_core.specs.State.{size};
+ghost use Rattle.msg_core.specs.declared.state.Whereabouts.TheVariants.{In, Out};
+ghost use Rattle.msg_cache.specs.Plays.{seated, sender_of};
+ghost use Rattle.msg_cache.specs.Record.{Probes, Hits, Misses};
+ghost use Rattle.msg_cache.specs.Rule.{IsAccepted};
+ghost use Rattle.msg_cache.specs.Views.{layout, classes, IsSenderOf};
+
+use crate::arena::Arena;
+use crate::steps::{Seat, enter, leave, load_bucket, load_header, load_version};
+use crate::view::View;
+use atomic_table::Badge;
+use msg_buckets::{Look, first_place, look_at, next_place};
+use msg_names::{ClassRef, ImpRef, Selector};
+use std::marker::{Brand, Model};
+use std::mem::replace;
+
+/// What is called between the loads of a probe.
+pub trait Pause {
+    /// Is called before each load of a header or bucket word, with the number of such loads made before in this probe.
+    fn at(&mut self, loads: u32);
+}
+
+// Nothing is called.
+#[derive(Clone, Copy)]
+pub(crate) struct NoPause;
+
+impl Pause for NoPause {
+    #[inline(always)]
+    fn at(&mut self, _loads: u32) {}
+}
+
+// Searches the live array of a class reference, with the sender in.
+// Answers with the number of bucket words that were loaded.
+pub(crate) fn search<P: Pause>(
+    arena: &Arena,
+    seat: &mut Seat,
+    class: ClassRef,
+    sel: Selector,
+    pause: &mut P,
+) -> (Option<ImpRef>, u32)
+    requires table { seat.old.table_id ≡ arena.now.table }
+    requires sender { seat.old.me ≡ seated (sender_of seat.old.me.0) }
+    requires inside { (sender_of seat.old.me.0).whereabouts ≡ In }
+    requires class { class.class < classes arena.now }
+    ensures seat { (seat.new.table_id ≡ seat.old.table_id) × (seat.new.id ≡ seat.old.id) }
+    ensures sender { seat.new.me ≡ seated (sender_of seat.new.me.0) }
+    ensures inside { (sender_of seat.new.me.0).whereabouts ≢ Out }
+    ensures probes { Probes (layout arena.now) class (selector_number sel) (sender_of seat.old.me.0) (sender_of seat.new.me.0) }
+    ensures loads { result.1 ≡ length (sender_of seat.new.me.0).last.reads }
+    ensures some { IfSome result.0 (λ imp. Hits (sender_of seat.new.me.0).last (imp_number imp) × (imp_number imp ≡ lookup (sender_of seat.new.me.0).front class (selector_number sel))) }
+    ensures none { IfNone result.0 (Misses (layout arena.now) (sender_of seat.new.me.0).last) }
+{
+    let shared = arena.shared();
+    pause.at(0);
+    let header = load_header::<Brand>(shared, seat, class, sel);
+    if header == 0 {
+        return (None, 0);
+    }
+    let array = (header - 1) as usize;
+    let base = arena.base(array);
+    let capacity = arena.capacity(array);
+    let mut place = first_place(sel, capacity);
+    for step in 0..capacity {
+        pause.at(step + 1);
+        let word = load_bucket(shared, seat, array, base, place);
+        match look_at(word, sel) {
+            Look::Hit(imp) => return (Some(imp), step + 1),
+            Look::Empty => return (None, step + 1),
+            Look::Other => place = next_place(place, capacity),
+        }
+    }
+    (None, capacity)
+}
+
+/// A sender.
+#[derive(Drop)]
+pub struct Prober {
+    badge: Badge<View>,
+    number: u32,
+    loads: u32,
+}
+
+impl Model for Prober {
+    ghost use Rattle.msg_cache.specs.Views.{ProberView};
+
+    ghost Value = { ProberView };
+
+    ghost use Rattle.std.specs.Coded.{codes};
+    ghost use Rattle.msg_image.specs.Coding.{coded_expression};
+    ghost use Rattle.atomic_table.specs.Seated.{table_id_coded};
+
+    ghost coded = { Prim.hlevel (codes, coded_expression, table_id_coded) };
+
+    ghost use Rattle.msg_cache.specs.Inside.{prober_view, IsProber};
+
+    ghost view = { prober_view };
+
+    ghost invariant = { IsProber };
+}
+
+impl Prober {
+    // A sender that probed nothing.
+    pub(crate) fn of(seat: Seat, number: u32) -> Prober
+        requires sender { seat.me ≡ seated (sender_of seat.me.0) }
+        requires number { (sender_of seat.me.0).number ≡ number }
+        requires out { (sender_of seat.me.0).whereabouts ≡ Out }
+        requires reads { (sender_of seat.me.0).last.reads ≡ [] }
+        ensures { result ≡ record { table = seat.table_id; sender = sender_of seat.me.0 } }
+    {
+        Prober {
+            badge: seat.into_badge(),
+            number,
+            loads: 0,
+        }
+    }
+
+    pub(crate) fn into_seat(self) -> Seat
+        ensures table { result.table_id ≡ self.table }
+        ensures sender { result.me ≡ seated self.sender }
+        ensures out { self.sender.whereabouts ≡ Out }
+    {
+        self.badge.into_seat()
+    }
+
+    /// The implementation that the class reference's cache has for the selector, if it has one. No lock is taken.
+    pub fn probe(&mut self, arena: &Arena, class: ClassRef, sel: Selector) -> Option<ImpRef>
+        requires arena { IsSenderOf arena.now self.old }
+        requires class { class.class < classes arena.now }
+        ensures arena { IsSenderOf arena.now self.new }
+        ensures probes { Probes (layout arena.now) class (selector_number sel) self.old.sender self.new.sender }
+        ensures some { IfSome result (λ imp. Hits self.new.sender.last (imp_number imp) × (imp_number imp ≡ lookup self.new.sender.front class (selector_number sel))) }
+        ensures none { IfNone result (Misses (layout arena.now) self.new.sender.last) }
+    {
+        self.probe_paused(arena, class, sel, &mut NoPause)
+    }
+
+    /// The same, with a call before each load of a header or bucket word.
+    pub fn probe_paused<P: Pause>(
+        &mut self,
+        arena: &Arena,
+        class: ClassRef,
+        sel: Selector,
+        pause: &mut P,
+    ) -> Option<ImpRef>
+        requires arena { IsSenderOf arena.now self.old }
+        requires class { class.class < classes arena.now }
+        ensures arena { IsSenderOf arena.now self.new }
+        ensures probes { Probes (layout arena.now) class (selector_number sel) self.old.sender self.new.sender }
+        ensures some { IfSome result (λ imp. Hits self.new.sender.last (imp_number imp) × (imp_number imp ≡ lookup self.new.sender.front class (selector_number sel))) }
+        ensures none { IfNone result (Misses (layout arena.now) self.new.sender.last) }
+    {
+        let mut seat = replace(&mut self.badge, Badge::blank()).into_seat();
+        let shared = arena.shared();
+        let word = arena.probe_at(self.number);
+        enter(shared, &mut seat, word);
+        let (found, loads) = search(arena, &mut seat, class, sel, pause);
+        leave(shared, &mut seat, word);
+        self.badge = seat.into_badge();
+        self.loads = loads;
+        found
+    }
+
+    /// How many changes were made.
+    pub fn published(&mut self, arena: &Arena) -> u64
+        requires arena { IsSenderOf arena.now self.old }
+        ensures arena { IsSenderOf arena.now self.new }
+        ensures number { self.new.sender.number ≡ self.old.sender.number }
+        ensures begins { BeginsWith self.new.sender.front self.old.sender.front }
+        ensures accepted { IsAccepted self.new.sender.front }
+        ensures length { result ≡ size self.new.sender.front }
+    {
+        let mut seat = replace(&mut self.badge, Badge::blank()).into_seat();
+        let shared = arena.shared();
+        let count = load_version(shared, &mut seat);
+        self.badge = seat.into_badge();
+        count
+    }
+
+    /// How many bucket words the last probe loaded, 0 before the first.
+    pub fn last_loads(&self) -> u32
+        ensures { result ≡ length self.now.sender.last.reads }
+    {
+        self.loads
+    }
+
+    pub fn number(&self) -> u32
+        ensures { result ≡ self.now.sender.number }
+    {
+        self.number
+    }
+}

@@ -1,0 +1,69 @@
+//! What seats know. No value of these types is made: they are for contracts alone.
+
+use msg_core::{Standing, Whereabouts};
+use msg_image::{Change, Image};
+use msg_names::ClassRef;
+use std::collections::LinkedList;
+use std::marker::Model;
+
+/// A history: contracts see it as that of the class tables.
+pub struct Past {
+    image: Image,
+    changes: LinkedList<Change>,
+}
+
+impl Model for Past {
+    ghost use Rattle.msg_tables.specs.History.{History};
+
+    ghost Value = { History };
+
+    ghost use Rattle.std.specs.Coded.{codes};
+    ghost use Rattle.msg_image.specs.Coding.{coded_expression};
+
+    ghost coded = { Prim.hlevel (codes, coded_expression) };
+
+    ghost view = { λ p. record { image = p.image; changes = p.changes } };
+}
+
+/// The last probe: what was sought, the array that the header word named, and the words then read, each with its place in the table.
+pub struct Record {
+    pub class: ClassRef,
+    pub sel: u64,
+    pub array: Option<u64>,
+    pub reads: LinkedList<(u64, u64)>,
+}
+
+/// What a sender's seat knows: its number, what it has seen of the history, where it is, how many header loads it made, and the last probe.
+pub struct SenderView {
+    pub number: u64,
+    pub front: Past,
+    pub whereabouts: Whereabouts,
+    pub count: u64,
+    pub last: Record,
+}
+
+/// Where the right to change the history is.
+pub enum TurnAt {
+    Never,
+    Away,
+    Home(Past),
+}
+
+/// What the keeper's seat knows: the history, a copy of all words but the probe words, what each array is for, which sender numbers are
+/// given out, where the turn is, and what a joined sender had seen.
+pub struct KeeperView {
+    pub history: Past,
+    pub words: LinkedList<u64>,
+    pub standings: LinkedList<Standing>,
+    pub given: LinkedList<bool>,
+    pub turn: TurnAt,
+    pub told: Past,
+}
+
+/// What a seat knows. A seat that was joined to another knows nothing.
+pub enum View {
+    Sender(SenderView),
+    Keeper(KeeperView),
+    Turn(Past),
+    Spent,
+}
