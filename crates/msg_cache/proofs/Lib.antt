@@ -11,6 +11,7 @@ pub mod OpeningLemmas
 pub mod OrderLemmas
 pub mod PastLemmas
 pub mod ProbeLemmas
+pub mod RestLemmas
 pub mod SeatLemmas
 pub mod SenderLemmas
 pub mod ShownLemmas

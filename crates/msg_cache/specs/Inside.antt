@@ -10,6 +10,7 @@ use Rattle.msg_cache.specs.Keeping.{IsGroup}
 use Rattle.msg_cache.specs.Plays.{sender_in, sender_view, turn_in, turn_view}
 use Rattle.msg_cache.specs.Views.{ArenaView, ProberView, TurnView}
 
+-- an arena is its table, and what that was made for
 abbrev pub arena_view : ArenaInside → ArenaView
 arena_view a = record { table = a.table.shared.table_id; key = a.table.shared.key }
 
@@ -26,17 +27,21 @@ pub record IsArena (a : ArenaInside) : Type 0 where
   pub words : a.table.shared.table_id.words ≡ word_count (layout_of a.table.shared.key)
   pub few_words : a.table.shared.table_id.words < 2 ^ 32
 
+-- a sender is what its seat knows, on its table
 abbrev pub prober_view : ProberInside → ProberView
 prober_view p = record { table = p.badge.table_id; sender = sender_in p.badge.views }
 
+-- the badge is that of one sender's seat, which is out, and the fields say its number and how many words its last probe loaded
 pub record IsProber (p : ProberInside) : Type 0 where
   pub views : p.badge.views ≡ sender_view (sender_in p.badge.views) ∷ []
   pub number : (sender_in p.badge.views).number ≡ p.number
   pub out : (sender_in p.badge.views).whereabouts ≡ Out
   pub loads : p.loads ≡ length (sender_in p.badge.views).last.reads
 
+-- a turn is the history that its seat knows, on its table
 abbrev pub turn_of_badge : TurnInside → TurnView
 turn_of_badge t = record { table = t.badge.table_id; history = turn_in t.badge.views }
 
+-- the badge is that of the turn's seat
 abbrev pub IsTurn : TurnInside → Type 0
 IsTurn t = t.badge.views ≡ turn_view (turn_in t.badge.views) ∷ []

@@ -193,9 +193,15 @@ HasRoom z k c = (a : ℕ) × (header k c ≡ suc a) × (plan_of (capacity z a) (
 abbrev pub NoneIsFree : Layout → KeeperView → KeeperView → Type 0
 NoneIsFree z k k' = (n : ℕ) × (lowest_free z n k ≡ None) × (outs : List Bool) × (lowest_free z n (collected z outs k) ≡ None) × (k' ≡ collected z outs k)
 
+-- which answer of a fill comes when: nothing was done where the selector is there, the live array is used where it has room, and only then is an array needed
 abbrev pub FillLaw : Type 0
 FillLaw = (z : Layout) (remembered : List ℕ) (c : ClassRef) (s i : ℕ) (k k' : KeeperView) (answer : Filled) → Fills z remembered c s i k k' answer
     → ((answer ≡ DidNothing) ↔ IsPresent z k c s) × ((answer ≡ Used) ↔ ((IsPresent z k c s → ⊥) × HasRoom z k c)) × ((answer ≡ DidNothing) → k' ≡ k) × ((answer ≡ NoArray) → NoneIsFree z k k')
+
+-- A fill changes caches alone: not the history, nor which sender numbers are given out, nor where the turn is.
+abbrev pub FillKeeps : Type 0
+FillKeeps = (z : Layout) (remembered : List ℕ) (c : ClassRef) (s i : ℕ) (k k' : KeeperView) (answer : Filled) → Fills z remembered c s i k k' answer
+    → (k'.history ≡ k.history) × (k'.given ≡ k.given) × (k'.turn ≡ k.turn)
 
 -- ---- between calls
 

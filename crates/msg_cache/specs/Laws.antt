@@ -43,12 +43,15 @@ pub record IsNone (key : SettingView) (s : Table ℕ View) (r : holds lookup key
 
 -- ---- the state
 
+-- however the rule holds of a table, the state that is shown is one
 abbrev pub OneIsShown : Type 0
 OneIsShown = (key : SettingView) (s : Table ℕ View) (r r' : holds lookup key s) → shown_at key s r ≡ shown_at key s r'
 
+-- the state that is shown is lawful, in the words of the machine
 abbrev pub ShownIsLawful : Type 0
 ShownIsLawful = (key : SettingView) (s : Table ℕ View) (r : holds lookup key s) → Lawful lookup (layout_of key) (shown_at key s r)
 
+-- it is lawful and its numbers are in range
 abbrev pub ShownIsSound : Type 0
 ShownIsSound = (key : SettingView) (s : Table ℕ View) (r : holds lookup key s) → Sound lookup (layout_of key) (shown_at key s r)
 
@@ -63,9 +66,11 @@ OpeningIsShown = (key : SettingView) → IsSound key.image → 0 < key.senders
 abbrev pub OfSender : ((key : SettingView) (s : Table ℕ View) → holds lookup key s → ℕ → SenderView → Type 0) → Type 0
 OfSender P = (key : SettingView) (s : Table ℕ View) (r : holds lookup key s) (id : ℕ) (v : SenderView) → get_elem? s.views id ≡ some (Sender v) → P key s r id v
 
+-- the store of 1 in the probe word of a sender that is out is Enter
 abbrev pub EnterIsEnter : Type 0
 EnterIsEnter = OfSender (λ key s r id v. v.whereabouts ≡ Out → IsEvent key s r (Enter v.number) (stepped s (probe_at (layout_of key) v.number) 1 id [] (Sender (gone_to v v.front In)) keeps))
 
+-- the store of 0 in the probe word of a sender that isn't out is Leave
 abbrev pub LeaveIsLeave : Type 0
 LeaveIsLeave = OfSender (λ key s r id v. v.whereabouts ≢ Out → IsEvent key s r (Leave v.number) (stepped s (probe_at (layout_of key) v.number) 0 id [] (Sender (gone_to v v.front Out)) keeps))
 
@@ -75,11 +80,13 @@ HeaderIsHeader = OfSender (λ key s r id v. (c : ClassRef) (sel : ℕ) → v.whe
     → let n = slice_index s.words (header_at c) in
     IsEvent key s r (Header v.number c) (stepped s (header_at c) n id [] (Sender (headed c sel (shown_at key s r).history v n)) keeps))
 
+-- the load of a word of the array that a sender holds is Read
 abbrev pub BucketIsRead : Type 0
 BucketIsRead = OfSender (λ key s r id v. (a p : ℕ) → v.whereabouts ≡ Holding v.last.class a → p < capacity (layout_of key) a → 0 < v.last.sel
     → let i = base (layout_of key) a + p in let n = slice_index s.words i in
     (front : History) × IsEvent key s r (Read v.number p) (stepped s i n id [] (Sender (read_on front v i n)) keeps))
 
+-- a sender's load of the count of changes is no event, and the sender has then seen the whole history
 abbrev pub VersionIsNone : Type 0
 VersionIsNone = OfSender (λ key s r id v. ((c : ClassRef) (a : ℕ) → v.whereabouts ≢ Holding c a)
     → IsNone key s r (stepped s 0 (slice_index s.words 0) id [] (Sender (gone_to v (shown_at key s r).history v.whereabouts)) keeps))
@@ -97,6 +104,7 @@ Fills key s r id k = (c : ClassRef) (a p w : ℕ) → standing_at k.standings a 
     → let i = base (layout_of key) a + p in slice_index k.words i ≡ 0 → 0 < sel_of w → imp_of w ≡ lookup k.history c (sel_of w)
     → IsEvent key s r (Fill c p w) (stepped s i w id [] (Keeper (stored i w k)) keeps)
 
+-- a store over a word that is 0, of an entry that agrees with the lookup now, in a live array is Fill
 abbrev pub StoreIsFill : Type 0
 StoreIsFill = OfKeeper Fills
 
@@ -105,6 +113,7 @@ Installs key s r id k = (c : ClassRef) (a : ℕ) → c.class < class_total key.i
     → ((q : ℕ) → q < capacity (layout_of key) a → slice_index k.words (base (layout_of key) a + q) ≡ 0)
     → IsEvent key s r (Install c a) (stepped s (header_at c) (suc a) id [] (Keeper (installed c a k)) keeps)
 
+-- a store of an array's number and one in a header word, where the array is free and its words are 0, is Install
 abbrev pub StoreIsInstall : Type 0
 StoreIsInstall = OfKeeper Installs
 
@@ -112,6 +121,7 @@ abbrev pub Flushes : OfAKeeper
 Flushes key s r id k = (c : ClassRef) (a : ℕ) → c.class < class_total key.image → slice_index k.words (header_at c) ≡ suc a
     → IsEvent key s r (Flush c) (stepped s (header_at c) 0 id [] (Keeper (flushed c k)) keeps)
 
+-- a store of 0 in the header word of a class reference that has a live array is Flush
 abbrev pub StoreIsFlush : Type 0
 StoreIsFlush = OfKeeper Flushes
 
@@ -120,6 +130,7 @@ Looks key s r id k = (n : ℕ) → n < key.senders
     → let i = probe_at (layout_of key) n in let f = slice_index s.words i in
     IsEvent key s r (Look n) (stepped s i f id [] (Keeper (if f == 0 then looked n k else k)) keeps)
 
+-- the keeper's load of a probe word is Look
 abbrev pub LoadIsLook : Type 0
 LoadIsLook = OfKeeper Looks
 
@@ -127,6 +138,7 @@ abbrev pub Clears : OfAKeeper
 Clears key s r id k = (a p : ℕ) → standing_at k.standings a ≡ Free → p < capacity (layout_of key) a
     → let i = base (layout_of key) a + p in IsEvent key s r (Clear a p) (stepped s i 0 id [] (Keeper (stored i 0 k)) keeps)
 
+-- a store of 0 in a word of a free array is Clear
 abbrev pub StoreIsClear : Type 0
 StoreIsClear = OfKeeper Clears
 
@@ -134,6 +146,7 @@ abbrev pub Commits : OfAKeeper
 Commits key s r id k = (x : Change) (g : History) → k.turn ≡ Home g → Legal lookup (layout_of key) (shown_at key s r) (Commit x)
     → IsEvent key s r (Commit x) (stepped s 0 (size k.history + 1) id [] (Keeper (committed x k)) keeps)
 
+-- the store of the count of changes, one higher, while the turn is joined, where no live entry would disagree, is Commit
 abbrev pub StoreIsCommit : Type 0
 StoreIsCommit = OfKeeper Commits
 
@@ -142,6 +155,7 @@ StoreIsCommit = OfKeeper Commits
 abbrev pub Recalls : OfAKeeper
 Recalls key s r id k = IsNone key s r (stepped s 0 (slice_index s.words 0) id [] (Keeper k) keeps)
 
+-- the keeper's load of the count of changes is no event
 abbrev pub RecallIsNone : Type 0
 RecallIsNone = OfKeeper Recalls
 
@@ -149,6 +163,7 @@ abbrev pub Splits : OfAKeeper
 Splits key s r id k = (n : ℕ) → n < key.senders → awaits k.given n ≡ false
     → IsNone key s r (record { words = s.words; homes = s.homes; views = slice_set s.views id (Keeper (given_out n k)) ++ Sender (newcomer n k.history) ∷ [] })
 
+-- nor is it one that a sender's seat is split off
 abbrev pub SplitIsNone : Type 0
 SplitIsNone = OfKeeper Splits
 
@@ -156,6 +171,7 @@ abbrev pub Joins : OfAKeeper
 Joins key s r id k = (other : ℕ) (v : SenderView) → ¬ (other ≡ id) → v.whereabouts ≡ Out → get_elem? (slice_set s.views id (Keeper (taken_in v k))) other ≡ some (Sender v)
     → IsNone key s r (record { words = s.words; homes = s.homes; views = slice_set (slice_set s.views id (Keeper (taken_in v k))) other Spent })
 
+-- nor that the seat of a sender that is out is joined
 abbrev pub JoinIsNone : Type 0
 JoinIsNone = OfKeeper Joins
 
@@ -163,6 +179,7 @@ abbrev pub SplitsTurn : OfAKeeper
 SplitsTurn key s r id k = k.turn ≢ Away
     → IsNone key s r (record { words = s.words; homes = s.homes; views = slice_set s.views id (Keeper (lent k)) ++ Turn k.history ∷ [] })
 
+-- nor that the turn's seat is split off
 abbrev pub SplitTurnIsNone : Type 0
 SplitTurnIsNone = OfKeeper SplitsTurn
 
@@ -170,5 +187,6 @@ abbrev pub JoinsTurn : OfAKeeper
 JoinsTurn key s r id k = (other : ℕ) (g : History) → ¬ (other ≡ id) → get_elem? (slice_set s.views id (Keeper (at_home g k))) other ≡ some (Turn g)
     → IsNone key s r (record { words = s.words; homes = s.homes; views = slice_set (slice_set s.views id (Keeper (at_home g k))) other Spent })
 
+-- nor that it is joined
 abbrev pub JoinTurnIsNone : Type 0
 JoinTurnIsNone = OfKeeper JoinsTurn

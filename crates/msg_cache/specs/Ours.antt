@@ -7,6 +7,7 @@ use Rattle.msg_cache.specs.Keeping.{InOrder}
 use Rattle.msg_cache.specs.Plays.{keeper_of}
 use Rattle.msg_cache.specs.Views.{ArenaView}
 
+-- what the keeper's seat knows
 abbrev pub view : Keeper → KeeperView
 view k = keeper_of k.seat.me.0
 

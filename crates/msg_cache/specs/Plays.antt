@@ -32,6 +32,7 @@ Telling = Step ℕ → Sat → ℕ → Sat → Type 0
 abbrev pub no_history : History
 no_history = record { image = record { names = []; classes = []; made = []; categories = []; objects = []; imps = [] }; changes = [] }
 
+-- a class reference
 abbrev pub no_class : ClassRef
 no_class = record { class = 0; meta = false }
 
@@ -41,9 +42,11 @@ nobody = record { number = 0; front = no_history; whereabouts = Out; count = 0; 
 abbrev pub no_keeper : KeeperView
 no_keeper = record { history = no_history; words = []; standings = []; given = []; turn = Never; told = no_history }
 
+-- a setting
 abbrev pub no_setting : SettingView
 no_setting = record { image = no_history.image; senders = 0; capacities = [] }
 
+-- a change
 abbrev pub no_change : Change
 no_change = Attach 0 [] []
 
@@ -53,6 +56,7 @@ sender_of (Keeper k) = nobody
 sender_of (Turn h) = nobody
 sender_of Spent = nobody
 
+-- the keeper's view of a seat
 abbrev pub keeper_of : View → KeeperView
 keeper_of (Keeper k) = k
 keeper_of (Sender v) = no_keeper
@@ -79,6 +83,7 @@ read_on g v i n =
 abbrev pub gone_to : SenderView → History → Whereabouts → SenderView
 gone_to v g p = record { number = v.number; front = g; whereabouts = p; count = v.count; last = v.last }
 
+-- a sender that was just given out
 abbrev pub newcomer : ℕ → History → SenderView
 newcomer n h = record { number = n; front = h; whereabouts = Out; count = 0; last = record { class = no_class; sel = 0; array = None; reads = [] } }
 
@@ -95,6 +100,7 @@ pub record SawHeader (arrays : ℕ) (c : ClassRef) (s n : ℕ) (v : SenderView) 
   pub accepted : IsAccepted front
   pub among : n ≤ arrays
 
+-- what a header load tells
 abbrev pub Headed : ℕ → ClassRef → ℕ → Telling
 Headed arrays c s st m n m' = SawHeader arrays c s n (sender_of m.0) m'
 
@@ -107,6 +113,7 @@ pub record SawWord (look : History → ClassRef → ℕ → ℕ) (i n : ℕ) (v 
   pub hit : sel_of n ≡ v.last.sel → imp_of n ≡ look front v.last.class v.last.sel
   pub miss : sel_of n ≢ v.last.sel → front ≡ v.front
 
+-- what a bucket load tells: the word is the entry of a lookup or not of the selector
 abbrev pub Reads : (History → ClassRef → ℕ → ℕ) → Telling
 Reads look st m n m' = SawWord look st.word n (sender_of m.0) m'
 
@@ -117,9 +124,11 @@ pub record SawVersion (n : ℕ) (v : SenderView) (m' : Sat) : Type 0 where
   pub accepted : IsAccepted front
   pub length_is : size front ≡ n
 
+-- what a load of the count of changes tells
 abbrev pub Published : Telling
 Published st m n m' = SawVersion n (sender_of m.0) m'
 
+-- the sender is then in, or out
 abbrev pub Goes : Whereabouts → Telling
 Goes p st m n m' = m' ≡ seated (gone_to (sender_of m.0) (sender_of m.0).front p)
 
@@ -134,32 +143,38 @@ abbrev pub retire : ClassRef → Option ℕ → KeeperView → List Standing
 retire c None k = k.standings
 retire c (Some a) k = slice_set k.standings a (Retired c (size k.history) (everyone (length k.given)))
 
+-- the header word of a class reference is 0, and its array is retired
 abbrev pub flushed : ClassRef → KeeperView → KeeperView
 flushed c k = record k { words = slice_set k.words (header_at c) 0; standings = retire c (named (slice_index k.words (header_at c))) k }
 
 abbrev pub installed : ClassRef → ℕ → KeeperView → KeeperView
 installed c a k = record k { words = slice_set k.words (header_at c) (suc a); standings = slice_set (retire c (named (slice_index k.words (header_at c))) k) a (Live c) }
 
+-- the history is longer by a change, and word 0 counts it
 abbrev pub committed : Change → KeeperView → KeeperView
 committed x k = record k { history = and_then k.history x; words = slice_set k.words 0 (size k.history + 1); turn = Home (and_then k.history x) }
 
 abbrev pub looked : ℕ → KeeperView → KeeperView
 looked n k = record k { standings = map (seen_out n) k.standings }
 
+-- a sender number is out
 abbrev pub given_out : ℕ → KeeperView → KeeperView
 given_out n k = record k { given = slice_set k.given n true }
 
+-- a sender is back, and what it had seen is told
 abbrev pub taken_in : SenderView → KeeperView → KeeperView
 taken_in v k = record k { given = slice_set k.given v.number false; told = v.front }
 
 abbrev pub at_home : History → KeeperView → KeeperView
 at_home g k = record k { turn = Home g }
 
+-- the turn is away
 abbrev pub lent : KeeperView → KeeperView
 lent k = record k { turn = Away }
 
 -- ---- what the keeper's steps tell
 
+-- a keeper's seat, which has no other views
 abbrev pub kept : KeeperView → Sat
 kept k = (Keeper k, [])
 
@@ -167,18 +182,23 @@ kept k = (Keeper k, [])
 abbrev pub Recalls : KeeperView → Type 0
 Recalls k = BeginsWith k.history k.told × ((g : History) → k.turn ≡ Home g → g ≡ k.history)
 
+-- one word is stored
 abbrev pub Stores : Telling
 Stores st m n m' = m' ≡ kept (stored st.word st.first (keeper_of m.0))
 
+-- the header word's class reference is flushed
 abbrev pub Flushes : Telling
 Flushes st m n m' = (c : ClassRef) → st.word ≡ header_at c → m' ≡ kept (flushed c (keeper_of m.0))
 
+-- the array is the live one of the header word's class reference
 abbrev pub Installs : Telling
 Installs st m n m' = (c : ClassRef) (a : ℕ) → st.word ≡ header_at c → st.first ≡ suc a → m' ≡ kept (installed c a (keeper_of m.0))
 
+-- the change is committed
 abbrev pub Commits : Change → Telling
 Commits x st m n m' = (m' ≡ kept (committed x (keeper_of m.0))) × Recalls (keeper_of m.0)
 
+-- the sender number was looked at, and is awaited no more if its probe word was 0
 abbrev pub Looks : ℕ → Telling
 Looks i st m n m' = m' ≡ kept (if n == 0 then looked i (keeper_of m.0) else keeper_of m.0)
 
@@ -188,6 +208,7 @@ Witnesses st m n m' = (m' ≡ m) × Recalls (keeper_of m.0)
 
 -- ---- splits and joins
 
+-- what a seat knows to which another is joined
 abbrev pub joined : View → View → View
 joined (Keeper k) (Sender v) = Keeper (taken_in v k)
 joined (Keeper k) (Turn g) = Keeper (at_home g k)
@@ -197,15 +218,19 @@ joined (Sender v) w = Sender v
 joined (Turn g) w = Turn g
 joined Spent w = Spent
 
+-- the keeper, once a sender number was given out
 abbrev pub split_left : ℕ → View → View
 split_left n v = Keeper (given_out n (keeper_of v))
 
+-- and that sender
 abbrev pub split_right : ℕ → View → View
 split_right n v = Sender (newcomer n (keeper_of v).history)
 
+-- the keeper, once the turn was lent
 abbrev pub lent_left : View → View
 lent_left v = Keeper (lent (keeper_of v))
 
+-- and the turn
 abbrev pub lent_right : View → View
 lent_right v = Turn (keeper_of v).history
 

@@ -48,5 +48,6 @@ pub record Probes (z : Layout) (c : ClassRef) (s : ℕ) (v w : SenderView) : Typ
 abbrev pub HitsOrMisses : Type 0
 HitsOrMisses = (z : Layout) (c : ClassRef) (s : ℕ) (v w : SenderView) (i : ℕ) → Probes z c s v w → Hits w.last i → Misses z w.last → ⊥
 
+-- a probe hits with one implementation
 abbrev pub HitsOnce : Type 0
 HitsOnce = (l : Record) (i j : ℕ) → Hits l i → Hits l j → i ≡ j

@@ -130,9 +130,11 @@ module _ (look : History → ClassRef → ℕ → ℕ) (z : Layout) (image : Ima
 abbrev pub RuledBy : (History → ClassRef → ℕ → ℕ) → SettingView → List ℕ → List View → Type 0
 RuledBy look key words views = Ruled look (layout_of key) key.image words views
 
+-- what the rule says of the keeper's view alone, on a table of this setting
 abbrev pub TidyBy : (History → ClassRef → ℕ → ℕ) → SettingView → KeeperView → Type 0
 TidyBy look key k = IsTidy look (layout_of key) key.image k
 
+-- the rule of a table of this setting: it speaks of the words and of the seats' views
 abbrev pub holds : (History → ClassRef → ℕ → ℕ) → SettingView → Table ℕ View → Type 0
 holds look key s = RuledBy look key s.words s.views
 

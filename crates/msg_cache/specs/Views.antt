@@ -12,6 +12,7 @@ pub record ArenaView : Type 0 where
   pub table : TableId
   pub key : SettingView
 
+-- how many classes and senders there are, and the arrays' capacities
 abbrev pub layout : ArenaView → Layout
 layout a = layout_of a.key
 

@@ -444,4 +444,19 @@ impl Keeper {
         recall(shared, &mut self.seat);
         self.given[place] = false;
     }
+
+    /// A sender has then seen all that the keeper has, which begins with what it had seen. It has the number that it had, and its last probe is forgotten.
+    pub fn renew(&mut self, arena: &Arena, prober: &mut Prober)
+        requires arena { IsOf arena.now self.old }
+        requires prober { IsSenderOf arena.now prober.old }
+        ensures arena { IsOf arena.now self.new }
+        ensures remembered { self.new.remembered.items ≡ self.old.remembered.items }
+        ensures view { view self.new ≡ given_out prober.old.sender.number (taken_in prober.old.sender (view self.old)) }
+        ensures prober { IsSenderOf arena.now prober.new }
+        ensures sender { prober.new.sender ≡ newcomer prober.old.sender.number (view self.old).history }
+        ensures begins { BeginsWith (view self.old).history prober.old.sender.front }
+    {
+        prober.renew(arena.shared(), &mut self.seat);
+        self.given[prober.number() as usize] = true;
+    }
 }

@@ -5,13 +5,16 @@ ghost use Rattle.msg_names.specs.Number.{selector_number, imp_number};
 ghost use Rattle.msg_tables.specs.History.{BeginsWith, lookup};
 ghost use Rattle.msg_core.specs.State.{size};
 ghost use Rattle.msg_core.specs.declared.state.Whereabouts.TheVariants.{In, Out};
-ghost use Rattle.msg_cache.specs.Plays.{seated, sender_of};
+ghost use Rattle.msg_cache.specs.Plays.{seated, sender_of, kept, keeper_of, given_out, taken_in, newcomer};
 ghost use Rattle.msg_cache.specs.Record.{Probes, Hits, Misses};
-ghost use Rattle.msg_cache.specs.Rule.{IsAccepted};
+ghost use Rattle.msg_cache.specs.Rule.{IsAccepted, TidyBy};
 ghost use Rattle.msg_cache.specs.Views.{layout, classes, IsSenderOf};
 
 use crate::arena::Arena;
-use crate::steps::{Seat, enter, leave, load_bucket, load_header, load_version};
+use crate::steps::{
+    Seat, Words, enter, join_sender, leave, load_bucket, load_header, load_version, recall,
+    split_sender,
+};
 use crate::view::View;
 use atomic_table::Badge;
 use msg_buckets::{Look, first_place, look_at, next_place};
@@ -117,6 +120,25 @@ impl Prober {
             number,
             loads: 0,
         }
+    }
+
+    // Is joined to the keeper's seat, and split off again with the same number, at the keeper's history.
+    pub(crate) fn renew(&mut self, words: &Words, keeper: &mut Seat)
+        requires table { (self.old.table ≡ words.now.table_id) × (keeper.old.table_id ≡ words.now.table_id) × (0 < words.now.table_id.words) }
+        requires keeper { keeper.old.me ≡ kept (keeper_of keeper.old.me.0) }
+        requires number { self.old.sender.number < words.now.key.senders }
+        ensures table { (self.new.table ≡ self.old.table) × (keeper.new.table_id ≡ keeper.old.table_id) }
+        ensures keeper { keeper.new.me ≡ kept (given_out self.old.sender.number (taken_in self.old.sender (keeper_of keeper.old.me.0))) }
+        ensures tidy { TidyBy lookup words.now.key (taken_in self.old.sender (keeper_of keeper.old.me.0)) }
+        ensures sender { self.new.sender ≡ newcomer self.old.sender.number (keeper_of keeper.old.me.0).history }
+        ensures begins { BeginsWith (keeper_of keeper.old.me.0).history self.old.sender.front }
+    {
+        let seat = replace(&mut self.badge, Badge::blank()).into_seat();
+        join_sender(words, keeper, seat);
+        recall(words, keeper);
+        let seat = split_sender(words, keeper, self.number);
+        self.badge = seat.into_badge();
+        self.loads = 0;
     }
 
     pub(crate) fn into_seat(self) -> Seat

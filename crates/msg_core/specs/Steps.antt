@@ -124,6 +124,7 @@ abbrev pub is_past : ℕ → Option ℕ → Bool
 is_past p None = false
 is_past p (Some words) = nat_le words p
 
+-- nobody holds the array, and it is no class reference's
 abbrev pub is_free : Standing → Bool
 is_free Free = true
 is_free (Live c) = false

@@ -9,6 +9,7 @@ mod edits;
 use edits::Edits;
 use msg_runner::{FromReader, OpenGate, RunFault, ToWriter, run};
 use std::alloc::Global;
+use std::sync::Wait;
 use std::thread::{self, Threads};
 use std::{fs, io};
 
@@ -16,7 +17,8 @@ use std::{fs, io};
 const SPLITS: [(u32, u32); 5] = [(1, 64), (1, 1), (2, 1), (3, 2), (64, 64)];
 
 /// What a run of the document writes, and how it ends.
-fn run_of(
+fn run_of<T: Threads + Wait + Sync>(
+    rt: &T,
     alloc: Global,
     document: &[u8],
     workers: u32,
@@ -24,7 +26,7 @@ fn run_of(
 ) -> (Vec<u8>, Result<(), RunFault>) {
     let mut source = FromReader::new(document);
     let mut sink = ToWriter::new(Vec::new(alloc));
-    let ended = run(alloc, &mut source, &mut sink, workers, cut, &OpenGate);
+    let ended = run(rt, alloc, &mut source, &mut sink, workers, cut, &OpenGate);
     let ToWriter { writer, .. } = sink;
     (writer, ended)
 }
@@ -48,9 +50,14 @@ fn read(rt: &HostRuntime, folder: &str, name: &str, end: &str) -> io::Result<Str
 }
 
 // Whether each run of the document writes the text, and nothing else.
-fn is_answered(alloc: Global, document: &str, text: &str) -> bool {
+fn is_answered<T: Threads + Wait + Sync>(
+    rt: &T,
+    alloc: Global,
+    document: &str,
+    text: &str,
+) -> bool {
     for (workers, cut) in SPLITS {
-        let (written, ended) = run_of(alloc, document.as_bytes(), workers, cut);
+        let (written, ended) = run_of(rt, alloc, document.as_bytes(), workers, cut);
         if ended.is_err() || written.as_slice() != text.as_bytes() {
             return false;
         }
@@ -59,7 +66,7 @@ fn is_answered(alloc: Global, document: &str, text: &str) -> bool {
 }
 
 // The same in two threads at once, each with the stack that a thread has by default.
-fn is_answered_in_threads<T: Threads + Sync>(
+fn is_answered_in_threads<T: Threads + Wait + Sync>(
     threads: &T,
     alloc: Global,
     document: &str,
@@ -67,13 +74,17 @@ fn is_answered_in_threads<T: Threads + Sync>(
 ) -> bool {
     let (one, other) = thread::join(
         threads,
-        || is_answered(alloc, document, text),
-        || is_answered(alloc, document, text),
+        || is_answered(threads, alloc, document, text),
+        || is_answered(threads, alloc, document, text),
     );
     one && other
 }
 
-fn try_answers<T: Threads + Sync>(rt: &HostRuntime, threads: &T, folder: &str) -> io::Result<()> {
+fn try_answers<T: Threads + Wait + Sync>(
+    rt: &HostRuntime,
+    threads: &T,
+    folder: &str,
+) -> io::Result<()> {
     for name in names(rt, folder, ".json")? {
         let document = read(rt, folder, name.as_str(), ".json")?;
         let text = read(rt, folder, name.as_str(), ".out")?;
@@ -93,12 +104,16 @@ fn try_answers<T: Threads + Sync>(rt: &HostRuntime, threads: &T, folder: &str) -
     Ok(())
 }
 
-fn try_edits(rt: &HostRuntime, folder: &str) -> io::Result<()> {
+fn try_edits<T: Threads + Wait + Sync>(
+    rt: &HostRuntime,
+    threads: &T,
+    folder: &str,
+) -> io::Result<()> {
     for name in names(rt, folder, ".edits")? {
         let lines = read(rt, folder, name.as_str(), ".edits")?;
         let mut edits = Edits::new(rt.alloc());
         for line in lines.as_str().lines() {
-            edits.take(rt, folder, line)?;
+            edits.take(rt, threads, folder, line)?;
         }
         println!(rt; "{folder}/{name}: {} as expected", edits.expected)?;
     }
@@ -108,5 +123,5 @@ fn try_edits(rt: &HostRuntime, folder: &str) -> io::Result<()> {
 fn main(rt: HostRuntime) -> io::Result<()> {
     try_answers(&rt, &rt, "examples")?;
     try_answers(&rt, &rt, "answers")?;
-    try_edits(&rt, "edits")
+    try_edits(&rt, &rt, "edits")
 }

@@ -3,4 +3,3 @@ pub mod BoundLemmas
 pub mod DispatchLemmas
 pub mod PointLemmas
 pub mod StepLemmas
-pub mod TableLemmas

@@ -7,7 +7,6 @@ ghost use Rattle.msg_image.specs.Parts.{ImageParts};
 ghost use Rattle.msg_tables.specs.History.{History};
 ghost use Rattle.msg_tables.specs.Stands.{StandsAt};
 ghost use Rattle.msg_tables.specs.View.{TablesView};
-ghost use Rattle.msg_eval.specs.Finder.{sizes_of, table_sizes};
 ghost use Rattle.msg_eval.specs.Meaning.{Meaning};
 ghost use Rattle.msg_eval.specs.Points.{Rise, last_of, EndsAfter, SendAt, RepliesFrom, HasOneReply, HasAnswersAt, plain_reply};
 ghost use Rattle.msg_eval.specs.declared.reply.Reply.{Reply};
@@ -40,9 +39,4 @@ pub fn tables_reply_plainly()
 pub fn a_finder_that_stays_replies_plainly()
     ensures { (h : History) (send : Meaning) (points : List History) (reply : Reply)
         → Rise h points → last_of h points ≡ h → EndsAfter send points reply → reply ≡ plain_reply h send }
-{}
-
-/// Tables have the sizes of the image of the history at which they stand.
-pub fn tables_are_of_their_image()
-    ensures { (tables : TablesView) (h : History) → StandsAt tables h → table_sizes tables ≡ sizes_of h.image }
 {}

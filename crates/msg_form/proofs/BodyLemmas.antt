@@ -15,7 +15,7 @@ use Rattle.msg_form.proofs.TextLemmas.{is_among-distinct}
 sends_above-distinct : (roots : List Text) → sends_above (distinct roots) ≡ sends_above roots
 sends_above-distinct roots = λ i imp. not imp.meta && is_among-distinct imp.class roots i && list_any is_super_send (parts imp.body)
 
-is_unknown-distinct : (names : List Text) → is_unknown (distinct names) ≡ is_unknown names
+pub is_unknown-distinct : (names : List Text) → is_unknown (distinct names) ≡ is_unknown names
 is_unknown-distinct names = λ i n. not (is_among-distinct n names i)
 
 -- one test of the names in each body is the test of all those names

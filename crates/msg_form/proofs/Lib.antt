@@ -7,6 +7,7 @@ pub mod ListsLemmas
 pub mod AnyLemmas
 pub mod CitedLemmas
 pub mod ClassLemmas
+pub mod CycleLemmas
 pub mod CountLemmas
 pub mod SelectorLemmas
 pub mod BodyLemmas

@@ -1,5 +1,5 @@
 -- What a form within the limits has.
-use Rattle.std.proofs.Common.{◌≡◌, ◌≤◌, Bool, true, false, ◌||◌, List, length, sym, ◌∙◌, arith}
+use Rattle.std.proofs.Common.{◌≡◌, ◌≤◌, ◌+◌, Bool, true, false, ◌||◌, List, length, refl, sym, ◌∙◌, arith}
 use Rattle.std.specs.Prelude.{nat_lt}
 use Rattle.std.proofs.lemmas.Bool.Decides.{nat_tests}
 use Rattle.msg_form.specs.Faults.{is_over_limit, has_long_list, has_many_entries, has_many_selectors}
@@ -19,3 +19,18 @@ all_selectors f names r are is within =
     let few : nat_lt 4096 (length names) ≡ false = are.many ∙ third (has_long_list f) (has_many_entries f) (has_many_selectors f) (sym is ∙ within) in
     let le : length names ≤ 4096 = grind (arith, nat_tests) in
     are.all le
+
+-- and at most 1,024 classes
+pub few_classes : (f : Form) (r : Bool) → r ≡ is_over_limit f → r ≡ false → length f.classes ≤ 1024
+unfolding is_over_limit has_long_list
+few_classes f r is within =
+    let none : is_over_limit f ≡ false = sym is ∙ within in
+    at (nat_lt 1024 (length f.classes + length f.made)) refl (first5 (nat_lt 1024 (length f.classes + length f.made)) (nat_lt 1024 (length f.categories)) (nat_lt 4096 (length f.objects)) (nat_lt 4096 (length f.imps)) (nat_lt 65536 (length f.items)) (has_many_entries f) (has_many_selectors f) none)
+  where
+    first5 : (a b c d e g h : Bool) → ((a || b || c || d || e) || g || h) ≡ false → a ≡ false
+    first5 false b c d e g h n = refl
+    first5 true b c d e g h n = cc
+
+    at : (b : Bool) → nat_lt 1024 (length f.classes + length f.made) ≡ b → b ≡ false → length f.classes ≤ 1024
+    at true e n = cc
+    at false e n = grind (arith, nat_tests, e)

@@ -8,7 +8,7 @@ use Rattle.std.proofs.lemmas.List.Folds.{list_any-append}
 use Rattle.std.proofs.lemmas.Simd.{map-map}
 use Rattle.std.proofs.lemmas.Slice.Eq.{bytes_eq-Decides}
 use Rattle.msg_names.specs.Numbering.{with_name}
-use Rattle.msg_form.specs.Text.{AreDistinct, Text, is_among, is_unknown, has_duplicate, distinct, texts_view}
+use Rattle.msg_form.specs.Text.{repeats, AreDistinct, Text, is_among, is_unknown, has_duplicate, distinct, texts_view}
 
 pub or-false : (b : Bool) → (b || false) ≡ b
 or-false true = refl
@@ -50,9 +50,6 @@ is_among-distinct q texts = is_among-fold q [] texts
 
 -- ---- a text that stands twice, or among those that were seen
 
-abbrev pub repeats : List Text → List Text → Bool
-repeats seen texts = list_any (λ t. is_among t seen) texts || has_duplicate texts
-
 any_among : (seen : List Text) (t : Text) (texts : List Text) → list_any (λ u. is_among u (with_name seen t)) texts ≡ (list_any (λ u. is_among u seen) texts || is_among t texts)
 any_among seen t [] = refl
 any_among seen t (u ∷ texts) =
@@ -80,6 +77,36 @@ repeats-none texts = ap (λ b. b || has_duplicate texts) (none texts)
     none [] = refl
     none (t ∷ ts) = none ts
 
+-- the different texts of two lists, one after the other
+pub distinct-more : (xs ys first all : List Text) → first ≡ distinct xs → all ≡ fold with_name first ys → all ≡ distinct (xs ++ ys)
+unfolding distinct
+distinct-more xs ys first all e f = f ∙ ap (λ names. fold with_name names ys) e ∙ sym (on [] xs)
+  where
+    on : (names ts : List Text) → fold with_name names (ts ++ ys) ≡ fold with_name (fold with_name names ts) ys
+    on names [] = refl
+    on names (t ∷ ts) = on (with_name names t) ts
+
+-- a text of two lists repeats in the first, or in the other after the first's
+pub repeats-append : (seen xs ys : List Text) → repeats seen (xs ++ ys) ≡ (repeats seen xs || repeats (fold with_name seen xs) ys)
+repeats-append seen [] ys = refl
+repeats-append seen (x ∷ xs) ys =
+    repeats-step seen x (xs ++ ys) ∙ ap (λ b. is_among x seen || b) (repeats-append (with_name seen x) xs ys)
+    ∙ sym (or-assoc (is_among x seen) (repeats (with_name seen x) xs) (repeats (fold with_name (with_name seen x) xs) ys))
+    ∙ ap (λ b. b || repeats (fold with_name (with_name seen x) xs) ys) (sym (repeats-step seen x xs))
+
+-- as many different texts as there are texts, at most
+pub length-distinct : (texts : List Text) → length (distinct texts) ≤ length texts
+unfolding distinct
+length-distinct texts = let all = on [] texts in omega (arith, all)
+  where
+    one : (names : List Text) (t : Text) (b : Bool) → length (cond b names (names ++ t ∷ [])) ≤ length names + 1
+    one names t true = omega arith
+    one names t false = let n = length-append names (t ∷ []) in omega (arith, n)
+
+    on : (names ts : List Text) → length (fold with_name names ts) ≤ length names + length ts
+    on names [] = omega arith
+    on names (t ∷ ts) = let rest = on (with_name names t) ts in let first = one names t (is_among t names) in omega (arith, rest, first)
+
 was_absent : (b a : Bool) → b ≡ not a → b ≡ true → a ≡ false
 was_absent b false e f = refl
 was_absent b true e f = cc
@@ -92,6 +119,13 @@ repeats_on f xs i x t added seen after whole lt at is put new grown so_far =
     let rest = map f (drop (i + 1) xs) in
     let step : repeats seen (map f (drop i xs)) ≡ repeats (with_name seen t) rest = ap (repeats seen) left ∙ repeats-step seen t rest ∙ ap (λ b. b || repeats (with_name seen t) rest) (was_absent added (is_among t seen) put new) in
     ap (λ ns. repeats ns rest) grown ∙ sym step ∙ so_far
+
+-- a turn of the loop that adds the keys
+pub added_on : {A : Type 0} (f : A → Text) (xs : List A) (i : ℕ) (x : A) (t : Text) (seen after whole : List Text) → i < length xs → x ≡ get_or xs i x → t ≡ f x → after ≡ with_name seen t
+    → fold with_name seen (map f (drop i xs)) ≡ whole → fold with_name after (map f (drop (i + 1) xs)) ≡ whole
+added_on f xs i x t seen after whole lt at is grown so_far =
+    let left : map f (drop i xs) ≡ t ∷ map f (drop (i + 1) xs) = rw (add-one, is) (ap (map f) (drop-cons xs i x lt ∙ ap (λ y. y ∷ drop (suc i) xs) (sym at))) in
+    ap (λ ns. fold with_name ns (map f (drop (i + 1) xs))) grown ∙ sym (ap (fold with_name seen) left) ∙ so_far
 
 -- some cited name is none of the set's, which are the names f of the parts xs as g shows them
 pub unknown-distinct : {A B : Type 0} (f : B → Text) (g : A → B) (xs ys : List A) (set cited : List Text) (r : Bool) → xs ≡ ys → set ≡ distinct (map (λ x. f (g x)) xs) → r ≡ list_any (is_unknown set) cited → r ≡ list_any (is_unknown (map f (map g ys))) cited

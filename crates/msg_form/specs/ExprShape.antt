@@ -126,6 +126,7 @@ listed_of ds es = value_of as_str 0 ds >>= λ word. worded_of word ds es
 -- ---- any value
 
 abbrev mutual
+  -- the expression that a JSON value spells: a constant, or a list that begins with one of the words
   pub expression_of : Data → Option Expression
   expression_of null = option_map constant (constant_of null)
   expression_of (boolean b) = option_map constant (constant_of (boolean b))

@@ -7,6 +7,7 @@ use Rattle.msg_form.specs.declared.form.Constant.TheVariants.{Whole, Nil, Object
 use Rattle.msg_form.specs.declared.form.Expr.{Expr, fold-Expr}
 use Rattle.msg_form.specs.declared.form.Expr.TheOpen.{Expr-F, BinaryExpr-F, IfExpr-F, SendExpr-F, SuperExpr-F}
 
+-- a constant without its pointers
 abbrev pub constant_view : Constant → plain.Constant
 constant_view (Whole z) = plain.whole z
 constant_view Nil = plain.nil
@@ -39,6 +40,7 @@ super_step s = plain.super_send s.selector.now (expressions s.args.items)
 
 -- ---- the whole
 
+-- an expression without its pointers
 abbrev pub expr_view : Expr → Expression
 expr_view = fold-Expr Expression Expression Expression Expression Expression expr_step binary_step if_step send_step super_step
 

@@ -3,6 +3,7 @@ use Rattle.std.specs.Prelude.{ℕ, suc, ℤ, List, [], ◌∷◌}
 use Rattle.msg_form.specs.declared.form.Operator.{Operator}
 use Rattle.msg_form.specs.Text.{Text}
 
+-- a value that a document writes down, with names as texts
 pub data Constant : Type 0 where
   whole : ℤ → Constant
   nil : Constant
@@ -11,6 +12,7 @@ pub data Constant : Type 0 where
   selector_named : Text → Constant
 
 mutual
+  -- a body, or a part of one
   pub data Expression : Type 0 where
     constant : Constant → Expression
     -- the receiver

@@ -3,6 +3,7 @@ use Rattle.std.specs.Prelude.{ℕ}
 use Rattle.msg_form.specs.declared.faults.DocumentFault.{DocumentFault}
 use Rattle.msg_form.specs.declared.faults.DocumentFault.TheVariants as faults
 
+-- the number of a document's fault, by which the least is answered
 abbrev pub document_fault_number : DocumentFault → ℕ
 document_fault_number faults.NotJson = 1
 document_fault_number faults.Shape = 2
@@ -21,3 +22,4 @@ document_fault_number faults.ArgumentCount = 14
 document_fault_number faults.ArgumentIndex = 15
 document_fault_number faults.BodyTooDeep = 16
 document_fault_number faults.Memory = 17
+document_fault_number faults.ClassCycle = 18

@@ -1,30 +1,32 @@
 -- What is wrong with a form: a condition for each fault, and the least fault.
-use Rattle.std.specs.Prelude.{ℕ, ◌==◌, ◌&&◌, ◌||◌, not, pos, List, [], ◌∷◌, ◌++◌, length, Bool, false, nat_le, nat_lt, if◌then◌else◌, Option, None, Some, option_map}
+use Rattle.std.specs.Prelude.{ℕ, ◌+◌, ◌==◌, ◌&&◌, ◌||◌, not, pos, List, [], ◌∷◌, ◌++◌, length, map, Bool, false, nat_le, nat_lt, if◌then◌else◌, Option, None, Some, option_map}
 use Rattle.std.specs.List.{find, list_any}
 use Rattle.std.specs.Ordering.{int_eq}
 use Rattle.std.specs.Str.{bytes_eq}
+use Rattle.msg_order.specs.Superclasses.{has_cycle}
 use Rattle.msg_names.specs.Name.{colons_of, is_selector_name}
 use Rattle.msg_form.specs.declared.faults.DocumentFault.{DocumentFault}
 use Rattle.msg_form.specs.declared.faults.DocumentFault.TheVariants as faults
 use Rattle.msg_form.specs.Expression.{Expression}
 use Rattle.msg_form.specs.Form.{PairForm, ClassForm, ImpForm, Form}
-use Rattle.msg_form.specs.Lists.{class_names, root_names, object_names, imp_names, method_entries, all_lists, sends, classes_named, objects_named, imps_named}
+use Rattle.msg_form.specs.Lists.{listed_names, class_names, home_classes, root_names, object_names, imp_names, method_entries, all_lists, sends, classes_named, objects_named, imps_named}
 use Rattle.msg_form.specs.Parts.{parts, depth, indices_in, is_super_send}
-use Rattle.msg_form.specs.Text.{Text, is_among, is_unknown, has_duplicate, distinct}
+use Rattle.msg_form.specs.Text.{Text, number_among, is_among, is_unknown, has_duplicate, distinct}
+use Rattle.msg_form.specs.Version.{is_second}
 use Rattle.msg_form.specs.Walk.{selector_texts, list_texts}
 
 -- ---- Version
 
--- `version` isn't 1
+-- `version` is neither 1 nor 2
 unfoldable pub is_other_version : Form → Bool
-is_other_version f = not (int_eq f.version (pos 1))
+is_other_version f = not (int_eq f.version (pos 1) || is_second f.version)
 
 -- ---- Limit
 
--- `classes`, `categories`, `objects`, `imps` or `items` is too long
+-- `classes` with `made`, `categories`, `objects`, `imps` or `items` is too long
 unfoldable pub has_long_list : Form → Bool
 has_long_list f =
-    nat_lt 1024 (length f.classes) || nat_lt 1024 (length f.categories) || nat_lt 4096 (length f.objects) || nat_lt 4096 (length f.imps) || nat_lt 65536 (length f.items)
+    nat_lt 1024 (length f.classes + length f.made) || nat_lt 1024 (length f.categories) || nat_lt 4096 (length f.objects) || nat_lt 4096 (length f.imps) || nat_lt 65536 (length f.items)
 
 -- the method entries of classes and categories together are too many
 unfoldable pub has_many_entries : Form → Bool
@@ -39,34 +41,38 @@ is_over_limit f = has_long_list f || has_many_entries f || has_many_selectors f
 
 -- ---- DuplicateClass
 
--- two classes have one name
+-- two classes, listed or that may be made, have one name
 unfoldable pub has_duplicate_class : Form → Bool
 has_duplicate_class f = has_duplicate (class_names f)
 
 -- ---- UnknownSuperclass
 
 -- a superclass that is none of the names
-abbrev pub is_late : List Text → Option Text → Bool
-is_late names None = false
-is_late names (Some name) = is_unknown names name
+abbrev pub is_outside : List Text → Option Text → Bool
+is_outside names None = false
+is_outside names (Some name) = is_unknown names name
 
 -- a class's `super` isn't the name of a class before it, where those before these have the names
 abbrev pub has_late_superclass : List Text → List ClassForm → Bool
 has_late_superclass names [] = false
-has_late_superclass names (c ∷ cs) = is_late names c.superclass || has_late_superclass (names ++ c.name ∷ []) cs
+has_late_superclass names (c ∷ cs) = is_outside names c.superclass || has_late_superclass (names ++ c.name ∷ []) cs
+
+-- a class's `super` isn't the name of a listed class, or in version 1 of one that is listed before it
+unfoldable pub has_other_superclass : Form → Bool
+has_other_superclass f = if is_second f.version then list_any (λ c. is_outside (listed_names f) c.superclass) f.classes else has_late_superclass [] f.classes
 
 -- an implementation whose home class is one of the roots, and not a metaclass, has a super send
 abbrev pub sends_above : List Text → ImpForm → Bool
 sends_above roots i = not i.meta && is_among i.class roots && list_any is_super_send (parts i.body)
 
 unfoldable pub has_unknown_superclass : Form → Bool
-has_unknown_superclass f = has_late_superclass [] f.classes || list_any (sends_above (root_names f)) f.imps
+has_unknown_superclass f = has_other_superclass f || list_any (sends_above (root_names f)) f.imps
 
 -- ---- UnknownClass
 
--- a category, object, implementation, change or constant names no listed class
+-- a category or implementation has no listed class, or an object, change or constant names none that is listed or may be made
 unfoldable pub has_unknown_class : Form → Bool
-has_unknown_class f = list_any (is_unknown (class_names f)) (classes_named f)
+has_unknown_class f = list_any (is_unknown (class_names f)) (classes_named f) || list_any (is_unknown (listed_names f)) (home_classes f)
 
 -- ---- DuplicateObject
 
@@ -145,6 +151,16 @@ is_too_deep body = nat_lt 32 (depth body) || nat_lt 256 (length (parts body))
 unfoldable pub has_too_deep_body : Form → Bool
 has_too_deep_body f = list_any (λ i. is_too_deep i.body) f.imps
 
+-- ---- ClassCycle
+
+-- the superclasses of the listed classes, by their numbers from 0
+abbrev pub superclasses_of : List ClassForm → List (Option ℕ)
+superclasses_of cs = map (λ c. option_map (number_among (distinct (map (λ (d : ClassForm). d.name) cs))) c.superclass) cs
+
+-- A listed class stands on its own chain of superclasses, so that the chain doesn't end. In version 1 superclasses come first.
+unfoldable pub has_class_cycle : Form → Bool
+has_class_cycle f = is_second f.version && has_cycle (superclasses_of f.classes)
+
 -- ---- the least fault
 
 -- a fault, and when a form has it
@@ -168,6 +184,7 @@ conditions =
     (faults.ArgumentCount, has_wrong_argument_count) ∷
     (faults.ArgumentIndex, has_wrong_argument_index) ∷
     (faults.BodyTooDeep, has_too_deep_body) ∷
+    (faults.ClassCycle, has_class_cycle) ∷
     []
 
 -- the fault of the first condition that the form meets

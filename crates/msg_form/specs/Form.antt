@@ -8,17 +8,20 @@ pub record PairForm : Type 0 where
   pub selector : Text
   pub imp : Text
 
+-- a class as it is listed, with names as texts
 pub record ClassForm : Type 0 where
   pub name : Text
   pub superclass : Option Text
   pub methods : List PairForm
   pub class_methods : List PairForm
 
+-- a category, with names as texts
 pub record CategoryForm : Type 0 where
   pub class : Text
   pub methods : List PairForm
   pub class_methods : List PairForm
 
+-- an object, with names as texts
 pub record ObjectForm : Type 0 where
   pub name : Text
   pub class : Text
@@ -44,15 +47,21 @@ pub data ChangeForm : Type 0 where
   exchange : MethodForm → MethodForm → ChangeForm
   -- class, its methods, its class methods
   attach : Text → List PairForm → List PairForm → ChangeForm
+  -- class, superclass
+  make : Text → Option Text → ChangeForm
 
+-- an item, with names as texts
 pub data ItemForm : Type 0 where
   -- receiver, selector, arguments
   send_item : Constant → Text → List Constant → ItemForm
   change_item : ChangeForm → ItemForm
 
+-- a document as it is written, with names as texts
 pub record Form : Type 0 where
   pub version : ℤ
   pub classes : List ClassForm
+  -- the names of the classes that may be made at run time; version 1 has none
+  pub made : List Text
   pub categories : List CategoryForm
   pub objects : List ObjectForm
   pub imps : List ImpForm

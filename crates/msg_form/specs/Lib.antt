@@ -4,6 +4,7 @@ pub mod Expression
 pub mod Form
 pub mod Json
 pub mod ExprShape
+pub mod Version
 pub mod Shape
 pub mod ExprView
 pub mod Views

@@ -1,14 +1,19 @@
 -- What stands in a form: the names that it gives, its lists, its sends and the names that it cites.
-use Rattle.std.specs.Prelude.{ℕ, List, [], ◌∷◌, ◌++◌, length, map, filter, is_none}
+use Rattle.std.specs.Prelude.{ℕ, List, [], ◌∷◌, ◌++◌, length, map, filter, is_none, Option, Some, None}
 use Rattle.std.specs.List.{flat_map}
-use Rattle.msg_form.specs.Form.{PairForm, ClassForm, CategoryForm, ChangeForm, add, replace, set_imp, exchange, attach, ItemForm, send_item, change_item, Form}
+use Rattle.msg_form.specs.Form.{PairForm, ClassForm, CategoryForm, ChangeForm, add, replace, set_imp, exchange, attach, make, ItemForm, send_item, change_item, Form}
 use Rattle.msg_form.specs.Parts.{classes_in, objects_in, sends_in, own_class, own_object}
 use Rattle.msg_form.specs.Text.{Text}
 
 -- ---- names that are given
 
+-- the names of the classes that are listed
+abbrev pub listed_names : Form → List Text
+listed_names f = map (λ c. c.name) f.classes
+
+-- and of those that may be made, after them
 abbrev pub class_names : Form → List Text
-class_names f = map (λ c. c.name) f.classes
+class_names f = listed_names f ++ f.made
 
 -- the names of the classes whose `super` is null
 abbrev pub root_names : Form → List Text
@@ -22,9 +27,11 @@ imp_names f = map (λ i. i.name) f.imps
 
 -- ---- lists of pairs
 
+-- the method lists of a class
 abbrev pub class_lists : ClassForm → List (List PairForm)
 class_lists c = c.methods ∷ c.class_methods ∷ []
 
+-- the method lists of a category
 abbrev pub category_lists : CategoryForm → List (List PairForm)
 category_lists c = c.methods ∷ c.class_methods ∷ []
 
@@ -38,7 +45,9 @@ change_lists (replace m i) = []
 change_lists (set_imp m i) = []
 change_lists (exchange m o) = []
 change_lists (attach c ms cs) = ms ∷ cs ∷ []
+change_lists (make c s) = []
 
+-- the method lists of an item: those of a category that it attaches
 abbrev pub item_lists : ItemForm → List (List PairForm)
 item_lists (send_item r s args) = []
 item_lists (change_item c) = change_lists c
@@ -66,12 +75,17 @@ sends f = body_sends f ++ flat_map item_sends f.items
 
 -- ---- names that are cited
 
+abbrev pub at_most_one : Option Text → List Text
+at_most_one None = []
+at_most_one (Some name) = name ∷ []
+
 abbrev pub change_classes : ChangeForm → List Text
 change_classes (add m i) = m.class ∷ []
 change_classes (replace m i) = m.class ∷ []
 change_classes (set_imp m i) = m.class ∷ []
 change_classes (exchange m o) = m.class ∷ o.class ∷ []
 change_classes (attach c ms cs) = c ∷ []
+change_classes (make c s) = c ∷ at_most_one s
 
 abbrev pub item_classes : ItemForm → List Text
 item_classes (send_item r s args) = flat_map own_class (r ∷ args)
@@ -80,15 +94,15 @@ item_classes (change_item c) = change_classes c
 abbrev pub body_classes : Form → List Text
 body_classes f = flat_map (λ i. classes_in i.body) f.imps
 
--- the classes of categories, objects and implementations
-abbrev pub part_classes : Form → List Text
-part_classes f = map (λ c. c.class) f.categories ++ map (λ o. o.class) f.objects ++ map (λ i. i.class) f.imps
+-- the classes of categories and implementations
+abbrev pub home_classes : Form → List Text
+home_classes f = map (λ c. c.class) f.categories ++ map (λ i. i.class) f.imps
 
--- the classes that are named outside of bodies
+-- the classes that objects and items name
 abbrev pub other_classes : Form → List Text
-other_classes f = part_classes f ++ flat_map item_classes f.items
+other_classes f = map (λ o. o.class) f.objects ++ flat_map item_classes f.items
 
--- the classes that bodies, categories, objects, implementations and items name
+-- the classes that bodies, objects and items name
 abbrev pub classes_named : Form → List Text
 classes_named f = body_classes f ++ other_classes f
 
@@ -109,6 +123,7 @@ change_imps (replace m i) = i ∷ []
 change_imps (set_imp m i) = i ∷ []
 change_imps (exchange m o) = []
 change_imps (attach c ms cs) = []
+change_imps (make c s) = []
 
 abbrev pub item_imps : ItemForm → List Text
 item_imps (send_item r s args) = []

@@ -36,6 +36,7 @@ abbrev mutual
 
 -- ---- what a part is, without those inside it
 
+-- the constant that a part is, if it is one
 abbrev pub own_constants : Expression → List Constant
 own_constants (constant c) = c ∷ []
 own_constants me = []
@@ -65,6 +66,7 @@ own_sends (choice a b c) = []
 own_sends (send r s es) = (s, count_of es) ∷ []
 own_sends (super_send s es) = (s, count_of es) ∷ []
 
+-- a message to super
 abbrev pub is_super_send : Expression → Bool
 is_super_send (constant c) = false
 is_super_send me = false
@@ -87,6 +89,7 @@ sends_in e = flat_map own_sends (parts e)
 
 -- ---- names in constants
 
+-- the class that a constant names, if it names one
 abbrev pub own_class : Constant → List Text
 own_class (whole z) = []
 own_class nil = []
@@ -94,6 +97,7 @@ own_class (object_named n) = []
 own_class (class_named n) = n ∷ []
 own_class (selector_named s) = []
 
+-- the object that a constant names, if it names one
 abbrev pub own_object : Constant → List Text
 own_object (whole z) = []
 own_object nil = []
@@ -101,6 +105,7 @@ own_object (object_named n) = n ∷ []
 own_object (class_named n) = []
 own_object (selector_named s) = []
 
+-- the selector that a constant names, if it names one
 abbrev pub own_selector : Constant → List Text
 own_selector (whole z) = []
 own_selector nil = []

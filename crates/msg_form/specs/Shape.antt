@@ -1,10 +1,12 @@
 -- Which JSON values spell the parts of a document: a definition for each row of the format's table.
-use Rattle.std.specs.Prelude.{ℕ, ◌+◌, ◌==◌, ℤ, pos, negsuc, List, length, drop, nat_le, codes, if◌then◌else◌, Option, Some, None, option_map}
+use Rattle.std.specs.Prelude.{ℕ, ◌+◌, ◌==◌, ℤ, pos, negsuc, List, [], length, Bool, true, false, not, drop, nat_le, codes, if◌then◌else◌, Option, Some, None, option_map}
 use Rattle.serde_json.specs.Data.{Data, null, boolean, number, string, array, object}
 use Rattle.serde_json.specs.Find.{get, as_str, as_bool}
 use Rattle.msg_json.specs.Keys.{has_keys}
 use Rattle.msg_form.specs.ExprShape.{is_word, constant_of, expression_of}
-use Rattle.msg_form.specs.Form.{PairForm, ClassForm, CategoryForm, ObjectForm, ImpForm, MethodForm, ChangeForm, add, replace, set_imp, exchange, attach, ItemForm, send_item, change_item, Form}
+use Rattle.std.specs.List.{list_any}
+use Rattle.msg_form.specs.Version.{is_second}
+use Rattle.msg_form.specs.Form.{PairForm, ClassForm, CategoryForm, ObjectForm, ImpForm, MethodForm, ChangeForm, add, replace, set_imp, exchange, attach, make, ItemForm, send_item, change_item, Form}
 use Rattle.msg_form.specs.Json.{◌>>=◌, only_if, each, list_at, list_of, field_of, value_of, name_of, whole_of}
 use Rattle.msg_form.specs.Text.{Text}
 
@@ -107,6 +109,14 @@ attach_of ds = do
   class_methods ← value_of (list_of pair_form_of) 3 ds
   Some (attach class methods class_methods)
 
+-- `["make",N,N or null]`
+unfoldable pub make_of : List Data → Option ChangeForm
+make_of ds = do
+  _ ← only_if (length ds == 3)
+  class ← value_of name_of 1 ds
+  superclass ← value_of superclass_of 2 ds
+  Some (make class superclass)
+
 unfoldable pub worded_change_of : Text → List Data → Option ChangeForm
 worded_change_of word ds =
     if is_word word (codes "add") then option_map (λ e. add e.0 e.1) (edit_of ds) else
@@ -114,7 +124,8 @@ worded_change_of word ds =
     (if is_word word (codes "set") then option_map (λ e. set_imp e.0 e.1) (edit_of ds) else
     (if is_word word (codes "exchange") then exchange_of ds else
     (if is_word word (codes "attach") then attach_of ds else
-    None))))
+    (if is_word word (codes "make") then make_of ds else
+    None)))))
 
 unfoldable pub change_form_of : Data → Option ChangeForm
 change_form_of d = do
@@ -146,13 +157,38 @@ item_form_of d = do
 
 -- ---- the whole document
 
-unfoldable pub form_of : Data → Option Form
-form_of d = do
-  _ ← only_if (has_keys 6 d)
-  version ← field_of whole_of (codes "version") d
+-- what the versions share, beside the names of the classes that may be made
+unfoldable pub parts_of : ℤ → List Text → Data → Option Form
+parts_of version made d = do
   classes ← field_of (list_of class_form_of) (codes "classes") d
   categories ← field_of (list_of category_form_of) (codes "categories") d
   objects ← field_of (list_of object_form_of) (codes "objects") d
   imps ← field_of (list_of imp_form_of) (codes "imps") d
   items ← field_of (list_of item_form_of) (codes "items") d
-  Some (record { version = version; classes = classes; categories = categories; objects = objects; imps = imps; items = items })
+  Some (record { version = version; classes = classes; made = made; categories = categories; objects = objects; imps = imps; items = items })
+
+-- a change that makes a class
+abbrev pub is_making : ItemForm → Bool
+is_making (change_item (make c s)) = true
+is_making _ = false
+
+-- version 1, which makes no classes
+unfoldable pub first_form_of : ℤ → Data → Option Form
+first_form_of version d = do
+  _ ← only_if (has_keys 6 d)
+  f ← parts_of version [] d
+  _ ← only_if (not (list_any is_making f.items))
+  Some f
+
+-- version 2, with one more key: `made`, a list of names
+unfoldable pub second_form_of : ℤ → Data → Option Form
+second_form_of version d = do
+  _ ← only_if (has_keys 7 d)
+  made ← field_of (list_of name_of) (codes "made") d
+  parts_of version made d
+
+-- The version decides the form where it is 2. Any other has the form of version 1.
+unfoldable pub form_of : Data → Option Form
+form_of d = do
+  version ← field_of whole_of (codes "version") d
+  if is_second version then second_form_of version d else first_form_of version d

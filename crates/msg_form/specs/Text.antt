@@ -1,9 +1,9 @@
 -- Texts, and lists of them.
-use Rattle.std.specs.Prelude.{◌≡◌, ℕ, ◌≤◌, nat_lt, List, [], ◌∷◌, length, Bool, false, ◌||◌, not, map, fold}
+use Rattle.std.specs.Prelude.{◌≡◌, ℕ, ◌-◌, ◌≤◌, unwrap_or, nat_lt, List, [], ◌∷◌, length, Bool, false, ◌||◌, not, map, fold}
 use Rattle.std.specs.Borrow.{Bor}
 use Rattle.std.specs.List.{list_any}
 use Rattle.std.specs.Str.{bytes_eq}
-use Rattle.msg_names.specs.Numbering.{with_name}
+use Rattle.msg_names.specs.Numbering.{number_of, with_name}
 
 -- the bytes of a text
 abbrev pub Text : Type 0
@@ -21,6 +21,14 @@ is_unknown names name = not (is_among name names)
 abbrev pub has_duplicate : List Text → Bool
 has_duplicate [] = false
 has_duplicate (text ∷ texts) = is_among text texts || has_duplicate texts
+
+-- a text stands twice, or is one of those that were seen
+abbrev pub repeats : List Text → List Text → Bool
+repeats seen texts = list_any (λ t. is_among t seen) texts || has_duplicate texts
+
+-- The number of a name, from 0. One that is none of the names would get the first's; where names are known this is no name's number but its own.
+abbrev pub number_among : List Text → Text → ℕ
+number_among names name = unwrap_or (number_of names name) 1 - 1
 
 -- the different texts, each where it first stands
 unfoldable pub distinct : List Text → List Text

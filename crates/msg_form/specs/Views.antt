@@ -4,9 +4,10 @@ use Rattle.std.specs.Borrow.{Bor}
 use Rattle.msg_form.specs.ExprView.{constant_view, expr_view}
 use Rattle.msg_form.specs.Form as plain
 use Rattle.msg_form.specs.Form.{PairForm, ClassForm, CategoryForm, ObjectForm, ImpForm, MethodForm, ChangeForm, ItemForm}
+use Rattle.msg_form.specs.Text.{texts_view}
 use Rattle.msg_form.specs.declared.form.Category.{Category}
 use Rattle.msg_form.specs.declared.form.Change.{Change}
-use Rattle.msg_form.specs.declared.form.Change.TheVariants.{Add, Replace, SetImp, Exchange, Attach}
+use Rattle.msg_form.specs.declared.form.Change.TheVariants.{Add, Replace, SetImp, Exchange, Attach, Make}
 use Rattle.msg_form.specs.declared.form.Class.{Class}
 use Rattle.msg_form.specs.declared.form.Form.{Form}
 use Rattle.msg_form.specs.declared.form.Imp.{Imp}
@@ -16,6 +17,7 @@ use Rattle.msg_form.specs.declared.form.MethodName.{MethodName}
 use Rattle.msg_form.specs.declared.form.Object.{Object}
 use Rattle.msg_form.specs.declared.form.Pair.{Pair}
 
+-- a method of a list without its pointers
 abbrev pub pair_view : Pair → PairForm
 pair_view p = record { selector = p.selector.now; imp = p.imp.now }
 
@@ -25,18 +27,22 @@ pairs_view ps = map pair_view ps
 abbrev pub lists_view : List (Bor (List Pair)) → List (List PairForm)
 lists_view ls = map (λ l. pairs_view l.now) ls
 
+-- a class without its pointers
 abbrev pub class_view : Class → ClassForm
 class_view c = record { name = c.name.now; superclass = option_map (λ s. s.now) c.superclass; methods = pairs_view c.methods.items; class_methods = pairs_view c.class_methods.items }
 
 abbrev pub classes_view : List Class → List ClassForm
 classes_view cs = map class_view cs
 
+-- a category without its pointers
 abbrev pub category_view : Category → CategoryForm
 category_view c = record { class = c.class.now; methods = pairs_view c.methods.items; class_methods = pairs_view c.class_methods.items }
 
+-- an object without its pointers
 abbrev pub object_view : Object → ObjectForm
 object_view o = record { name = o.name.now; class = o.class.now }
 
+-- an implementation without its pointers
 abbrev pub imp_view : Imp → ImpForm
 imp_view i = record { name = i.name.now; class = i.class.now; meta = i.meta; args = i.args; body = expr_view i.body }
 
@@ -46,13 +52,16 @@ imps_view is = map imp_view is
 abbrev pub method_view : MethodName → MethodForm
 method_view m = record { class = m.class.now; meta = m.meta; selector = m.selector.now }
 
+-- a change without its pointers
 abbrev pub change_view : Change → ChangeForm
 change_view (Add m i) = plain.add (method_view m) i.now
 change_view (Replace m i) = plain.replace (method_view m) i.now
 change_view (SetImp m i) = plain.set_imp (method_view m) i.now
 change_view (Exchange m o) = plain.exchange (method_view m) (method_view o)
 change_view (Attach c ms cs) = plain.attach c.now (pairs_view ms.items) (pairs_view cs.items)
+change_view (Make c s) = plain.make c.now (option_map (λ n. n.now) s)
 
+-- an item without its pointers
 abbrev pub item_view : Item → ItemForm
 item_view (items.Send r s args) = plain.send_item (constant_view r) s.now (map constant_view args.items)
 item_view (items.Change c) = plain.change_item (change_view c)
@@ -60,10 +69,12 @@ item_view (items.Change c) = plain.change_item (change_view c)
 abbrev pub items_view : List Item → List ItemForm
 items_view is = map item_view is
 
+-- a form without its pointers
 abbrev pub form_view : Form → plain.Form
 form_view f = record {
   version = f.version;
   classes = classes_view f.classes.items;
+  made = texts_view f.made.items;
   categories = map category_view f.categories.items;
   objects = map object_view f.objects.items;
   imps = imps_view f.imps.items;

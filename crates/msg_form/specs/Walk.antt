@@ -2,7 +2,7 @@
 use Rattle.std.specs.Prelude.{List, [], ◌∷◌, ◌++◌, map, codes}
 use Rattle.std.specs.List.{flat_map}
 use Rattle.msg_form.specs.Expression.{Expression, Expressions, constant, me, arg, binary, choice, send, super_send, no_more, more}
-use Rattle.msg_form.specs.Form.{PairForm, ClassForm, CategoryForm, ImpForm, ChangeForm, add, replace, set_imp, exchange, attach, ItemForm, send_item, change_item, Form}
+use Rattle.msg_form.specs.Form.{PairForm, ClassForm, CategoryForm, ImpForm, ChangeForm, add, replace, set_imp, exchange, attach, make, ItemForm, send_item, change_item, Form}
 use Rattle.msg_form.specs.Parts.{own_selector}
 use Rattle.msg_form.specs.Text.{Text}
 
@@ -28,22 +28,28 @@ abbrev mutual
   all_texts_in no_more = []
   all_texts_in (more e es) = texts_in e ++ all_texts_in es
 
+-- the selectors of a class, in the order of the walk
 abbrev pub class_texts : ClassForm → List Text
 class_texts c = list_texts c.methods ++ list_texts c.class_methods
 
+-- the selectors of a category, in the order of the walk
 abbrev pub category_texts : CategoryForm → List Text
 category_texts c = list_texts c.methods ++ list_texts c.class_methods
 
+-- the selectors of an implementation's body, in the order of the walk
 abbrev pub imp_texts : ImpForm → List Text
 imp_texts i = texts_in i.body
 
+-- the selectors of a change, in the order of the walk
 abbrev pub change_texts : ChangeForm → List Text
 change_texts (add m i) = m.selector ∷ []
 change_texts (replace m i) = m.selector ∷ []
 change_texts (set_imp m i) = m.selector ∷ []
 change_texts (exchange m o) = m.selector ∷ o.selector ∷ []
 change_texts (attach c ms cs) = list_texts ms ++ list_texts cs
+change_texts (make c s) = []
 
+-- the selectors of an item, in the order of the walk
 abbrev pub item_texts : ItemForm → List Text
 item_texts (send_item r s args) = own_selector r ++ (s ∷ flat_map own_selector args)
 item_texts (change_item c) = change_texts c

@@ -35,7 +35,7 @@ impl<T: Drop> From<AllocFailed<T>> for ReadFault {
     }
 }
 
-/// What is wrong with a document, in the order in which it is judged.
+/// What is wrong with a document, in the order of its numbers, which is that in which it is judged.
 #[derive(Clone, Copy, Debug, PartialEq, Eq, Error)]
 pub enum DocumentFault {
     #[error("not json")]
@@ -72,6 +72,8 @@ pub enum DocumentFault {
     BodyTooDeep,
     #[error("out of memory")]
     Memory,
+    #[error("class cycle")]
+    ClassCycle,
 }
 
 impl From<AllocError> for DocumentFault {

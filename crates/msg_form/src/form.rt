@@ -1,16 +1,26 @@
 //! The parts of a document. Their texts are those of the JSON text that they were read from.
 
-ghost use Rattle.std.specs.Prelude.{◌≤◌};
+ghost use Rattle.std.specs.Prelude.{◌≡◌, ◌≤◌};
+ghost use Rattle.msg_form.specs.Version as spec;
 
-/// A document of version 1, when `version` is 1.
+/// A document of version 1 or 2, when `version` is that number.
 #[derive(Drop)]
 pub struct Form<'v> {
     pub version: i64,
     pub classes: Vec<Class<'v>>,
+    /// The names of the classes that may be made at run time. A document of version 1 has none.
+    pub made: Vec<&'v str>,
     pub categories: Vec<Category<'v>>,
     pub objects: Vec<Object<'v>>,
     pub imps: Vec<Imp<'v>>,
     pub items: Vec<Item<'v>>,
+}
+
+#[tactic(auto, unfolding(crate::specs::Version::is_second))]
+pub(crate) fn is_second(version: i64) -> bool
+    ensures { result ≡ spec.is_second version }
+{
+    version == 2
 }
 
 /// An entry of a method list: a selector and the name of its implementation.
@@ -92,6 +102,10 @@ pub enum Change<'v> {
         class: &'v str,
         methods: Vec<Pair<'v>>,
         class_methods: Vec<Pair<'v>>,
+    },
+    Make {
+        class: &'v str,
+        superclass: Option<&'v str>,
     },
 }
 

@@ -6,7 +6,7 @@
 //! 16,384 method entries and the lists of attached categories. They take memory for a reference to each place of a selector and to each
 //! list of pairs, and for sets of at most 4,097 names.
 
-ghost use Rattle.std.specs.Prelude.{◌≡◌, drop, IfOk};
+ghost use Rattle.std.specs.Prelude.{◌≡◌, ◌≤◌, drop, length, IfOk};
 ghost use Rattle.msg_form.specs.BodyFaults.{AreBodyFaults};
 ghost use Rattle.msg_form.specs.Faults as spec;
 ghost use Rattle.msg_form.specs.Text.{distinct};
@@ -17,6 +17,7 @@ mod bodies;
 mod classes;
 mod constants;
 mod counts;
+mod cycle;
 mod depth;
 mod keyed;
 mod limits;
@@ -31,6 +32,7 @@ use crate::name_set::NameSet;
 use bodies::BodyFaults;
 use classes::has_unknown_superclass;
 use counts::has_wrong_argument_count;
+use cycle::has_class_cycle;
 use limits::{is_other_version, is_over_limit};
 use names::{
     has_duplicate_class, has_duplicate_imp, has_duplicate_object, has_unknown_class,
@@ -40,7 +42,7 @@ use selectors::{has_bad_selector, has_duplicate_selector, selector_set};
 use std::alloc::{AllocError, Global};
 
 /// The least fault of those that a form can have, [`Version`](DocumentFault::Version) to
-/// [`BodyTooDeep`](DocumentFault::BodyTooDeep).
+/// [`ClassCycle`](DocumentFault::ClassCycle).
 #[tactic(auto, unfolding(crate::specs::Faults::fault_of))]
 pub fn fault(alloc: Global, form: &Form) -> Result<Option<DocumentFault>, AllocError>
     ensures { IfOk result (λ f. f ≡ spec.fault_of (form_view form.now)) }
@@ -82,6 +84,7 @@ fn later_fault(
 ) -> Result<Option<DocumentFault>, AllocError>
     requires selectors { selectors.now ≡ distinct (selector_texts (form_view form.now)) }
     requires bodies { AreBodyFaults bodies (form_view form.now) }
+    requires classes { length form.now.classes.items ≤ 1024 }
     ensures { IfOk result (λ f. f ≡ spec.first_of (drop 7 spec.conditions) (form_view form.now)) }
 {
     if has_duplicate_imp(alloc, form)? {
@@ -104,6 +107,9 @@ fn later_fault(
     }
     if bodies.too_deep {
         return Ok(Some(DocumentFault::BodyTooDeep));
+    }
+    if has_class_cycle(alloc, form)? {
+        return Ok(Some(DocumentFault::ClassCycle));
     }
     Ok(None)
 }

@@ -8,7 +8,7 @@ ghost use Rattle.msg_form.specs.declared.faults.DocumentFault.{DocumentFault};
 
 /// The conditions that are judged on a form stand in the order of their faults' numbers, and none is left out.
 pub fn faults_are_judged_in_the_order_of_their_numbers()
-    ensures { map (λ c. document_fault_number c.0) conditions ≡ 3 ∷ 4 ∷ 5 ∷ 6 ∷ 7 ∷ 8 ∷ 9 ∷ 10 ∷ 11 ∷ 12 ∷ 13 ∷ 14 ∷ 15 ∷ 16 ∷ [] }
+    ensures { map (λ c. document_fault_number c.0) conditions ≡ 3 ∷ 4 ∷ 5 ∷ 6 ∷ 7 ∷ 8 ∷ 9 ∷ 10 ∷ 11 ∷ 12 ∷ 13 ∷ 14 ∷ 15 ∷ 16 ∷ 18 ∷ [] }
 {}
 
 /// The fault that is told has the least number of those whose conditions the form meets.

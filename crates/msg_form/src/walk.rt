@@ -128,6 +128,7 @@ impl<'v> HasSelectors<'v> for Change<'v> {
                 push_list(methods, texts)?;
                 push_list(class_methods, texts)
             }
+            Change::Make { .. } => Ok(()),
         }
     }
 }

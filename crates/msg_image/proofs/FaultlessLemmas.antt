@@ -2,7 +2,7 @@
 use Rattle.std.proofs.Common.{◌≡◌, ℕ, zero, suc, List, [], ◌∷◌, Bool, true, false, cond, None, Some, slice_get, refl, sym, ap, ◌∙◌}
 use Rattle.std.proofs.lemmas.Option.{same_Some}
 use Rattle.msg_form.specs.Form.{Form}
-use Rattle.msg_form.specs.Faults.{Condition, conditions, first_of, fault_of, is_over_limit, has_duplicate_class, has_unknown_superclass, has_unknown_class, has_duplicate_object, has_unknown_object, has_duplicate_imp, has_unknown_imp, has_bad_selector, has_wrong_argument_count, has_wrong_argument_index, has_too_deep_body}
+use Rattle.msg_form.specs.Faults.{Condition, conditions, first_of, fault_of, is_over_limit, has_duplicate_class, has_unknown_superclass, has_unknown_class, has_duplicate_object, has_unknown_object, has_duplicate_imp, has_unknown_imp, has_bad_selector, has_wrong_argument_count, has_wrong_argument_index, has_too_deep_body, has_class_cycle}
 
 -- the conditions on which an image stands
 pub record IsFaultless (f : Form) : Type 0 where
@@ -18,6 +18,7 @@ pub record IsFaultless (f : Form) : Type 0 where
   pub counts : has_wrong_argument_count f ≡ false
   pub indices : has_wrong_argument_index f ≡ false
   pub bodies : has_too_deep_body f ≡ false
+  pub cycle : has_class_cycle f ≡ false
 
 -- the first condition isn't met, nor one of the others
 past : (c : Condition) (cs : List Condition) (f : Form) → first_of (c ∷ cs) f ≡ None → (c.1 f ≡ false) × (first_of cs f ≡ None)
@@ -48,4 +49,5 @@ faultless f e = record {
   counts = unmet f conditions 11 _ e refl;
   indices = unmet f conditions 12 _ e refl;
   bodies = unmet f conditions 13 _ e refl;
+  cycle = unmet f conditions 14 _ e refl;
 }

@@ -1,5 +1,5 @@
 -- The image that was made from a form.
-use Rattle.std.proofs.Common.{◌≡◌, ◌≤◌, List, [], ◌∷◌, map, get_or, None, refl, sym, ap, ◌∙◌, subst, length, arith}
+use Rattle.std.proofs.Common.{◌≡◌, ◌≤◌, ℕ, Bor, List, [], ◌∷◌, map, get_or, None, refl, sym, ap, ◌∙◌, subst, length, arith}
 use Rattle.std.specs.Prelude.{All, string_bytes}
 use Rattle.std.proofs.lemmas.List.{length-map}
 use Rattle.std.proofs.lemmas.List.Elements.{All-map}
@@ -34,26 +34,27 @@ same_map : {A : Type 0} (xs : List A) → map (λ x. x) xs ≡ xs
 same_map [] = refl
 same_map (x ∷ xs) = ap (λ ys. x ∷ ys) (same_map xs)
 
-pub image_is : (n : Numbers) (f : Form) (i : Inside) → n ≡ numbers_of (form_view f) → i.names ≡ n.selectors → i.made.items ≡ [] → map class_parts i.classes.items ≡ map (spec.class n) (form_view f).classes → map (λ c. c) i.categories.items ≡ map (spec.category n) (form_view f).categories
+pub image_is : (n : Numbers) (f : Form) (i : Inside) → n ≡ numbers_of (form_view f) → i.names ≡ n.selectors → map string_bytes i.made.items ≡ (form_view f).made → map class_parts i.classes.items ≡ map (spec.class n) (form_view f).classes → map (λ c. c) i.categories.items ≡ map (spec.category n) (form_view f).categories
     → map object_parts i.objects.items ≡ map (spec.object n) (form_view f).objects → map imp_parts i.imps.items ≡ map (spec.imp n) (form_view f).imps → image_parts i ≡ spec.image_of (form_view f)
-image_is n f i same names none classes categories objects imps = λ j. record {
+image_is n f i same names may classes categories objects imps = λ j. record {
   names = (names ∙ ap (λ (m : Numbers). m.selectors) same) j;
   classes = (classes ∙ ap (λ m. map (spec.class m) (form_view f).classes) same) j;
-  made = ap (map string_bytes) none j;
+  made = may j;
   categories = (sym (same_map i.categories.items) ∙ categories ∙ ap (λ m. map (spec.category m) (form_view f).categories) same) j;
   objects = (objects ∙ ap (λ m. map (spec.object m) (form_view f).objects) same) j;
   imps = (imps ∙ ap (λ m. map (spec.imp m) (form_view f).imps) same) j;
 }
 
 -- an image whose lists were resolved, each from the form's list
-pub made : (n : Numbers) (f : Form) (i : Inside) (cs : List Class) (gs : List Category) (os : List Object) (is : List Imp) → n ≡ numbers_of (form_view f) → i.names ≡ n.selectors → i.made.items ≡ []
+pub made : (n : Numbers) (f : Form) (i : Inside) (cs : List Class) (gs : List Category) (os : List Object) (is : List Imp) (ms : List (Bor (List ℕ))) → n ≡ numbers_of (form_view f) → i.names ≡ n.selectors
+    → ms ≡ f.made.items → map string_bytes i.made.items ≡ map (λ s. s.now) ms
     → cs ≡ f.classes.items → map class_parts i.classes.items ≡ map (λ c. spec.class n (class_view c)) cs
     → gs ≡ f.categories.items → map (λ c. c) i.categories.items ≡ map (λ c. spec.category n (category_view c)) gs
     → os ≡ f.objects.items → map object_parts i.objects.items ≡ map (λ o. spec.object n (object_view o)) os
     → is ≡ f.imps.items → map imp_parts i.imps.items ≡ map (λ i. spec.imp n (imp_view i)) is
     → image_parts i ≡ spec.image_of (form_view f)
-made n f i cs gs os is same names none c classes g categories o objects m imps =
-    image_is n f i same names none
+made n f i cs gs os is ms same names s may c classes g categories o objects m imps =
+    image_is n f i same names (may ∙ ap (map (λ t. t.now)) s)
     (resolved class_parts class_view (spec.class n) i.classes.items cs f.classes.items c classes)
     (resolved (λ c. c) category_view (spec.category n) i.categories.items gs f.categories.items g categories)
     (resolved object_parts object_view (spec.object n) i.objects.items os f.objects.items o objects)

@@ -1,6 +1,6 @@
 -- The items of a form without fault are sound.
-use Rattle.std.proofs.Common.{◌≡◌, ℕ, List, [], ◌∷◌, length, map, take, false, ◌||◌, Some, option_map, get_or, refl, sym, ap, ◌∙◌, subst}
-use Rattle.std.specs.Prelude.{All}
+use Rattle.std.proofs.Common.{◌≡◌, ◌<◌, Option, None, ℕ, List, [], ◌∷◌, length, map, take, false, ◌||◌, Some, option_map, get_or, refl, sym, ap, ◌∙◌, subst}
+use Rattle.std.specs.Prelude.{All, IfSome}
 use Rattle.std.specs.List.{list_any, flat_map}
 use Rattle.std.proofs.lemmas.List.{length-map, take_all}
 use Rattle.std.proofs.lemmas.List.Elements.{All-map}
@@ -11,21 +11,22 @@ use Rattle.msg_names.specs.Numbering.{name_at}
 use Rattle.msg_names.proofs.NumberLemmas.{name_at-number_of}
 use Rattle.msg_form.specs.Expression as form
 use Rattle.msg_form.specs.Faults.{is_miscounted_send}
-use Rattle.msg_form.specs.Form.{PairForm, Form, MethodForm, ItemForm, send_item, change_item, ChangeForm, add, replace, set_imp, exchange, attach}
-use Rattle.msg_form.specs.Lists.{class_names, object_names, imp_names, part_classes, item_classes, item_objects, item_sends, item_imps, item_lists}
+use Rattle.msg_form.specs.Form.{PairForm, Form, MethodForm, ItemForm, send_item, change_item, ChangeForm, add, replace, set_imp, exchange, attach, make}
+use Rattle.msg_form.specs.Lists.{class_names, object_names, imp_names, at_most_one, item_classes, item_objects, item_sends, item_imps, item_lists}
 use Rattle.msg_form.specs.Parts as inner
 use Rattle.msg_form.specs.Text.{Text, is_unknown, distinct}
 use Rattle.msg_form.specs.Walk.{selector_texts, item_texts}
 use Rattle.msg_image.specs.Contents.{own_selector}
 use Rattle.msg_image.specs.Document as spec
-use Rattle.msg_image.specs.Numbers.{numbers_of, selector_named, imp_named}
+use Rattle.msg_image.specs.Numbers.{numbers_of, selector_named, class_named, imp_named}
+use Rattle.msg_image.specs.Parts.{class_total}
 use Rattle.msg_image.specs.Sound.{HasClass, HasSelector, HasImp, IsOf, IsSoundItem, IsSoundChange, Takes}
 use Rattle.msg_image.proofs.ContentsLemmas.{own_selectors}
 use Rattle.msg_image.proofs.ExpressionLemmas.{is_bad, few_arguments, same_count, constant_of_image}
 use Rattle.msg_image.proofs.FaultlessLemmas.{IsFaultless}
 use Rattle.msg_image.proofs.KnownLemmas.{known, among}
 use Rattle.msg_image.proofs.NoneLemmas.{neither, none-append, each-none, each-inside}
-use Rattle.msg_image.proofs.SoundLemmas.{selector_of-number, any_class_in, object_in, imp_in, selector_in, unlisted, unnamed, two_listed, imps_cited_by_items, classes_cited, objects_cited, selectors_good, selectors_named, counts_right}
+use Rattle.msg_image.proofs.SoundLemmas.{selector_of-number, any_class_in, object_in, imp_in, selector_in, unlisted, unnamed, two_listed, imps_cited_by_items, other_classes_cited, objects_cited, selectors_good, selectors_named, counts_right}
 
 module _ (f : Form) (g : IsFaultless f) where
   takes : (s : Text) (n : ℕ) → is_unknown (selector_texts f) s ≡ false → n ≡ colons_of s → Takes (spec.image_of f) (selector_named (numbers_of f) s) n
@@ -87,6 +88,13 @@ module _ (f : Form) (g : IsFaultless f) where
       let names = neither (unnamed f g m.selector) (unnamed f g o.selector || false) good.names in
       (any_class_in f g m.class classes.0, selector_in f g m.selector names.0, any_class_in f g o.class (neither (is_unknown (class_names f) o.class) false classes.1).0, selector_in f g o.selector (neither (unnamed f g o.selector) false names.1).0)
   change_sound (attach c ms cs) good = let two = two_listed f g ms cs good.lists good.names in (any_class_in f g c (neither (is_unknown (class_names f) c) false good.classes).0, two.0, two.1)
+  change_sound (make c s) good =
+      let both = neither (is_unknown (class_names f) c) (list_any (is_unknown (class_names f)) (at_most_one s)) good.classes in
+      (any_class_in f g c both.0, at_superclass s both.1)
+    where
+      at_superclass : (o : Option Text) → list_any (is_unknown (class_names f)) (at_most_one o) ≡ false → IfSome (option_map (class_named (numbers_of f)) o) (λ d. d < class_total (spec.image_of f))
+      at_superclass None e = tt
+      at_superclass (Some name) e = any_class_in f g name (neither (is_unknown (class_names f) name) false e).0
 
   item_sound : (x : ItemForm) → IsGood x → IsSoundItem (spec.image_of f) (spec.item (numbers_of f) x)
   item_sound (send_item r s args) good = send_sound r s args good
@@ -94,7 +102,7 @@ module _ (f : Form) (g : IsFaultless f) where
 
   pub items_sound : All (IsSoundItem (spec.image_of f)) (map (spec.item (numbers_of f)) f.items)
   items_sound =
-      let classes = each-inside (λ (x : ItemForm). list_any (is_unknown (class_names f)) (item_classes x) ≡ false) (is_unknown (class_names f)) item_classes f.items (λ x e. e) (none-append (is_unknown (class_names f)) (part_classes f) (flat_map item_classes f.items) (classes_cited f g).1).1 in
+      let classes = each-inside (λ (x : ItemForm). list_any (is_unknown (class_names f)) (item_classes x) ≡ false) (is_unknown (class_names f)) item_classes f.items (λ x e. e) (other_classes_cited f g).1 in
       let objects = each-inside (λ (x : ItemForm). list_any (is_unknown (object_names f)) (item_objects x) ≡ false) (is_unknown (object_names f)) item_objects f.items (λ x e. e) (objects_cited f g).1 in
       let imps = each-inside (λ (x : ItemForm). list_any (is_unknown (imp_names f)) (item_imps x) ≡ false) (is_unknown (imp_names f)) item_imps f.items (λ x e. e) (imps_cited_by_items f g).1 in
       let lists = each-inside (λ (x : ItemForm). list_any (λ (l : List PairForm). list_any (unlisted f g) l) (item_lists x) ≡ false) (λ (l : List PairForm). list_any (unlisted f g) l) item_lists f.items (λ x e. e) (imps_cited_by_items f g).0 in

@@ -3,13 +3,14 @@ use Rattle.std.proofs.Common.{◌≡◌, ◌<◌, ◌≤◌, ◌+◌, ℕ, zero,
 use Rattle.std.specs.Prelude.{fold}
 use Rattle.std.specs.List.{list_any}
 use Rattle.std.proofs.lemmas.List.{append-nil}
+use Rattle.std.proofs.lemmas.List.Folds.{list_any-append}
 use Rattle.std.proofs.lemmas.Option.{same_Some}
 use Rattle.std.proofs.lemmas.Slice.Eq.{bytes_eq-Decides}
 use Rattle.msg_names.specs.Numbering.{number_of, with_name}
 use Rattle.msg_names.proofs.NumberLemmas.{is_some-number_of, number_stays}
 use Rattle.msg_form.specs.Text.{Text, is_among, is_unknown, distinct}
 use Rattle.msg_form.specs.Form.{ClassForm}
-use Rattle.msg_form.specs.Faults.{is_late, has_late_superclass}
+use Rattle.msg_form.specs.Faults.{is_outside, has_late_superclass}
 use Rattle.msg_form.proofs.TextLemmas.{is_among-distinct}
 use Rattle.msg_image.proofs.NoneLemmas.{neither}
 
@@ -74,6 +75,10 @@ pub has_text : (s : Text) (xs ys : List Text) → is_among s (xs ++ (s ∷ ys)) 
 has_text s [] ys = rw ((bytes_eq-Decides s s).1 refl) refl
 has_text s (x ∷ xs) ys = rw (has_text s xs ys) (or-true (bytes_eq s x))
 
+-- and among more
+pub among-first : (s : Text) (xs ys : List Text) → is_among s xs ≡ true → is_among s (xs ++ ys) ≡ true
+among-first s xs ys e = list_any-append (bytes_eq s) xs ys ∙ ap (λ b. b || is_among s ys) e
+
 -- texts are all known among themselves
 pub none_unknown : (xs ys : List Text) → list_any (is_unknown (xs ++ ys)) ys ≡ false
 none_unknown xs [] = refl
@@ -94,7 +99,7 @@ number_of-first xs ys name n e = ap (λ names. number_of names name) (fold-appen
 
 -- ---- superclasses
 
-late : (before : List Text) (s : Text) (o : Option Text) → o ≡ Some s → is_late before o ≡ false → is_among s before ≡ true
+pub late : (before : List Text) (s : Text) (o : Option Text) → o ≡ Some s → is_outside before o ≡ false → is_among s before ≡ true
 late before s None e f = cc
 late before s (Some t) e f = let same : t ≡ s = same_Some t s e in among before s (subst (λ u. is_unknown before u ≡ false) same f)
 
@@ -102,10 +107,10 @@ late before s (Some t) e f = let same : t ≡ s = same_Some t s e in among befor
 pub earlier : (before : List Text) (cs : List ClassForm) (place : ℕ) (c : ClassForm) (s : Text) → has_late_superclass before cs ≡ false → slice_get cs place ≡ Some c → c.superclass ≡ Some s → is_among s (before ++ map (λ (k : ClassForm). k.name) (take place cs)) ≡ true
 earlier before [] place c s none at is = cc
 earlier before (x ∷ cs) zero c s none at is =
-    let each = neither (is_late before x.superclass) (has_late_superclass (before ++ x.name ∷ []) cs) none in
+    let each = neither (is_outside before x.superclass) (has_late_superclass (before ++ x.name ∷ []) cs) none in
     let same : x ≡ c = same_Some x c at in
     let here : is_among s before ≡ true = late before s x.superclass (ap (λ (k : ClassForm). k.superclass) same ∙ is) each.0 in
     rw (append-nil before) here
 earlier before (x ∷ cs) (suc place) c s none at is =
-    let each = neither (is_late before x.superclass) (has_late_superclass (before ++ x.name ∷ []) cs) none in
+    let each = neither (is_outside before x.superclass) (has_late_superclass (before ++ x.name ∷ []) cs) none in
     rw (append_assoc before (x.name ∷ []) (map (λ (k : ClassForm). k.name) (take place cs))) at (earlier (before ++ x.name ∷ []) cs place c s each.1 at is)

@@ -1,22 +1,26 @@
 -- The image of a form without fault is sound.
-use Rattle.std.proofs.Common.{◌≡◌, ◌<◌, ◌≤◌, ◌+◌, ◌-◌, ℕ, zero, suc, List, [], ◌∷◌, ◌++◌, length, length-append, map, take, drop, Bool, true, false, not, ◌&&◌, ◌||◌, Option, Some, None, option_map, slice_get, get_or, refl, sym, ap, ◌∙◌, subst, arith}
-use Rattle.std.specs.Prelude.{All, IsSome, nat_lt, sum_by}
+use Rattle.std.proofs.Common.{◌≡◌, ◌<◌, ◌≤◌, ◌+◌, ◌-◌, ℕ, zero, suc, List, [], ◌∷◌, ◌++◌, length, length-append, map, take, drop, Bool, true, false, not, cond, ◌&&◌, ◌||◌, Option, Some, None, option_map, slice_get, get_or, refl, sym, ap, ◌∙◌, subst, arith}
+use Rattle.std.specs.Prelude.{All, unwrap_or, slice_index_or, IsSome, IfSome, nat_lt, sum_by}
 use Rattle.std.specs.List.{list_any, flat_map}
 use Rattle.std.proofs.lemmas.Bool.Decides.{nat_tests}
 use Rattle.std.proofs.lemmas.Grind.{flat_map-append}
 use Rattle.std.proofs.lemmas.List.{length-map, map-append, take-append-drop, length-take}
 use Rattle.std.proofs.lemmas.List.Elements.{All-map}
+use Rattle.std.proofs.lemmas.Simd.{map-map}
 use Rattle.std.proofs.lemmas.List.Sums.{sum_by-cons}
-use Rattle.std.proofs.lemmas.Option.{slice_get-map, same_Some}
+use Rattle.std.proofs.lemmas.Option.{slice_get-map, slice_get-get_or, same_Some}
+use Rattle.msg_order.specs.Superclasses.{super_of, has_cycle}
+use Rattle.msg_order.proofs.DepthLemmas.{listed-ends}
+use Rattle.msg_form.specs.Version.{is_second}
 use Rattle.msg_names.specs.Number.{selector_number, selector_of}
 use Rattle.msg_names.specs.Numbering.{number_of, name_at}
 use Rattle.msg_names.proofs.NumberLemmas.{name_at-number_of}
 use Rattle.msg_form.specs.Expression as form
-use Rattle.msg_form.specs.Faults.{has_late_superclass, has_long_list, has_many_entries, has_many_selectors, is_over_limit, has_unknown_superclass, has_unknown_class, has_unknown_object, has_unknown_imp, has_bad_selector, has_wrong_argument_count, has_too_deep_body, has_wrong_argument_index, is_too_deep, is_miscounted, is_miscounted_send, reads_beyond, sends_above}
+use Rattle.msg_form.specs.Faults.{is_outside, has_late_superclass, has_other_superclass, has_class_cycle, superclasses_of, has_long_list, has_many_entries, has_many_selectors, is_over_limit, has_unknown_superclass, has_unknown_class, has_unknown_object, has_unknown_imp, has_bad_selector, has_wrong_argument_count, has_too_deep_body, has_wrong_argument_index, is_too_deep, is_miscounted, is_miscounted_send, reads_beyond, sends_above}
 use Rattle.msg_form.specs.Form.{PairForm, ClassForm, CategoryForm, ObjectForm, ImpForm, Form}
-use Rattle.msg_form.specs.Lists.{class_names, root_names, object_names, imp_names, class_lists, category_lists, method_lists, item_lists, all_lists, method_entries, item_imps, item_classes, item_objects, item_sends, body_sends, body_classes, body_objects, part_classes, other_classes}
+use Rattle.msg_form.specs.Lists.{listed_names, class_names, root_names, object_names, imp_names, class_lists, category_lists, method_lists, item_lists, all_lists, method_entries, item_imps, item_classes, item_objects, item_sends, body_sends, body_classes, body_objects, other_classes}
 use Rattle.msg_form.specs.Parts as inner
-use Rattle.msg_form.specs.Text.{Text, is_among, is_unknown, distinct}
+use Rattle.msg_form.specs.Text.{Text, number_among, is_among, is_unknown, distinct}
 use Rattle.msg_form.specs.Walk.{selector_texts, forwarding_text, list_texts, class_texts, category_texts, imp_texts, item_texts, texts_in}
 use Rattle.msg_form.proofs.AnyLemmas.{list_any-map, list_any-flat_map}
 use Rattle.msg_image.specs.Contents.{selectors_in, arguments_in, has_super_send}
@@ -25,13 +29,13 @@ use Rattle.msg_image.specs.Document.{expression}
 use Rattle.msg_image.specs.declared.image.Category.{Category}
 use Rattle.msg_image.specs.declared.numbers.Numbers.{Numbers}
 use Rattle.msg_image.specs.Numbers.{numbers_of, selector_named, class_named, object_named, imp_named}
-use Rattle.msg_image.specs.Parts.{class_total, ImageParts, ClassParts, ObjectParts, superclass_in}
+use Rattle.msg_image.specs.Parts.{class_total, ImageParts, ClassParts, ObjectParts, superclass_in, superclasses}
 use Rattle.msg_image.specs.Sound.{IsSound, IsSoundClass, IsSoundCategory, IsSoundImp, IsMethodOf, AreListed, HasSelector, row_count}
 use Rattle.msg_image.proofs.ExpressionLemmas.{AreGood, names_unknown_class, names_unknown_object, sends_miscounted, is_bad, count-expression, depth-expression, expression_of_image}
 use Rattle.msg_image.proofs.ContentsLemmas.{selectors-expression, arguments_below, super-expression}
 use Rattle.msg_image.proofs.FaultlessLemmas.{IsFaultless}
-use Rattle.msg_image.proofs.PlaceLemmas.{IsListedAs, listed_class, root_name}
-use Rattle.msg_image.proofs.KnownLemmas.{known, among, none_unknown, number_of-first, earlier}
+use Rattle.msg_image.proofs.PlaceLemmas.{IsListedAs, listed_class, listed_number, root_name}
+use Rattle.msg_image.proofs.KnownLemmas.{known, among, none_unknown, number_of-first, late, earlier, among-first}
 use Rattle.msg_image.proofs.NoneLemmas.{neither, none-append, each-none, each-mapped, each-inside}
 use Rattle.msg_image.proofs.PartLemmas.{All-at, superclass_in-at}
 
@@ -81,6 +85,21 @@ pub selector_of-number : (k : ℕ) → 0 < k → selector_number (selector_of k)
 selector_of-number zero positive = absurd (omega (arith, positive))
 selector_of-number (suc k) positive = refl
 
+second_half : (a b : Bool) → a ≡ true → (a && b) ≡ false → b ≡ false
+second_half true b e h = h
+second_half false b e h = cc
+
+-- one function of each is another
+map-same : {A B : Type 0} (p q : A → B) (xs : List A) → ((i : ℕ) (x : A) → slice_get xs i ≡ Some x → p x ≡ q x) → map p xs ≡ map q xs
+map-same p q [] same = refl
+map-same p q (x ∷ xs) same = λ i. same 0 x refl i ∷ map-same p q xs (λ k y at. same (suc k) y at) i
+
+-- what stands at a place of those of a list
+mapped-at : {A : Type 0} {P : Type 0} (p : A → Option ℕ) (xs : List A) (k d : ℕ) → slice_index_or (map p xs) k None ≡ Some d → ((x : A) → slice_get xs k ≡ Some x → p x ≡ Some d → P) → P
+mapped-at p [] k d e then = cc
+mapped-at p (x ∷ xs) zero d e then = then x refl e
+mapped-at p (x ∷ xs) (suc k) d e then = mapped-at p xs k d e then
+
 module _ (f : Form) (g : IsFaultless f) where
   n : Numbers
   n = numbers_of f
@@ -88,15 +107,21 @@ module _ (f : Form) (g : IsFaultless f) where
   image : ImageParts
   image = spec.image_of f
 
-  pub class_in : (name : Text) → is_unknown (class_names f) name ≡ false → class_named (numbers_of f) name < length (spec.image_of f).classes
-  unfolding class_named
+  -- a listed class
+  pub class_in : (name : Text) → is_unknown (listed_names f) name ≡ false → class_named (numbers_of f) name < length (spec.image_of f).classes
   class_in name e =
-      let number = known (class_names f) name (among (class_names f) name e) in
-      let named : class_named (numbers_of f) name ≡ number.number - 1 = rw number.is refl in
+      let there = among (listed_names f) name e in
+      let number = known (listed_names f) name there in
+      let named : class_named (numbers_of f) name ≡ number.number - 1 = listed_number f g name there ∙ ap (λ o. unwrap_or o 1 - 1) number.is in
       omega (arith, named, number.positive, number.listed, length-map f.classes (λ (c : ClassForm). c.name), length-map f.classes (spec.class (numbers_of f)))
 
+  -- one that is listed or may be made
   pub any_class_in : (name : Text) → is_unknown (class_names f) name ≡ false → class_named (numbers_of f) name < class_total (spec.image_of f)
-  any_class_in name e = let inside = class_in name e in omega (arith, inside)
+  unfolding class_named
+  any_class_in name e =
+      let number = known (class_names f) name (among (class_names f) name e) in
+      let named : class_named (numbers_of f) name ≡ number.number - 1 = rw number.is refl in
+      omega (arith, named, number.positive, number.listed, length-append (listed_names f) f.made, length-map f.classes (λ (c : ClassForm). c.name), length-map f.classes (spec.class (numbers_of f)))
 
   pub object_in : (name : Text) → is_unknown (object_names f) name ≡ false → (object_named (numbers_of f) name).object < length (spec.image_of f).objects
   unfolding object_named
@@ -199,46 +224,113 @@ module _ (f : Form) (g : IsFaultless f) where
 
   -- ---- classes
 
-  before : (place : ℕ) (c : ClassForm) (d : ℕ) → slice_get f.classes place ≡ Some c → option_map (class_named (numbers_of f)) c.superclass ≡ Some d → d < place
-  unfolding has_unknown_superclass class_named
-  before place c d at is = at_superclass c.superclass refl is
+  other_superclass : has_other_superclass f ≡ false
+  unfolding has_unknown_superclass
+  other_superclass = (neither (has_other_superclass f) _ g.superclasses).0
+
+  -- in version 1 a superclass comes before its subclasses
+  first_superclass : is_second f.version ≡ false → has_late_superclass [] f.classes ≡ false
+  unfolding has_other_superclass
+  first_superclass first = sym (ap (λ b. cond b (list_any (λ (c : ClassForm). is_outside (listed_names f) c.superclass) f.classes) (has_late_superclass [] f.classes)) first) ∙ other_superclass
+
+  -- in version 2 it is one of the listed classes
+  second_superclass : is_second f.version ≡ true → list_any (λ (c : ClassForm). is_outside (listed_names f) c.superclass) f.classes ≡ false
+  unfolding has_other_superclass
+  second_superclass second = sym (ap (λ b. cond b (list_any (λ (c : ClassForm). is_outside (listed_names f) c.superclass) f.classes) (has_late_superclass [] f.classes)) second) ∙ other_superclass
+
+  -- a class's superclass is a listed class
+  superclass_among : (place : ℕ) (c : ClassForm) (s : Text) → slice_get f.classes place ≡ Some c → c.superclass ≡ Some s → is_among s (listed_names f) ≡ true
+  superclass_among place c s at is = by_version (is_second f.version) refl
+    where
+      by_version : (b : Bool) → is_second f.version ≡ b → is_among s (listed_names f) ≡ true
+      by_version true second =
+          let listed = each-none (λ (k : ClassForm). is_outside (listed_names f) k.superclass ≡ false) (λ (k : ClassForm). is_outside (listed_names f) k.superclass) f.classes (λ k e. e) (second_superclass second) in
+          late (listed_names f) s c.superclass is (All-at (λ (k : ClassForm). is_outside (listed_names f) k.superclass ≡ false) f.classes place c listed at)
+      by_version false first =
+          let names = map (λ (k : ClassForm). k.name) (take place f.classes) in
+          let rest = map (λ (k : ClassForm). k.name) (drop place f.classes) in
+          let all : names ++ rest ≡ listed_names f = sym (map-append (λ (k : ClassForm). k.name) (take place f.classes) (drop place f.classes)) ∙ ap (map (λ (k : ClassForm). k.name)) (take-append-drop place f.classes) in
+          subst (λ ns. is_among s ns ≡ true) all (among-first s names rest (earlier [] f.classes place c s (first_superclass first) at is))
+
+  -- and so it has a number among them
+  superclass_listed : (place : ℕ) (c : ClassForm) → slice_get f.classes place ≡ Some c → IfSome (option_map (class_named (numbers_of f)) c.superclass) (λ d. d < length (spec.image_of f).classes)
+  superclass_listed place c at = at_superclass c.superclass refl
+    where
+      at_superclass : (o : Option Text) → c.superclass ≡ o → IfSome (option_map (class_named (numbers_of f)) o) (λ d. d < length (spec.image_of f).classes)
+      at_superclass None e = tt
+      at_superclass (Some s) e = class_in s (ap not (superclass_among place c s at e))
+
+  before : is_second f.version ≡ false → (place : ℕ) (c : ClassForm) (d : ℕ) → slice_get f.classes place ≡ Some c → option_map (class_named (numbers_of f)) c.superclass ≡ Some d → d < place
+  unfolding class_named
+  before first place c d at is = at_superclass c.superclass refl is
     where
       at_superclass : (o : Option Text) → c.superclass ≡ o → option_map (class_named (numbers_of f)) o ≡ Some d → d < place
       at_superclass None e h = cc
       at_superclass (Some s) e h =
-          let late = (neither (has_late_superclass [] f.classes) _ g.superclasses).0 in
           let names = map (λ (k : ClassForm). k.name) (take place f.classes) in
           let rest = map (λ (k : ClassForm). k.name) (drop place f.classes) in
-          let number = known names s (earlier [] f.classes place c s late at e) in
-          let all : names ++ rest ≡ class_names f = sym (map-append (λ (k : ClassForm). k.name) (take place f.classes) (drop place f.classes)) ∙ ap (map (λ (k : ClassForm). k.name)) (take-append-drop place f.classes) in
-          let here : number_of (distinct (class_names f)) s ≡ Some number.number = ap (λ ns. number_of (distinct ns) s) (sym all) ∙ number_of-first names rest s number.number number.is in
+          let number = known names s (earlier [] f.classes place c s (first_superclass first) at e) in
+          let all : names ++ rest ≡ listed_names f = sym (map-append (λ (k : ClassForm). k.name) (take place f.classes) (drop place f.classes)) ∙ ap (map (λ (k : ClassForm). k.name)) (take-append-drop place f.classes) in
+          let listed : number_of (distinct (listed_names f)) s ≡ Some number.number = ap (λ ns. number_of (distinct ns) s) (sym all) ∙ number_of-first names rest s number.number number.is in
+          let here : number_of (distinct (class_names f)) s ≡ Some number.number = number_of-first (listed_names f) f.made s number.number listed in
           let named : class_named (numbers_of f) s ≡ number.number - 1 = rw here refl in
           omega (arith, same_Some (class_named (numbers_of f) s) d h, named, number.positive, number.listed, length-map (take place f.classes) (λ (k : ClassForm). k.name), length-take place f.classes)
 
-  class_sound : (place : ℕ) (c : ClassParts) → slice_get (spec.image_of f).classes place ≡ Some c → IsSoundClass (spec.image_of f) place c
-  class_sound place c at = at_form (slice_get f.classes place) refl (sym (slice_get-map (spec.class (numbers_of f)) f.classes place) ∙ at)
+  -- the superclasses, by their numbers
+  superclasses_are : superclasses (spec.image_of f) ≡ map (λ (c : ClassForm). option_map (class_named (numbers_of f)) c.superclass) f.classes
+  superclasses_are = map-map (λ (c : ClassParts). c.superclass) (spec.class (numbers_of f)) f.classes
+
+  abbrev number : ClassForm → Option ℕ
+  number c = option_map (class_named (numbers_of f)) c.superclass
+
+  abbrev listed_as : ClassForm → Option ℕ
+  listed_as c = option_map (number_among (distinct (listed_names f))) c.superclass
+
+  no_cycle : (is_second f.version && has_cycle (superclasses_of f.classes)) ≡ false
+  unfolding has_class_cycle
+  no_cycle = g.cycle
+
+  -- every chain of superclasses ends
+  chains_end : has_cycle (superclasses (spec.image_of f)) ≡ false
+  chains_end = by_version (is_second f.version) refl
     where
-      at_form : (o : Option ClassForm) → slice_get f.classes place ≡ o → option_map (spec.class (numbers_of f)) o ≡ Some c → IsSoundClass (spec.image_of f) place c
-      at_form None e h = cc
-      at_form (Some k) e h =
-          let two = All-at (λ (x : ClassForm). TwoListed x.methods x.class_methods) f.classes place k class_methods_listed e in
-          subst (IsSoundClass (spec.image_of f) place) (same_Some (spec.class (numbers_of f) k) c h) (record { before = λ d is. before place k d e is; methods = two.0; class_methods = two.1 })
+      same_number : (o : Option Text) → ((s : Text) → o ≡ Some s → is_among s (listed_names f) ≡ true) → option_map (class_named (numbers_of f)) o ≡ option_map (number_among (distinct (listed_names f))) o
+      same_number None there = refl
+      same_number (Some s) there = ap Some (listed_number f g s (there s refl))
+
+      same_numbers : map number f.classes ≡ map listed_as f.classes
+      same_numbers = map-same number listed_as f.classes (λ place c at. same_number c.superclass (λ s is. superclass_among place c s at is))
+
+      cycle : is_second f.version ≡ true → has_cycle (superclasses_of f.classes) ≡ false
+      cycle second = second_half (is_second f.version) (has_cycle (superclasses_of f.classes)) second no_cycle
+
+      by_version : (b : Bool) → is_second f.version ≡ b → has_cycle (superclasses (spec.image_of f)) ≡ false
+      by_version true second = ap has_cycle (superclasses_are ∙ same_numbers) ∙ cycle second
+      by_version false first = listed-ends (superclasses (spec.image_of f)) (λ k d e.
+          let there = ap (λ supers. super_of supers k) (sym superclasses_are) ∙ e in
+          mapped-at number f.classes k d there (λ c at is. before first k c d at is))
+
+  class_sound : All (IsSoundClass (spec.image_of f)) (spec.image_of f).classes
+  class_sound = All-map (IsSoundClass (spec.image_of f)) (spec.class (numbers_of f)) f.classes (λ k d inside.
+      let two = class_methods_listed k d inside in
+      record { superclass = superclass_listed k (get_or f.classes k d) (slice_get-get_or f.classes k d inside); methods = two.0; class_methods = two.1 })
 
   -- ---- names that bodies and parts cite
 
   pub classes_cited : (list_any (is_unknown (class_names f)) (body_classes f) ≡ false) × (list_any (is_unknown (class_names f)) (other_classes f) ≡ false)
   unfolding has_unknown_class
-  classes_cited = none-append (is_unknown (class_names f)) (body_classes f) (other_classes f) g.classes
+  classes_cited = none-append (is_unknown (class_names f)) (body_classes f) (other_classes f) (neither (list_any (is_unknown (class_names f)) (body_classes f ++ other_classes f)) _ g.classes).0
 
   pub objects_cited : (list_any (is_unknown (object_names f)) (body_objects f) ≡ false) × (list_any (is_unknown (object_names f)) (flat_map item_objects f.items) ≡ false)
   unfolding has_unknown_object
   objects_cited = none-append (is_unknown (object_names f)) (body_objects f) (flat_map item_objects f.items) g.objects
 
-  part_classes_cited : (list_any (is_unknown (class_names f)) (map (λ (c : CategoryForm). c.class) f.categories ++ map (λ (o : ObjectForm). o.class) f.objects) ≡ false) × (list_any (is_unknown (class_names f)) (map (λ (i : ImpForm). i.class) f.imps) ≡ false)
-  part_classes_cited = none-append (is_unknown (class_names f)) (map (λ (c : CategoryForm). c.class) f.categories ++ map (λ (o : ObjectForm). o.class) f.objects) (map (λ (i : ImpForm). i.class) f.imps) (none-append (is_unknown (class_names f)) (part_classes f) (flat_map item_classes f.items) classes_cited.1).0
+  pub other_classes_cited : (list_any (is_unknown (class_names f)) (map (λ (o : ObjectForm). o.class) f.objects) ≡ false) × (list_any (is_unknown (class_names f)) (flat_map item_classes f.items) ≡ false)
+  other_classes_cited = none-append (is_unknown (class_names f)) (map (λ (o : ObjectForm). o.class) f.objects) (flat_map item_classes f.items) classes_cited.1
 
-  first_classes_cited : (list_any (is_unknown (class_names f)) (map (λ (c : CategoryForm). c.class) f.categories) ≡ false) × (list_any (is_unknown (class_names f)) (map (λ (o : ObjectForm). o.class) f.objects) ≡ false)
-  first_classes_cited = none-append (is_unknown (class_names f)) (map (λ (c : CategoryForm). c.class) f.categories) (map (λ (o : ObjectForm). o.class) f.objects) part_classes_cited.0
+  home_classes_cited : (list_any (is_unknown (listed_names f)) (map (λ (c : CategoryForm). c.class) f.categories) ≡ false) × (list_any (is_unknown (listed_names f)) (map (λ (i : ImpForm). i.class) f.imps) ≡ false)
+  unfolding has_unknown_class
+  home_classes_cited = none-append (is_unknown (listed_names f)) (map (λ (c : CategoryForm). c.class) f.categories) (map (λ (i : ImpForm). i.class) f.imps) (neither (list_any (is_unknown (class_names f)) (body_classes f ++ other_classes f)) _ g.classes).1
 
   pub counts_right : (list_any is_miscounted_send (body_sends f) ≡ false) × (list_any is_miscounted_send (flat_map item_sends f.items) ≡ false)
   unfolding has_wrong_argument_count
@@ -275,7 +367,7 @@ module _ (f : Form) (g : IsFaultless f) where
 
   -- ---- super sends
 
-  under_superclass : (i : ImpForm) → sends_above (root_names f) i ≡ false → is_among i.class (class_names f) ≡ true → has_super_send (expression (numbers_of f) i.body) ≡ true → IsSome (superclass_in (spec.image_of f) (spec.imp (numbers_of f) i).home)
+  under_superclass : (i : ImpForm) → sends_above (root_names f) i ≡ false → is_among i.class (listed_names f) ≡ true → has_super_send (expression (numbers_of f) i.body) ≡ true → IsSome (superclass_in (spec.image_of f) (spec.imp (numbers_of f) i).home)
   under_superclass i none among sends = at_meta i.meta (rw (sym (super-expression (numbers_of f) i.body) ∙ sends) at none)
     where
       home : IsListedAs f g i.class (class_named (numbers_of f) i.class)
@@ -297,8 +389,8 @@ module _ (f : Form) (g : IsFaultless f) where
   supers_stand : All (λ (i : ImpForm). has_super_send (expression (numbers_of f) i.body) ≡ true → IsSome (superclass_in (spec.image_of f) (spec.imp (numbers_of f) i).home)) f.imps
   unfolding has_unknown_superclass
   supers_stand =
-      let above = each-none (λ (i : ImpForm). sends_above (root_names f) i ≡ false) (sends_above (root_names f)) f.imps (λ i e. e) (neither (has_late_superclass [] f.classes) _ g.superclasses).1 in
-      let home = each-mapped (λ (i : ImpForm). is_among i.class (class_names f) ≡ true) (is_unknown (class_names f)) (λ (i : ImpForm). i.class) f.imps (λ i. among (class_names f) i.class) part_classes_cited.1 in
+      let above = each-none (λ (i : ImpForm). sends_above (root_names f) i ≡ false) (sends_above (root_names f)) f.imps (λ i e. e) (neither (has_other_superclass f) _ g.superclasses).1 in
+      let home = each-mapped (λ (i : ImpForm). is_among i.class (listed_names f) ≡ true) (is_unknown (listed_names f)) (λ (i : ImpForm). i.class) f.imps (λ i. among (listed_names f) i.class) home_classes_cited.1 in
       λ k d inside. under_superclass (get_or f.imps k d) (above k d inside) (home k d inside)
 
   small : (b : form.Expression) → is_too_deep b ≡ false → (inner.depth b ≤ 32) × (length (inner.parts b) ≤ 256)
@@ -309,7 +401,7 @@ module _ (f : Form) (g : IsFaultless f) where
   body_sizes = each-none (λ (i : ImpForm). (inner.depth i.body ≤ 32) × (length (inner.parts i.body) ≤ 256)) (λ (i : ImpForm). is_too_deep i.body) f.imps (λ i. small i.body) g.bodies
 
   homes : All (λ (i : ImpForm). class_named (numbers_of f) i.class < length (spec.image_of f).classes) f.imps
-  homes = each-mapped (λ (i : ImpForm). class_named (numbers_of f) i.class < length (spec.image_of f).classes) (is_unknown (class_names f)) (λ (i : ImpForm). i.class) f.imps (λ i. class_in i.class) part_classes_cited.1
+  homes = each-mapped (λ (i : ImpForm). class_named (numbers_of f) i.class < length (spec.image_of f).classes) (is_unknown (listed_names f)) (λ (i : ImpForm). i.class) f.imps (λ i. class_in i.class) home_classes_cited.1
 
   imps_sound : All (λ (i : ImpForm). i.args ≤ 4) f.imps → All (IsSoundImp (spec.image_of f)) (spec.image_of f).imps
   imps_sound args = All-map (IsSoundImp (spec.image_of f)) (spec.imp (numbers_of f)) f.imps (λ k d inside.
@@ -332,13 +424,13 @@ module _ (f : Form) (g : IsFaultless f) where
 
   categories_sound : All (IsSoundCategory (spec.image_of f)) (spec.image_of f).categories
   categories_sound =
-      let classes = each-mapped (λ (c : CategoryForm). class_named (numbers_of f) c.class < length (spec.image_of f).classes) (is_unknown (class_names f)) (λ (c : CategoryForm). c.class) f.categories (λ c. class_in c.class) first_classes_cited.0 in
+      let classes = each-mapped (λ (c : CategoryForm). class_named (numbers_of f) c.class < length (spec.image_of f).classes) (is_unknown (listed_names f)) (λ (c : CategoryForm). c.class) f.categories (λ c. class_in c.class) home_classes_cited.0 in
       All-map (IsSoundCategory (spec.image_of f)) (spec.category (numbers_of f)) f.categories (λ k d inside.
       let two = category_methods_listed k d inside in record { class = classes k d inside; methods = two.0; class_methods = two.1 })
 
   objects_sound : All (λ (o : ObjectParts). o.class < class_total (spec.image_of f)) (spec.image_of f).objects
   objects_sound =
-      let classes = each-mapped (λ (o : ObjectForm). class_named (numbers_of f) o.class < class_total (spec.image_of f)) (is_unknown (class_names f)) (λ (o : ObjectForm). o.class) f.objects (λ o. any_class_in o.class) first_classes_cited.1 in
+      let classes = each-mapped (λ (o : ObjectForm). class_named (numbers_of f) o.class < class_total (spec.image_of f)) (is_unknown (class_names f)) (λ (o : ObjectForm). o.class) f.objects (λ o. any_class_in o.class) other_classes_cited.0 in
       All-map (λ (o : ObjectParts). o.class < class_total (spec.image_of f)) (spec.object (numbers_of f)) f.objects classes
 
   first_name : name_at (spec.image_of f).names 1 ≡ Some forwarding_text
@@ -353,22 +445,23 @@ module _ (f : Form) (g : IsFaultless f) where
 
   pub items_few : length f.items ≤ 65536
   unfolding has_long_list
-  items_few = few 65536 (length f.items) (neither (nat_lt 1024 (length f.classes) || nat_lt 1024 (length f.categories) || nat_lt 4096 (length f.objects) || nat_lt 4096 (length f.imps)) (nat_lt 65536 (length f.items)) limits.0).1
+  items_few = few 65536 (length f.items) (neither (nat_lt 1024 (length f.classes + length f.made) || nat_lt 1024 (length f.categories) || nat_lt 4096 (length f.objects) || nat_lt 4096 (length f.imps)) (nat_lt 65536 (length f.items)) limits.0).1
 
   pub image_sound : All (λ (i : ImpForm). i.args ≤ 4) f.imps → IsSound (spec.image_of f)
   unfolding has_long_list has_many_entries
   image_sound args =
-      let imps = neither (nat_lt 1024 (length f.classes) || nat_lt 1024 (length f.categories) || nat_lt 4096 (length f.objects) || nat_lt 4096 (length f.imps)) (nat_lt 65536 (length f.items)) limits.0 in
-      let objects = neither (nat_lt 1024 (length f.classes) || nat_lt 1024 (length f.categories) || nat_lt 4096 (length f.objects)) (nat_lt 4096 (length f.imps)) imps.0 in
-      let categories = neither (nat_lt 1024 (length f.classes) || nat_lt 1024 (length f.categories)) (nat_lt 4096 (length f.objects)) objects.0 in
-      let classes = neither (nat_lt 1024 (length f.classes)) (nat_lt 1024 (length f.categories)) categories.0 in
+      let imps = neither (nat_lt 1024 (length f.classes + length f.made) || nat_lt 1024 (length f.categories) || nat_lt 4096 (length f.objects) || nat_lt 4096 (length f.imps)) (nat_lt 65536 (length f.items)) limits.0 in
+      let objects = neither (nat_lt 1024 (length f.classes + length f.made) || nat_lt 1024 (length f.categories) || nat_lt 4096 (length f.objects)) (nat_lt 4096 (length f.imps)) imps.0 in
+      let categories = neither (nat_lt 1024 (length f.classes + length f.made) || nat_lt 1024 (length f.categories)) (nat_lt 4096 (length f.objects)) objects.0 in
+      let classes = neither (nat_lt 1024 (length f.classes + length f.made)) (nat_lt 1024 (length f.categories)) categories.0 in
       record {
         forwarding = first_name;
         classes = class_sound;
+        chains = chains_end;
         categories = categories_sound;
         objects = objects_sound;
         imps = imps_sound args;
-        few_classes = omega (arith, few 1024 (length f.classes) classes.0, length-map f.classes (spec.class (numbers_of f)));
+        few_classes = omega (arith, few 1024 (length f.classes + length f.made) classes.0, length-map f.classes (spec.class (numbers_of f)));
         few_categories = omega (arith, few 1024 (length f.categories) classes.1, length-map f.categories (spec.category (numbers_of f)));
         few_objects = omega (arith, few 4096 (length f.objects) categories.1, length-map f.objects (spec.object (numbers_of f)));
         few_imps = omega (arith, few 4096 (length f.imps) objects.1, length-map f.imps (spec.imp (numbers_of f)));

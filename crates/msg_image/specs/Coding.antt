@@ -103,5 +103,6 @@ mutual
   all_back NoMore = refl
   all_back (More e es) = λ i. More (back e i) (all_back es i)
 
+-- expressions have codes, so that views which hold them are sets
 abbrev pub coded_expression : Coded Expression
 coded_expression = code_by Gv coded_Gv to from back

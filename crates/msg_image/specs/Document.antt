@@ -1,5 +1,5 @@
 -- The document that a form spells: numbers for names.
-use Rattle.std.specs.Prelude.{ℕ, min, List, [], map, take, option_map}
+use Rattle.std.specs.Prelude.{ℕ, min, List, map, take, option_map}
 use Rattle.msg_names.specs.Number.{selector_number, imp_number}
 use Rattle.msg_names.specs.declared.value.ClassRef.{ClassRef}
 use Rattle.msg_names.specs.declared.value.Value.{Value}
@@ -7,7 +7,7 @@ use Rattle.msg_names.specs.declared.value.Value.TheVariants.{Number, Object, Cla
 use Rattle.msg_form.specs.declared.form.Operator.{Operator}
 use Rattle.msg_form.specs.declared.form.Operator.TheVariants as operators
 use Rattle.msg_form.specs.Expression as form
-use Rattle.msg_form.specs.Form.{PairForm, ClassForm, CategoryForm, ObjectForm, ImpForm, MethodForm, ChangeForm, add, replace, set_imp, exchange, attach, ItemForm, send_item, change_item, Form}
+use Rattle.msg_form.specs.Form.{PairForm, ClassForm, CategoryForm, ObjectForm, ImpForm, MethodForm, ChangeForm, add, replace, set_imp, exchange, attach, make, ItemForm, send_item, change_item, Form}
 use Rattle.msg_image.specs.declared.change.Change.{Change}
 use Rattle.msg_image.specs.declared.change.Change.TheVariants as changes
 use Rattle.msg_image.specs.declared.image.Category.{Category}
@@ -54,15 +54,19 @@ method n p = (selector_number (selector_named n p.selector), imp_number (imp_nam
 abbrev pub methods : Numbers → List PairForm → List (ℕ × ℕ)
 methods n ps = map (method n) ps
 
+-- a class with numbers for names
 abbrev pub class : Numbers → ClassForm → ClassParts
 class n c = record { name = c.name; superclass = option_map (class_named n) c.superclass; methods = methods n c.methods; class_methods = methods n c.class_methods }
 
+-- a category with numbers for names
 abbrev pub category : Numbers → CategoryForm → Category
 category n c = record { class = class_named n c.class; methods = methods n c.methods; class_methods = methods n c.class_methods }
 
+-- an object with numbers for names
 abbrev pub object : Numbers → ObjectForm → ObjectParts
 object n o = record { name = o.name; class = class_named n o.class }
 
+-- an implementation with numbers for names
 abbrev pub imp : Numbers → ImpForm → ImpParts
 imp n i = record { home = record { class = class_named n i.class; meta = i.meta }; args = i.args; body = expression n i.body }
 
@@ -77,6 +81,7 @@ change n (replace m i) = changes.Replace (class_ref n m) (selector_named n m.sel
 change n (set_imp m i) = changes.SetImp (class_ref n m) (selector_named n m.selector) (imp_named n i)
 change n (exchange m o) = changes.Exchange (class_ref n m) (selector_named n m.selector) (class_ref n o) (selector_named n o.selector)
 change n (attach c ms cs) = changes.Attach (class_named n c) (methods n ms) (methods n cs)
+change n (make c s) = changes.AddClass (class_named n c) (option_map (class_named n) s)
 
 -- a send has four arguments at most
 abbrev pub item : Numbers → ItemForm → ItemParts
@@ -91,7 +96,7 @@ image_of f =
     record {
       names = n.selectors;
       classes = map (class n) f.classes;
-      made = [];
+      made = f.made;
       categories = map (category n) f.categories;
       objects = map (object n) f.objects;
       imps = map (imp n) f.imps;

@@ -5,11 +5,13 @@ use Rattle.msg_names.specs.declared.value.Value.{Value}
 use Rattle.msg_image.specs.declared.change.Change.{Change}
 use Rattle.msg_image.specs.Parts.{ImageParts}
 
+-- an item, with numbers for names
 pub data ItemParts : Type 0 where
   -- receiver, selector, arguments
   SendItem : Value → Selector → List Value → ItemParts
   ChangeItem : Change → ItemParts
 
+-- a document: an image and what is to be done with it
 pub record DocumentParts : Type 0 where
   pub image : ImageParts
   pub items : List ItemParts

@@ -11,7 +11,7 @@ use Rattle.msg_form.specs.Text.{Text, distinct}
 use Rattle.msg_form.specs.Walk.{selector_texts}
 use Rattle.msg_image.specs.declared.numbers.Numbers.{Numbers}
 
--- Selectors are numbered as the walk meets them. Where no two classes, objects or implementations have one name, they are numbered as they are listed.
+-- Selectors are numbered as the walk meets them. Where no two classes, objects or implementations have one name, they are numbered as they are listed, and the classes that may be made after the listed ones.
 abbrev pub numbers_of : Form → Numbers
 numbers_of f = record {
   selectors = distinct (selector_texts f);
@@ -24,11 +24,14 @@ numbers_of f = record {
 unfoldable pub selector_named : Numbers → Text → Selector
 selector_named n text = selector_of (unwrap_or (number_of n.selectors text) 1)
 
+-- the number of a class by its name
 unfoldable pub class_named : Numbers → Text → ℕ
 class_named n name = unwrap_or (number_of n.classes name) 1 - 1
 
+-- the object of a name
 unfoldable pub object_named : Numbers → Text → ObjectRef
 object_named n name = record { object = unwrap_or (number_of n.objects name) 1 - 1 }
 
+-- the implementation of a name
 unfoldable pub imp_named : Numbers → Text → ImpRef
 imp_named n name = imp_ref_of (unwrap_or (number_of n.imps name) 0)

@@ -1,5 +1,7 @@
 -- The parts of an image, with no pointers.
-use Rattle.std.specs.Prelude.{ℕ, ◌+◌, ◌++◌, length, map, List, [], ◌∷◌, Option, Some, None, Bool, true, false, slice_get, if◌then◌else◌}
+use Rattle.std.specs.Prelude.{ℕ, ◌+◌, ◌++◌, length, map, List, [], ◌∷◌, Option, Some, None, slice_get, if◌then◌else◌}
+use Rattle.std.specs.Option.{option_map_or}
+use Rattle.msg_order.specs.Superclasses.{depth_of}
 use Rattle.msg_names.specs.ClassRef.{above}
 use Rattle.msg_names.specs.declared.value.Selector.{Selector}
 use Rattle.msg_names.specs.Number.{selector_of}
@@ -32,12 +34,14 @@ abbrev pub in_row : List Expression → Expressions
 in_row [] = NoMore
 in_row (e ∷ es) = More e (in_row es)
 
+-- a listed class
 pub record ClassParts : Type 0 where
   pub name : List ℕ
   pub superclass : Option ℕ
   pub methods : List (ℕ × ℕ)
   pub class_methods : List (ℕ × ℕ)
 
+-- an object
 pub record ObjectParts : Type 0 where
   pub name : List ℕ
   pub class : ℕ
@@ -48,6 +52,7 @@ pub record ImpParts : Type 0 where
   pub args : ℕ
   pub body : Expression
 
+-- an image
 pub record ImageParts : Type 0 where
   -- the names of the selectors, in the order of their numbers
   pub names : List (List ℕ)
@@ -79,6 +84,18 @@ superclass_in image c = of_listed (slice_get image.classes c.class)
     of_listed None = None
     of_listed (Some k) = above c k.superclass
 
+-- the superclasses of the listed classes
+abbrev pub superclasses : ImageParts → List (Option ℕ)
+superclasses image = map (λ (c : ClassParts). c.superclass) image.classes
+
+-- how many superclasses stand above a listed class
+abbrev pub depth_in : ImageParts → ℕ → ℕ
+depth_in image k = depth_of (superclasses image) k
+
 -- the listed methods of a class reference, whose class has these parts
 abbrev pub methods_of : ClassRef → ClassParts → List (ℕ × ℕ)
 methods_of c k = if c.meta then k.class_methods else k.methods
+
+-- the listed methods of a class reference; a class that may be made has none
+abbrev pub methods_in : ImageParts → ClassRef → List (ℕ × ℕ)
+methods_in image c = option_map_or (methods_of c) (slice_get image.classes c.class) []

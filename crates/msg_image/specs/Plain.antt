@@ -33,15 +33,19 @@ plain = fold-Expr Expression expr_step
 abbrev pub plain_all : List Expr → Expressions
 plain_all es = in_row (map plain es)
 
+-- a class without its pointers
 abbrev pub class_parts : Class → ClassParts
 class_parts c = record { name = string_bytes c.name; superclass = c.superclass; methods = c.methods; class_methods = c.class_methods }
 
+-- an object without its pointers
 abbrev pub object_parts : Object → ObjectParts
 object_parts o = record { name = string_bytes o.name; class = o.class }
 
+-- an implementation without its pointers
 abbrev pub imp_parts : Imp → ImpParts
 imp_parts i = record { home = i.home; args = i.args; body = plain i.body }
 
+-- an image without its pointers
 abbrev pub image_parts : Inside → ImageParts
 image_parts i = record {
   names = i.names;
@@ -52,6 +56,7 @@ image_parts i = record {
   imps = map imp_parts i.imps.items;
 }
 
+-- an item without its pointers
 abbrev pub item_parts : Item → ItemParts
 item_parts (items.Send r s args) = SendItem r s args.items
 item_parts (items.Change x) = ChangeItem x

@@ -1,6 +1,7 @@
 -- What holds of every image.
-use Rattle.std.specs.Prelude.{◌≡◌, ◌<◌, ◌≤◌, ◌+◌, ℕ, List, ◌∷◌, Some, option_map, slice_get, length, sum_by, All, true, IsSome, IfSome}
+use Rattle.std.specs.Prelude.{◌≡◌, ◌<◌, ◌≤◌, ◌+◌, ℕ, List, ◌∷◌, Some, option_map, length, sum_by, All, true, false, IsSome, IfSome}
 use Rattle.std.specs.List.{flat_map}
+use Rattle.msg_order.specs.Superclasses.{has_cycle}
 use Rattle.msg_names.specs.Name.{colons_of}
 use Rattle.msg_names.specs.Number.{selector_number, imp_number}
 use Rattle.msg_names.specs.declared.value.ClassRef.{ClassRef}
@@ -13,7 +14,7 @@ use Rattle.msg_names.specs.declared.value.Value.{Value}
 use Rattle.msg_names.specs.declared.value.Value.TheVariants.{Number, Object, Class, Sel, Nil}
 use Rattle.msg_image.specs.declared.image.Category.{Category}
 use Rattle.msg_image.specs.Items.{ItemParts, SendItem, ChangeItem}
-use Rattle.msg_image.specs.Parts.{ImageParts, class_total, ClassParts, ObjectParts, ImpParts, Expression, Expressions, Const, Me, Arg, Two, If, Send, Super, NoMore, More, superclass_in}
+use Rattle.msg_image.specs.Parts.{ImageParts, class_total, ClassParts, ObjectParts, ImpParts, Expression, Expressions, Const, Me, Arg, Two, If, Send, Super, NoMore, More, superclass_in, superclasses}
 use Rattle.msg_image.specs.Contents.{own_selector, selectors_in, arguments_in, has_super_send}
 use Rattle.msg_image.specs.Sizes.{count, depth, arity}
 use Rattle.msg_form.specs.Walk.{forwarding_text}
@@ -57,6 +58,7 @@ HasImp image i = (0 < imp_number i) × (imp_number i ≤ length image.imps)
 abbrev pub IsMethodOf : ImageParts → ℕ × ℕ → Type 0
 IsMethodOf image m = (0 < m.1) × (m.1 ≤ length image.imps) × (m.0 ≤ length image.names)
 
+-- all are methods of the image
 abbrev pub AreListed : ImageParts → List (ℕ × ℕ) → Type 0
 AreListed image methods = All (IsMethodOf image) methods
 
@@ -66,17 +68,18 @@ row_count image =
     sum_by (λ (c : ClassParts). length c.methods + length c.class_methods) image.classes
     + sum_by (λ (c : Category). length c.methods + length c.class_methods) image.categories
 
-pub record IsSoundClass (image : ImageParts) (place : ℕ) (c : ClassParts) : Type 0 where
-  -- a superclass is listed before its subclasses
-  pub before : (d : ℕ) → c.superclass ≡ Some d → d < place
+pub record IsSoundClass (image : ImageParts) (c : ClassParts) : Type 0 where
+  pub superclass : IfSome c.superclass (λ d. d < length image.classes)
   pub methods : AreListed image c.methods
   pub class_methods : AreListed image c.class_methods
 
+-- a category is of a listed class, with methods of the image
 pub record IsSoundCategory (image : ImageParts) (c : Category) : Type 0 where
   pub class : c.class < length image.classes
   pub methods : AreListed image c.methods
   pub class_methods : AreListed image c.class_methods
 
+-- an implementation stands in a listed class, and its body reads its own arguments and names what the image has
 pub record IsSoundImp (image : ImageParts) (i : ImpParts) : Type 0 where
   pub home : i.home.class < length image.classes
   pub args : i.args ≤ 4
@@ -93,7 +96,9 @@ pub record IsSoundImp (image : ImageParts) (i : ImpParts) : Type 0 where
 pub record IsSound (image : ImageParts) : Type 0 where
   -- selector 1 is `forwardingTargetForSelector:`
   pub forwarding : name_at image.names 1 ≡ Some forwarding_text
-  pub classes : (place : ℕ) (c : ClassParts) → slice_get image.classes place ≡ Some c → IsSoundClass image place c
+  pub classes : All (IsSoundClass image) image.classes
+  -- the chain of superclasses of each listed class ends
+  pub chains : has_cycle (superclasses image) ≡ false
   pub categories : All (IsSoundCategory image) image.categories
   pub objects : All (λ (o : ObjectParts). o.class < class_total image) image.objects
   pub imps : All (IsSoundImp image) image.imps

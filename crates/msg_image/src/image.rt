@@ -1,6 +1,8 @@
 //! The image.
 
-ghost use Rattle.std.specs.Prelude.{◌≡◌, ◌<◌, ◌≤◌, ◌-◌, length, slice_get, All, None, Some, IfSome, IfOk, option_map};
+ghost use Rattle.std.specs.Prelude.{◌≡◌, ◌<◌, ◌≤◌, ◌-◌, false, length, map, suc, slice_get, slice_index_or, All, None, Some, IfSome, IfOk, option_map};
+ghost use Rattle.std.specs.Option.{option_map_or};
+ghost use Rattle.msg_order.specs.Superclasses.{AreListed as AreClasses, depth_of, has_cycle};
 ghost use Rattle.msg_form.specs.Faults.{fault_of};
 ghost use Rattle.msg_form.specs.Views.{form_view};
 ghost use Rattle.msg_image.specs.Document.{image_of};
@@ -80,6 +82,21 @@ impl Model for Image {
     ghost invariant = { λ i. IsSound (image_parts i) };
 }
 
+fn superclass_count(classes: &[Class], class: u32) -> u32
+    requires class { class < length classes.now }
+    requires few { length classes.now ≤ 1024 }
+    requires listed { AreClasses (map (λ c. c.superclass) classes.now) }
+    requires chains { has_cycle (map (λ c. c.superclass) classes.now) ≡ false }
+    ensures { result ≡ depth_of (map (λ c. c.superclass) classes.now) class }
+{
+    let (mut depth, mut at) = (0, class);
+    while let Some(above) = classes[at as usize].superclass {
+        depth += 1;
+        at = above;
+    }
+    depth
+}
+
 impl Image {
     // The image of a form without fault.
     pub(crate) fn of(alloc: Global, form: &Form, numbers: Numbers) -> Result<Image, AllocError>
@@ -89,7 +106,7 @@ impl Image {
     {
         Ok(Image {
             classes: each(alloc, &numbers, &form.classes)?,
-            made: Vec::new(alloc),
+            made: each(alloc, &numbers, &form.made)?,
             categories: each(alloc, &numbers, &form.categories)?,
             objects: each(alloc, &numbers, &form.objects)?,
             imps: each(alloc, &numbers, &form.imps)?,
@@ -98,7 +115,7 @@ impl Image {
     }
 
     ghost use Rattle.msg_image.specs.Methods.{method_numbers};
-    ghost use Rattle.msg_image.specs.Parts.{ObjectParts, class_total, class_names, forwarding_selector, superclass_in, methods_of};
+    ghost use Rattle.msg_image.specs.Parts.{ObjectParts, class_total, class_names, forwarding_selector, superclass_in, superclasses, depth_in, methods_in};
     ghost use Rattle.msg_names.specs.Numbering.{name_at};
     ghost use Rattle.msg_form.specs.Walk.{forwarding_text};
     ghost use Rattle.msg_image.specs.Plain.{plain, imp_parts};
@@ -161,12 +178,26 @@ impl Image {
         class.above(self.classes[class.class as usize].superclass)
     }
 
-    /// The methods that the class itself lists, without those of categories.
+    /// How many superclasses stand above a listed class: none above a root class, and else one more than above its superclass.
+    ///
+    /// Takes time in the order of what it answers.
+    pub fn depth(&self, class: u32) -> u32
+        requires { class < length self.now.classes }
+        ensures depth { result ≡ depth_in self.now class }
+        ensures above { result ≡ option_map_or (λ d. suc (depth_in self.now d)) (slice_index_or (superclasses self.now) class None) 0 }
+    {
+        superclass_count(&self.classes, class)
+    }
+
+    /// The methods that the class itself lists, without those of categories. A class that may be made lists none.
     pub fn methods(&self, class: ClassRef) -> &[(Selector, ImpRef)]
-        requires { class.class < length self.now.classes }
-        ensures methods { option_map (methods_of class) (slice_get self.now.classes class.class) ≡ Some (method_numbers result.now) }
+        requires { class.class < class_total self.now }
+        ensures methods { method_numbers result.now ≡ methods_in self.now class }
         ensures listed { AreListed self.now (method_numbers result.now) }
     {
+        if class.class as usize >= self.classes.len() {
+            return &[];
+        }
         let listed = &self.classes[class.class as usize];
         if class.meta {
             listed.class_methods.as_slice()

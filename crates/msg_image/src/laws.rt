@@ -1,14 +1,20 @@
 //! Laws of the numbers of a document: of a form without fault each part has the number of its place.
 
-ghost use Rattle.std.specs.Prelude.{◌≡◌, ◌+◌, ℕ, None, Some, slice_get};
+ghost use Rattle.std.specs.Prelude.{◌≡◌, ◌+◌, ℕ, None, Some, length, slice_get};
 ghost use Rattle.msg_form.specs.Faults.{fault_of};
+ghost use Rattle.msg_form.specs.Text.{Text};
 ghost use Rattle.msg_form.specs.Form.{Form, ClassForm, ObjectForm, ImpForm};
 ghost use Rattle.msg_image.specs.Numbers.{numbers_of, class_named, object_named, imp_named};
 ghost use Rattle.msg_names.specs.Number.{imp_number};
 
-/// A class is numbered as it is listed, from 0.
+/// A listed class is numbered as it is listed, from 0.
 pub fn a_class_has_the_number_of_its_place()
     ensures { (f : Form) (place : ℕ) (c : ClassForm) → fault_of f ≡ None → slice_get f.classes place ≡ Some c → class_named (numbers_of f) c.name ≡ place }
+{}
+
+/// A class that may be made is numbered after the listed ones.
+pub fn a_class_that_may_be_made_comes_after_the_listed_ones()
+    ensures { (f : Form) (place : ℕ) (name : Text) → fault_of f ≡ None → slice_get f.made place ≡ Some name → class_named (numbers_of f) name ≡ length f.classes + place }
 {}
 
 /// An object is numbered as it is listed, from 0.

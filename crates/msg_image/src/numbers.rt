@@ -1,6 +1,8 @@
 //! The numbers of a document's names.
 
-ghost use Rattle.std.specs.Prelude.{◌≡◌, IfOk, map};
+ghost use Rattle.std.specs.Prelude.{◌≡◌, fold, IfOk, map};
+ghost use Rattle.msg_names.specs.Numbering.{with_name};
+ghost use Rattle.msg_form.specs.Lists.{class_names};
 ghost use Rattle.msg_form.specs.Text.{Text, distinct, texts_view};
 ghost use Rattle.msg_form.specs.Views.{class_view, object_view, imp_view, form_view};
 ghost use Rattle.msg_image.specs.Numbers as spec;
@@ -57,14 +59,38 @@ impl<'v> Named<'v> for form::Imp<'v> {
     }
 }
 
-fn names_of<'v, T: Named<'v>>(alloc: Global, parts: &[T]) -> Result<NameSet<'v>, AllocError>
-    ensures { IfOk result (λ names. names ≡ distinct (map T.named parts.now)) }
+impl<'v> Named<'v> for &'v str {
+    ghost named = { λ s. s.now };
+
+    fn name(&self) -> &'v str {
+        *self
+    }
+}
+
+// The names with those of the parts.
+fn with_names<'v, T: Named<'v>>(
+    mut names: NameSet<'v>,
+    parts: &[T],
+) -> Result<NameSet<'v>, AllocError>
+    ensures { IfOk result (λ all. all ≡ fold with_name names.entry (map T.named parts.now)) }
 {
-    let mut names = NameSet::new(alloc);
     for part in parts {
         names.insert(part.name())?;
     }
     Ok(names)
+}
+
+fn names_of<'v, T: Named<'v>>(alloc: Global, parts: &[T]) -> Result<NameSet<'v>, AllocError>
+    ensures { IfOk result (λ names. names ≡ distinct (map T.named parts.now)) }
+{
+    with_names(NameSet::new(alloc), parts)
+}
+
+// The names of the listed classes, and of those that may be made.
+fn class_names<'v>(alloc: Global, form: &Form<'v>) -> Result<NameSet<'v>, AllocError>
+    ensures { IfOk result (λ names. names ≡ distinct (class_names (form_view form.now))) }
+{
+    with_names(names_of(alloc, &form.classes)?, &form.made)
 }
 
 // The names of selectors, numbered. Of a form without fault there are 4,096 at most, all of them good.
@@ -87,7 +113,7 @@ impl<'v> Numbers<'v> {
         let texts = form.selector_texts(alloc)?;
         Ok(Numbers {
             selectors: selector_names(alloc, &texts)?,
-            classes: names_of(alloc, &form.classes)?,
+            classes: class_names(alloc, form)?,
             objects: names_of(alloc, &form.objects)?,
             imps: names_of(alloc, &form.imps)?,
         })

@@ -1,6 +1,6 @@
 //! The document that a form spells: numbers for names. Each place of a name is hashed once.
 
-ghost use Rattle.std.specs.Prelude.{◌≡◌, IfOk, map, take, option_map};
+ghost use Rattle.std.specs.Prelude.{◌≡◌, ℕ, List, IfOk, map, take, option_map, string_bytes};
 ghost use Rattle.msg_form.specs.Expression as form;
 ghost use Rattle.msg_form.specs.ExprView.{constant_view, expr_view};
 ghost use Rattle.msg_form.specs.Views.{pairs_view, class_view, category_view, object_view, imp_view, method_view, change_view, item_view};
@@ -132,6 +132,18 @@ fn superclass(numbers: &Numbers, name: Option<&str>) -> Option<u32>
     Some(numbers.class(name?))
 }
 
+impl<'v> Resolve<&'v str> for String {
+    ghost Plain = { List ℕ };
+
+    ghost parts = { string_bytes };
+
+    ghost meaning = { λ _ name. name.now };
+
+    fn resolve(alloc: Global, _numbers: &Numbers, name: &&'v str) -> Result<String, AllocError> {
+        String::from_str(alloc, *name)
+    }
+}
+
 impl<'v> Resolve<form::Class<'v>> for Class {
     ghost Plain = { ClassParts };
 
@@ -253,6 +265,13 @@ fn change(alloc: Global, numbers: &Numbers, change: &form::Change) -> Result<Cha
             class: numbers.class(class),
             methods: methods(alloc, numbers, own)?,
             class_methods: methods(alloc, numbers, class_methods)?,
+        }),
+        form::Change::Make {
+            class,
+            superclass: above,
+        } => Ok(Change::AddClass {
+            class: numbers.class(class),
+            superclass: superclass(numbers, *above),
         }),
     }
 }

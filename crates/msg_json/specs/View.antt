@@ -31,5 +31,6 @@ abbrev mutual
   members_data json.no_members found = found
   members_data (json.member k j ms) found = members_data ms (put k (data_of j) found)
 
+-- a value of the reader's tree as serde_json has it
 abbrev pub view : Value Global → Data
 view v = data_of (value_view v)

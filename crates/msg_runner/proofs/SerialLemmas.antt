@@ -29,7 +29,7 @@ same_image : (h : History) (x : Change) (r : Option ChangeFault) → (longer_by 
 same_image h x None = refl
 same_image h x (Some f) = refl
 
-image_after : (h : History) (item : ItemParts) → (history_after h item).image ≡ h.image
+pub image_after : (h : History) (item : ItemParts) → (history_after h item).image ≡ h.image
 image_after h (SendItem r s args) = refl
 image_after h (ChangeItem x) = same_image h x (refusal h x)
 

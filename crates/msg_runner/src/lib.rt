@@ -1,19 +1,25 @@
 //! What the program `msgrun` does: its devices, its command line, and the run from bytes to bytes.
 #![tactic(auto)]
 
-mod answers;
+mod asking;
+mod batch;
 mod command_line;
 mod complaint;
+mod crew;
+mod deal;
 mod decimal;
 mod device;
 mod fault;
 mod from_reader;
 mod gate;
+mod gather;
 pub mod laws;
 mod reading;
 mod running;
+mod serving;
 mod text;
 mod to_writer;
+mod work;
 mod writing;
 
 pub use command_line::arguments;
@@ -23,6 +29,6 @@ pub use fault::RunFault;
 pub use from_reader::FromReader;
 pub use gate::{Gate, OpenGate};
 pub use reading::{ReadFault, read_whole};
-pub use running::{MAX_WORKERS, run};
+pub use running::{MAX_WORKERS, run, run_beside};
 pub use to_writer::ToWriter;
 pub use writing::write_whole;

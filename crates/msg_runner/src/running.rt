@@ -1,6 +1,6 @@
 //! From bytes to bytes.
 
-ghost use Rattle.std.specs.Prelude.{◌≡◌, ◌≢◌, ◌<◌, ◌≤◌, ◌↔◌, ◌⊎◌, All, map, false, true, Ok, Err, IfOk, IfErr, IfSome, OnErr, OnOk};
+ghost use Rattle.std.specs.Prelude.{◌≡◌, ◌≢◌, ◌<◌, ◌≤◌, ◌↔◌, ◌⊎◌, All, length, map, false, true, Ok, Err, IfOk, IfErr, IfSome, OnErr, OnOk};
 ghost use Rattle.std.specs.Io.KnownBytes.{Appends};
 ghost use Rattle.msg_form.specs.declared.faults.DocumentFault.{DocumentFault};
 ghost use Rattle.msg_form.specs.declared.faults.DocumentFault.TheVariants as documents;
@@ -9,17 +9,19 @@ ghost use Rattle.msg_image.specs.DocumentParts.{document_parts};
 ghost use Rattle.msg_image.specs.Plain.{item_parts};
 ghost use Rattle.msg_image.specs.Sound.{IsSoundItem};
 ghost use Rattle.msg_runner.specs.Device.{Marks};
-ghost use Rattle.msg_runner.specs.Outcome.{Wrote, WroteFront, Leaves};
+ghost use Rattle.msg_runner.specs.Outcome.{Wrote, WroteFront, WroteBeside, WroteFrontBeside, Leaves};
 ghost use Rattle.msg_runner.specs.Writing.{AppendsFront};
 
-use crate::answers::answers;
 use crate::device::{Sink, Source};
 use crate::fault::RunFault;
 use crate::gate::Gate;
 use crate::reading::read_whole;
+use crate::serving::{text, text_beside};
 use crate::writing::write_whole;
 use msg_image::{Document, read_document};
 use std::alloc::Global;
+use std::sync::Wait;
+use std::thread::Threads;
 
 /// The most workers of a run.
 pub const MAX_WORKERS: u32 = 64;
@@ -29,6 +31,7 @@ fn document<R: Source>(alloc: Global, source: &mut R) -> Result<Document, RunFau
     requires { R.mark source.old ≡ false }
     ensures ok { IfOk result (λ d. IfSome (R.remaining source.old) (λ bytes. IsAnswer bytes (Ok (document_parts d)))) }
     ensures sound { IfOk result (λ d. All (IsSoundItem d.image) (map item_parts d.items.items)) }
+    ensures few { IfOk result (λ d. length d.items.items ≤ 65536) }
     ensures fault { (f : DocumentFault) → result ≡ Err (RunFault.Document f) → IfSome (R.remaining source.old) (λ bytes. IsAnswer bytes (Err f)) }
     ensures memory { result ≢ Err (RunFault.Document documents.Memory) }
     ensures read { (result ≡ Err RunFault.Read) ↔ (R.mark source.new ≡ true) }
@@ -70,14 +73,15 @@ fn write<W: Sink>(sink: &mut W, text: &[u8]) -> Result<(), RunFault>
 /// Reads a document, answers its items in their order, and writes a line for each answer.
 ///
 /// The lines are those of one thread that takes the items one by one and searches the method lists, for every number of workers and every cut. The text is
-/// whole before its first byte is written. As long as a run has one thread the gate isn't called.
-pub fn run<R: Source, W: Sink, G: Gate>(
+/// whole before its first byte is written. A batch of one piece is answered by the calling thread.
+pub fn run<R: Source, W: Sink, G: Gate, T: Threads + Wait + Sync>(
+    rt: &T,
     alloc: Global,
     source: &mut R,
     sink: &mut W,
     workers: u32,
     cut: u32,
-    _gate: &G,
+    gate: &G,
 ) -> Result<(), RunFault>
     requires unread { R.mark source.old ≡ false }
     requires unwritten { W.mark sink.old ≡ false }
@@ -93,6 +97,36 @@ pub fn run<R: Source, W: Sink, G: Gate>(
 {
     judge(workers, cut)?;
     let document = document(alloc, source)?;
-    let text = answers(alloc, &document)?;
+    let text = text(rt, alloc, gate, workers, cut, &document)?;
+    write(sink, &text)
+}
+
+/// Reads a document, answers all its sends by workers while it makes the changes in their order, and writes a line for each item.
+///
+/// Each worker's sends are answered at points of one history that rise.
+pub fn run_beside<R: Source, W: Sink, G: Gate, T: Threads + Wait + Sync>(
+    rt: &T,
+    alloc: Global,
+    source: &mut R,
+    sink: &mut W,
+    workers: u32,
+    cut: u32,
+    gate: &G,
+) -> Result<(), RunFault>
+    requires unread { R.mark source.old ≡ false }
+    requires unwritten { W.mark sink.old ≡ false }
+    ensures whole { OnOk result (IfSome (R.remaining source.old) (WroteBeside workers cut (W.contents sink.old) (W.contents sink.new))) }
+    ensures front { result ≡ Err RunFault.Write → IfSome (R.remaining source.old) (WroteFrontBeside workers cut (W.contents sink.old) (W.contents sink.new)) }
+    ensures nothing { Leaves (W.contents sink.old) (W.contents sink.new) result }
+    ensures workers { (result ≡ Err RunFault.Workers) ↔ ((workers ≡ 0) ⊎ (64 < workers)) }
+    ensures cut { (result ≡ Err RunFault.Cut) ↔ ((cut ≡ 0) × (0 < workers) × (workers ≤ 64)) }
+    ensures document { (f : DocumentFault) → result ≡ Err (RunFault.Document f) → IfSome (R.remaining source.old) (λ bytes. IsAnswer bytes (Err f)) }
+    ensures memory { result ≢ Err (RunFault.Document documents.Memory) }
+    ensures read { (result ≡ Err RunFault.Read) ↔ (R.mark source.new ≡ true) }
+    ensures write { (result ≡ Err RunFault.Write) ↔ (W.mark sink.new ≡ true) }
+{
+    judge(workers, cut)?;
+    let document = document(alloc, source)?;
+    let text = text_beside(rt, alloc, gate, workers, cut, &document)?;
     write(sink, &text)
 }

@@ -1,5 +1,5 @@
 -- At a history each row's implementation is one of the image's, so what a lookup finds is one.
-use Rattle.std.proofs.Common.{◌≡◌, ◌<◌, ◌≤◌, ◌+◌, ℕ, zero, suc, List, [], ◌∷◌, ◌++◌, length, map, Option, Some, None, slice_get, Bool, true, false, cond, refl, sym, ap, ◌∙◌, subst, append_assoc, append-nil, arith}
+use Rattle.std.proofs.Common.{◌≡◌, ◌≤◌, ◌+◌, ℕ, suc, List, [], ◌∷◌, ◌++◌, length, Option, Some, None, slice_get, Bool, true, false, cond, refl, sym, ap, ◌∙◌, subst, append_assoc, append-nil, arith}
 use Rattle.std.specs.Prelude.{◌==◌, ◌&&◌, ◌||◌, nat_le, nat_lt, unwrap_or, reverse, is_some, is_none, All}
 use Rattle.std.specs.List.{list_any, list_all}
 use Rattle.std.proofs.lemmas.Bool.Decides.{nat_tests}
@@ -13,13 +13,14 @@ use Rattle.msg_names.specs.declared.value.ImpRef.{ImpRef}
 use Rattle.msg_names.specs.Number.{selector_number, imp_number}
 use Rattle.msg_image.specs.declared.change.Change.{Change}
 use Rattle.msg_image.specs.declared.change.Change.TheVariants.{Add, Replace, SetImp, Exchange, Attach, AddClass}
+use Rattle.msg_image.proofs.PartLemmas.{All-at}
 use Rattle.msg_image.specs.declared.image.Category.{Category}
 use Rattle.msg_image.specs.Parts.{ImageParts, ClassParts}
 use Rattle.msg_image.specs.Sound.{IsSound, IsSoundClass, IsSoundCategory, IsMethodOf, AreListed}
 use Rattle.msg_tables.specs.After.{of_class, of_meta, rows_at, row, class_rows, category_rows, opening_table, set_own, set_method, rows_after, table_after}
 use Rattle.msg_tables.specs.History.{History, empty, and_then, table, lookup}
 use Rattle.msg_tables.specs.Refusal.{refusal, AreAccepted, IsHistory, conditions, no_imp}
-use Rattle.msg_tables.specs.Rows.{Row, ClassTable, is_at, or_else, own, holder_at, lookup_in, lookup_at}
+use Rattle.msg_tables.specs.Rows.{Row, is_at, or_else, own, holder_at, lookup_in, lookup_at}
 use Rattle.msg_tables.proofs.HistoryLemmas.{table-and_then}
 use Rattle.msg_tables.proofs.LimitLemmas.{none_holds}
 use Rattle.msg_tables.proofs.ListedLemmas.{and_both}
@@ -180,7 +181,7 @@ opened-within : (image : ImageParts) → IsSound image → AreWithin (length ima
 unfolding table opening_table
 opened-within image sound =
     within-append (length image.imps) (class_rows 0 image.classes) (category_rows image.categories)
-    (classes-within image 0 image.classes (λ i c at. let is = sound.classes i c at in (is.methods, is.class_methods))) (categories-within image image.categories sound.categories)
+    (classes-within image 0 image.classes (λ i c at. let is = All-at (IsSoundClass image) image.classes i c sound.classes at in (is.methods, is.class_methods))) (categories-within image image.categories sound.categories)
 
 rows-and_then : (h : History) (x : Change) → (table (and_then h x)).rows ≡ rows_after (table h) x
 unfolding table_after

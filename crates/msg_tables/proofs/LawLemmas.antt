@@ -1,9 +1,7 @@
 -- What lookups find after a change.
-use Rattle.std.proofs.Common.{◌≡◌, ◌<◌, ℕ, List, [], ◌∷◌, ◌++◌, length, Option, Some, None, Bool, true, false, cond, slice_get, get_or, length-append, refl, sym, ap, ap₂, ◌∙◌, subst, arith}
-use Rattle.std.specs.Prelude.{◌==◌, ◌&&◌, ◌||◌, is_some, not, unwrap_or, reverse, All}
-use Rattle.std.specs.Option.{option_map_or}
+use Rattle.std.proofs.Common.{◌≡◌, ◌<◌, ℕ, List, [], ◌∷◌, ◌++◌, length, Option, Some, None, Bool, true, false, cond, get_or, length-append, refl, sym, ap, ap₂, ◌∙◌, subst, arith}
+use Rattle.std.specs.Prelude.{◌==◌, ◌&&◌, is_some, not, reverse, All}
 use Rattle.std.specs.List.{list_any}
-use Rattle.std.proofs.lemmas.Bool.Decides.{nat_tests}
 use Rattle.std.proofs.Math.Seq.{get_or-append_seam}
 use Rattle.std.proofs.lemmas.List.Elements.{All-head, All-tail}
 use Rattle.std.proofs.lemmas.Option.{same_Some}
@@ -14,26 +12,23 @@ use Rattle.msg_names.specs.declared.value.Selector.{Selector}
 use Rattle.msg_names.specs.Number.{selector_number, imp_number}
 use Rattle.msg_image.specs.declared.change.Change.{Change}
 use Rattle.msg_image.specs.declared.image.Category.{Category}
-use Rattle.msg_names.specs.ClassRef.{above, same_class}
-use Rattle.msg_image.specs.Parts.{ImageParts, ClassParts}
+use Rattle.msg_names.specs.ClassRef.{same_class}
+use Rattle.msg_image.specs.Parts.{ImageParts}
 use Rattle.msg_image.specs.Sound.{IsSound, IsSoundCategory}
 use Rattle.msg_image.specs.declared.change.Change.TheVariants.{Add, Replace, SetImp, Exchange, Attach, AddClass}
 use Rattle.msg_tables.specs.Chain.{chain_of, chain_up, is_present, is_member}
-use Rattle.msg_tables.specs.declared.presence.Presence.{Presence}
 use Rattle.msg_tables.specs.Rows.{Row, own, or_else, chain, lookup_in, holder_at, lookup_at}
 use Rattle.msg_tables.specs.RowList.{own_in}
 use Rattle.msg_tables.specs.After.{of_class, of_meta, row, rows_at, set_own, set_method, rows_after, supers_after, table_after, class_rows, category_rows, opening_table}
 use Rattle.msg_tables.specs.Affected.{at_most_one, if_any, written_refs, is_affected, is_of_made}
-use Rattle.msg_tables.specs.History.{History, empty, and_then, table, lookup, holder, superclass, chain_at}
+use Rattle.msg_tables.specs.History.{History, empty, and_then, table, lookup, holder, chain_at}
 use Rattle.msg_tables.specs.Opening.{rows_of_category, Lacks}
-use Rattle.msg_tables.specs.Refusal.{no_class, has_own}
+use Rattle.msg_tables.specs.Refusal.{no_class}
 use Rattle.msg_tables.proofs.HistoryLemmas.{table-and_then}
 use Rattle.msg_tables.proofs.HoldsLemmas.{meta-apart}
 use Rattle.msg_tables.proofs.ListedOrderLemmas.{opened-is_present}
-use Rattle.msg_tables.proofs.MarkLemmas.{chain_of-step}
 use Rattle.msg_tables.proofs.OwnLemmas.{own-append, own-rows_at, own-rows_other, own-set_other, own-set_same, set_own-own, some-set_own, lookup-same, lookup-own, lookup-nowhere, lookup-holder, holder-same}
-use Rattle.msg_tables.proofs.OpeningLemmas.{category_rows-append, supers-before}
-use Rattle.msg_tables.proofs.TakeLemmas.{element}
+use Rattle.msg_tables.proofs.OpeningLemmas.{category_rows-append}
 use Rattle.msg_names.proofs.ClassRefLemmas.{same_class-is}
 
 -- a lookup after a change goes up the chain that the change leaves

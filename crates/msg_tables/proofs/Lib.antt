@@ -24,3 +24,4 @@ pub mod PutLemmas
 pub mod RowLemmas
 pub mod StandsLemmas
 pub mod TakeLemmas
+pub mod DepthLemmas

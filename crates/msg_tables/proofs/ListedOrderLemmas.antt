@@ -1,12 +1,12 @@
--- The listed classes as they are listed, which is an order of them as long as superclasses come first.
-use Rattle.std.proofs.Common.{◌≡◌, ◌<◌, ◌≤◌, ◌+◌, ◌++◌, ℕ, zero, suc, List, [], ◌∷◌, length, map, Option, Some, None, option_map, true, slice_get, get_or, refl, sym, ap, ap₂, ◌∙◌, length-append, zero-add, map-id, arith}
+-- The listed classes in their order, and as an image is opened.
+use Rattle.std.proofs.Common.{◌≡◌, ◌<◌, ◌≤◌, ◌+◌, ◌++◌, ℕ, zero, suc, List, [], ◌∷◌, length, map, Option, Some, None, option_map, true, slice_get, refl, sym, ap, ap₂, ◌∙◌, length-append, arith}
 use Rattle.std.specs.Prelude.{replicate, is_some}
-use Rattle.std.specs.List.{range_with_len}
 use Rattle.std.proofs.lemmas.List.{length-map, length-replicate}
-use Rattle.std.proofs.lemmas.List.FromFn.{length-range_with_len, get_or-range_with_len, map-range_with_len_more}
-use Rattle.std.proofs.lemmas.Option.{same_Some, slice_get_within, get_or_from_slice_get, slice_get-get_or}
-use Rattle.msg_image.specs.Parts.{ImageParts, ClassParts, class_total}
-use Rattle.msg_image.specs.Sound.{IsSound}
+use Rattle.std.proofs.lemmas.Option.{same_Some}
+use Rattle.msg_order.specs.Order as classes
+use Rattle.msg_order.specs.Order.{IsClassOrder}
+use Rattle.msg_order.specs.Superclasses.{super_of}
+use Rattle.msg_image.specs.Parts.{ImageParts, ClassParts, class_total, superclasses}
 use Rattle.msg_tables.specs.declared.presence.Presence.{Presence}
 use Rattle.msg_tables.specs.After.{opened_supers}
 use Rattle.msg_tables.specs.Chain.{presence_of, is_present}
@@ -14,23 +14,6 @@ use Rattle.msg_tables.specs.Order.{StandsBefore, IsOrder, present_count}
 
 abbrev listed : ClassParts → Option Presence
 listed c = Some (record { superclass = c.superclass })
-
--- what stands at a place of the order is that place
-at_place : (n place k : ℕ) → slice_get (range_with_len 0 n) place ≡ Some k → (place ≡ k) × (k < n)
-at_place n place k e =
-    let inside = slice_get_within (range_with_len 0 n) place k e in
-    let len = length-range_with_len 0 n in
-    let few : place < n = omega (arith, inside, len) in
-    let read : get_or (range_with_len 0 n) place 0 ≡ k = get_or_from_slice_get (range_with_len 0 n) place k 0 e in
-    let same : get_or (range_with_len 0 n) place 0 ≡ place = get_or-range_with_len 0 n place 0 few ∙ zero-add place in
-    let is : place ≡ k = sym same ∙ read in
-    (is, omega (arith, few, is))
-
-stands : (n place k : ℕ) → k < n → k < place → StandsBefore (range_with_len 0 n) place k
-stands n place k few before =
-    let len = length-range_with_len 0 n in
-    let inside : k < length (range_with_len 0 n) = omega (arith, few, len) in
-    record { at = k; before = before; is = slice_get-get_or (range_with_len 0 n) k 0 inside ∙ ap Some (get_or-range_with_len 0 n k 0 few ∙ zero-add k) }
 
 -- no class that may be made is present
 none_made : (n k : ℕ) → is_present (replicate n None) k ≡ true → k < 0
@@ -59,26 +42,27 @@ opened-count [] zero = refl
 opened-count [] (suc n) = let rest = opened-count [] n in omega (arith, rest)
 opened-count (c ∷ cs) n = let rest = opened-count cs n in omega (arith, rest)
 
-pub order-listed : (image : ImageParts) → IsSound image → IsOrder (opened_supers image) (range_with_len 0 (length image.classes))
-order-listed image sound =
-    let n = length image.classes in
-    let len = length-range_with_len 0 n in
-    record {
-      present = λ place k at. opened-present image.classes (length image.made) k (at_place n place k at).1;
-      above = λ place k d p at of up. above place k d p (at_place n place k at) of up;
-      whole = λ k there. let few = opened-listed image.classes (length image.made) k there in stands n (length (range_with_len 0 n)) k few (omega (arith, few, len));
-      count = len ∙ sym (opened-count image.classes (length image.made));
-    }
-  where
-    above : (place k d : ℕ) (p : Presence) → (place ≡ k) × (k < length image.classes) → presence_of (opened_supers image) k ≡ Some p → p.superclass ≡ Some d → StandsBefore (range_with_len 0 (length image.classes)) place d
-    above place k d p (same, few) of up =
-        let (c, here, superclass) = opened-presence image.classes (length image.made) k p of in
-        let earlier = (sound.classes k c here).before d (sym superclass ∙ up) in
-        stands (length image.classes) place d (omega (arith, few, earlier)) (omega (arith, same, earlier))
+-- the superclass of a listed class
+listed-super : (cs : List ClassParts) (k d : ℕ) (c : ClassParts) → slice_get cs k ≡ Some c → c.superclass ≡ Some d → super_of (map (λ (c : ClassParts). c.superclass) cs) k ≡ Some d
+listed-super [] k d c at up = cc
+listed-super (x ∷ cs) zero d c at up = ap (λ (p : ClassParts). p.superclass) (same_Some x c at) ∙ up
+listed-super (x ∷ cs) (suc k) d c at up = listed-super cs k d c at up
 
--- one more of them
-pub listed-more : (n : ℕ) → range_with_len 0 (n + 1) ≡ range_with_len 0 n ++ n ∷ []
-listed-more n = sym (map-id (range_with_len 0 (n + 1))) ∙ map-range_with_len_more (λ k. k) 0 n n (zero-add n) ∙ ap (λ ks. ks ++ n ∷ []) (map-id (range_with_len 0 n))
+stands : (order : List ℕ) (place k : ℕ) → classes.StandsBefore order place k → StandsBefore order place k
+stands order place k s = record { at = s.at; before = s.before; is = s.is }
+
+-- the listed classes in an order in which each comes after its superclass
+pub order-listed : (image : ImageParts) (order : List ℕ) → IsClassOrder (superclasses image) order → IsOrder (opened_supers image) order
+order-listed image order is =
+    let n = length-map image.classes (λ (c : ClassParts). c.superclass) in
+    record {
+      present = λ place k at. opened-present image.classes (length image.made) k (let few = is.listed place k at in omega (arith, few, n));
+      above = λ place k d p at of up.
+          let (c, here, superclass) = opened-presence image.classes (length image.made) k p of in
+          stands order place d (is.above place k d at (listed-super image.classes k d c here (sym superclass ∙ up)));
+      whole = λ k there. let few = opened-listed image.classes (length image.made) k there in stands order (length order) k (is.whole k (omega (arith, few, n)));
+      count = is.count ∙ n ∙ sym (opened-count image.classes (length image.made));
+    }
 
 -- the classes as an image is opened, one by one
 opened-at : (cs : List ClassParts) (n k : ℕ) (o : Option ℕ) → option_map (λ (c : ClassParts). c.superclass) (slice_get cs k) ≡ Some o → slice_get (map listed cs ++ replicate n None) k ≡ Some (Some (record { superclass = o }))

@@ -1,14 +1,13 @@
 -- Tables as they are opened.
-use Rattle.std.proofs.Common.{◌≡◌, ◌<◌, ◌≤◌, ◌+◌, ◌*◌, ℕ, zero, suc, List, [], ◌∷◌, ◌++◌, length, length-append, map, replicate, take, Option, Some, None, option_map, slice_get, true, refl, sym, ap, ◌∙◌, subst, append_assoc, append-nil, arith}
+use Rattle.std.proofs.Common.{◌≡◌, ◌≤◌, ◌+◌, ◌*◌, ℕ, zero, suc, List, [], ◌∷◌, ◌++◌, length, length-append, replicate, take, Some, slice_get, true, refl, sym, ap, ◌∙◌, subst, append_assoc, append-nil, arith}
 use Rattle.std.specs.Prelude.{sum_by, nat_le, slice_index_or}
 use Rattle.std.specs.List.{list_all}
 use Rattle.std.proofs.lemmas.Bool.Decides.{nat_tests}
 use Rattle.std.proofs.lemmas.List.Sums.{sum_by-cons, sum_by_push, sum_by-take-le}
 use Rattle.std.proofs.lemmas.List.Elements.{All-head, All-tail}
-use Rattle.std.proofs.lemmas.Option.{slice_get-map, same_Some}
 use Rattle.msg_image.specs.declared.image.Category.{Category}
 use Rattle.msg_image.specs.Parts.{ImageParts, ClassParts, class_total}
-use Rattle.msg_image.specs.Sound.{IsSound, AreListed, IsMethodOf}
+use Rattle.msg_image.specs.Sound.{AreListed, IsMethodOf}
 use Rattle.msg_tables.specs.Rows.{Row}
 use Rattle.msg_tables.specs.After.{rows_at, of_class, of_meta, class_rows, category_rows, opening_table}
 use Rattle.msg_tables.specs.History.{empty, table}
@@ -20,17 +19,6 @@ use Rattle.msg_tables.proofs.HistoryLemmas.{history-empty}
 use Rattle.msg_tables.proofs.HoldsLemmas.{length-rows_at}
 use Rattle.msg_tables.proofs.ListedLemmas.{and_both}
 use Rattle.msg_tables.proofs.TakeLemmas.{take-next}
-
--- what a part of a list's element comes from
-mapped : {X Y : Type 0} (f : X → Y) (o : Option X) (y : Y) → option_map f o ≡ Some y → (x : X) × (o ≡ Some x) × (f x ≡ y)
-mapped f None y e = cc
-mapped f (Some x) y e = (x, refl, same_Some (f x) y e)
-
--- superclasses come before their subclasses
-pub supers-before : (image : ImageParts) → IsSound image → (k d : ℕ) → slice_get (map (λ (c : ClassParts). c.superclass) image.classes) k ≡ Some (Some d) → d < k
-supers-before image sound k d e =
-    let (c, at, super) = mapped (λ (c : ClassParts). c.superclass) (slice_get image.classes k) (Some d) (sym (slice_get-map (λ (c : ClassParts). c.superclass) image.classes k) ∙ e) in
-    (sound.classes k c at).before d super
 
 -- no row is no unlisted row
 pub listed-blank : (n count : ℕ) → list_all (are_listed n) (replicate count []) ≡ true

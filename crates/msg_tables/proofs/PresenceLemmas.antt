@@ -1,21 +1,23 @@
 -- The classes of a history of accepted changes.
-use Rattle.std.proofs.Common.{◌≡◌, ◌≢◌, ◌<◌, ◌≤◌, ◌+◌, ℕ, zero, suc, List, [], ◌∷◌, ◌++◌, length, Option, Some, None, Bool, true, false, cond, drop, refl, sym, ap, ◌∙◌, subst, append_assoc, append-nil, arith}
-use Rattle.std.specs.Prelude.{◌||◌, ◌==◌, not, nat_le, is_some, unwrap_or, slice_set, IfSome}
+use Rattle.std.proofs.Common.{◌≡◌, ◌≢◌, ◌<◌, ◌≤◌, ℕ, zero, suc, List, [], ◌∷◌, ◌++◌, length, Option, Some, None, Bool, true, false, cond, drop, refl, sym, ap, ◌∙◌, subst, append_assoc, append-nil, arith}
+use Rattle.std.specs.Prelude.{◌||◌, ◌==◌, not, is_some, unwrap_or, slice_set, IfSome}
 use Rattle.std.specs.Option.{option_map_or}
 use Rattle.std.proofs.lemmas.Bool.Decides.{nat_tests}
 use Rattle.std.proofs.lemmas.List.{length-set, get_or-set_other}
-use Rattle.std.specs.List.{list_any, range_with_len}
+use Rattle.std.specs.List.{list_any}
 use Rattle.msg_names.proofs.TestLemmas.{neither, not_false}
 use Rattle.msg_names.specs.declared.value.ClassRef.{ClassRef}
 use Rattle.msg_names.specs.ClassRef.{above}
 use Rattle.msg_image.specs.Sound.{IsSound}
-use Rattle.msg_image.specs.Parts.{ImageParts, class_total}
+use Rattle.msg_order.proofs.ExistLemmas.{order_exists}
+use Rattle.msg_image.proofs.PartLemmas.{classes-listed}
+use Rattle.msg_image.specs.Parts.{ImageParts, class_total, superclasses}
 use Rattle.msg_image.specs.declared.change.Change.{Change}
 use Rattle.msg_image.specs.declared.change.Change.TheVariants.{Add, Replace, SetImp, Exchange, Attach, AddClass}
 use Rattle.msg_tables.specs.declared.fault.ChangeFault.{ChangeFault}
 use Rattle.msg_tables.specs.declared.fault.ChangeFault.TheVariants.{NoClass, Limit, DuplicateClass}
 use Rattle.msg_tables.specs.declared.presence.Presence.{Presence}
-use Rattle.msg_tables.specs.After.{of_class, of_meta, opening_table, opened_supers, table_after, supers_after}
+use Rattle.msg_tables.specs.After.{of_class, of_meta, opening_table, table_after, supers_after}
 use Rattle.msg_tables.specs.Chain.{presence_of, is_present, super_of, chain_up, chain_of, steps_of, is_member}
 use Rattle.msg_tables.specs.History.{History, BeginsWith, empty, and_then, table, lookup, superclass, chain_at}
 use Rattle.msg_tables.specs.Affected.{is_affected, written_refs}
@@ -92,7 +94,7 @@ ordered-on h (x ∷ xs) o all =
 
 ordered-opened : (image : ImageParts) → IsSound image → Ordered (table (empty image)).supers
 unfolding table opening_table
-ordered-opened image sound = record { order = range_with_len 0 (length image.classes); is = order-listed image sound }
+ordered-opened image sound = let (order, is) = order_exists (superclasses image) (classes-listed image sound) sound.chains in record { order = order; is = order-listed image order is }
 
 pub ordered : (h : History) → IsSound h.image → IsHistory h → Ordered (table h).supers
 unfolding IsHistory
@@ -217,7 +219,7 @@ presence-after h (AddClass j d) k accepted here =
     let may = may_be_made h j d accepted in
     get_or-set_other (table h).supers j k (Some (record { superclass = d })) None (λ same. let gone : is_present (table h).supers j ≡ true = subst (λ i. is_present (table h).supers i ≡ true) same here in let clash : true ≡ false = sym gone ∙ may.absent in cc)
 
-presence-on : (h : History) (xs : List Change) (k : ℕ) → AreAccepted h xs → is_present (table h).supers k ≡ true
+pub presence-on : (h : History) (xs : List Change) (k : ℕ) → AreAccepted h xs → is_present (table h).supers k ≡ true
     → presence_of (table (record { image = h.image; changes = h.changes ++ xs })).supers k ≡ presence_of (table h).supers k
 presence-on h [] k all here = ap (λ cs. presence_of (table (record { image = h.image; changes = cs })).supers k) (append-nil h.changes)
 presence-on h (x ∷ xs) k all here =

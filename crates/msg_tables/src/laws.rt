@@ -1,17 +1,17 @@
 //! Laws of lookup and of changes, over every history.
 
-ghost use Rattle.std.specs.Prelude.{◌≡◌, ◌≢◌, ◌<◌, ◌≤◌, ℕ, List, length, Option, ◌∷◌, ◌++◌, Some, None, true, false, reverse, All};
+ghost use Rattle.std.specs.Prelude.{◌≡◌, ◌≢◌, ◌<◌, ◌≤◌, ℕ, suc, List, length, Option, ◌∷◌, ◌++◌, Some, None, true, false, reverse, All};
 ghost use Rattle.msg_names.specs.Number.{selector_number, imp_number};
 ghost use Rattle.msg_names.specs.declared.value.ClassRef.{ClassRef};
 ghost use Rattle.msg_names.specs.declared.value.ImpRef.{ImpRef};
 ghost use Rattle.msg_names.specs.declared.value.Selector.{Selector};
-ghost use Rattle.msg_image.specs.Parts.{ImageParts, class_total};
+ghost use Rattle.msg_image.specs.Parts.{ImageParts, class_total, depth_in};
 ghost use Rattle.msg_image.specs.Sound.{IsSound};
 ghost use Rattle.msg_image.specs.declared.image.Category.{Category};
 ghost use Rattle.msg_image.specs.declared.change.Change.{Change};
 ghost use Rattle.msg_tables.specs.Affected.{is_affected};
 ghost use Rattle.msg_tables.specs.After.{of_class, of_meta};
-ghost use Rattle.msg_tables.specs.History.{History, BeginsWith, empty, and_then, table, lookup, holder, superclass};
+ghost use Rattle.msg_tables.specs.History.{History, BeginsWith, empty, and_then, table, lookup, holder, superclass, chain_at};
 ghost use Rattle.msg_tables.specs.Opening.{Lacks};
 ghost use Rattle.msg_tables.specs.Presence.{EndsAtRoot};
 ghost use Rattle.msg_tables.specs.Refusal.{IsHistory, refusal, has_own, no_class};
@@ -67,6 +67,11 @@ pub fn a_superclass_stays()
 /// The chain of a class that is present ends at a root class.
 pub fn a_chain_ends_at_a_root_class()
     ensures { (h : History) (c : ClassRef) → IsSound h.image → IsHistory h → no_class h c ≡ false → EndsAtRoot h c }
+{}
+
+/// A listed class is as deep in its chain as the image says, whatever was changed.
+pub fn a_listed_class_is_as_deep_as_the_image_says()
+    ensures { (h : History) (k : ℕ) → IsSound h.image → IsHistory h → k < length h.image.classes → length (chain_at h (of_class k)) ≡ suc (depth_in h.image k) }
 {}
 
 /// Where no method is found the answer is forwarding.

@@ -5,7 +5,7 @@ ghost use Rattle.msg_names.specs.Name.{colons_of};
 ghost use Rattle.msg_names.specs.Numbering.{AreNames};
 ghost use Rattle.msg_image.specs.declared.image.Category.{Category};
 ghost use Rattle.msg_image.specs.Methods.{method_numbers};
-ghost use Rattle.msg_image.specs.Parts.{ImpParts, ClassParts, class_total};
+ghost use Rattle.msg_image.specs.Parts.{ImpParts, ClassParts, class_total, superclasses};
 ghost use Rattle.msg_image.specs.Sound.{IsSoundCategory, row_count};
 ghost use Rattle.msg_tables.specs.After.{opened_supers, rows_at, of_class, of_meta, class_rows, category_rows};
 ghost use Rattle.msg_tables.specs.History.{empty};
@@ -22,6 +22,7 @@ use crate::rows::MethodRows;
 use crate::tables::{MAX_ROWS, Tables};
 use msg_image::{Category, Image};
 use msg_names::{ClassRef, ImpRef, Names, Selector};
+use msg_order::class_order;
 use std::alloc::{AllocError, Global};
 
 // The superclass of a class.
@@ -57,15 +58,27 @@ fn opened_classes(alloc: Global, image: &Image) -> Result<Vec<Option<Presence>>,
     Ok(supers)
 }
 
+// The superclasses of the listed classes.
+fn superclasses(alloc: Global, image: &Image) -> Result<Vec<Option<u32>>, AllocError>
+    ensures { IfOk result (λ supers. supers.items ≡ superclasses image.now) }
+{
+    let count = image.listed_count();
+    let mut supers = Vec::with_capacity(alloc, count as usize)?;
+    for class in 0..count {
+        supers.push(superclass_of(image, class))?;
+    }
+    Ok(supers)
+}
+
 // The listed classes, each after its superclass, with room for all that may be made.
 fn listed_order(alloc: Global, image: &Image) -> Result<Vec<u32>, AllocError>
     ensures order { IfOk result (λ order. IsOrder (opened_supers image.now) order.items) }
     ensures room { IfOk result (λ order. class_total image.now ≤ vec_capacity order) }
 {
     let mut order = Vec::with_capacity(alloc, image.class_count() as usize)?;
-    for class in 0..image.listed_count() {
-        order.push(class)?;
-    }
+    let supers = superclasses(alloc, image)?;
+    let listed = class_order(alloc, &supers)?.unwrap();
+    order.extend_from_slice(&listed)?;
     Ok(order)
 }
 

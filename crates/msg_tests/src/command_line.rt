@@ -54,7 +54,7 @@ fn words_are_two_numbers_at_most(rt: HostRuntime) -> Result<(), Fail> {
     Ok(())
 }
 
-const LINES: [(Option<RunFault>, &str, u8); 22] = [
+const LINES: [(Option<RunFault>, &str, u8); 23] = [
     (None, "msgrun: usage: msgrun [workers [cut]]\n", 2),
     (Some(RunFault::Read), "msgrun: read failed\n", 1),
     (Some(RunFault::Memory), "msgrun: out of memory\n", 1),
@@ -143,6 +143,11 @@ const LINES: [(Option<RunFault>, &str, u8); 22] = [
     (
         Some(RunFault::Document(DocumentFault::BodyTooDeep)),
         "msgrun: document fault 16: body too deep\n",
+        2,
+    ),
+    (
+        Some(RunFault::Document(DocumentFault::ClassCycle)),
+        "msgrun: document fault 18: class cycle\n",
         2,
     ),
 ];

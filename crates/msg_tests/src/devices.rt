@@ -81,7 +81,7 @@ fn a_failed_read_ends_a_run(rt: HostRuntime) -> Result<(), Fail> {
             calls_left,
         });
         let mut sink = ToWriter::new(Vec::new(alloc));
-        let ended = run(alloc, &mut source, &mut sink, 1, 64, &OpenGate).err();
+        let ended = run(&rt, alloc, &mut source, &mut sink, 1, 64, &OpenGate).err();
         assert_eq!(rt;
             ended,
             fault,
@@ -115,7 +115,7 @@ fn a_failed_write_ends_a_run(rt: HostRuntime) -> Result<(), Fail> {
     ] {
         let mut source = FromReader::new(SMALL.as_bytes());
         let mut sink = slow_sink(alloc, step, calls_left);
-        let ended = run(alloc, &mut source, &mut sink, 1, 64, &OpenGate).err();
+        let ended = run(&rt, alloc, &mut source, &mut sink, 1, 64, &OpenGate).err();
         assert_eq!(rt;
             ended,
             fault,
@@ -140,7 +140,7 @@ fn an_input_without_end_is_left(rt: HostRuntime) {
     let alloc = rt.alloc();
     let mut source = FromReader::new(io::repeat(b' '));
     let mut sink = ToWriter::new(Vec::new(alloc));
-    let ended = run(alloc, &mut source, &mut sink, 1, 64, &OpenGate);
+    let ended = run(&rt, alloc, &mut source, &mut sink, 1, 64, &OpenGate);
     let number = match ended {
         Err(RunFault::Document(fault)) => Some(fault.number()),
         _ => None,

@@ -2,7 +2,9 @@
 
 use msg_runner::{FromReader, OpenGate, RunFault, ToWriter, run};
 use std::alloc::Global;
+use std::sync::Wait;
 use std::test::Fail;
+use std::thread::Threads;
 
 /// A document with each form of a body.
 pub(crate) const IMAGE: &str = r#"{"version":1,"classes":[
@@ -59,10 +61,16 @@ pub(crate) struct Outcome {
 }
 
 /// Runs a document from memory to memory.
-pub(crate) fn ran(alloc: Global, document: &[u8], workers: u32, cut: u32) -> Outcome {
+pub(crate) fn ran<T: Threads + Wait + Sync>(
+    rt: &T,
+    alloc: Global,
+    document: &[u8],
+    workers: u32,
+    cut: u32,
+) -> Outcome {
     let mut source = FromReader::new(document);
     let mut sink = ToWriter::new(Vec::new(alloc));
-    let fault = run(alloc, &mut source, &mut sink, workers, cut, &OpenGate).err();
+    let fault = run(rt, alloc, &mut source, &mut sink, workers, cut, &OpenGate).err();
     let ToWriter { writer, .. } = sink;
     Outcome {
         fault,

@@ -3,7 +3,7 @@
 ghost use Rattle.std.specs.Prelude.{◌≡◌};
 
 use crate::images::{IMAGE, with_items};
-use msg_image::{Change, Expr, Image, Item, MethodList, read_document};
+use msg_image::{Change, Document, Expr, Image, Item, MethodList, read_document};
 use msg_names::{ClassRef, ImpRef, ObjectRef, Selector, Value};
 use std::alloc::Global;
 use std::process::Abort;
@@ -87,6 +87,41 @@ fn methods_are(rt: &impl Abort, methods: &[(Selector, ImpRef)], want: &[(u32, u3
         assert_eq!(rt; method.0.number(), pair.0);
         assert_eq!(rt; method.1.number(), pair.1);
     }
+}
+
+const SECOND: &[u8] = br#"{"version":2,
+"classes":[{"name":"Child","super":"Root","methods":[],"class_methods":[]},{"name":"Root","super":null,"methods":[],"class_methods":[]}],
+"made":["Late"],"categories":[],"objects":[{"name":"l","class":"Late"}],"imps":[],"items":[{"change":["make","Late","Child"]}]}"#;
+
+#[test]
+fn depths_are_counted_to_the_root(rt: HostRuntime) -> Result<(), Fail> {
+    let Document { image, items } = read_document(rt.alloc(), SECOND)?;
+    assert_eq!(rt; image.listed_count(), 2);
+    assert_eq!(rt; image.depth(0), 1);
+    assert_eq!(rt; image.depth(1), 0);
+    assert_eq!(rt; items.len(), 1);
+    assert!(rt;
+        matches!(
+            &items[0],
+            Item::Change(Change::AddClass {
+                class: 2,
+                superclass: Some(0)
+            })
+        )
+    );
+    Ok(())
+}
+
+#[test]
+fn classes_that_may_be_made_come_last(rt: HostRuntime) -> Result<(), Fail> {
+    let Document { image, .. } = read_document(rt.alloc(), SECOND)?;
+    assert_eq!(rt; image.class_count(), 3);
+    assert_eq!(rt; image.class_name(2).as_bytes(), b"Late".as_slice());
+    methods_are(&rt, image.methods(at(2, false)), &[]);
+    methods_are(&rt, image.methods(at(2, true)), &[]);
+    assert_eq!(rt; image.object_count(), 1);
+    assert_eq!(rt; image.object_class(ObjectRef { object: 0 }), 2);
+    Ok(())
 }
 
 #[test]

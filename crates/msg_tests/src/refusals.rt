@@ -19,7 +19,7 @@ fn workers_and_cuts_that_are_refused(rt: HostRuntime) -> Result<(), Fail> {
         (64, 0, Some(RunFault::Cut)),
         (64, 4294967295, None),
     ] {
-        let ended = ran(alloc, SMALL.as_bytes(), workers, cut);
+        let ended = ran(&rt, alloc, SMALL.as_bytes(), workers, cut);
         let lines = if want.is_none() { "7\n" } else { "" };
         assert_eq!(rt; ended.fault, want, "{workers} workers, cut {cut}");
         assert_eq!(rt;
@@ -47,7 +47,7 @@ fn texts_that_are_refused(rt: HostRuntime) {
         ),
         ("{}", 64, 64, RunFault::Document(DocumentFault::Shape)),
     ] {
-        let ended = ran(alloc, text.as_bytes(), workers, cut);
+        let ended = ran(&rt, alloc, text.as_bytes(), workers, cut);
         assert_eq!(rt; ended.fault, Some(want), "{text}");
         assert!(rt; ended.text.is_empty(), "{text}");
     }

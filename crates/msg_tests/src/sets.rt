@@ -80,6 +80,7 @@ fn faults_have_numbers_and_texts(rt: HostRuntime) -> Result<(), Fail> {
         (DocumentFault::ArgumentIndex, 15, "argument index"),
         (DocumentFault::BodyTooDeep, 16, "body too deep"),
         (DocumentFault::Memory, 17, "out of memory"),
+        (DocumentFault::ClassCycle, 18, "class cycle"),
     ] {
         assert_eq!(rt; fault.number(), number, "{text}");
         assert_eq!(rt; fault.to_string(alloc)?.as_str(), text, "{number}");

@@ -5,6 +5,8 @@ use msg_runner::{FromReader, OpenGate, RunFault, ToWriter, arguments, complain, 
 use std::env;
 use std::io::ErrorKind;
 use std::process::ExitCode;
+use std::sync::Wait;
+use std::thread::Threads;
 
 fn words(rt: &HostRuntime) -> Result<Vec<String>, Option<RunFault>> {
     let mut words = Vec::new(rt.alloc());
@@ -21,7 +23,10 @@ fn words(rt: &HostRuntime) -> Result<Vec<String>, Option<RunFault>> {
     Ok(words)
 }
 
-fn answered(rt: &HostRuntime) -> Result<(), Option<RunFault>> {
+fn answered<T: Threads + Wait + Sync>(
+    threads: &T,
+    rt: &HostRuntime,
+) -> Result<(), Option<RunFault>> {
     let words = words(rt)?;
     let Some((workers, cut)) = arguments(&words) else {
         return Err(None);
@@ -34,11 +39,20 @@ fn answered(rt: &HostRuntime) -> Result<(), Option<RunFault>> {
         writer: rt.stdout(),
         failed: false,
     };
-    run(rt.alloc(), &mut source, &mut sink, workers, cut, &OpenGate).map_err(Some)
+    run(
+        threads,
+        rt.alloc(),
+        &mut source,
+        &mut sink,
+        workers,
+        cut,
+        &OpenGate,
+    )
+    .map_err(Some)
 }
 
 fn main(rt: HostRuntime) -> ExitCode {
-    match answered(&rt) {
+    match answered(&rt, &rt) {
         Ok(()) => ExitCode::SUCCESS,
         Err(fault) => {
             let mut errors = ToWriter {

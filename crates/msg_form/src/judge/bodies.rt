@@ -16,7 +16,7 @@ use super::classes::root_set;
 use super::constants::{ClassOutside, ObjectOutside, any_in_body};
 use super::counts::has_miscounted_send;
 use super::depth::is_too_deep;
-use super::keyed::key_set;
+use super::keyed::{class_set, key_set};
 use super::part::{PartTest, any_part};
 use crate::form::{Expr, Form, Imp};
 use crate::name_set::NameSet;
@@ -61,7 +61,7 @@ impl<'v> Known<'v> {
         ensures roots { IfOk result (λ k. k.roots ≡ distinct (root_names (form_view form.now))) }
         ensures objects { IfOk result (λ k. k.objects ≡ distinct (object_names (form_view form.now))) }
     {
-        let classes = key_set(alloc, &form.classes)?;
+        let classes = class_set(alloc, form)?;
         let roots = root_set(alloc, &form.classes)?;
         let objects = key_set(alloc, &form.objects)?;
         Ok(Known {

@@ -1,13 +1,15 @@
 //! What is wrong with superclasses.
 
 ghost use Rattle.std.specs.Prelude.{◌≡◌, [], filter, is_none, map, option_map, IfOk};
+ghost use Rattle.std.specs.List.{list_any};
 ghost use Rattle.msg_form.specs.BodyFaults.{AreBodyFaults};
 ghost use Rattle.msg_form.specs.Faults as spec;
 ghost use Rattle.msg_form.specs.Text.{distinct};
-ghost use Rattle.msg_form.specs.Views.{classes_view, form_view};
+ghost use Rattle.msg_form.specs.Views.{class_view, classes_view, form_view};
 
 use super::bodies::BodyFaults;
-use crate::form::{Class, Form};
+use super::keyed::key_set;
+use crate::form::{Class, Form, is_second};
 use crate::name_set::NameSet;
 use std::alloc::{AllocError, Global};
 
@@ -20,7 +22,34 @@ pub(super) fn has_unknown_superclass(
     requires { AreBodyFaults bodies (form_view form.now) }
     ensures { IfOk result (λ b. b ≡ spec.has_unknown_superclass (form_view form.now)) }
 {
-    Ok(has_late_superclass(alloc, &form.classes)? || bodies.sends_above)
+    Ok(has_other_superclass(alloc, form)? || bodies.sends_above)
+}
+
+#[tactic(auto, unfolding(crate::specs::Faults::has_other_superclass))]
+fn has_other_superclass(alloc: Global, form: &Form) -> Result<bool, AllocError>
+    ensures { IfOk result (λ b. b ≡ spec.has_other_superclass (form_view form.now)) }
+{
+    if is_second(form.version) {
+        has_unlisted_superclass(alloc, &form.classes)
+    } else {
+        has_late_superclass(alloc, &form.classes)
+    }
+}
+
+fn has_unlisted_superclass(alloc: Global, classes: &[Class]) -> Result<bool, AllocError>
+    ensures { IfOk result
+        (λ b. b ≡ list_any (λ c. spec.is_outside (map (λ c. c.name) (classes_view classes.now)) c.superclass) (classes_view classes.now)) }
+{
+    let listed = key_set(alloc, classes)?;
+    Ok(any_superclass_outside(&listed, classes))
+}
+
+fn any_superclass_outside(listed: &NameSet, classes: &[Class]) -> bool
+    ensures { result ≡ list_any (λ c. spec.is_outside listed.now (class_view c).superclass) classes.now }
+{
+    classes
+        .iter()
+        .any(|class| is_outside(listed, class.superclass))
 }
 
 fn has_late_superclass(alloc: Global, classes: &[Class]) -> Result<bool, AllocError>
@@ -28,7 +57,7 @@ fn has_late_superclass(alloc: Global, classes: &[Class]) -> Result<bool, AllocEr
 {
     let mut earlier = NameSet::new(alloc);
     for class in classes {
-        if is_late(&earlier, class.superclass) {
+        if is_outside(&earlier, class.superclass) {
             return Ok(true);
         }
         earlier.insert(class.name)?;
@@ -36,11 +65,11 @@ fn has_late_superclass(alloc: Global, classes: &[Class]) -> Result<bool, AllocEr
     Ok(false)
 }
 
-fn is_late(earlier: &NameSet, superclass: Option<&str>) -> bool
-    ensures { result ≡ spec.is_late earlier.now (option_map (λ s. s.now) superclass.entry) }
+pub(super) fn is_outside(names: &NameSet, superclass: Option<&str>) -> bool
+    ensures { result ≡ spec.is_outside names.now (option_map (λ s. s.now) superclass.entry) }
 {
     match superclass {
-        Some(name) => earlier.lacks(name),
+        Some(name) => names.lacks(name),
         None => false,
     }
 }

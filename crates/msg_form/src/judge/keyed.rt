@@ -1,9 +1,12 @@
 //! Parts with keys, which no two of a list may share.
 
-ghost use Rattle.std.specs.Prelude.{◌≡◌, map, IfOk};
-ghost use Rattle.msg_form.specs.Text.{Text, distinct, has_duplicate};
+ghost use Rattle.std.specs.Prelude.{◌≡◌, false, fold, map, IfOk};
+ghost use Rattle.msg_names.specs.Numbering.{with_name};
+ghost use Rattle.msg_form.specs.Lists.{class_names};
+ghost use Rattle.msg_form.specs.Text.{Text, distinct, has_duplicate, repeats};
+ghost use Rattle.msg_form.specs.Views.{form_view};
 
-use crate::form::{Class, Imp, Object, Pair};
+use crate::form::{Class, Form, Imp, Object, Pair};
 use crate::name_set::NameSet;
 use std::alloc::{AllocError, Global};
 
@@ -47,6 +50,27 @@ impl<'v> Keyed<'v> for Pair<'v> {
     }
 }
 
+impl<'v> Keyed<'v> for &'v str {
+    ghost key_text = { λ s. s.now };
+
+    fn key(&self) -> &'v str {
+        *self
+    }
+}
+
+/// The keys with those of a list.
+pub(super) fn with_keys<'v, K: Keyed<'v>>(
+    mut keys: NameSet<'v>,
+    parts: &[K],
+) -> Result<NameSet<'v>, AllocError>
+    ensures { IfOk result (λ s. s ≡ fold with_name keys.entry (map K.key_text parts.now)) }
+{
+    for part in parts {
+        keys.insert(part.key())?;
+    }
+    Ok(keys)
+}
+
 /// The keys of a list.
 #[tactic(auto, unfolding(crate::specs::Text::distinct))]
 pub(super) fn key_set<'v, K: Keyed<'v>>(
@@ -55,11 +79,30 @@ pub(super) fn key_set<'v, K: Keyed<'v>>(
 ) -> Result<NameSet<'v>, AllocError>
     ensures { IfOk result (λ s. s ≡ distinct (map K.key_text parts.now)) }
 {
-    let mut keys = NameSet::new(alloc);
+    with_keys(NameSet::new(alloc), parts)
+}
+
+/// The names of the listed classes, and of those that may be made.
+pub(super) fn class_set<'v>(alloc: Global, form: &Form<'v>) -> Result<NameSet<'v>, AllocError>
+    ensures { IfOk result (λ s. s ≡ distinct (class_names (form_view form.now))) }
+{
+    with_keys(key_set(alloc, &form.classes)?, &form.made)
+}
+
+/// Whether a key of a list stands twice or is one of the keys. Else its keys are added to those.
+pub(super) fn repeats<'v, K: Keyed<'v>>(
+    keys: &mut NameSet<'v>,
+    parts: &[K],
+) -> Result<bool, AllocError>
+    ensures answer { IfOk result (λ b. b ≡ repeats keys.old (map K.key_text parts.now)) }
+    ensures added { IfOk result (λ b. b ≡ false → keys.new ≡ fold with_name keys.old (map K.key_text parts.now)) }
+{
     for part in parts {
-        keys.insert(part.key())?;
+        if !keys.insert(part.key())? {
+            return Ok(true);
+        }
     }
-    Ok(keys)
+    Ok(false)
 }
 
 /// Whether two of a list have one key.
@@ -69,11 +112,5 @@ pub(super) fn has_duplicate<'v, K: Keyed<'v>>(
 ) -> Result<bool, AllocError>
     ensures { IfOk result (λ b. b ≡ has_duplicate (map K.key_text parts.now)) }
 {
-    let mut keys = NameSet::new(alloc);
-    for part in parts {
-        if !keys.insert(part.key())? {
-            return Ok(true);
-        }
-    }
-    Ok(false)
+    repeats(&mut NameSet::new(alloc), parts)
 }

@@ -8,12 +8,12 @@ ghost use Rattle.msg_form.specs.Views.{form_view};
 ghost use Rattle.msg_form.specs.Walk.{selector_texts};
 
 use super::lists::method_lists;
-use crate::form::{Form, Pair};
+use crate::form::{Form, Pair, is_second};
 use crate::name_set::NameSet;
 use msg_names::MAX_NAMES;
 use std::alloc::{AllocError, Global};
 
-/// The most classes, and the most categories.
+/// The most classes, listed and that may be made, and the most categories.
 const MAX_CLASSES: usize = 1024;
 
 /// The most objects, and the most implementations.
@@ -29,7 +29,7 @@ const MAX_ENTRIES: usize = 16384;
 pub(super) fn is_other_version(form: &Form) -> bool
     ensures { result ≡ spec.is_other_version (form_view form.now) }
 {
-    form.version != 1
+    form.version != 1 && !is_second(form.version)
 }
 
 #[tactic(auto, unfolding(crate::specs::Faults::is_over_limit, crate::specs::Faults::has_many_selectors))]
@@ -54,7 +54,7 @@ pub(super) fn is_over_limit(
 fn has_long_list(form: &Form) -> bool
     ensures { result ≡ spec.has_long_list (form_view form.now) }
 {
-    form.classes.len() > MAX_CLASSES
+    form.classes.len() + form.made.len() > MAX_CLASSES
         || form.categories.len() > MAX_CLASSES
         || form.objects.len() > MAX_OBJECTS
         || form.imps.len() > MAX_OBJECTS

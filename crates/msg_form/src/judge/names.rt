@@ -13,18 +13,22 @@ ghost use Rattle.msg_form.specs.Text.{is_unknown};
 ghost use Rattle.msg_form.specs.Views.{change_view, item_view, items_view, lists_view, form_view};
 
 use super::bodies::BodyFaults;
+use super::classes::is_outside;
 use super::constants::{ClassOutside, ObjectOutside, any_in_send};
-use super::keyed::{has_duplicate, key_set};
+use super::keyed::{has_duplicate, key_set, repeats, with_keys};
 use super::lists::all_lists;
-use crate::form::{Change, Form, Item, Pair};
+use crate::form::{Change, Form, Item, Object, Pair};
 use crate::name_set::NameSet;
 use std::alloc::{AllocError, Global};
 
-#[tactic(auto, using(crate::proofs::AnyLemmas::maps), unfolding(crate::specs::Faults::has_duplicate_class))]
 pub(super) fn has_duplicate_class(alloc: Global, form: &Form) -> Result<bool, AllocError>
     ensures { IfOk result (λ b. b ≡ spec.has_duplicate_class (form_view form.now)) }
 {
-    has_duplicate(alloc, &form.classes)
+    let mut names = NameSet::new(alloc);
+    if repeats(&mut names, &form.classes)? {
+        return Ok(true);
+    }
+    repeats(&mut names, &form.made)
 }
 
 #[tactic(auto, using(crate::proofs::AnyLemmas::maps), unfolding(crate::specs::Faults::has_duplicate_object))]
@@ -52,7 +56,11 @@ pub(super) fn has_unknown_class(
     if bodies.unknown_class {
         return Ok(true);
     }
-    let classes = key_set(alloc, &form.classes)?;
+    let listed = key_set(alloc, &form.classes)?;
+    if any_home_outside(&listed, form) {
+        return Ok(true);
+    }
+    let classes = with_keys(listed, &form.made)?;
     Ok(names_class_outside(&classes, form))
 }
 
@@ -60,24 +68,26 @@ pub(super) fn has_unknown_class(
 fn names_class_outside(classes: &NameSet, form: &Form) -> bool
     ensures { result ≡ list_any (is_unknown classes.now) (other_classes (form_view form.now)) }
 {
-    any_part_outside(classes, form) || any_item_outside(classes, &form.items)
+    any_object_of_other(classes, &form.objects) || any_item_outside(classes, &form.items)
 }
 
-/// Whether a category, an object or an implementation has a class beyond the set.
-fn any_part_outside(classes: &NameSet, form: &Form) -> bool
+/// Whether a category or an implementation has a class beyond the set.
+fn any_home_outside(listed: &NameSet, form: &Form) -> bool
     ensures { result
-        ≡ list_any (λ n. is_unknown classes.now n.now)
+        ≡ list_any (λ n. is_unknown listed.now n.now)
         (map (λ c. c.class) form.now.categories.items
-        ++ map (λ o. o.class) form.now.objects.items
         ++ map (λ i. i.class) form.now.imps.items) }
 {
     let categories = form.categories.iter().map(|category| category.class);
-    let objects = form.objects.iter().map(|object| object.class);
     let imps = form.imps.iter().map(|imp| imp.class);
-    categories
-        .chain(objects)
-        .chain(imps)
-        .any(|class| classes.lacks(class))
+    categories.chain(imps).any(|class| listed.lacks(class))
+}
+
+/// Whether an object has a class beyond the set.
+fn any_object_of_other(classes: &NameSet, objects: &[Object]) -> bool
+    ensures { result ≡ list_any (λ o. is_unknown classes.now o.class.now) objects.now }
+{
+    objects.iter().any(|object| classes.lacks(object.class))
 }
 
 fn any_item_outside(classes: &NameSet, items: &[Item]) -> bool
@@ -110,6 +120,9 @@ fn change_names_class_outside(classes: &NameSet, change: &Change) -> bool
             classes.lacks(method.class) || classes.lacks(other.class)
         }
         Change::Attach { class, .. } => classes.lacks(*class),
+        Change::Make { class, superclass } => {
+            classes.lacks(*class) || is_outside(classes, *superclass)
+        }
     }
 }
 

@@ -7,6 +7,7 @@ ghost use Rattle.msg_form.specs.Gives.{Gives};
 ghost use Rattle.msg_form.specs.Shape as spec;
 ghost use Rattle.msg_form.specs.Views.{method_view, change_view, item_view};
 
+use super::parts::superclass;
 use super::values::{field, keys, list, name, text, truth};
 use super::{FromValue, each, list_of};
 use crate::faults::ReadFault;
@@ -67,6 +68,19 @@ fn attach<'v>(alloc: Global, values: &[Value<'v>]) -> Result<Change<'v>, ReadFau
     })
 }
 
+#[tactic(auto, unfolding(crate::specs::Shape::make_of))]
+fn make<'v>(values: &[Value<'v>]) -> Result<Change<'v>, ReadFault>
+    ensures { Gives change_view result (spec.make_of (map view values.now)) }
+{
+    if values.len() != 3 {
+        return Err(ReadFault::Shape);
+    }
+    Ok(Change::Make {
+        class: name(&values[1])?,
+        superclass: superclass(&values[2])?,
+    })
+}
+
 #[tactic(auto, unfolding(crate::specs::Shape::worded_change_of))]
 fn worded_change<'v>(
     alloc: Global,
@@ -90,6 +104,7 @@ fn worded_change<'v>(
         }
         "exchange" => exchange(values),
         "attach" => attach(alloc, values),
+        "make" => make(values),
         _ => Err(ReadFault::Shape),
     }
 }

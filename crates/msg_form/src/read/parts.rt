@@ -4,14 +4,17 @@ ghost use Rattle.std.specs.Prelude.{◌≡◌, ◌≤◌, map, option_map, IfOk}
 ghost use Rattle.msg_json.specs.View.{view};
 ghost use Rattle.msg_form.specs.Form.{PairForm, ClassForm, CategoryForm, ObjectForm, ImpForm};
 ghost use Rattle.msg_form.specs.Gives.{Gives};
+ghost use Rattle.msg_form.specs.Json.{name_of};
 ghost use Rattle.msg_form.specs.Shape as spec;
+ghost use Rattle.msg_form.specs.Text.{Text, texts_view};
+ghost use Rattle.std.specs.List.{list_any};
 ghost use Rattle.msg_form.specs.Views.{pair_view, class_view, category_view, object_view};
-ghost use Rattle.msg_form.specs.Views.{imp_view, form_view};
+ghost use Rattle.msg_form.specs.Views.{imp_view, item_view, form_view};
 
 use super::values::{field, keys, list, name, text, truth, whole};
 use super::{FromValue, list_of};
 use crate::faults::ReadFault;
-use crate::form::{Category, Class, Expr, Form, Imp, Object, Pair};
+use crate::form::{Category, Change, Class, Expr, Form, Imp, Item, Object, Pair, is_second};
 use msg_json::Value;
 use std::alloc::Global;
 
@@ -35,7 +38,7 @@ impl<'v> FromValue<'v> for Pair<'v> {
 }
 
 #[tactic(auto, unfolding(crate::specs::Shape::superclass_of))]
-fn superclass<'v>(value: &Value<'v>) -> Result<Option<&'v str>, ReadFault>
+pub(super) fn superclass<'v>(value: &Value<'v>) -> Result<Option<&'v str>, ReadFault>
     ensures { Gives (λ o. option_map (λ s. s.now) o) result
         (spec.superclass_of (view value.now)) }
 {
@@ -132,15 +135,80 @@ impl<'v> FromValue<'v> for Imp<'v> {
     }
 }
 
+impl<'v> FromValue<'v> for &'v str {
+    ghost Plain = { Text };
+
+    ghost plain = { λ s. s.now };
+
+    ghost spelled = { name_of };
+
+    fn from_value(_alloc: Global, value: &Value<'v>) -> Result<&'v str, ReadFault> {
+        name(value)
+    }
+}
+
+fn is_making(item: &Item) -> bool
+    ensures { result ≡ spec.is_making (item_view item.now) }
+{
+    matches!(item, Item::Change(Change::Make { .. }))
+}
+
+fn makes_class(items: &[Item]) -> bool
+    ensures { result ≡ list_any (λ i. spec.is_making (item_view i)) items.now }
+{
+    items.iter().any(is_making)
+}
+
 impl<'v> Form<'v> {
     /// The form that a JSON value spells.
     #[tactic(auto, unfolding(crate::specs::Shape::form_of))]
     pub fn read(alloc: Global, value: &Value<'v>) -> Result<Form<'v>, ReadFault>
         ensures { Gives form_view result (spec.form_of (view value.now)) }
     {
+        let version = whole(field(value, "version")?)?;
+        if is_second(version) {
+            Form::second(alloc, version, value)
+        } else {
+            Form::first(alloc, version, value)
+        }
+    }
+
+    /// A form of version 1, which makes no classes.
+    #[tactic(auto, using(crate::proofs::AnyLemmas::anys), unfolding(crate::specs::Shape::first_form_of))]
+    fn first(alloc: Global, version: i64, value: &Value<'v>) -> Result<Form<'v>, ReadFault>
+        ensures { Gives form_view result (spec.first_form_of version (view value.now)) }
+    {
         keys(value, 6)?;
+        let form = Form::parts(alloc, version, Vec::new(alloc), value)?;
+        if makes_class(&form.items) {
+            return Err(ReadFault::Shape);
+        }
+        Ok(form)
+    }
+
+    /// A form of version 2, which names the classes that may be made.
+    #[tactic(auto, unfolding(crate::specs::Shape::second_form_of))]
+    fn second(alloc: Global, version: i64, value: &Value<'v>) -> Result<Form<'v>, ReadFault>
+        ensures { Gives form_view result (spec.second_form_of version (view value.now)) }
+    {
+        keys(value, 7)?;
+        let made = list_of(alloc, field(value, "made")?)?;
+        Form::parts(alloc, version, made, value)
+    }
+
+    /// What the versions share.
+    #[tactic(auto, unfolding(crate::specs::Shape::parts_of))]
+    fn parts(
+        alloc: Global,
+        version: i64,
+        made: Vec<&'v str>,
+        value: &Value<'v>,
+    ) -> Result<Form<'v>, ReadFault>
+        ensures { Gives form_view result (spec.parts_of version (texts_view made.entry.items) (view value.now)) }
+    {
         Ok(Form {
-            version: whole(field(value, "version")?)?,
+            version,
+            made,
             classes: list_of(alloc, field(value, "classes")?)?,
             categories: list_of(alloc, field(value, "categories")?)?,
             objects: list_of(alloc, field(value, "objects")?)?,

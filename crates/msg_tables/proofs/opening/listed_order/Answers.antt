@@ -1,22 +1,22 @@
-use Rattle.std.proofs.Common.{◌≡◌, ◌+◌, ◌++◌, [], ◌∷◌, length, sym, ap, ◌∙◌, subst, arith}
-use Rattle.std.specs.List.{range_with_len}
+use Rattle.std.proofs.Common.{◌++◌, ℕ, Option, Vec, Global, sym, ap, ◌∙◌, subst}
+use Rattle.std.specs.Prelude.{IfSome}
+use Rattle.msg_order.specs.Order.{IsClassOrder}
+use Rattle.msg_order.specs.Superclasses.{AreListed}
+use Rattle.msg_image.specs.Parts.{superclasses}
+use Rattle.msg_image.proofs.PartLemmas.{classes-listed}
 use Rattle.msg_tables.specs.After.{opened_supers}
 use Rattle.msg_tables.specs.Order.{IsOrder}
-use Rattle.msg_tables.proofs.ListedOrderLemmas.{listed-more, order-listed}
+use Rattle.msg_tables.proofs.ListedOrderLemmas.{order-listed}
 use Rattle.msg_tables.proofs.opening.listed_order.Goals as goal
 
-pub loop-class-init : goal.loop-class-init
-loop-class-init c = (c.in_ok-order.ensures.items, omega (arith, c.in_ok-order.ensures.exact, c.class_count.ensures.count))
-
-pub loop-class-preserved : goal.loop-class-preserved
-loop-class-preserved c = (c.in_ok-push.ensures.items ∙ ap (λ ks. ks ++ c.loop-class.class ∷ []) c.loop-class.invariant.0 ∙ sym (listed-more c.loop-class.class), omega (arith, c.loop-class.invariant.1, c.push.ensures.capacity))
+pub class_order-requires-clause-listed : goal.class_order-requires-clause-listed
+class_order-requires-clause-listed c = subst AreListed (sym (c.deref.ensures.value ∙ c.in_ok-supers.ensures)) (classes-listed c.args.image.now c.class_count.ensures.sound)
 
 pub returns-clause-order : goal.returns-clause-order
 returns-clause-order c =
     let image = c.args.image.now in
-    let end : c.loop-class.class ≡ length image.classes = omega (arith, c.loop-class-test.false, c.loop-class.auto.class-end, c.listed_count-class-end.ensures.count) in
-    let all = c.loop-class.invariant.0 ∙ ap (range_with_len 0) end in
-    subst (λ order. IsOrder (opened_supers image) order) (sym all) (order-listed image c.class_count.ensures.sound)
-
-pub returns-clause-room : goal.returns-clause-room
-returns-clause-room c = c.loop-class.invariant.1
+    let listed = c.unwrap-listed.result.items in
+    let some : IsClassOrder c.deref.result.now listed = subst (λ (o : Option (Vec ℕ Global)). IfSome o (λ order. IsClassOrder c.deref.result.now order.items)) c.unwrap-listed.ensures c.in_ok-class_order.ensures.order in
+    let is : IsClassOrder (superclasses image) listed = subst (λ supers. IsClassOrder supers listed) (c.deref.ensures.value ∙ c.in_ok-supers.ensures) some in
+    let all = c.in_ok-extend_from_slice.ensures.items ∙ ap (λ xs. xs ++ c.deref-2.result.now) c.in_ok-order.ensures.items ∙ c.deref-2.ensures.value in
+    subst (IsOrder (opened_supers image)) (sym all) (order-listed image listed is)

@@ -1,20 +1,24 @@
-use Rattle.msg_form.specs.Faults.{has_unknown_class}
-use Rattle.msg_form.specs.Lists.{body_classes, class_names, other_classes}
+use Rattle.std.proofs.Common.{◌∙◌}
 use Rattle.msg_form.specs.Text.{is_unknown}
-use Rattle.msg_form.specs.Views.{class_view, form_view}
-use Rattle.msg_form.proofs.AnyLemmas.{found, not_found}
-use Rattle.msg_form.proofs.TextLemmas.{unknown-distinct}
+use Rattle.msg_form.specs.Views.{form_view}
+use Rattle.msg_form.proofs.CitedLemmas.{any_home, unknown-in_bodies, unknown-at_home, unknown-elsewhere}
+use Rattle.msg_form.proofs.ClassLemmas.{class_names-are, listed_names-are}
 use Rattle.msg_form.proofs.judge.names.has_unknown_class.Goals as goal
 
 pub returns-then-bodies : goal.returns-then-bodies
-unfolding has_unknown_class
-returns-then-bodies c =
-    let f = form_view c.args.form.now in
-    found (is_unknown (class_names f)) (body_classes f) (other_classes f) c.args.bodies.unknown_class c.requires.unknown_class c.if-bodies.true
+returns-then-bodies c = unknown-in_bodies (form_view c.args.form.now) c.args.bodies.unknown_class c.requires.unknown_class c.if-bodies.true
+
+pub returns-then-any_home_outside : goal.returns-then-any_home_outside
+returns-then-any_home_outside c =
+    let f = c.args.form.now in
+    let listed = c.in_ok-listed.listed in
+    unknown-at_home (form_view f) c.args.bodies.unknown_class c.requires.unknown_class listed c.any_home_outside.result (listed_names-are f c.deref.result.now listed c.deref.ensures.value c.in_ok-listed.ensures) (c.any_home_outside.ensures ∙ any_home (is_unknown listed) f) c.if-any_home_outside.true
 
 pub returns : goal.returns
-unfolding has_unknown_class
 returns c =
-    let f = form_view c.args.form.now in
-    let cited = unknown-distinct (λ d. d.name) class_view c.deref.result.now c.args.form.now.classes.items c.in_ok-classes.classes (other_classes f) c.names_class_outside.result c.deref.ensures.value c.in_ok-classes.ensures c.names_class_outside.ensures in
-    not_found (is_unknown (class_names f)) (body_classes f) (other_classes f) c.args.bodies.unknown_class c.names_class_outside.result c.requires.unknown_class c.if-bodies.false cited
+    let f = c.args.form.now in
+    let listed = c.in_ok-listed.listed in
+    let classes = c.in_ok-classes.classes in
+    unknown-elsewhere (form_view f) c.args.bodies.unknown_class c.requires.unknown_class listed classes c.any_home_outside.result c.names_class_outside.result c.if-bodies.false
+    (listed_names-are f c.deref.result.now listed c.deref.ensures.value c.in_ok-listed.ensures) (c.any_home_outside.ensures ∙ any_home (is_unknown listed) f) c.if-any_home_outside.false
+    (class_names-are f c.deref.result.now c.deref-2.result.now listed classes c.deref.ensures.value c.deref-2.ensures.value c.in_ok-listed.ensures c.in_ok-classes.ensures) c.names_class_outside.ensures

@@ -3,7 +3,7 @@ use Rattle.std.specs.Prelude.{IfSome}
 use Rattle.msg_names.specs.declared.value.ClassRef.{ClassRef}
 use Rattle.msg_names.proofs.ClassRefLemmas.{above-listed}
 use Rattle.msg_image.specs.Plain.{class_parts}
-use Rattle.msg_image.proofs.PartLemmas.{class_seen, class_sound, superclass-listed, superclass_in-at}
+use Rattle.msg_image.proofs.PartLemmas.{class_seen, class_sound, superclass_in-at}
 use Rattle.msg_image.proofs.image.Image.superclass.Goals as goal
 
 pub returns-clause-value : goal.returns-clause-value
@@ -15,5 +15,4 @@ pub returns-clause-listed : goal.returns-clause-listed
 returns-clause-listed c =
     let n = length c.args.self.now.classes in
     let sound = class_sound c.self.inside c.args.self.now c.self.view_is c.args.class.class c.index.result.now c.self.invariant c.requires c.index.ensures in
-    let superclass = superclass-listed c.index.result.now.superclass c.args.class.class n c.requires sound.before in
-    subst (λ (o : Option ClassRef). IfSome o (λ above. above.class < n)) (sym c.above.ensures) (above-listed c.args.class c.index.result.now.superclass n c.requires superclass)
+    subst (λ (o : Option ClassRef). IfSome o (λ above. above.class < n)) (sym c.above.ensures) (above-listed c.args.class c.index.result.now.superclass n c.requires sound.superclass)

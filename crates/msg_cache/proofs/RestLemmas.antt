@@ -1,0 +1,69 @@
+-- A fill and a collection change caches alone.
+use Rattle.std.proofs.Common.{◌≡◌, ℕ, zero, suc, List, [], ◌∷◌, Bool, true, false, cond, Option, Some, None, refl, ap, ◌∙◌}
+use Rattle.std.specs.Prelude.{MatchOption}
+use Rattle.msg_names.specs.declared.value.ClassRef.{ClassRef}
+use Rattle.msg_tables.specs.History.{History}
+use Rattle.msg_core.specs.State.{Layout, capacity, awaits}
+use Rattle.msg_cache.specs.Keeping.{looks, clears, emptied, all_emptied, freed, collected, lowest_free, filled, grown, FillsBy, Fills, way_of}
+use Rattle.msg_cache.specs.Layout.{base}
+use Rattle.msg_cache.specs.Plays.{looked}
+use Rattle.msg_cache.specs.declared.answer.Filled.{Filled}
+use Rattle.msg_cache.specs.declared.answer.Filled.TheVariants.{Grown, NoArray}
+use Rattle.msg_cache.specs.declared.answer.Way.{Way}
+use Rattle.msg_cache.specs.declared.answer.Way.TheVariants.{Present, Use, Take}
+use Rattle.msg_cache.specs.declared.view.KeeperView.{KeeperView}
+use Rattle.msg_cache.specs.declared.view.TurnAt.{TurnAt}
+
+-- what the keeper's view has beside the caches
+pub record Rest : Type 0 where
+  pub history : History
+  pub given : List Bool
+  pub turn : TurnAt
+
+abbrev pub rest : KeeperView → Rest
+rest k = record { history = k.history; given = k.given; turn = k.turn }
+
+-- ---- a collection
+
+looks-rest : (n : ℕ) (outs : List Bool) (k : KeeperView) → rest (looks n outs k) ≡ rest k
+looks-rest zero outs k = refl
+looks-rest (suc n) outs k = step (awaits outs n) (looks n outs k) (looks-rest n outs k)
+  where
+    step : (b : Bool) (j : KeeperView) → rest j ≡ rest k → rest (cond b (looked n j) j) ≡ rest k
+    step true j same = same
+    step false j same = same
+
+clears-rest : (b n : ℕ) (k : KeeperView) → rest (clears b n k) ≡ rest k
+clears-rest b zero k = refl
+clears-rest b (suc n) k = clears-rest b n k
+
+all_emptied-rest : (z : Layout) (arrays : List ℕ) (k : KeeperView) → rest (all_emptied z arrays k) ≡ rest k
+all_emptied-rest z [] k = refl
+all_emptied-rest z (a ∷ arrays) k = all_emptied-rest z arrays (emptied z a k) ∙ clears-rest (base z a) (capacity z a) k
+
+pub collected-rest : (z : Layout) (outs : List Bool) (k : KeeperView) → rest (collected z outs k) ≡ rest k
+collected-rest z outs k = all_emptied-rest z (freed z outs k) (looks z.senders outs k) ∙ looks-rest z.senders outs k
+
+-- ---- a fill
+
+module _ (z : Layout) (c : ClassRef) (s i : ℕ) (k k' : KeeperView) (answer : Filled) where
+  collects-rest : (outs : List Bool) (o : Option ℕ)
+      → MatchOption o ((answer ≡ NoArray) × (k' ≡ collected z outs k)) (λ a. (answer ≡ Grown) × (k' ≡ grown z c s i a (collected z outs k))) → rest k' ≡ rest k
+  collects-rest outs None (is, same) = ap rest same ∙ collected-rest z outs k
+  collects-rest outs (Some a) (is, same) = ap rest same ∙ collected-rest z outs k
+
+  grows-rest : (n : ℕ) (o : Option ℕ)
+      → MatchOption o
+      ((outs : List Bool) × MatchOption (lowest_free z n (collected z outs k)) ((answer ≡ NoArray) × (k' ≡ collected z outs k)) (λ a. (answer ≡ Grown) × (k' ≡ grown z c s i a (collected z outs k))))
+      (λ a. (answer ≡ Grown) × (k' ≡ grown z c s i a k))
+      → rest k' ≡ rest k
+  grows-rest n None (outs, collects) = collects-rest outs (lowest_free z n (collected z outs k)) collects
+  grows-rest n (Some a) (is, same) = ap rest same
+
+  fills_by-rest : (w : Way) → FillsBy z c s i k k' answer w → rest k' ≡ rest k
+  fills_by-rest Present (is, same) = ap rest same
+  fills_by-rest (Use a p) (is, same) = ap rest same
+  fills_by-rest (Take n) grows = grows-rest n (lowest_free z n k) grows
+
+  pub fills-rest : (remembered : List ℕ) → Fills z remembered c s i k k' answer → rest k' ≡ rest k
+  fills-rest remembered fills = fills_by-rest (way_of z remembered k c s) fills

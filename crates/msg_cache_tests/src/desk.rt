@@ -1,0 +1,207 @@
+//! An arena's keeper beside class tables that know what may be cached, and senders of the arena.
+
+ghost use Rattle.std.specs.Prelude.{◌≡◌, ◌<◌, IfOk, IfSome};
+ghost use Rattle.msg_names.specs.declared.value.ClassRef.{ClassRef};
+ghost use Rattle.msg_cache.specs.Ours.{IsOf};
+ghost use Rattle.msg_cache.specs.Views.{classes, IsSenderOf};
+ghost use Rattle.msg_cache_tests.specs.Together.{Begin, HasNoArray, history};
+
+use msg_cache::{Arena, Config, Filled, Keeper, Pause, Prober, Report, Turn};
+use msg_image::{Change, Image, read_document};
+use msg_names::{ClassRef, ImpRef, Selector};
+use msg_tables::{ChangeFault, Tables};
+use std::alloc::Global;
+use std::marker::Model;
+use std::test::Fail;
+
+pub(crate) const ROOT: ClassRef = ClassRef {
+    class: 0,
+    meta: false,
+};
+
+pub(crate) const CHILD: ClassRef = ClassRef {
+    class: 1,
+    meta: false,
+};
+
+// Child below Root, whose method `value` is selector 2 and has implementation 1.
+const DOCUMENT: &[u8] =
+    br#"{"version":1,"classes":[{"name":"Root","super":null,"methods":[["value","r_value"]],"class_methods":[]},{"name":"Child","super":"Root","methods":[],"class_methods":[]}],"categories":[],"objects":[{"name":"c","class":"Child"}],"imps":[{"name":"r_value","class":"Root","meta":false,"args":0,"body":7}],"items":[{"send":[["obj","c"],"value"]}]}"#;
+
+pub(crate) fn selector(number: u32) -> Result<Selector, Fail> {
+    Ok(Selector::of(number).ok_or("0")?)
+}
+
+pub(crate) fn image(alloc: Global) -> Result<Image, Fail> {
+    Ok(read_document(alloc, DOCUMENT)?.image)
+}
+
+/// An arena of so many senders and arrays, its keeper, and tables.
+pub(crate) fn open(
+    alloc: Global,
+    senders: u32,
+    arrays: [u16; 9],
+) -> Result<(Arena, Keeper, Tables), Fail>
+    ensures { IfOk result (λ r. Begin r.0 r.1 r.2) }
+{
+    let image = image(alloc)?;
+    if image.class_count() != 2 {
+        Err("not two classes")?;
+    }
+    let tables = Tables::open(alloc, &image)?;
+    let (arena, keeper) = Arena::open(alloc, &image, Config { senders, arrays })?;
+    Ok((arena, keeper, tables))
+}
+
+// Takes the live array of each class reference away.
+fn flush_all(keeper: &mut Keeper, arena: &Arena)
+    requires arena { IsOf arena.now keeper.old }
+    requires two { classes arena.now ≡ 2 }
+    ensures arena { IsOf arena.now keeper.new }
+    ensures history { history keeper.new ≡ history keeper.old }
+    ensures flushed { (c : ClassRef) → c.class < 2 → HasNoArray arena.now keeper.new c }
+{
+    for class in 0..2 {
+        flush(keeper, arena, ClassRef { class, meta: false });
+        flush(keeper, arena, ClassRef { class, meta: true });
+    }
+}
+
+// Takes the live array of a class reference away.
+#[tactic(auto, using(crate::proofs::KeepLemmas::flushed_history, crate::proofs::ArrayLemmas::flushed_none, crate::proofs::ArrayLemmas::flushed_others))]
+fn flush(keeper: &mut Keeper, arena: &Arena, class: ClassRef) -> bool
+    requires arena { IsOf arena.now keeper.old }
+    requires class { class.class < classes arena.now }
+    ensures arena { IsOf arena.now keeper.new }
+    ensures history { history keeper.new ≡ history keeper.old }
+    ensures flushed { HasNoArray arena.now keeper.new class }
+    ensures others { (c : ClassRef) → HasNoArray arena.now keeper.old c → HasNoArray arena.now keeper.new c }
+{
+    keeper.flush(arena, class)
+}
+
+/// What a runtime lock guards.
+#[derive(Drop)]
+pub(crate) struct Desk<'a> {
+    arena: &'a Arena,
+    keeper: Keeper,
+    tables: Tables,
+    turn: Turn,
+}
+
+impl<'a> Model for Desk<'a> {
+    ghost use Rattle.msg_cache.specs.Views.{ArenaView};
+
+    ghost Value = { ArenaView };
+
+    ghost use Rattle.std.specs.Coded.{codes};
+    ghost use Rattle.msg_image.specs.Coding.{coded_expression};
+    ghost use Rattle.atomic_table.specs.Seated.{table_id_coded};
+
+    ghost coded = { Prim.hlevel (codes, coded_expression, table_id_coded) };
+
+    ghost use Rattle.msg_cache_tests.specs.Together.{IsDesk};
+
+    ghost view = { λ d. d.arena.now };
+
+    ghost invariant = { λ d. IsDesk d.arena.now d.keeper d.tables d.turn };
+}
+
+impl<'a> Desk<'a> {
+    pub(crate) fn at(arena: &'a Arena, mut keeper: Keeper, tables: Tables) -> Result<Desk<'a>, Fail>
+        requires { Begin arena.now keeper tables }
+    {
+        let turn = keeper.turn(arena).ok_or("no turn")?;
+        Ok(Desk {
+            arena,
+            keeper,
+            tables,
+            turn,
+        })
+    }
+
+    /// Whether there is a second turn.
+    pub(crate) fn has_turn(&mut self) -> bool {
+        self.keeper.turn(self.arena).is_some()
+    }
+
+    pub(crate) fn give_out(&mut self, number: u32) -> Option<Reader<'a>> {
+        let prober = self.keeper.give_out(self.arena, number)?;
+        Some(Reader {
+            arena: self.arena,
+            prober,
+        })
+    }
+
+    /// Caches what the tables find.
+    pub(crate) fn fill(&mut self, class: ClassRef, sel: Selector) -> Filled
+        requires { class.class < 2 }
+    {
+        self.keeper.face(self.arena, &mut self.turn);
+        let imp = self.tables.lookup(class, sel);
+        self.keeper.fill(self.arena, class, sel, imp)
+    }
+
+    pub(crate) fn flush(&mut self, class: ClassRef) -> bool
+        requires { class.class < 2 }
+    {
+        flush(&mut self.keeper, self.arena, class)
+    }
+
+    pub(crate) fn collect(&mut self) -> u32 {
+        self.keeper.collect(self.arena)
+    }
+
+    /// Makes a change, after all caches were flushed.
+    pub(crate) fn change(&mut self, change: &Change) -> Result<u64, ChangeFault> {
+        self.keeper.face(self.arena, &mut self.turn);
+        self.tables.apply(change)?;
+        flush_all(&mut self.keeper, self.arena);
+        Ok(self.keeper.commit(self.arena, &mut self.turn, change))
+    }
+
+    pub(crate) fn report(&self) -> Report {
+        self.keeper.report()
+    }
+}
+
+/// A sender.
+#[derive(Drop)]
+pub(crate) struct Reader<'a> {
+    arena: &'a Arena,
+    prober: Prober,
+    ghost of: { IsSenderOf arena.now prober },
+    ghost two: { classes arena.now ≡ 2 },
+}
+
+impl Reader<'_> {
+    pub(crate) fn find(&mut self, class: ClassRef, sel: Selector) -> Option<ImpRef>
+        requires { class.class < 2 }
+    {
+        self.prober.probe(self.arena, class, sel)
+    }
+
+    /// The same, with a call before each load.
+    pub(crate) fn find_paused<P: Pause>(
+        &mut self,
+        class: ClassRef,
+        sel: Selector,
+        pause: &mut P,
+    ) -> Option<ImpRef>
+        requires { class.class < 2 }
+    {
+        self.prober.probe_paused(self.arena, class, sel, pause)
+    }
+
+    pub(crate) fn published(&mut self) -> u64 {
+        self.prober.published(self.arena)
+    }
+
+    pub(crate) fn number(&self) -> u32 {
+        self.prober.number()
+    }
+
+    pub(crate) fn loads(&self) -> u32 {
+        self.prober.last_loads()
+    }
+}

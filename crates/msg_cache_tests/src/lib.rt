@@ -1,0 +1,9 @@
+//! Tests of caches that threads share.
+#![tactic(auto)]
+
+#[cfg(test)]
+mod desk;
+#[cfg(test)]
+mod rows;
+#[cfg(test)]
+mod stops;

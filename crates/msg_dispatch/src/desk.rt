@@ -1,0 +1,115 @@
+//! What stands behind the runtime lock.
+
+ghost use Rattle.std.specs.Prelude.{◌≡◌, ◌≢◌, ◌<◌, ◌≤◌, length, IfOk, IfErr, IfSome, OnErr, None, Some};
+ghost use Rattle.msg_names.specs.Number.{selector_number, imp_number};
+ghost use Rattle.msg_tables.specs.History.{BeginsWith, and_then, empty, lookup};
+ghost use Rattle.msg_tables.specs.Refusal.{refusal};
+ghost use Rattle.msg_tables.specs.declared.fault.ChangeFault.{ChangeFault};
+ghost use Rattle.msg_cache.specs.Views.{classes, IsSenderOf};
+
+use crate::name::ArenaName;
+use msg_cache::{Arena, Prober, Report, Turn};
+use msg_image::Change;
+use msg_names::{ClassRef, ImpRef, Selector};
+use msg_runtime::Runtime;
+use msg_tables::ChangeFault;
+use std::marker::{Model, PhantomData};
+
+// The runtime of the arena that N names.
+#[derive(Drop)]
+pub(crate) struct Desk<N: ArenaName> {
+    pub(crate) runtime: Runtime,
+    pub(crate) of: PhantomData<N>,
+}
+
+impl<N: ArenaName> Model for Desk<N> {
+    ghost use Rattle.std.specs.Prelude.{◌≡◌, ℕ};
+
+    ghost Value = { ℕ };
+
+    ghost view = { λ d. 0 };
+
+    ghost invariant = { λ d. d.runtime.arena ≡ N.arena };
+}
+
+impl<N: ArenaName> Desk<N> {
+    // Looks up at the history, which the prober has then seen.
+    pub(crate) fn answer(
+        &mut self,
+        arena: &Arena,
+        prober: &mut Prober,
+        class: ClassRef,
+        sel: Selector,
+    ) -> ImpRef
+        requires arena { arena.now ≡ N.arena }
+        requires prober { IsSenderOf N.arena prober.old }
+        requires class { class.class < classes N.arena }
+        ensures prober { IsSenderOf N.arena prober.new }
+        ensures image { prober.new.sender.front.image ≡ N.arena.key.image }
+        ensures begins { BeginsWith prober.new.sender.front prober.old.sender.front }
+        ensures found { imp_number result ≡ lookup prober.new.sender.front class (selector_number sel) }
+        ensures listed { imp_number result ≤ length N.arena.key.image.imps }
+    {
+        self.runtime.answer(arena, prober, class, sel)
+    }
+
+    pub(crate) fn change(
+        &mut self,
+        arena: &Arena,
+        turn: &mut Turn,
+        change: &Change,
+    ) -> Result<u64, ChangeFault>
+        requires arena { arena.now ≡ N.arena }
+        requires turn { turn.old.table ≡ N.arena.table }
+        ensures turn { turn.new.table ≡ N.arena.table }
+        ensures ok { IfOk result (λ count. (refusal turn.old.history change.now ≡ None) × (turn.new.history ≡ and_then turn.old.history change.now) × (count ≡ length turn.new.history.changes)) }
+        ensures err { OnErr result (turn.new.history ≡ turn.old.history) }
+        ensures fault { IfErr result (λ f. f ≢ ChangeFault.Memory → refusal turn.old.history change.now ≡ Some f) }
+    {
+        self.runtime.change(arena, turn, change)
+    }
+
+    // The prober has then seen the turn's history, which begins with what it had seen.
+    pub(crate) fn meet(&mut self, arena: &Arena, turn: &mut Turn, prober: &mut Prober)
+        requires arena { arena.now ≡ N.arena }
+        requires turn { turn.old.table ≡ N.arena.table }
+        requires prober { IsSenderOf N.arena prober.old }
+        ensures turn { turn.new.table ≡ N.arena.table }
+        ensures prober { IsSenderOf N.arena prober.new }
+        ensures same { turn.new.history ≡ turn.old.history }
+        ensures begins { BeginsWith turn.old.history prober.old.sender.front }
+        ensures front { prober.new.sender.front ≡ turn.old.history }
+    {
+        self.runtime.meet(arena, turn, prober);
+    }
+
+    // A prober of a sender number that isn't given out.
+    pub(crate) fn sender(&mut self, arena: &Arena) -> Option<Prober>
+        requires arena { arena.now ≡ N.arena }
+        ensures prober { IfSome result (IsSenderOf N.arena) }
+        ensures image { IfSome result (λ p. p.sender.front.image ≡ N.arena.key.image) }
+    {
+        self.runtime.sender(arena)
+    }
+
+    // Takes a prober's number back.
+    pub(crate) fn finish(&mut self, arena: &Arena, prober: Prober)
+        requires arena { arena.now ≡ N.arena }
+        requires prober { IsSenderOf N.arena prober }
+    {
+        self.runtime.finish(arena, prober);
+    }
+
+    // The turn: once, then none.
+    pub(crate) fn turn(&mut self, arena: &Arena) -> Option<Turn>
+        requires arena { arena.now ≡ N.arena }
+        ensures turn { IfSome result (λ t. t.table ≡ N.arena.table) }
+        ensures empty { IfSome result (λ t. t.history ≡ empty N.arena.key.image) }
+    {
+        self.runtime.turn(arena)
+    }
+
+    pub(crate) fn report(&self) -> Report {
+        self.runtime.report()
+    }
+}

@@ -1,0 +1,95 @@
+//! The arena, with the runtime lock beside it.
+
+ghost use Rattle.std.specs.Prelude.{◌≡◌, IfOk};
+ghost use Rattle.std.specs.Coded.{codes};
+ghost use Rattle.msg_image.specs.Coding.{coded_expression};
+ghost use Rattle.atomic_table.specs.Seated.{table_id_coded};
+ghost use Rattle.msg_tables.specs.History.{empty};
+ghost use Rattle.msg_runtime.specs.Parts.{IsKeeperOf, keeper_history};
+
+use crate::changer::Changer;
+use crate::desk::Desk;
+use crate::name::ArenaName;
+use crate::sender::Sender;
+use msg_cache::{Arena, Keeper, Report};
+use msg_image::Image;
+use msg_runtime::Runtime;
+use std::alloc::{AllocError, Global};
+use std::marker::PhantomData;
+use std::sync::{Mutex, Wait};
+use thiserror::Error;
+
+/// All sender numbers are given out.
+#[derive(Clone, Copy, Debug, PartialEq, Eq, Error)]
+#[error("no sender is free")]
+pub struct NoSenderFree;
+
+/// There was a changer already.
+#[derive(Clone, Copy, Debug, PartialEq, Eq, Error)]
+#[error("the changer is out")]
+pub struct ChangerOut;
+
+/// What senders and the changer share: the arena, and behind the runtime lock the runtime that keeps it.
+#[derive(Drop)]
+pub struct Dispatcher<N: ArenaName> {
+    pub(crate) arena: Arena,
+    pub(crate) desk: Mutex<Desk<N>>,
+    pub ghost arena_is: { arena ≡ N.arena } by { Prim.hlevel (codes, coded_expression, table_id_coded) },
+}
+
+impl<N: ArenaName> Dispatcher<N> {
+    /// The dispatcher of an arena that was just opened.
+    pub fn open(
+        alloc: Global,
+        arena: Arena,
+        keeper: Keeper,
+        image: &Image,
+    ) -> Result<Dispatcher<N>, AllocError>
+        requires arena { arena ≡ N.arena }
+        requires keeper { IsKeeperOf N.arena keeper }
+        requires image { image.now ≡ N.arena.key.image }
+        requires history { keeper_history keeper ≡ empty image.now }
+    {
+        let desk = Desk {
+            runtime: Runtime::open(alloc, &arena, keeper, image)?,
+            of: PhantomData,
+        };
+        Ok(Dispatcher {
+            arena,
+            desk: Mutex::new(desk),
+        })
+    }
+
+    /// A sender, where a number is free.
+    pub fn sender<R: Wait>(&self, rt: &R) -> Result<Sender<'_, N>, NoSenderFree>
+        ensures { IfOk result (λ s. (s.takings ≡ 0) × (s.seen.front.image ≡ N.arena.key.image)) }
+    {
+        match self.desk.lock(rt).sender(&self.arena) {
+            Some(prober) => Ok(Sender {
+                dispatcher: self,
+                prober,
+                takings: 0,
+            }),
+            None => Err(NoSenderFree),
+        }
+    }
+
+    /// The changer: once in the dispatcher's life.
+    pub fn changer<R: Wait>(&self, rt: &R) -> Result<Changer<'_, N>, ChangerOut>
+        ensures { IfOk result (λ c. c ≡ empty N.arena.key.image) }
+    {
+        match self.desk.lock(rt).turn(&self.arena) {
+            Some(turn) => Ok(Changer {
+                dispatcher: self,
+                turn,
+                count: 0,
+            }),
+            None => Err(ChangerOut),
+        }
+    }
+
+    /// What was done to caches so far.
+    pub fn report<R: Wait>(&self, rt: &R) -> Report {
+        self.desk.lock(rt).report()
+    }
+}

@@ -1,0 +1,116 @@
+//! Senders.
+
+ghost use Rattle.std.specs.Prelude.{◌≡◌, ◌<◌, ◌≤◌, ◌+◌, ◌-◌, ◌^◌, length, IfSome, IfNone};
+ghost use Rattle.msg_names.specs.Number.{selector_number, imp_number};
+ghost use Rattle.msg_image.specs.Parts.{class_total};
+ghost use Rattle.msg_tables.specs.History.{BeginsWith, lookup};
+ghost use Rattle.msg_cache.specs.Record.{Probes, Hits, Misses};
+ghost use Rattle.msg_cache.specs.Views.{layout};
+
+use crate::dispatcher::Dispatcher;
+use crate::name::ArenaName;
+use msg_cache::Prober;
+use msg_names::{ClassRef, ImpRef, Selector};
+use msg_tables::laws::a_found_implementation_is_listed;
+use std::marker::Model;
+use std::sync::Wait;
+
+/// Looks up, first in the caches without a lock. It carries what it has seen of the history, and never answers from before that.
+#[derive(Drop)]
+pub struct Sender<'d, N: ArenaName> {
+    pub(crate) dispatcher: &'d Dispatcher<N>,
+    pub(crate) prober: Prober,
+    pub(crate) takings: u64,
+}
+
+impl<'d, N: ArenaName> Model for Sender<'d, N> {
+    ghost use Rattle.std.specs.Prelude.{◌≡◌};
+    ghost use Rattle.msg_cache.specs.Views.{IsSenderOf};
+    ghost use Rattle.msg_dispatch.specs.Seen.{SenderView};
+
+    ghost Value = { SenderView };
+
+    ghost use Rattle.std.specs.Coded.{codes};
+    ghost use Rattle.msg_image.specs.Coding.{coded_expression};
+
+    ghost coded = { Prim.hlevel (codes, coded_expression) };
+
+    ghost view = { λ s. record { seen = s.prober.sender; takings = s.takings } };
+
+    ghost invariant = { λ s. IsSenderOf N.arena s.prober × (s.prober.sender.front.image ≡ N.arena.key.image) };
+}
+
+impl<'d, N: ArenaName> Sender<'d, N> {
+    /// The implementation that the cache of a class reference has, which is the lookup's at what the sender has then seen. No lock is taken.
+    #[inline]
+    pub fn find_cached(&mut self, class: ClassRef, sel: Selector) -> Option<ImpRef>
+        requires class { class.class < class_total self.old.seen.front.image }
+        ensures probes { Probes (layout N.arena) class (selector_number sel) self.old.seen self.new.seen }
+        ensures takings { self.new.takings ≡ self.old.takings }
+        ensures some { IfSome result (λ i. Hits self.new.seen.last (imp_number i) × (imp_number i ≡ lookup self.new.seen.front class (selector_number sel))) }
+        ensures none { IfNone result (Misses (layout N.arena) self.new.seen.last) }
+    {
+        self.prober.probe(&self.dispatcher.arena, class, sel)
+    }
+
+    // After a miss: takes the lock.
+    fn find_locked<R: Wait>(&mut self, rt: &R, class: ClassRef, sel: Selector) -> ImpRef
+        requires class { class.class < class_total self.old.seen.front.image }
+        ensures begins { BeginsWith self.new.seen.front self.old.seen.front }
+        ensures found { imp_number result ≡ lookup self.new.seen.front class (selector_number sel) }
+        ensures listed { imp_number result ≤ length self.new.seen.front.image.imps }
+        ensures takings { (self.old.takings ≤ self.new.takings) × (self.new.takings ≤ self.old.takings + 1) }
+        ensures counted { self.old.takings < 2 ^ 64 - 1 → self.new.takings ≡ self.old.takings + 1 }
+    {
+        let dispatcher = self.dispatcher;
+        self.takings = self.takings.saturating_add(1);
+        dispatcher
+            .desk
+            .lock(rt)
+            .answer(&dispatcher.arena, &mut self.prober, class, sel)
+    }
+
+    /// The implementation that a lookup finds at what the sender has then seen. After a miss it takes the lock, once.
+    #[inline]
+    pub fn find<R: Wait>(&mut self, rt: &R, class: ClassRef, sel: Selector) -> ImpRef
+        requires class { class.class < class_total self.old.seen.front.image }
+        ensures begins { BeginsWith self.new.seen.front self.old.seen.front }
+        ensures found { imp_number result ≡ lookup self.new.seen.front class (selector_number sel) }
+        ensures listed { imp_number result ≤ length self.new.seen.front.image.imps }
+        ensures takings { (self.old.takings ≤ self.new.takings) × (self.new.takings ≤ self.old.takings + 1) }
+        ensures hit { self.new.takings ≡ self.old.takings → self.old.takings < 2 ^ 64 - 1
+            → Probes (layout N.arena) class (selector_number sel) self.old.seen self.new.seen × Hits self.new.seen.last (imp_number result) }
+    {
+        a_found_implementation_is_listed();
+        match self.find_cached(class, sel) {
+            Some(imp) => imp,
+            None => self.find_locked(rt, class, sel),
+        }
+    }
+
+    /// How many changes there are, which the sender has then seen. No lock is taken.
+    pub fn published(&mut self) -> u64
+        ensures begins { BeginsWith self.new.seen.front self.old.seen.front }
+        ensures length { result ≡ length self.new.seen.front.changes }
+        ensures takings { self.new.takings ≡ self.old.takings }
+    {
+        self.prober.published(&self.dispatcher.arena)
+    }
+
+    /// How often `find` took the lock.
+    pub fn lock_takings(&self) -> u64
+        ensures { result ≡ self.now.takings }
+    {
+        self.takings
+    }
+
+    /// Gives the sender's number back. That of a sender which is dropped stays used.
+    pub fn finish<R: Wait>(self, rt: &R) {
+        let Sender {
+            dispatcher,
+            prober,
+            ..
+        } = self;
+        dispatcher.desk.lock(rt).finish(&dispatcher.arena, prober);
+    }
+}

@@ -1,0 +1,60 @@
+//! A sender that is known to be of its dispatcher's image, and looks for its classes alone.
+
+ghost use Rattle.std.specs.Prelude.{◌≡◌};
+ghost use Rattle.std.specs.Coded.{codes};
+ghost use Rattle.msg_image.specs.Coding.{coded_expression};
+ghost use Rattle.msg_image.specs.Parts.{class_total};
+
+use msg_dispatch::{ArenaName, Changer, Sender};
+use msg_names::{ClassRef, ImpRef, Selector};
+use std::process::Abort;
+use std::sync::Wait;
+
+#[derive(Drop)]
+pub(crate) struct Asker<'d, N: ArenaName> {
+    sender: Sender<'d, N>,
+    classes: u32,
+    pub ghost classes_are: { classes ≡ class_total N.arena.key.image },
+    pub ghost image: { sender.seen.front.image ≡ N.arena.key.image } by { Prim.hlevel (codes, coded_expression) },
+}
+
+impl<'d, N: ArenaName> Asker<'d, N> {
+    pub(crate) fn of(sender: Sender<'d, N>, classes: u32) -> Asker<'d, N>
+        requires image { sender.seen.front.image ≡ N.arena.key.image }
+        requires classes { classes ≡ class_total N.arena.key.image }
+    {
+        Asker { sender, classes }
+    }
+
+    pub(crate) fn find<R: Wait + Abort>(
+        &mut self,
+        rt: &R,
+        class: ClassRef,
+        sel: Selector,
+    ) -> ImpRef {
+        assert!(rt; class.class < self.classes);
+        self.sender.find(rt, class, sel)
+    }
+
+    pub(crate) fn find_cached(
+        &mut self,
+        rt: &impl Abort,
+        class: ClassRef,
+        sel: Selector,
+    ) -> Option<ImpRef> {
+        assert!(rt; class.class < self.classes);
+        self.sender.find_cached(class, sel)
+    }
+
+    pub(crate) fn meet<R: Wait>(&mut self, rt: &R, changer: &mut Changer<'_, N>) {
+        changer.meet(rt, &mut self.sender);
+    }
+
+    pub(crate) fn published(&mut self) -> u64 {
+        self.sender.published()
+    }
+
+    pub(crate) fn lock_takings(&self) -> u64 {
+        self.sender.lock_takings()
+    }
+}

@@ -1,0 +1,13 @@
+//! Tests of the dispatcher: in one thread, in many, and of what other runtimes have got wrong.
+#![tactic(auto)]
+
+#[cfg(test)]
+mod asker;
+#[cfg(test)]
+mod exchange;
+#[cfg(test)]
+mod images;
+#[cfg(test)]
+mod one_thread;
+#[cfg(test)]
+mod threads;

@@ -1,0 +1,57 @@
+//! Whether superclasses stand in a cycle.
+
+ghost use Rattle.std.specs.Prelude.{◌≡◌, ◌≤◌, length, map, option_map, IfOk};
+ghost use Rattle.msg_form.specs.Faults as spec;
+ghost use Rattle.msg_form.specs.Text.{distinct, number_among};
+ghost use Rattle.msg_form.specs.Views.{class_view, classes_view, form_view};
+ghost use Rattle.msg_order.specs.Superclasses.{AreListed};
+
+use super::keyed::key_set;
+use crate::form::{Class, Form, is_second};
+use crate::name_set::NameSet;
+use msg_order::class_order;
+use std::alloc::{AllocError, Global};
+
+#[tactic(auto, unfolding(crate::specs::Faults::has_class_cycle))]
+pub(super) fn has_class_cycle(alloc: Global, form: &Form) -> Result<bool, AllocError>
+    requires { length form.now.classes.items ≤ 1024 }
+    ensures { IfOk result (λ b. b ≡ spec.has_class_cycle (form_view form.now)) }
+{
+    if !is_second(form.version) {
+        return Ok(false);
+    }
+    let supers = superclasses(alloc, &form.classes)?;
+    let order = class_order(alloc, &supers)?;
+    Ok(order.is_none())
+}
+
+/// The superclasses of the listed classes, by their numbers from 0.
+fn superclasses(alloc: Global, classes: &[Class]) -> Result<Vec<Option<u32>>, AllocError>
+    ensures numbers { IfOk result
+        (λ v. v.items ≡ spec.superclasses_of (classes_view classes.now)) }
+    ensures listed { IfOk result (λ v. AreListed v.items) }
+{
+    let names = key_set(alloc, classes)?;
+    superclasses_among(alloc, &names, classes)
+}
+
+fn superclasses_among(
+    alloc: Global,
+    names: &NameSet,
+    classes: &[Class],
+) -> Result<Vec<Option<u32>>, AllocError>
+    ensures { IfOk result (λ v. v.items ≡ map (λ c. option_map (number_among names.now) (class_view c).superclass) classes.now) }
+{
+    let mut supers = Vec::with_capacity(alloc, classes.len())?;
+    for class in classes {
+        supers.push(number_of(names, class.superclass))?;
+    }
+    Ok(supers)
+}
+
+fn number_of(names: &NameSet, superclass: Option<&str>) -> Option<u32>
+    ensures { result ≡ option_map (number_among names.now) (option_map (λ s. s.now) superclass.entry) }
+{
+    let number = names.number(superclass?).unwrap_or(1);
+    Some(number.saturating_sub(1))
+}

@@ -1,0 +1,4 @@
+pub mod PlacingLemmas
+pub mod DepthLemmas
+pub mod ExistLemmas
+pub mod CycleLemmas

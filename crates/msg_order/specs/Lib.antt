@@ -1,0 +1,2 @@
+pub mod Superclasses
+pub mod Order

@@ -1,0 +1,81 @@
+//! The order of classes.
+
+ghost use Rattle.std.specs.Prelude.{◌≡◌, ◌<◌, ◌≤◌, ◌^◌, None, length, false, true, is_none, slice_index_or, IfOk, IfSome, OnOk};
+ghost use Rattle.msg_order.specs.Order.{ArePlaced, IsClassOrder, Stay};
+ghost use Rattle.msg_order.specs.Superclasses.{AreListed, depth_up, has_cycle};
+
+use std::alloc::{AllocError, Global};
+
+// Classes that were put in order so far, and which they are.
+#[derive(Drop)]
+struct Placing {
+    order: Vec<u32>,
+    marks: Vec<bool>,
+}
+
+impl Placing {
+    fn new(alloc: Global, supers: &[Option<u32>]) -> Result<Placing, AllocError>
+        ensures { IfOk result (λ p. ArePlaced supers.now p.marks.items p.order.items) }
+    {
+        Ok(Placing {
+            order: Vec::with_capacity(alloc, supers.len())?,
+            marks: vec![in alloc; false; supers.len()]?,
+        })
+    }
+
+    // Puts a class at the end, unless it stands in the order.
+    fn push(&mut self, supers: &[Option<u32>], class: u32) -> Result<(), AllocError>
+        requires class { class < length supers.now }
+        requires placed { ArePlaced supers.now self.old.marks.items self.old.order.items }
+        requires above { IfSome (slice_index_or supers.now class None) (λ d. slice_index_or self.old.marks.items d false ≡ true) }
+        ensures placed { OnOk result (ArePlaced supers.now self.new.marks.items self.new.order.items) }
+        ensures marked { OnOk result (slice_index_or self.new.marks.items class false ≡ true) }
+        ensures stays { OnOk result (Stay self.old.marks.items self.new.marks.items) }
+    {
+        if !self.marks[class as usize] {
+            self.order.push(class)?;
+            self.marks[class as usize] = true;
+        }
+        Ok(())
+    }
+
+    // Puts a class in the order, after those above it, of which there may be so many. It is false that it stands there where there are as many, or more.
+    fn place(&mut self, supers: &[Option<u32>], class: u32, room: usize) -> Result<bool, AllocError>
+        requires listed { AreListed supers.now }
+        requires class { class < length supers.now }
+        requires placed { ArePlaced supers.now self.old.marks.items self.old.order.items }
+        ensures placed { OnOk result (ArePlaced supers.now self.new.marks.items self.new.order.items) }
+        ensures marked { IfOk result (λ b. b ≡ true → slice_index_or self.new.marks.items class false ≡ true) }
+        ensures stays { OnOk result (Stay self.old.marks.items self.new.marks.items) }
+        ensures endless { IfOk result (λ b. b ≡ false → depth_up room supers.now class ≡ room) }
+    {
+        if self.marks[class as usize] {
+            return Ok(true);
+        }
+        if let Some(above) = supers[class as usize] {
+            if room == 0 || !self.place(supers, above, room - 1)? {
+                return Ok(false);
+            }
+        }
+        self.push(supers, class)?;
+        Ok(true)
+    }
+}
+
+/// The classes, each after its superclass, or nothing where a chain of superclasses doesn't end.
+///
+/// Takes time and memory in the order of their number, and a stack of as many small frames as superclasses stand above a class.
+pub fn class_order(alloc: Global, supers: &[Option<u32>]) -> Result<Option<Vec<u32>>, AllocError>
+    requires few { length supers.now < 2 ^ 32 }
+    requires listed { AreListed supers.now }
+    ensures ends { IfOk result (λ o. is_none o ≡ has_cycle supers.now) }
+    ensures order { IfOk result (λ o. IfSome o (λ order. IsClassOrder supers.now order.items)) }
+{
+    let mut placing = Placing::new(alloc, supers)?;
+    for class in 0..supers.len() {
+        if !placing.place(supers, class as u32, supers.len())? {
+            return Ok(None);
+        }
+    }
+    Ok(Some(placing.order))
+}

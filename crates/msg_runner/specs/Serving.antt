@@ -1,0 +1,108 @@
+-- What workers answer beside changes, and how sends are shared out.
+use Rattle.std.specs.Prelude.{◌≡◌, ℕ, zero, suc, ◌+◌, Bool, true, false, ◌/◌, ◌%◌, ◌<◌, ◌≤◌, ◌==◌, if◌then◌else◌, List, [], ◌∷◌, ◌++◌, length, slice_index_or, Option, Some, None}
+use Rattle.msg_image.specs.Items.{ItemParts, SendItem, ChangeItem}
+use Rattle.msg_image.specs.Parts.{ImageParts}
+use Rattle.msg_tables.specs.History.{History, BeginsWith}
+use Rattle.msg_tables.specs.Refusal.{refusal}
+use Rattle.msg_tables.specs.declared.fault.ChangeFault.{ChangeFault}
+use Rattle.msg_eval.specs.declared.reply.Reply.{Reply}
+use Rattle.msg_eval.specs.Evaluation.{send_of}
+use Rattle.msg_eval.specs.Meaning.{Meaning}
+use Rattle.msg_eval.specs.Points.{Rise, EndsAfter, last_of}
+use Rattle.msg_runner.specs.Serial.{Answer, Replied, answer_to_change, history_after}
+use Rattle.msg_runner.specs.Text.{text_of}
+
+-- the sends among items
+abbrev pub sends_of : ImageParts → List ItemParts → List Meaning
+sends_of image [] = []
+sends_of image (SendItem r s args ∷ items) = send_of image r s args ∷ sends_of image items
+sends_of image (ChangeItem x ∷ items) = sends_of image items
+
+-- the history after the changes among items
+abbrev pub history_of : History → List ItemParts → History
+history_of h [] = h
+history_of h (item ∷ items) = history_of (history_after h item) items
+
+-- what becomes of the changes among items
+abbrev pub refusals_of : History → List ItemParts → List (Option ChangeFault)
+refusals_of h [] = []
+refusals_of h (SendItem r s args ∷ items) = refusals_of h items
+refusals_of h (ChangeItem x ∷ items) = refusal h x ∷ refusals_of (history_after h (ChangeItem x)) items
+
+-- the answers to items, given those to the sends and to the changes among them
+abbrev pub woven : List ItemParts → List Reply → List (Option ChangeFault) → List Answer
+woven [] rs os = []
+woven (SendItem r s args ∷ items) [] os = woven items [] os
+woven (SendItem r s args ∷ items) (reply ∷ rs) os = Replied reply ∷ woven items rs os
+woven (ChangeItem x ∷ items) rs [] = woven items rs []
+woven (ChangeItem x ∷ items) rs (o ∷ os) = answer_to_change o ∷ woven items rs os
+
+-- sends end with these replies at points that rise from one history to another
+abbrev pub Served : History → List Meaning → List Reply → History → Type 0
+Served h [] [] last = h ≡ last
+Served h [] (r ∷ rs) last = ⊥
+Served h (m ∷ ms) [] last = ⊥
+Served h (m ∷ ms) (r ∷ rs) last = (points : List History) × Rise h points × EndsAfter m points r × Served (last_of h points) ms rs last
+
+-- a worker comes to a send: where it is the worker's own a reply was added, and the sender stands at the last of its points
+abbrev pub Goes : Bool → History → Meaning → List Reply → List Reply → History → Type 0
+Goes true h m old new now = (r : Reply) × (points : List History) × Rise h points × EndsAfter m points r × (now ≡ last_of h points) × (new ≡ old ++ r ∷ [])
+Goes false h m old new now = (now ≡ h) × (new ≡ old)
+
+-- the worker of a place: pieces of `cut` places go to the workers in turn
+abbrev pub worker_of : ℕ → ℕ → ℕ → ℕ
+worker_of cut workers place = (place / cut) % workers
+
+-- what stands at the places from i on that belong to a worker
+abbrev pub share_of : {A : Type 0} → (ℕ → ℕ) → ℕ → ℕ → List A → List A
+share_of who me i [] = []
+share_of who me i (x ∷ xs) = if who i == me then x ∷ share_of who me (i + 1) xs else share_of who me (i + 1) xs
+
+-- how many of the n places from i on belong to a worker
+abbrev pub count_of : (ℕ → ℕ) → ℕ → ℕ → ℕ → ℕ
+count_of who me i zero = 0
+count_of who me i (suc n) = if who i == me then suc (count_of who me (i + 1) n) else count_of who me (i + 1) n
+
+-- a worker's replies among those of all
+abbrev pub at_worker : List (List Reply) → ℕ → List Reply
+at_worker lists w = slice_index_or lists w []
+
+-- The lines of items were written after what was there, with replies of which each worker's are its share.
+pub record IsGathered (image : ImageParts) (who : ℕ → ℕ) (workers : ℕ) (items : List ItemParts) (lists : List (List Reply)) (outcomes : List (Option ChangeFault)) (old new : List ℕ) : Type 0 where
+  pub replies : List Reply
+  pub count : length replies ≡ length (sends_of image items)
+  pub shares : (w : ℕ) → w < workers → share_of who w 0 replies ≡ at_worker lists w
+  pub text : new ≡ old ++ text_of image (woven items replies outcomes)
+
+-- The sends among items were shared out and served, from this history on, while the changes among them were made. Now it's the history after them.
+pub record IsServed (image : ImageParts) (who : ℕ → ℕ) (workers : ℕ) (h : History) (items : List ItemParts) (lists : List (List Reply)) (outcomes : List (Option ChangeFault)) (now : History) : Type 0 where
+  pub history : now ≡ history_of h items
+  pub outcomes_are : outcomes ≡ refusals_of h items
+  pub count : length lists ≡ workers
+  pub each : (w : ℕ) → w < workers → (last : History) × Served h (share_of who w 0 (sends_of image items)) (at_worker lists w) last × BeginsWith now last
+
+-- items are sends alone, or one change
+abbrev pub AllSends : List ItemParts → Type 0
+AllSends [] = Unit {0}
+AllSends (SendItem r s args ∷ items) = AllSends items
+AllSends (ChangeItem x ∷ items) = ⊥
+
+abbrev pub IsOneChange : List ItemParts → Type 0
+IsOneChange [] = ⊥
+IsOneChange (SendItem r s args ∷ items) = ⊥
+IsOneChange (ChangeItem x ∷ items) = items ≡ []
+
+-- Items were answered, and the lines written after what was there. The changes have the answers that they have one after another. The sends that one worker took
+-- were answered, in their order, at points that rise from the first history, and are all earlier points of the last.
+pub record IsAnswered (image : ImageParts) (who : ℕ → ℕ) (workers : ℕ) (h : History) (items : List ItemParts) (old new : List ℕ) : Type 0 where
+  pub replies : List Reply
+  pub count : length replies ≡ length (sends_of image items)
+  pub text : new ≡ old ++ text_of image (woven items replies (refusals_of h items))
+  pub points : (w : ℕ) → w < workers → (last : History) × Served h (share_of who w 0 (sends_of image items)) (share_of who w 0 replies) last × BeginsWith (history_of h items) last
+
+-- some workers, at most so many, answered the items
+pub record AreAnswered (image : ImageParts) (workers cut : ℕ) (h : History) (items : List ItemParts) (old new : List ℕ) : Type 0 where
+  pub used : ℕ
+  pub some : 0 < used
+  pub most : used ≤ workers
+  pub answered : IsAnswered image (worker_of cut used) used h items old new

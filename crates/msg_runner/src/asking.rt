@@ -1,0 +1,57 @@
+//! A sender as the finder of sends.
+
+ghost use Rattle.std.specs.Prelude.{◌≡◌, All, List};
+ghost use Rattle.msg_image.specs.Sound.{IsOf};
+ghost use Rattle.msg_tables.specs.History.{History};
+ghost use Rattle.msg_eval.specs.Evaluation.{send_of};
+ghost use Rattle.msg_eval.specs.Points.{Rise, EndsAfter, last_of};
+
+use msg_dispatch::{ArenaName, Sender};
+use msg_eval::{Args, Finder, Reply, send};
+use msg_image::Image;
+use msg_names::{ClassRef, ImpRef, Selector, Value};
+use std::sync::Wait;
+
+// A sender with the handle by which its misses wait.
+#[derive(Drop)]
+pub(crate) struct Asking<'r, 'd, N: ArenaName, R: Wait> {
+    pub(crate) rt: &'r R,
+    pub(crate) sender: Sender<'d, N>,
+}
+
+impl<'r, 'd, N: ArenaName, R: Wait> Finder for Asking<'r, 'd, N, R> {
+    ghost use Rattle.std.specs.Prelude.{◌≡◌};
+    ghost use Rattle.msg_eval.specs.Finder.{sizes_of};
+    ghost use Rattle.msg_image.specs.Parts.{ImageParts};
+
+    ghost Kept = { ImageParts };
+
+    ghost kept = { λ s. s.sender.seen.front.image };
+
+    ghost sizes = { sizes_of };
+
+    ghost stands = { λ s h. s.sender.seen.front ≡ h };
+
+    fn find(&mut self, class: ClassRef, sel: Selector) -> ImpRef {
+        self.sender.find(self.rt, class, sel)
+    }
+}
+
+impl<'r, 'd, N: ArenaName, R: Wait> Asking<'r, 'd, N, R> {
+    // The reply to a send, at points that rise from what the sender had seen.
+    pub(crate) fn reply(
+        &mut self,
+        image: &Image,
+        receiver: Value,
+        sel: Selector,
+        args: &Args,
+    ) -> Reply
+        requires image { self.old.sender.seen.front.image ≡ image.now }
+        requires receiver { IsOf image.now receiver }
+        requires args { All (IsOf image.now) args.now.items }
+        ensures image { self.new.sender.seen.front.image ≡ image.now }
+        ensures points { (points : List History) × Rise self.old.sender.seen.front points × EndsAfter (send_of image.now receiver sel args.now.items) points result × (self.new.sender.seen.front ≡ last_of self.old.sender.seen.front points) }
+    {
+        send(self, image, receiver, sel, args)
+    }
+}

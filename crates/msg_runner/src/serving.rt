@@ -1,0 +1,248 @@
+//! The text of a document, by workers.
+
+ghost use Rattle.std.specs.Prelude.{◌≡◌, ◌≤◌, ◌<◌, ◌+◌, ◌^◌, ◌⊎◌, [], All, length, map, take, vec_len, IfOk};
+ghost use Rattle.msg_image.specs.DocumentParts.{document_parts};
+ghost use Rattle.msg_image.specs.Plain.{item_parts};
+ghost use Rattle.msg_image.specs.Sound.{IsSoundItem};
+ghost use Rattle.msg_tables.specs.History.{empty};
+ghost use Rattle.msg_runtime.specs.Parts.{IsKeeperOf, keeper_history};
+ghost use Rattle.msg_runner.specs.Serial.{serial_from};
+ghost use Rattle.msg_runner.specs.Serving.{AllSends, IsOneChange, AreAnswered};
+ghost use Rattle.msg_runner.specs.Text.{text_of, output_of};
+
+use crate::batch::answer_batch;
+use crate::deal::Deal;
+use crate::gate::Gate;
+use msg_cache::{Arena, Config, Keeper};
+use msg_dispatch::{ArenaName, Changer, Dispatcher, Sender};
+use msg_image::{Document, Image, Item};
+use std::alloc::{AllocError, Global};
+use std::marker::Brand;
+use std::sync::Wait;
+use std::thread::Threads;
+
+// How many arrays of capacity 4, 8, .., 1,024 a run has.
+const ARRAYS: [u16; 9] = [2048, 512, 128, 64, 32, 16, 8, 4, 4];
+
+// How many items are a part: the sends before the next change, or one change.
+fn part_len(items: &[Item]) -> usize
+    requires { 0 < length items.now }
+    ensures some { 0 < result }
+    ensures inside { result ≤ length items.now }
+    ensures part { AllSends (map item_parts (take result items.now)) ⊎ IsOneChange (map item_parts (take result items.now)) }
+{
+    let mut count = 0;
+    while count < items.len() {
+        if let Item::Change(_) = &items[count] {
+            return if count == 0 { 1 } else { count };
+        }
+        count += 1;
+    }
+    count
+}
+
+// The text of all items, part by part.
+fn answer_parts<'d, N: ArenaName + Send + Sync + 'd, G: Gate, R: Threads + Wait + Sync>(
+    rt: &'d R,
+    alloc: Global,
+    changer: Changer<'d, N>,
+    senders: Vec<Sender<'d, N>>,
+    gate: &'d G,
+    deal: Deal,
+    image: &'d Image,
+    items: &'d [Item],
+) -> Result<Vec<u8>, AllocError>
+    requires image { changer.image ≡ image.now }
+    requires sound { All (IsSoundItem image.now) (map item_parts items.now) }
+    requires few { length items.now ≤ 65536 }
+    requires first { deal.first ≡ 0 }
+    requires enough { deal.workers ≤ vec_len senders }
+    ensures { IfOk result (λ text. text.items ≡ text_of image.now (serial_from changer.entry (map item_parts items.now))) }
+{
+    let mut text = Vec::new(alloc);
+    let mut changer = changer;
+    let mut senders = senders;
+    let mut deal = deal;
+    let mut first_change = 0;
+    let mut rest = items;
+    while !rest.is_empty() {
+        let (part, later) = rest.split_at(part_len(rest));
+        let after = answer_batch(
+            rt,
+            alloc,
+            changer,
+            senders,
+            gate,
+            deal,
+            first_change,
+            image,
+            part,
+            &mut text,
+        )?;
+        deal = deal.after(after.pieces);
+        first_change += after.changes;
+        (changer, senders) = (after.changer, after.senders);
+        rest = later;
+    }
+    Ok(text)
+}
+
+// So many senders.
+fn senders_of<'d, N: ArenaName, R: Wait>(
+    rt: &R,
+    alloc: Global,
+    dispatcher: &'d Dispatcher<N>,
+    count: u32,
+) -> Result<Vec<Sender<'d, N>>, AllocError>
+    ensures { IfOk result (λ senders. vec_len senders ≡ count) }
+{
+    let mut senders = Vec::new(alloc);
+    for _number in 0..count {
+        let Ok(sender) = dispatcher.sender(rt) else {
+            return Err(AllocError);
+        };
+        senders.push(sender)?;
+    }
+    Ok(senders)
+}
+
+// The text of a document, over its arena.
+fn text_in<N: ArenaName + Send + Sync, G: Gate, R: Threads + Wait + Sync>(
+    rt: &R,
+    alloc: Global,
+    arena: Arena,
+    keeper: Keeper,
+    gate: &G,
+    deal: Deal,
+    document: &Document,
+) -> Result<Vec<u8>, AllocError>
+    requires arena { arena ≡ N.arena }
+    requires keeper { IsKeeperOf N.arena keeper }
+    requires image { document.now.image ≡ N.arena.key.image }
+    requires history { keeper_history keeper ≡ empty document.now.image }
+    requires sound { All (IsSoundItem document.now.image) (map item_parts document.now.items.items) }
+    requires few { length document.now.items.items ≤ 65536 }
+    requires first { deal.first ≡ 0 }
+    ensures { IfOk result (λ text. text.items ≡ text_of document.now.image (serial_from (empty document.now.image) (map item_parts document.now.items.items))) }
+{
+    let dispatcher: Dispatcher<N> = Dispatcher::open(alloc, arena, keeper, &document.image)?;
+    let Ok(changer) = dispatcher.changer(rt) else {
+        return Err(AllocError);
+    };
+    let senders = senders_of(rt, alloc, &dispatcher, deal.workers)?;
+    answer_parts(
+        rt,
+        alloc,
+        changer,
+        senders,
+        gate,
+        deal,
+        &document.image,
+        &document.items,
+    )
+}
+
+// The same beside the changes: all sends of the document are one batch.
+fn text_beside_in<N: ArenaName + Send + Sync, G: Gate, R: Threads + Wait + Sync>(
+    rt: &R,
+    alloc: Global,
+    arena: Arena,
+    keeper: Keeper,
+    gate: &G,
+    deal: Deal,
+    document: &Document,
+) -> Result<Vec<u8>, AllocError>
+    requires arena { arena ≡ N.arena }
+    requires keeper { IsKeeperOf N.arena keeper }
+    requires image { document.now.image ≡ N.arena.key.image }
+    requires history { keeper_history keeper ≡ empty document.now.image }
+    requires sound { All (IsSoundItem document.now.image) (map item_parts document.now.items.items) }
+    requires few { length document.now.items.items ≤ 65536 }
+    requires first { deal.first ≡ 0 }
+    ensures { IfOk result (λ text. AreAnswered document.now.image deal.workers deal.cut (empty document.now.image) (map item_parts document.now.items.items) [] text.items) }
+{
+    let dispatcher: Dispatcher<N> = Dispatcher::open(alloc, arena, keeper, &document.image)?;
+    let Ok(changer) = dispatcher.changer(rt) else {
+        return Err(AllocError);
+    };
+    let senders = senders_of(rt, alloc, &dispatcher, deal.workers)?;
+    let mut text = Vec::new(alloc);
+    let _after = answer_batch(
+        rt,
+        alloc,
+        changer,
+        senders,
+        gate,
+        deal,
+        0,
+        &document.image,
+        &document.items,
+        &mut text,
+    )?;
+    Ok(text)
+}
+
+// The arena of a run.
+fn arena_for(alloc: Global, image: &Image, senders: u32) -> Result<(Arena, Keeper), AllocError>
+    ensures image { IfOk result (λ r. r.0.key.image ≡ image.now) }
+    ensures keeper { IfOk result (λ r. IsKeeperOf r.0 r.1) }
+    ensures history { IfOk result (λ r. keeper_history r.1 ≡ empty image.now) }
+{
+    let config = Config {
+        senders,
+        arrays: ARRAYS,
+    };
+    match Arena::open(alloc, image, config) {
+        Ok(opened) => Ok(opened),
+        Err(_) => Err(AllocError),
+    }
+}
+
+/// The text of a document, by so many workers and with this cut.
+#[tactic(auto, unfolding(crate::specs::Text::output_of))]
+pub(crate) fn text<G: Gate, R: Threads + Wait + Sync>(
+    rt: &R,
+    alloc: Global,
+    gate: &G,
+    workers: u32,
+    cut: u32,
+    document: &Document,
+) -> Result<Vec<u8>, AllocError>
+    requires workers { 1 ≤ workers }
+    requires cut { 1 ≤ cut }
+    requires sound { All (IsSoundItem document.now.image) (map item_parts document.now.items.items) }
+    requires few { length document.now.items.items ≤ 65536 }
+    ensures { IfOk result (λ text. text.items ≡ output_of (document_parts document.now)) }
+{
+    let (arena, keeper) = arena_for(alloc, &document.image, workers)?;
+    let deal = Deal {
+        workers,
+        cut,
+        first: 0,
+    };
+    text_in::<Brand, G, R>(rt, alloc, arena, keeper, gate, deal, document)
+}
+
+/// The text of a document whose sends are answered by so many workers, with this cut, beside its changes.
+pub(crate) fn text_beside<G: Gate, R: Threads + Wait + Sync>(
+    rt: &R,
+    alloc: Global,
+    gate: &G,
+    workers: u32,
+    cut: u32,
+    document: &Document,
+) -> Result<Vec<u8>, AllocError>
+    requires workers { 1 ≤ workers }
+    requires cut { 1 ≤ cut }
+    requires sound { All (IsSoundItem document.now.image) (map item_parts document.now.items.items) }
+    requires few { length document.now.items.items ≤ 65536 }
+    ensures { IfOk result (λ text. AreAnswered document.now.image workers cut (empty document.now.image) (map item_parts document.now.items.items) [] text.items) }
+{
+    let (arena, keeper) = arena_for(alloc, &document.image, workers)?;
+    let deal = Deal {
+        workers,
+        cut,
+        first: 0,
+    };
+    text_beside_in::<Brand, G, R>(rt, alloc, arena, keeper, gate, deal, document)
+}

@@ -1,0 +1,20 @@
+-- The fields of a runtime.
+use Rattle.std.specs.Prelude.{◌≡◌, ◌*◌, length}
+use Rattle.msg_image.specs.Parts.{class_total}
+use Rattle.msg_tables.specs.Stands.{StandsAt}
+use Rattle.msg_runtime.specs.Parts.{IsKeeperOf, keeper_history}
+use Rattle.msg_runtime.specs.View.{RuntimeView}
+use Rattle.msg_runtime.specs.declared.runtime.Runtime.TheInside.{Inside}
+
+-- what contracts see of a runtime
+abbrev pub view_of : Inside → RuntimeView
+view_of r = record { arena = r.arena.value; history = keeper_history r.keeper }
+
+-- the invariant of runtimes
+pub record AreTogether (r : Inside) : Type 0 where
+  pub keeper : IsKeeperOf r.arena.value r.keeper
+  -- the tables stand at the keeper's history, which is of the arena's image
+  pub tables : StandsAt r.tables (keeper_history r.keeper)
+  pub image : (keeper_history r.keeper).image ≡ r.arena.value.key.image
+  pub classes : r.classes ≡ class_total (keeper_history r.keeper).image
+  pub marks : length r.marks ≡ 2 * r.classes

@@ -1,0 +1,4 @@
+pub mod Inside
+pub mod Parts
+pub mod Reach
+pub mod View

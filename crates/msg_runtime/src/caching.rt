@@ -1,0 +1,29 @@
+//! Caching what was looked up.
+
+ghost use Rattle.std.specs.Prelude.{◌≡◌, ◌<◌};
+ghost use Rattle.msg_names.specs.Number.{selector_number, imp_number};
+ghost use Rattle.msg_tables.specs.History.{lookup};
+ghost use Rattle.msg_cache.specs.Views.{classes};
+ghost use Rattle.msg_runtime.specs.Parts.{IsKeeperOf, keeper_history};
+
+use msg_cache::laws::a_fill_changes_caches_alone;
+use msg_cache::{Arena, Keeper};
+use msg_names::{ClassRef, ImpRef, Selector};
+
+// Caches what was found for a selector in a class reference, where there is room for it.
+pub(crate) fn cache_found(
+    keeper: &mut Keeper,
+    arena: &Arena,
+    class: ClassRef,
+    sel: Selector,
+    imp: ImpRef,
+)
+    requires arena { IsKeeperOf arena.now keeper.old }
+    requires class { class.class < classes arena.now }
+    requires found { imp_number imp ≡ lookup (keeper_history keeper.old) class (selector_number sel) }
+    ensures arena { IsKeeperOf arena.now keeper.new }
+    ensures history { keeper_history keeper.new ≡ keeper_history keeper.old }
+{
+    a_fill_changes_caches_alone();
+    let _filled = keeper.fill(arena, class, sel, imp);
+}

@@ -1,0 +1,8 @@
+//! What a runtime lock guards: the keeper of the method caches, and the class tables at its history.
+#![tactic(auto)]
+
+mod caching;
+mod flushing;
+mod runtime;
+
+pub use runtime::Runtime;

@@ -1,0 +1,194 @@
+//! The runtime behind a lock.
+
+ghost use Rattle.std.specs.Prelude.{◌≡◌, ◌≢◌, ◌<◌, ◌≤◌, length, IfOk, IfErr, IfSome, OnErr, None, Some};
+ghost use Rattle.msg_names.specs.Number.{selector_number, imp_number};
+ghost use Rattle.msg_tables.specs.History.{BeginsWith, and_then, empty, lookup};
+ghost use Rattle.msg_tables.specs.Refusal.{refusal};
+ghost use Rattle.msg_tables.specs.declared.fault.ChangeFault.{ChangeFault};
+ghost use Rattle.msg_cache.specs.Views.{classes, IsSenderOf};
+ghost use Rattle.msg_runtime.specs.Parts.{IsKeeperOf, keeper_history};
+
+use crate::caching::cache_found;
+use crate::flushing::{flush_all_reached, mark_reach};
+use msg_cache::{Arena, Keeper, Prober, Report, Turn};
+use msg_image::{Change, Image};
+use msg_names::{ClassRef, ImpRef, Selector};
+use msg_tables::laws::{an_accepted_change_is_among_65536, tables_are_of_their_image};
+use msg_tables::{ChangeFault, Marks, Tables};
+use std::alloc::{AllocError, Global};
+use std::marker::Model;
+use std::snapshot::Snapshot;
+
+// The most senders of an arena.
+const MAX_SENDERS: u32 = 64;
+
+/// The keeper of an arena's method caches, and class tables that stand at its history.
+///
+/// It is what is used by one thread at a time, while senders probe the arena beside it. It has no lock of its own and waits for nobody: whoever has threads
+/// puts a lock round it. Once it is opened nothing but a change takes memory, and that only for rows.
+#[derive(Drop)]
+pub struct Runtime {
+    keeper: Keeper,
+    tables: Tables,
+    marks: Marks,
+    classes: u32,
+    arena: Snapshot<Arena>,
+}
+
+impl Model for Runtime {
+    ghost use Rattle.msg_runtime.specs.View.{RuntimeView};
+
+    ghost Value = { RuntimeView };
+
+    ghost use Rattle.std.specs.Coded.{codes};
+    ghost use Rattle.msg_image.specs.Coding.{coded_expression};
+
+    ghost coded = { Prim.hlevel (codes, coded_expression) };
+
+    ghost use Rattle.msg_runtime.specs.Inside.{view_of, AreTogether};
+
+    ghost view = { view_of };
+
+    ghost invariant = { AreTogether };
+}
+
+impl Runtime {
+    /// The runtime of an arena that was just opened, whose tables it opens.
+    pub fn open(
+        alloc: Global,
+        arena: &Arena,
+        keeper: Keeper,
+        image: &Image,
+    ) -> Result<Runtime, AllocError>
+        requires keeper { IsKeeperOf arena.now keeper }
+        requires image { image.now ≡ arena.now.key.image }
+        requires history { keeper_history keeper ≡ empty image.now }
+        ensures arena { IfOk result (λ r. r.arena ≡ arena.now) }
+        ensures history { IfOk result (λ r. r.history ≡ empty image.now) }
+    {
+        let tables = Tables::open(alloc, image)?;
+        let marks = tables.marks(alloc)?;
+        Ok(Runtime {
+            keeper,
+            tables,
+            marks,
+            classes: image.class_count(),
+            arena: Snapshot::of(arena),
+        })
+    }
+
+    /// Answers a lookup that a prober missed, from the tables, and caches the answer. The prober has then seen the whole history.
+    pub fn answer(
+        &mut self,
+        arena: &Arena,
+        prober: &mut Prober,
+        class: ClassRef,
+        sel: Selector,
+    ) -> ImpRef
+        requires arena { arena.now ≡ self.old.arena }
+        requires prober { IsSenderOf self.old.arena prober.old }
+        requires class { class.class < classes self.old.arena }
+        ensures same { self.new ≡ self.old }
+        ensures prober { IsSenderOf self.old.arena prober.new }
+        ensures number { prober.new.sender.number ≡ prober.old.sender.number }
+        ensures begins { BeginsWith self.old.history prober.old.sender.front }
+        ensures front { prober.new.sender.front ≡ self.old.history }
+        ensures image { self.old.history.image ≡ self.old.arena.key.image }
+        ensures found { imp_number result ≡ lookup self.old.history class (selector_number sel) }
+        ensures listed { imp_number result ≤ length self.old.arena.key.image.imps }
+    {
+        tables_are_of_their_image();
+        let imp = self.tables.lookup(class, sel);
+        cache_found(&mut self.keeper, arena, class, sel, imp);
+        self.keeper.renew(arena, prober);
+        imp
+    }
+
+    /// Makes a change, flushes the caches that it reaches, and answers how many changes there are. After an error nothing was changed or flushed.
+    ///
+    /// The turn's history is the runtime's, before and after.
+    pub fn change(
+        &mut self,
+        arena: &Arena,
+        turn: &mut Turn,
+        change: &Change,
+    ) -> Result<u64, ChangeFault>
+        requires arena { arena.now ≡ self.old.arena }
+        requires turn { turn.old.table ≡ self.old.arena.table }
+        ensures arena { self.new.arena ≡ self.old.arena }
+        ensures turn { turn.new.table ≡ self.old.arena.table }
+        ensures was { turn.old.history ≡ self.old.history }
+        ensures is { turn.new.history ≡ self.new.history }
+        ensures ok { IfOk result (λ count. (refusal self.old.history change.now ≡ None) × (self.new.history ≡ and_then self.old.history change.now) × (count ≡ length self.new.history.changes)) }
+        ensures err { OnErr result (self.new ≡ self.old) }
+        ensures fault { IfErr result (λ f. f ≢ ChangeFault.Memory → refusal self.old.history change.now ≡ Some f) }
+    {
+        tables_are_of_their_image();
+        an_accepted_change_is_among_65536();
+        self.keeper.face(arena, turn);
+        self.tables.apply(change)?;
+        let reach = mark_reach(&self.tables, change, &mut self.marks);
+        flush_all_reached(&mut self.keeper, arena, self.classes, reach, &self.marks);
+        Ok(self.keeper.commit(arena, turn, change))
+    }
+
+    /// A prober of a sender number that isn't given out, where there is one. It has seen the whole history.
+    pub fn sender(&mut self, arena: &Arena) -> Option<Prober>
+        requires arena { arena.now ≡ self.old.arena }
+        ensures same { self.new ≡ self.old }
+        ensures prober { IfSome result (IsSenderOf self.old.arena) }
+        ensures front { IfSome result (λ p. p.sender.front ≡ self.old.history) }
+        ensures image { self.old.history.image ≡ self.old.arena.key.image }
+    {
+        for number in 0..MAX_SENDERS {
+            if let Some(prober) = self.keeper.give_out(arena, number) {
+                return Some(prober);
+            }
+        }
+        None
+    }
+
+    /// Takes a prober's number back.
+    pub fn finish(&mut self, arena: &Arena, prober: Prober)
+        requires arena { arena.now ≡ self.old.arena }
+        requires prober { IsSenderOf self.old.arena prober }
+        ensures same { self.new ≡ self.old }
+        ensures begins { BeginsWith self.old.history prober.sender.front }
+    {
+        self.keeper.take_in(arena, prober);
+    }
+
+    /// The right to make changes: once, and then none. There was no change before.
+    pub fn turn(&mut self, arena: &Arena) -> Option<Turn>
+        requires arena { arena.now ≡ self.old.arena }
+        ensures same { self.new ≡ self.old }
+        ensures turn { IfSome result (λ t. t.table ≡ self.old.arena.table) }
+        ensures empty { IfSome result (λ t. t.history ≡ empty self.old.arena.key.image) }
+        ensures history { IfSome result (λ t. t.history ≡ self.old.history) }
+    {
+        self.keeper.turn(arena)
+    }
+
+    /// A prober has then seen the turn's whole history, which begins with what it had seen.
+    pub fn meet(&mut self, arena: &Arena, turn: &mut Turn, prober: &mut Prober)
+        requires arena { arena.now ≡ self.old.arena }
+        requires turn { turn.old.table ≡ self.old.arena.table }
+        requires prober { IsSenderOf self.old.arena prober.old }
+        ensures same { self.new ≡ self.old }
+        ensures turn { turn.new.table ≡ self.old.arena.table }
+        ensures prober { IsSenderOf self.old.arena prober.new }
+        ensures number { prober.new.sender.number ≡ prober.old.sender.number }
+        ensures was { turn.old.history ≡ self.old.history }
+        ensures is { turn.new.history ≡ self.old.history }
+        ensures begins { BeginsWith self.old.history prober.old.sender.front }
+        ensures front { prober.new.sender.front ≡ self.old.history }
+    {
+        self.keeper.face(arena, turn);
+        self.keeper.renew(arena, prober);
+    }
+
+    /// What was done to caches so far.
+    pub fn report(&self) -> Report {
+        self.keeper.report()
+    }
+}
