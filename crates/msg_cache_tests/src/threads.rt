@@ -24,11 +24,7 @@ struct Owner {
 }
 
 impl Owner {
-    fn give_out(
-        arena: &Arc<Arena, Global>,
-        keeper: &mut Keeper,
-        number: u32,
-    ) -> Result<Owner, Fail>
+    fn give_out(arena: &Arc<Arena, Global>, keeper: &mut Keeper, number: u32) -> Result<Owner, Fail>
         requires keeper { IsOf (arc_value arena.now) keeper.old }
         requires two { classes (arc_value arena.now) ≡ 2 }
         ensures keeper { IsOf (arc_value arena.now) keeper.new }
