@@ -38,7 +38,10 @@ pub struct Dispatcher<N: ArenaName> {
 }
 
 impl<N: ArenaName> Dispatcher<N> {
-    /// The dispatcher of an arena that was just opened.
+    /// The dispatcher of an arena that was just opened. Its history is the image's without changes, at which the changer begins.
+    ///
+    /// The error is want of memory: for the tables, or for the marks of class references that a change reaches. Nothing is left of arena and keeper then. No
+    /// clause says that memory was really wanted: tests with ample memory do.
     pub fn open(
         alloc: Global,
         arena: Arena,
@@ -88,7 +91,7 @@ impl<N: ArenaName> Dispatcher<N> {
         }
     }
 
-    /// What was done to caches so far.
+    /// What was done to caches so far: the keeper's report.
     pub fn report<R: Wait>(&self, rt: &R) -> Report {
         self.desk.lock(rt).report()
     }

@@ -8,6 +8,8 @@ mod exchange;
 #[cfg(test)]
 mod images;
 #[cfg(test)]
+mod memory;
+#[cfg(test)]
 mod one_thread;
 #[cfg(test)]
 mod threads;

@@ -9,7 +9,7 @@ use crate::images::{CHAIN, CHILD, GRAND, PAIR, ROOT, image, opened};
 use msg_cache::{Arena, Keeper, Report};
 use msg_dispatch::{ArenaName, Dispatcher, Receipt};
 use msg_image::{Change, Image};
-use msg_names::{ImpRef, Selector};
+use msg_names::{ClassRef, ImpRef, Selector};
 use msg_tables::ChangeFault;
 use std::alloc::Global;
 use std::marker::Brand;
@@ -148,6 +148,57 @@ fn a_refused_change_leaves_the_caches(rt: HostRuntime) -> Result<(), Fail> {
     let image = image(alloc, CHAIN)?;
     let (arena, keeper) = opened(alloc, &image, 1, [1; 9])?;
     refuses_a_change::<Brand, HostRuntime>(&rt, alloc, arena, keeper, &image)
+}
+
+// A method that is added to a class is looked up anew there and below, and nowhere else.
+fn keeps_other_caches<N: ArenaName, R: Wait + Abort>(
+    rt: &R,
+    alloc: Global,
+    arena: Arena,
+    keeper: Keeper,
+    image: &Image,
+) -> Result<(), Fail>
+    requires arena { arena ≡ N.arena }
+    requires keeper { IsKeeperOf N.arena keeper }
+    requires image { image.now ≡ N.arena.key.image }
+    requires history { keeper_history keeper ≡ empty image.now }
+{
+    let value = value()?;
+    let one = ImpRef::of(1);
+    let dispatcher: Dispatcher<N> = Dispatcher::open(alloc, arena, keeper, image)?;
+    let mut sender = Asker::of(dispatcher.sender(rt)?, image.class_count());
+    let mut changer = dispatcher.changer(rt)?;
+    let meta = ClassRef {
+        class: CHILD.class,
+        meta: true,
+    };
+    for class in [ROOT, CHILD, GRAND, meta] {
+        assert_eq!(rt; sender.find(rt, class, value), one);
+    }
+    let add = Change::Add {
+        class: CHILD,
+        sel: value,
+        imp: ImpRef::of(2),
+    };
+    assert!(rt; changer.change(rt, &add).is_ok());
+    for (class, cached) in [
+        (ROOT, Some(one)),
+        (CHILD, None),
+        (GRAND, None),
+        (meta, Some(one)),
+    ] {
+        assert_eq!(rt; sender.find_cached(rt, class, value), cached, "{class:?}");
+    }
+    assert_eq!(rt; dispatcher.report(rt).flushes, 2);
+    Ok(())
+}
+
+#[test]
+fn a_change_leaves_the_caches_that_it_does_not_reach(rt: HostRuntime) -> Result<(), Fail> {
+    let alloc = rt.alloc();
+    let image = image(alloc, CHAIN)?;
+    let (arena, keeper) = opened(alloc, &image, 1, [8, 0, 0, 0, 0, 0, 0, 0, 0])?;
+    keeps_other_caches::<Brand, HostRuntime>(&rt, alloc, arena, keeper, &image)
 }
 
 fn gives_the_array_of_a_dropped_sender_again<N: ArenaName, R: Wait + Abort>(

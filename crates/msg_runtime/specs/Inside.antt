@@ -2,13 +2,13 @@
 use Rattle.std.specs.Prelude.{◌≡◌, ◌*◌, length}
 use Rattle.msg_image.specs.Parts.{class_total}
 use Rattle.msg_tables.specs.Stands.{StandsAt}
-use Rattle.msg_runtime.specs.Parts.{IsKeeperOf, keeper_history}
+use Rattle.msg_runtime.specs.Parts.{IsKeeperOf, keeper_history, keeper_view, keeper_remembered, keeper_report}
 use Rattle.msg_runtime.specs.View.{RuntimeView}
 use Rattle.msg_runtime.specs.declared.runtime.Runtime.TheInside.{Inside}
 
 -- what contracts see of a runtime
 abbrev pub view_of : Inside → RuntimeView
-view_of r = record { arena = r.arena.value; history = keeper_history r.keeper }
+view_of r = record { arena = r.arena.value; keeper = keeper_view r.keeper; remembered = keeper_remembered r.keeper; report = keeper_report r.keeper }
 
 -- the invariant of runtimes
 pub record AreTogether (r : Inside) : Type 0 where

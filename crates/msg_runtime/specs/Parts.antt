@@ -1,11 +1,18 @@
 -- What a runtime needs to know of its keeper.
-use Rattle.std.specs.Prelude.{◌≡◌, None}
+use Rattle.std.specs.Prelude.{◌≡◌, ◌≢◌, ◌<◌, ℕ, List, None, true}
 use Rattle.msg_names.specs.declared.value.ClassRef.{ClassRef}
 use Rattle.msg_tables.specs.History.{History}
+use Rattle.msg_core.specs.State.{Layout, awaits}
 use Rattle.msg_cache.specs.Ours as cache
+use Rattle.msg_cache.specs.Keeping.{Fills}
+use Rattle.msg_cache.specs.Plays.{given_out, taken_in, newcomer}
 use Rattle.msg_cache.specs.Rule.{live_in}
 use Rattle.msg_cache.specs.Views.{ArenaView, layout}
+use Rattle.msg_cache.specs.declared.answer.Filled.{Filled}
+use Rattle.msg_cache.specs.declared.answer.Report.{Report}
 use Rattle.msg_cache.specs.declared.keeper.Keeper.{Keeper}
+use Rattle.msg_cache.specs.declared.view.KeeperView.{KeeperView}
+use Rattle.msg_cache.specs.declared.view.SenderView.{SenderView}
 
 -- the keeper is of the arena, and its counts are in order
 abbrev pub IsKeeperOf : ArenaView → Keeper → Type 0
@@ -14,6 +21,36 @@ IsKeeperOf a k = cache.IsOf a k
 -- where the keeper stands
 abbrev pub keeper_history : Keeper → History
 keeper_history k = (cache.view k).history
+
+-- what the keeper knows
+abbrev pub keeper_view : Keeper → KeeperView
+keeper_view k = cache.view k
+
+-- the capacities that it remembers
+abbrev pub keeper_remembered : Keeper → List ℕ
+keeper_remembered k = k.remembered.items
+
+-- what it counted
+abbrev pub keeper_report : Keeper → Report
+keeper_report k = k.report
+
+-- some fill of what was found took the keeper's view k to k'
+abbrev pub IsFilled : Layout → List ℕ → ClassRef → ℕ → ℕ → KeeperView → KeeperView → Type 0
+IsFilled z remembered c s i k k' = (answer : Filled) × Fills z remembered c s i k k' answer
+
+-- what was found was filled in, and the sender of the view v was then shown the history
+abbrev pub AnswersMiss : Layout → List ℕ → ClassRef → ℕ → ℕ → SenderView → KeeperView → KeeperView → Type 0
+AnswersMiss z remembered c s i v k k' = (j : KeeperView) × IsFilled z remembered c s i k j × (k' ≡ given_out v.number (taken_in v j))
+
+-- each of the first n sender numbers is given out, or isn't below the number of senders
+abbrev pub AreOut : ℕ → ℕ → KeeperView → Type 0
+AreOut n senders k = (number : ℕ) → number < n → number < senders → awaits k.given number ≡ true
+
+-- a sender whose number wasn't given out, and now is, and who has seen the history
+pub record IsNew (v : SenderView) (k k' : KeeperView) : Type 0 where
+  pub sender : v ≡ newcomer v.number k.history
+  pub was : awaits k.given v.number ≢ true
+  pub keeper : k' ≡ given_out v.number k
 
 -- a class reference has no live array
 abbrev pub HasNoArray : ArenaView → Keeper → ClassRef → Type 0

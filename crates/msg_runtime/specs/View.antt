@@ -1,10 +1,16 @@
 -- What contracts see of a runtime.
-use Rattle.msg_tables.specs.History.{History}
+use Rattle.std.specs.Prelude.{ℕ, List}
 use Rattle.msg_cache.specs.Views.{ArenaView}
+use Rattle.msg_cache.specs.declared.answer.Report.{Report}
+use Rattle.msg_cache.specs.declared.view.KeeperView.{KeeperView}
 
 -- what contracts see of a runtime
 pub record RuntimeView : Type 0 where
   -- the arena whose caches it keeps
   pub arena : ArenaView
-  -- where its keeper and its tables stand
-  pub history : History
+  -- what its keeper knows: the history, at which its tables stand, the caches, and who is given out
+  pub keeper : KeeperView
+  -- the capacity that the next array of each class reference without one has, or 0 for the least
+  pub remembered : List ℕ
+  -- what its keeper counted
+  pub report : Report

@@ -1,12 +1,13 @@
 //! The runtime behind a lock.
 
-ghost use Rattle.std.specs.Prelude.{◌≡◌, ◌≢◌, ◌<◌, ◌≤◌, length, IfOk, IfErr, IfSome, OnErr, None, Some};
+ghost use Rattle.std.specs.Prelude.{◌≡◌, ◌≢◌, ◌<◌, ◌≤◌, length, cond, not, is_some, IfOk, IfErr, IfSome, IsNone, OnErr, None, Some};
 ghost use Rattle.msg_names.specs.Number.{selector_number, imp_number};
 ghost use Rattle.msg_tables.specs.History.{BeginsWith, and_then, empty, lookup};
 ghost use Rattle.msg_tables.specs.Refusal.{refusal};
 ghost use Rattle.msg_tables.specs.declared.fault.ChangeFault.{ChangeFault};
-ghost use Rattle.msg_cache.specs.Views.{classes, IsSenderOf};
-ghost use Rattle.msg_runtime.specs.Parts.{IsKeeperOf, keeper_history};
+ghost use Rattle.msg_cache.specs.Plays.{given_out, taken_in, lent, is_lent};
+ghost use Rattle.msg_cache.specs.Views.{classes, layout, IsSenderOf};
+ghost use Rattle.msg_runtime.specs.Parts.{IsKeeperOf, AnswersMiss, IsNew, AreOut, keeper_history, keeper_view, keeper_remembered, keeper_report};
 
 use crate::caching::cache_found;
 use crate::flushing::{flush_all_reached, mark_reach};
@@ -64,7 +65,8 @@ impl Runtime {
         requires image { image.now ≡ arena.now.key.image }
         requires history { keeper_history keeper ≡ empty image.now }
         ensures arena { IfOk result (λ r. r.arena ≡ arena.now) }
-        ensures history { IfOk result (λ r. r.history ≡ empty image.now) }
+        ensures history { IfOk result (λ r. r.keeper.history ≡ empty image.now) }
+        ensures keeper { IfOk result (λ r. (r.keeper ≡ keeper_view keeper) × (r.remembered ≡ keeper_remembered keeper) × (r.report ≡ keeper_report keeper)) }
     {
         let tables = Tables::open(alloc, image)?;
         let marks = tables.marks(alloc)?;
@@ -88,13 +90,16 @@ impl Runtime {
         requires arena { arena.now ≡ self.old.arena }
         requires prober { IsSenderOf self.old.arena prober.old }
         requires class { class.class < classes self.old.arena }
-        ensures same { self.new ≡ self.old }
+        ensures arena { self.new.arena ≡ self.old.arena }
+        ensures history { self.new.keeper.history ≡ self.old.keeper.history }
+        ensures remembered { self.new.remembered ≡ self.old.remembered }
+        ensures cached { AnswersMiss (layout self.old.arena) self.old.remembered class (selector_number sel) (imp_number result) prober.old.sender self.old.keeper self.new.keeper }
         ensures prober { IsSenderOf self.old.arena prober.new }
         ensures number { prober.new.sender.number ≡ prober.old.sender.number }
-        ensures begins { BeginsWith self.old.history prober.old.sender.front }
-        ensures front { prober.new.sender.front ≡ self.old.history }
-        ensures image { self.old.history.image ≡ self.old.arena.key.image }
-        ensures found { imp_number result ≡ lookup self.old.history class (selector_number sel) }
+        ensures begins { BeginsWith self.old.keeper.history prober.old.sender.front }
+        ensures front { prober.new.sender.front ≡ self.old.keeper.history }
+        ensures image { self.old.keeper.history.image ≡ self.old.arena.key.image }
+        ensures found { imp_number result ≡ lookup self.old.keeper.history class (selector_number sel) }
         ensures listed { imp_number result ≤ length self.old.arena.key.image.imps }
     {
         tables_are_of_their_image();
@@ -117,11 +122,12 @@ impl Runtime {
         requires turn { turn.old.table ≡ self.old.arena.table }
         ensures arena { self.new.arena ≡ self.old.arena }
         ensures turn { turn.new.table ≡ self.old.arena.table }
-        ensures was { turn.old.history ≡ self.old.history }
-        ensures is { turn.new.history ≡ self.new.history }
-        ensures ok { IfOk result (λ count. (refusal self.old.history change.now ≡ None) × (self.new.history ≡ and_then self.old.history change.now) × (count ≡ length self.new.history.changes)) }
-        ensures err { OnErr result (self.new ≡ self.old) }
-        ensures fault { IfErr result (λ f. f ≢ ChangeFault.Memory → refusal self.old.history change.now ≡ Some f) }
+        ensures was { turn.old.history ≡ self.old.keeper.history }
+        ensures is { turn.new.history ≡ self.new.keeper.history }
+        ensures ok { IfOk result (λ count. (refusal self.old.keeper.history change.now ≡ None) × (self.new.keeper.history ≡ and_then self.old.keeper.history change.now) × (count ≡ length self.new.keeper.history.changes)) }
+        ensures err { OnErr result (self.new.keeper.history ≡ self.old.keeper.history) }
+        ensures caches { OnErr result ((self.new.keeper ≡ lent self.old.keeper) × (self.new.remembered ≡ self.old.remembered)) }
+        ensures fault { IfErr result (λ f. f ≢ ChangeFault.Memory → refusal self.old.keeper.history change.now ≡ Some f) }
     {
         tables_are_of_their_image();
         an_accepted_change_is_among_65536();
@@ -135,10 +141,13 @@ impl Runtime {
     /// A prober of a sender number that isn't given out, where there is one. It has seen the whole history.
     pub fn sender(&mut self, arena: &Arena) -> Option<Prober>
         requires arena { arena.now ≡ self.old.arena }
-        ensures same { self.new ≡ self.old }
+        ensures arena { self.new.arena ≡ self.old.arena }
+        ensures remembered { self.new.remembered ≡ self.old.remembered }
         ensures prober { IfSome result (IsSenderOf self.old.arena) }
-        ensures front { IfSome result (λ p. p.sender.front ≡ self.old.history) }
-        ensures image { self.old.history.image ≡ self.old.arena.key.image }
+        ensures some { IfSome result (λ p. IsNew p.sender self.old.keeper self.new.keeper) }
+        ensures front { IfSome result (λ p. p.sender.front ≡ self.old.keeper.history) }
+        ensures none { IsNone result → AreOut 64 self.old.arena.key.senders self.old.keeper × (self.new.keeper ≡ self.old.keeper) }
+        ensures image { self.old.keeper.history.image ≡ self.old.arena.key.image }
     {
         for number in 0..MAX_SENDERS {
             if let Some(prober) = self.keeper.give_out(arena, number) {
@@ -152,8 +161,10 @@ impl Runtime {
     pub fn finish(&mut self, arena: &Arena, prober: Prober)
         requires arena { arena.now ≡ self.old.arena }
         requires prober { IsSenderOf self.old.arena prober }
-        ensures same { self.new ≡ self.old }
-        ensures begins { BeginsWith self.old.history prober.sender.front }
+        ensures arena { self.new.arena ≡ self.old.arena }
+        ensures remembered { self.new.remembered ≡ self.old.remembered }
+        ensures keeper { self.new.keeper ≡ taken_in prober.sender self.old.keeper }
+        ensures begins { BeginsWith self.old.keeper.history prober.sender.front }
     {
         self.keeper.take_in(arena, prober);
     }
@@ -161,10 +172,13 @@ impl Runtime {
     /// The right to make changes: once, and then none. There was no change before.
     pub fn turn(&mut self, arena: &Arena) -> Option<Turn>
         requires arena { arena.now ≡ self.old.arena }
-        ensures same { self.new ≡ self.old }
+        ensures arena { self.new.arena ≡ self.old.arena }
+        ensures remembered { self.new.remembered ≡ self.old.remembered }
+        ensures keeper { self.new.keeper ≡ cond (is_some result) (lent self.old.keeper) self.old.keeper }
+        ensures once { is_some result ≡ not (is_lent self.old.keeper.turn) }
         ensures turn { IfSome result (λ t. t.table ≡ self.old.arena.table) }
         ensures empty { IfSome result (λ t. t.history ≡ empty self.old.arena.key.image) }
-        ensures history { IfSome result (λ t. t.history ≡ self.old.history) }
+        ensures history { IfSome result (λ t. t.history ≡ self.old.keeper.history) }
     {
         self.keeper.turn(arena)
     }
@@ -174,21 +188,25 @@ impl Runtime {
         requires arena { arena.now ≡ self.old.arena }
         requires turn { turn.old.table ≡ self.old.arena.table }
         requires prober { IsSenderOf self.old.arena prober.old }
-        ensures same { self.new ≡ self.old }
+        ensures arena { self.new.arena ≡ self.old.arena }
+        ensures remembered { self.new.remembered ≡ self.old.remembered }
+        ensures keeper { self.new.keeper ≡ given_out prober.old.sender.number (taken_in prober.old.sender (lent self.old.keeper)) }
         ensures turn { turn.new.table ≡ self.old.arena.table }
         ensures prober { IsSenderOf self.old.arena prober.new }
         ensures number { prober.new.sender.number ≡ prober.old.sender.number }
-        ensures was { turn.old.history ≡ self.old.history }
-        ensures is { turn.new.history ≡ self.old.history }
-        ensures begins { BeginsWith self.old.history prober.old.sender.front }
-        ensures front { prober.new.sender.front ≡ self.old.history }
+        ensures was { turn.old.history ≡ self.old.keeper.history }
+        ensures is { turn.new.history ≡ self.old.keeper.history }
+        ensures begins { BeginsWith self.old.keeper.history prober.old.sender.front }
+        ensures front { prober.new.sender.front ≡ self.old.keeper.history }
     {
         self.keeper.face(arena, turn);
         self.keeper.renew(arena, prober);
     }
 
     /// What was done to caches so far.
-    pub fn report(&self) -> Report {
+    pub fn report(&self) -> Report
+        ensures { result ≡ self.now.report }
+    {
         self.keeper.report()
     }
 }

@@ -10,3 +10,6 @@ returns-clause-history c =
     let i = imp_number c.args.imp in
     let kept = c.a_fill_changes_caches_alone.ensures (layout c.args.arena.now) old.remembered.items c.args.class s i (view old) (view c.fill-filled.new.self) c.fill-filled.result c.fill-filled.ensures.fills in
     kept.0
+
+pub returns-clause-filled : goal.returns-clause-filled
+returns-clause-filled c = (c.fill-filled.result, c.fill-filled.ensures.fills)

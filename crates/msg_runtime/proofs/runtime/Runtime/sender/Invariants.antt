@@ -1,6 +1,13 @@
 use Rattle.std.proofs.Common.{◌≡◌}
-use Rattle.msg_runtime.specs.Inside.{AreTogether, view_of}
+use Rattle.msg_runtime.specs.Inside.{AreTogether}
+use Rattle.msg_runtime.specs.Parts.{AreOut, keeper_view, keeper_remembered}
 use Rattle.msg_runtime.proofs.runtime.Runtime.sender.Given as goal
 
 abbrev pub invariant-loop-number : goal.invariant-loop-number
-invariant-loop-number l = AreTogether l.self-inside × (view_of l.self-inside ≡ l.fn.self)
+invariant-loop-number l = record {
+  together : AreTogether l.self-inside;
+  arena : l.self-inside.arena.value ≡ l.fn.self.arena;
+  keeper : keeper_view l.self-inside.keeper ≡ l.fn.self.keeper;
+  remembered : keeper_remembered l.self-inside.keeper ≡ l.fn.self.remembered;
+  out : AreOut l.number l.fn.self.arena.key.senders l.fn.self.keeper;
+}

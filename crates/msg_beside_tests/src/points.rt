@@ -1,0 +1,93 @@
+//! What each point of a history answers, and what a worker's lines say of the points at which it looked up.
+
+use crate::edits::{CLASSES, Edit, Row, SELECTORS, answer, make, opening};
+use std::alloc::Global;
+use std::test::Fail;
+
+/// What was answered at one point: a number for each class and selector.
+#[derive(Clone, Copy, Debug)]
+struct Answers {
+    numbers: [[Option<u32>; 2]; 3],
+}
+
+fn answers_of(rows: &[Row]) -> Answers {
+    let mut numbers = [[None; 2]; 3];
+    for (class, of_class) in numbers.iter_mut().enumerate() {
+        for (sel, number) in of_class.iter_mut().enumerate() {
+            *number = answer(rows, class, sel);
+        }
+    }
+    Answers { numbers }
+}
+
+/// The points of a history, from the opening on, and what became of the changes that make it.
+#[derive(Drop)]
+pub(crate) struct Points {
+    answers: Vec<Answers>,
+    pub(crate) accepted: Vec<bool>,
+}
+
+/// What is sent to an object: one of the selectors, or that whose body sends it both.
+#[derive(Clone, Copy, Debug, PartialEq, Eq)]
+pub(crate) enum Sent {
+    One(usize),
+    Both,
+}
+
+/// The body of `both` answers so many times `value`, and `name`.
+pub(crate) const FACTOR: u32 = 10_000;
+
+impl Points {
+    /// The points that these changes make, one after another.
+    pub(crate) fn of(alloc: Global, edits: &[Edit]) -> Result<Points, Fail> {
+        let mut rows = opening(alloc)?;
+        let mut answers = Vec::new(alloc);
+        let mut accepted = Vec::new(alloc);
+        answers.push(answers_of(&rows))?;
+        for edit in edits {
+            let is_accepted = make(&mut rows, *edit)?;
+            accepted.push(is_accepted)?;
+            if is_accepted {
+                answers.push(answers_of(&rows))?;
+            }
+        }
+        Ok(Points { answers, accepted })
+    }
+
+    // The first point from one on at which a class answers the number to a selector.
+    fn first(&self, from: usize, class: usize, sel: usize, number: u32) -> Option<usize> {
+        for (later, answers) in self.answers.get(from..)?.iter().enumerate() {
+            let of_class = answers.numbers.get(class)?;
+            if of_class.get(sel) == Some(&Some(number)) {
+                return Some(from.saturating_add(later));
+            }
+        }
+        None
+    }
+
+    /// The least point, from one on, at which the last lookup of a send can have been made that was answered so.
+    pub(crate) fn last_of(
+        &self,
+        from: usize,
+        class: usize,
+        sent: Sent,
+        number: u32,
+    ) -> Option<usize> {
+        match sent {
+            Sent::One(sel) => self.first(from, class, sel, number),
+            Sent::Both => {
+                let value = self.first(from, class, 0, number / FACTOR)?;
+                self.first(value, class, 1, number % FACTOR)
+            }
+        }
+    }
+}
+
+/// The send of this number.
+pub(crate) fn send_of(number: usize) -> (usize, Sent) {
+    let class = number % CLASSES.len();
+    match (number / CLASSES.len()) % (SELECTORS.len() + 1) {
+        2 => (class, Sent::Both),
+        sel => (class, Sent::One(sel)),
+    }
+}

@@ -1,0 +1,115 @@
+//! What is done when no memory is left. `rt try --test --fail-alloc N..` refuses the Nth allocation and all after it: for each N these tests have to pass.
+
+ghost use Rattle.std.specs.Prelude.{◌≡◌};
+ghost use Rattle.msg_tables.specs.History.{empty};
+ghost use Rattle.msg_runtime.specs.Parts.{IsKeeperOf, keeper_history};
+
+use crate::images::{CHAIN, CHILD, GRAND, ROOT};
+use msg_cache::{Arena, ArenaFault, Config, Keeper};
+use msg_dispatch::{ArenaName, Dispatcher, Receipt};
+use msg_image::{Change, DocumentFault, Image, read_document};
+use msg_names::{ImpRef, Selector};
+use msg_tables::ChangeFault;
+use std::alloc::Global;
+use std::marker::Brand;
+use std::process::Abort;
+use std::sync::Wait;
+
+// Every call after `open`: all but a change that adds a row answer as they do with ample memory.
+fn answers<N: ArenaName, R: Wait + Abort>(
+    rt: &R,
+    dispatcher: &Dispatcher<N>,
+    image: &Image,
+    value: Selector,
+)
+    requires image { image.now ≡ N.arena.key.image }
+{
+    assert!(rt; image.class_count() > GRAND.class);
+    let mut sender = dispatcher.sender(rt).expect(rt, "a number is free");
+    let mut changer = dispatcher.changer(rt).expect(rt, "the turn is there");
+    assert!(rt; dispatcher.sender(rt).is_err());
+    assert_eq!(rt; sender.find(rt, GRAND, value), ImpRef::of(1));
+    assert_eq!(rt; sender.find_cached(GRAND, value), Some(ImpRef::of(1)));
+    let set = Change::SetImp {
+        class: ROOT,
+        sel: value,
+        imp: ImpRef::of(2),
+    };
+    assert_eq!(rt; changer.change(rt, &set), Ok(Receipt { count: 1 }));
+    assert_eq!(rt; sender.find(rt, GRAND, value), ImpRef::of(2));
+    let before = dispatcher.report(rt);
+    let add = Change::Add {
+        class: CHILD,
+        sel: value,
+        imp: ImpRef::of(1),
+    };
+    let found = match changer.change(rt, &add) {
+        Ok(receipt) => {
+            assert_eq!(rt; receipt, Receipt { count: 2 });
+            1
+        }
+        Err(fault) => {
+            assert_eq!(rt; fault, ChangeFault::Memory);
+            assert_eq!(rt; changer.count(), 1);
+            assert_eq!(rt; dispatcher.report(rt), before);
+            assert_eq!(rt; sender.find_cached(GRAND, value), Some(ImpRef::of(2)));
+            2
+        }
+    };
+    assert_eq!(rt; sender.find(rt, GRAND, value), ImpRef::of(found));
+    assert_eq!(rt; sender.published(), changer.count());
+    changer.meet(rt, &mut sender);
+    assert_eq!(rt; sender.published(), changer.count());
+    sender.finish(rt);
+    assert!(rt; dispatcher.sender(rt).is_ok());
+}
+
+// Whether there was memory for a dispatcher.
+fn opens_and_answers<N: ArenaName, R: Wait + Abort>(
+    rt: &R,
+    alloc: Global,
+    arena: Arena,
+    keeper: Keeper,
+    image: &Image,
+    value: Selector,
+) -> bool
+    requires arena { arena ≡ N.arena }
+    requires keeper { IsKeeperOf N.arena keeper }
+    requires image { image.now ≡ N.arena.key.image }
+    requires history { keeper_history keeper ≡ empty image.now }
+{
+    match Dispatcher::<N>::open(alloc, arena, keeper, image) {
+        Ok(dispatcher) => {
+            answers(rt, &dispatcher, image, value);
+            true
+        }
+        Err(_) => false,
+    }
+}
+
+#[test]
+fn after_open_all_answers_are_as_with_ample_memory(rt: HostRuntime) {
+    let alloc = rt.alloc();
+    let image = match read_document(alloc, CHAIN.as_bytes()) {
+        Ok(document) => document.image,
+        Err(fault) => {
+            assert_eq!(rt; fault, DocumentFault::Memory);
+            return;
+        }
+    };
+    let config = Config {
+        senders: 1,
+        arrays: [1, 0, 0, 0, 0, 0, 0, 0, 0],
+    };
+    let Some(value) = Selector::of(2) else {
+        return;
+    };
+    match Arena::open(alloc, &image, config) {
+        Ok((arena, keeper)) => {
+            let _opened = opens_and_answers::<Brand, HostRuntime>(
+                &rt, alloc, arena, keeper, &image, value,
+            );
+        }
+        Err(fault) => assert_eq!(rt; fault, ArenaFault::Memory),
+    }
+}
