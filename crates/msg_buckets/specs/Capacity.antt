@@ -1,12 +1,13 @@
 -- How many buckets an array has, and how many entries it may have.
 use Rattle.std.specs.Prelude.{ℕ, ◌+◌, ◌*◌, ◌/◌, List, [], ◌∷◌, Bool, ◌==◌, nat_le, min, if◌then◌else◌, IsTrue}
 use Rattle.std.specs.List.{list_any}
+use Rattle.msg_buckets.specs.declared.capacity.TheConstants.{MAX_CAPACITY, MIN_CAPACITY}
 use Rattle.msg_buckets.specs.declared.capacity.Plan.{Plan}
 use Rattle.msg_buckets.specs.declared.capacity.Plan.TheVariants.{Use, Take}
 
--- how many buckets an array may have: the powers of two from 4 to 1,024
+-- how many buckets an array may have: the powers of two from the least to the greatest
 abbrev pub capacities : List ℕ
-capacities = 4 ∷ 8 ∷ 16 ∷ 32 ∷ 64 ∷ 128 ∷ 256 ∷ 512 ∷ 1024 ∷ []
+capacities = MIN_CAPACITY ∷ 8 ∷ 16 ∷ 32 ∷ 64 ∷ 128 ∷ 256 ∷ 512 ∷ MAX_CAPACITY ∷ []
 
 -- an array may have this many buckets
 abbrev pub is_capacity : ℕ → Bool
@@ -22,7 +23,7 @@ fill_limit capacity = capacity / 4 * 3
 
 -- twice the capacity, up to the largest; the smallest where there is no array
 abbrev pub next_capacity : ℕ → ℕ
-next_capacity capacity = if capacity == 0 then 4 else min (capacity * 2) 1024
+next_capacity capacity = if capacity == 0 then MIN_CAPACITY else min (capacity * 2) MAX_CAPACITY
 
 -- one more entry goes into the array while it stays within its limit, else into an empty array of the next capacity
 abbrev pub plan_of : ℕ → ℕ → Plan

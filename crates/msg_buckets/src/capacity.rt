@@ -10,8 +10,14 @@ pub enum Plan {
     Take(u32),
 }
 
+/// The fewest buckets that an array may have.
+pub const MIN_CAPACITY: u32 = 4;
+
+/// The most buckets.
+pub const MAX_CAPACITY: u32 = 1024;
+
 /// How many buckets an array may have.
-pub const CAPACITIES: [u32; 9] = [4, 8, 16, 32, 64, 128, 256, 512, 1024];
+pub const CAPACITIES: [u32; 9] = [MIN_CAPACITY, 8, 16, 32, 64, 128, 256, 512, MAX_CAPACITY];
 
 /// Whether an array may have so many buckets.
 pub fn is_capacity(buckets: u32) -> bool
@@ -30,6 +36,6 @@ pub fn fill_plan(capacity: u32, occupied: u32) -> Plan
     if occupied + 1 <= capacity / 4 * 3 {
         Plan::Use
     } else {
-        Plan::Take((capacity * 2).clamp(4, 1024))
+        Plan::Take((capacity * 2).clamp(MIN_CAPACITY, MAX_CAPACITY))
     }
 }

@@ -7,7 +7,7 @@ ghost use Rattle.msg_buckets.specs.Capacity.{IsCapacity, next_capacity, plan_of}
 ghost use Rattle.msg_buckets.specs.Probing.{probe_place, end_of, found_at, hit, empty, wrapped};
 ghost use Rattle.msg_buckets.specs.Array.{find_in, hit_in, put_in, occupied_in, IsReachable};
 
-use crate::capacity::CAPACITIES;
+use crate::capacity::{CAPACITIES, MAX_CAPACITY, MIN_CAPACITY};
 
 /// A word is made of its selector and its implementation, and of nothing else.
 pub fn a_word_is_its_parts()
@@ -21,14 +21,14 @@ pub fn a_capacity_is_a_power_of_two()
     ensures power { (n : ℕ) → IsCapacity n → (k : ℕ) × (k < 9) × (n ≡ 4 * 2 ^ k) }
     ensures each { (k : ℕ) → k < 9 → IsCapacity (4 * 2 ^ k) }
     ensures listed { All IsCapacity CAPACITIES }
-    ensures least { (n : ℕ) → IsCapacity n → 4 ≤ n }
-    ensures most { (n : ℕ) → IsCapacity n → n ≤ 1024 }
+    ensures least { (n : ℕ) → IsCapacity n → MIN_CAPACITY ≤ n }
+    ensures most { (n : ℕ) → IsCapacity n → n ≤ MAX_CAPACITY }
 {}
 
 /// The capacity after a capacity is one, and twice as large up to the largest.
 pub fn a_capacity_is_doubled()
     ensures capacity { (n : ℕ) → IsCapacity n → IsCapacity (next_capacity n) }
-    ensures twice { (n : ℕ) → IsCapacity n → n < 1024 → next_capacity n ≡ n * 2 }
+    ensures twice { (n : ℕ) → IsCapacity n → n < MAX_CAPACITY → next_capacity n ≡ n * 2 }
 {}
 
 /// A probe comes to every place of an array, and to none twice.

@@ -11,6 +11,6 @@ mod places;
 mod word;
 
 pub use array::{Placed, Probe, find, put};
-pub use capacity::{CAPACITIES, Plan, fill_plan, is_capacity};
+pub use capacity::{CAPACITIES, MAX_CAPACITY, MIN_CAPACITY, Plan, fill_plan, is_capacity};
 pub use places::{first_place, next_place};
 pub use word::{Look, look_at, pack, unpack};

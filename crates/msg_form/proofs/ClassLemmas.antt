@@ -30,19 +30,15 @@ class_names-are f cs made first all listed rest e g =
 
 -- a name stands twice among both
 pub repeated_names : (f : Form) (cs : List Class) (made : List (Bor Text)) (none first : List Text) (a b : Bool) → cs ≡ f.classes.items → made ≡ f.made.items → none ≡ [] → a ≡ repeats none (map (λ c. c.name.now) cs)
-    → (a ≡ false → first ≡ fold with_name none (map (λ c. c.name.now) cs)) → (a ≡ false → b ≡ repeats first (texts_view made)) → (a || b) ≡ has_duplicate_class (form_view f)
+    → first ≡ fold with_name none (map (λ c. c.name.now) cs) → b ≡ repeats first (texts_view made) → (a || b) ≡ has_duplicate_class (form_view f)
 unfolding has_duplicate_class
 repeated_names f cs made none first a b listed rest empty e put g =
     let names = listed_names (form_view f) in
     let more = texts_view f.made.items in
     let is : a ≡ repeats [] names = e ∙ (λ i. repeats (empty i) (same_names f cs listed i)) in
-    let grown : a ≡ false → first ≡ fold with_name [] names = λ h. put h ∙ (λ i. fold with_name (empty i) (same_names f cs listed i)) in
-    let later : a ≡ false → b ≡ repeats (fold with_name [] names) more = λ h. g h ∙ (λ i. repeats (grown h i) (texts_view (rest i))) in
-    at a later ∙ ap (λ c. c || repeats (fold with_name [] names) more) is ∙ sym (repeats-append [] names more) ∙ repeats-none (names ++ more)
-  where
-    at : (c : Bool) → (c ≡ false → b ≡ repeats (fold with_name [] (listed_names (form_view f))) (texts_view f.made.items)) → (c || b) ≡ (c || repeats (fold with_name [] (listed_names (form_view f))) (texts_view f.made.items))
-    at true later = refl
-    at false later = later refl
+    let grown : first ≡ fold with_name [] names = put ∙ (λ i. fold with_name (empty i) (same_names f cs listed i)) in
+    let later : b ≡ repeats (fold with_name [] names) more = g ∙ (λ i. repeats (grown i) (texts_view (rest i))) in
+    (λ i. is i || later i) ∙ sym (repeats-append [] names more) ∙ repeats-none (names ++ more)
 
 -- ---- superclasses
 
@@ -69,10 +65,9 @@ late_on cs i c r old new whole lt at is none grown so_far =
     same ∙ sym step ∙ so_far
 
 -- a class has a superclass that isn't listed
-pub unlisted_superclass : (cs : List Class) (listed : List Text) (r : Bool) → listed ≡ distinct (map (λ c. c.name.now) cs) → r ≡ list_any (λ c. is_outside listed (option_map (λ s. s.now) c.superclass)) cs
+pub unlisted_superclass : (cs : List Class) (listed : List Text) (r : Bool) → listed ≡ distinct (map (λ (d : ClassForm). d.name) (map class_view cs)) → r ≡ list_any (λ c. is_outside listed (option_map (λ s. s.now) c.superclass)) cs
     → r ≡ list_any (λ (c : ClassForm). is_outside (map (λ (d : ClassForm). d.name) (map class_view cs)) c.superclass) (map class_view cs)
 unlisted_superclass cs listed r is e =
     let names = map (λ (d : ClassForm). d.name) (map class_view cs) in
-    let all : listed ≡ distinct names = is ∙ ap distinct (sym (map-map (λ (c : ClassForm). c.name) class_view cs)) in
-    let tests : is_outside listed ≡ is_outside names = λ i. λ o. (ap (λ ns. is_outside ns o) all ∙ is_outside-same (distinct names) names o (λ q. is_among-distinct q names)) i in
+    let tests : is_outside listed ≡ is_outside names = λ i. λ o. (ap (λ ns. is_outside ns o) is ∙ is_outside-same (distinct names) names o (λ q. is_among-distinct q names)) i in
     e ∙ ap (λ test. list_any (λ c. test (option_map (λ s. s.now) c.superclass)) cs) tests ∙ sym (list_any-map (λ (c : ClassForm). is_outside names c.superclass) class_view cs)

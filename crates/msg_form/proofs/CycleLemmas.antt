@@ -19,10 +19,9 @@ abbrev pub superclass_number : List Text → Class → Option ℕ
 superclass_number names c = option_map (number_among names) (option_map (λ s. s.now) c.superclass)
 
 -- those of all classes are those of the form
-pub superclasses-are : (cs : List Class) (names : List Text) (found : List (Option ℕ)) → names ≡ distinct (map (λ c. c.name.now) cs) → found ≡ map (superclass_number names) cs → found ≡ superclasses_of (map class_view cs)
+pub superclasses-are : (cs : List Class) (names : List Text) (found : List (Option ℕ)) → names ≡ distinct (map (λ (d : ClassForm). d.name) (map class_view cs)) → found ≡ map (superclass_number names) cs → found ≡ superclasses_of (map class_view cs)
 superclasses-are cs names found is all =
-    let listed : names ≡ distinct (map (λ (d : ClassForm). d.name) (map class_view cs)) = is ∙ ap distinct (sym (map-map (λ (d : ClassForm). d.name) class_view cs)) in
-    all ∙ ap (λ ns. map (superclass_number ns) cs) listed
+    all ∙ ap (λ ns. map (superclass_number ns) cs) is
     ∙ sym (map-map (λ (c : ClassForm). option_map (number_among (distinct (map (λ (d : ClassForm). d.name) (map class_view cs)))) c.superclass) class_view cs)
 
 -- a number is one of so many, where there are as many names at most

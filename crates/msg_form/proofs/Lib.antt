@@ -13,3 +13,4 @@ pub mod SelectorLemmas
 pub mod BodyLemmas
 pub mod LeastLemmas
 pub mod LimitLemmas
+pub mod CleanLemmas

@@ -4,6 +4,8 @@ use Rattle.std.specs.Prelude.{nat_lt}
 use Rattle.std.proofs.lemmas.Bool.Decides.{nat_tests}
 use Rattle.msg_form.specs.Faults.{is_over_limit, has_long_list, has_many_entries, has_many_selectors}
 use Rattle.msg_form.specs.Form.{Form}
+use Rattle.msg_names.specs.declared.names.TheConstants.{MAX_NAMES}
+use Rattle.msg_form.specs.declared.limits.TheConstants.{MAX_CATEGORIES, MAX_CLASSES, MAX_IMPS, MAX_ITEMS, MAX_OBJECTS}
 use Rattle.msg_form.specs.Text.{Text, distinct, AreDistinct}
 use Rattle.msg_form.specs.Walk.{selector_texts}
 
@@ -16,21 +18,21 @@ third false false c h = h
 pub all_selectors : (f : Form) (names : List Text) (r : Bool) → AreDistinct names (selector_texts f) → r ≡ is_over_limit f → r ≡ false → names ≡ distinct (selector_texts f)
 unfolding is_over_limit has_many_selectors
 all_selectors f names r are is within =
-    let few : nat_lt 4096 (length names) ≡ false = are.many ∙ third (has_long_list f) (has_many_entries f) (has_many_selectors f) (sym is ∙ within) in
-    let le : length names ≤ 4096 = grind (arith, nat_tests) in
+    let few : nat_lt MAX_NAMES (length names) ≡ false = are.many ∙ third (has_long_list f) (has_many_entries f) (has_many_selectors f) (sym is ∙ within) in
+    let le : length names ≤ MAX_NAMES = grind (arith, nat_tests) in
     are.all le
 
--- and at most 1,024 classes
-pub few_classes : (f : Form) (r : Bool) → r ≡ is_over_limit f → r ≡ false → length f.classes ≤ 1024
+-- and no more classes than may be
+pub few_classes : (f : Form) (r : Bool) → r ≡ is_over_limit f → r ≡ false → length f.classes ≤ MAX_CLASSES
 unfolding is_over_limit has_long_list
 few_classes f r is within =
     let none : is_over_limit f ≡ false = sym is ∙ within in
-    at (nat_lt 1024 (length f.classes + length f.made)) refl (first5 (nat_lt 1024 (length f.classes + length f.made)) (nat_lt 1024 (length f.categories)) (nat_lt 4096 (length f.objects)) (nat_lt 4096 (length f.imps)) (nat_lt 65536 (length f.items)) (has_many_entries f) (has_many_selectors f) none)
+    at (nat_lt MAX_CLASSES (length f.classes + length f.made)) refl (first5 (nat_lt MAX_CLASSES (length f.classes + length f.made)) (nat_lt MAX_CATEGORIES (length f.categories)) (nat_lt MAX_OBJECTS (length f.objects)) (nat_lt MAX_IMPS (length f.imps)) (nat_lt MAX_ITEMS (length f.items)) (has_many_entries f) (has_many_selectors f) none)
   where
     first5 : (a b c d e g h : Bool) → ((a || b || c || d || e) || g || h) ≡ false → a ≡ false
     first5 false b c d e g h n = refl
     first5 true b c d e g h n = cc
 
-    at : (b : Bool) → nat_lt 1024 (length f.classes + length f.made) ≡ b → b ≡ false → length f.classes ≤ 1024
+    at : (b : Bool) → nat_lt MAX_CLASSES (length f.classes + length f.made) ≡ b → b ≡ false → length f.classes ≤ MAX_CLASSES
     at true e n = cc
     at false e n = grind (arith, nat_tests, e)

@@ -8,6 +8,7 @@ use Rattle.std.proofs.lemmas.List.Folds.{list_any-append}
 use Rattle.std.proofs.lemmas.Simd.{map-map}
 use Rattle.std.proofs.lemmas.Slice.Eq.{bytes_eq-Decides}
 use Rattle.msg_names.specs.Numbering.{with_name}
+use Rattle.msg_names.specs.declared.names.TheConstants.{MAX_NAMES}
 use Rattle.msg_form.specs.Text.{repeats, AreDistinct, Text, is_among, is_unknown, has_duplicate, distinct, texts_view}
 
 pub or-false : (b : Bool) → (b || false) ≡ b
@@ -151,10 +152,10 @@ module _ (ts : List (Bor Text)) (i : ℕ) (d : Bor Text) (old new : List Text) (
       let left : drop i ts ≡ get_or ts i d ∷ drop (i + 1) ts = rw add-one (drop-cons ts i d lt) in
       ap (λ ns. fold with_name ns (texts_view (drop (i + 1) ts))) grown ∙ sym (ap (λ xs. fold with_name old (texts_view xs)) left) ∙ is
 
-  pub many_so_far : (n : ℕ) → n ≡ length new → 4096 < n → fold with_name old (texts_view (drop i ts)) ≡ fold with_name [] (texts_view ts) → AreDistinct new (texts_view ts)
+  pub many_so_far : (n : ℕ) → n ≡ length new → MAX_NAMES < n → fold with_name old (texts_view (drop i ts)) ≡ fold with_name [] (texts_view ts) → AreDistinct new (texts_view ts)
   unfolding distinct
   many_so_far n len many is =
-      let more : 4096 < length (fold with_name [] (texts_view ts)) = omega (arith, fold_grows new (texts_view (drop (i + 1) ts)), ap length (gathered (fold with_name [] (texts_view ts)) is)) in
+      let more : MAX_NAMES < length (fold with_name [] (texts_view ts)) = omega (arith, fold_grows new (texts_view (drop (i + 1) ts)), ap length (gathered (fold with_name [] (texts_view ts)) is)) in
       record {
         many = grind (arith, nat_tests);
         all = λ few. absurd (omega arith);
@@ -165,7 +166,7 @@ unfolding distinct
 few_gathered ts i names le is =
     let same : names ≡ fold with_name [] (texts_view ts) = sym (ap (λ xs. fold with_name names (texts_view xs)) (drop_all i ts le)) ∙ is in
     record {
-      many = ap (λ ns. nat_lt 4096 (length ns)) same;
+      many = ap (λ ns. nat_lt MAX_NAMES (length ns)) same;
       all = λ few. same;
     }
 
@@ -201,3 +202,40 @@ any_fold p names (t ∷ texts) = any_fold p (with_name names t) texts ∙ ap (λ
 pub any_distinct : (p : Text → Bool) (texts : List Text) → list_any p (distinct texts) ≡ list_any p texts
 unfolding distinct
 any_distinct p texts = any_fold p [] texts
+
+-- ---- the different ones of different texts
+
+fold-last : (names texts : List Text) (t : Text) → fold with_name names (texts ++ t ∷ []) ≡ with_name (fold with_name names texts) t
+fold-last names [] t = refl
+fold-last names (u ∷ texts) t = fold-last (with_name names u) texts t
+
+distinct-with_name : (names : List Text) (t : Text) → distinct (with_name names t) ≡ with_name (distinct names) t
+unfolding distinct
+distinct-with_name names t = at_test (is_among t names) refl
+  where
+    at_test : (b : Bool) → is_among t names ≡ b → fold with_name [] (cond b names (names ++ t ∷ [])) ≡ with_name (fold with_name [] names) t
+    at_test true e = let there : is_among t (fold with_name [] names) ≡ true = is_among-fold t [] names ∙ e in sym (ap (λ b. cond b (fold with_name [] names) (fold with_name [] names ++ t ∷ [])) there)
+    at_test false e = fold-last [] names t
+
+distinct-fold : (names texts : List Text) → distinct (fold with_name names texts) ≡ fold with_name (distinct names) texts
+distinct-fold names [] = refl
+distinct-fold names (t ∷ texts) = distinct-fold (with_name names t) texts ∙ ap (λ ns. fold with_name ns texts) (distinct-with_name names t)
+
+pub distinct-distinct : (texts : List Text) → distinct (distinct texts) ≡ distinct texts
+unfolding distinct
+distinct-distinct texts = distinct-fold [] texts
+
+-- ---- names that are gathered, with a mark of whether one came twice
+
+-- a turn of the loop over the parts with the names f
+pub twice_on : {A : Type 0} (f : A → Text) (xs : List A) (i : ℕ) (x : A) (t : Text) (added twice : Bool) (seen after : List Text) (whole : Bool) → i < length xs → x ≡ get_or xs i x → t ≡ f x
+    → added ≡ not (is_among t seen) → after ≡ with_name seen t → (twice || repeats seen (map f (drop i xs))) ≡ whole → ((twice || not added) || repeats after (map f (drop (i + 1) xs))) ≡ whole
+twice_on f xs i x t added twice seen after whole lt at is put grown so_far =
+    let left : map f (drop i xs) ≡ t ∷ map f (drop (i + 1) xs) = rw (add-one, is) (ap (map f) (drop-cons xs i x lt ∙ ap (λ y. y ∷ drop (suc i) xs) (sym at))) in
+    let rest = map f (drop (i + 1) xs) in
+    let new : not added ≡ is_among t seen = ap not put ∙ not-not (is_among t seen) in
+    (λ j. (twice || new j) || repeats (grown j) rest) ∙ or-assoc twice (is_among t seen) (repeats (with_name seen t) rest) ∙ ap (λ b. twice || b) (sym (ap (repeats seen) left ∙ repeats-step seen t rest)) ∙ so_far
+  where
+    not-not : (b : Bool) → not (not b) ≡ b
+    not-not true = refl
+    not-not false = refl

@@ -5,6 +5,8 @@ use Rattle.std.specs.Ordering.{int_eq}
 use Rattle.std.specs.Str.{bytes_eq}
 use Rattle.msg_order.specs.Superclasses.{has_cycle}
 use Rattle.msg_names.specs.Name.{colons_of, is_selector_name}
+use Rattle.msg_names.specs.declared.names.TheConstants.{MAX_NAMES}
+use Rattle.msg_form.specs.declared.limits.TheConstants.{MAX_CATEGORIES, MAX_CLASSES, MAX_DEPTH, MAX_ENTRIES, MAX_EXPRESSIONS, MAX_IMPS, MAX_ITEMS, MAX_OBJECTS}
 use Rattle.msg_form.specs.declared.faults.DocumentFault.{DocumentFault}
 use Rattle.msg_form.specs.declared.faults.DocumentFault.TheVariants as faults
 use Rattle.msg_form.specs.Expression.{Expression}
@@ -26,15 +28,15 @@ is_other_version f = not (int_eq f.version (pos 1) || is_second f.version)
 -- `classes` with `made`, `categories`, `objects`, `imps` or `items` is too long
 unfoldable pub has_long_list : Form → Bool
 has_long_list f =
-    nat_lt 1024 (length f.classes + length f.made) || nat_lt 1024 (length f.categories) || nat_lt 4096 (length f.objects) || nat_lt 4096 (length f.imps) || nat_lt 65536 (length f.items)
+    nat_lt MAX_CLASSES (length f.classes + length f.made) || nat_lt MAX_CATEGORIES (length f.categories) || nat_lt MAX_OBJECTS (length f.objects) || nat_lt MAX_IMPS (length f.imps) || nat_lt MAX_ITEMS (length f.items)
 
 -- the method entries of classes and categories together are too many
 unfoldable pub has_many_entries : Form → Bool
-has_many_entries f = nat_lt 16384 (length (method_entries f))
+has_many_entries f = nat_lt MAX_ENTRIES (length (method_entries f))
 
 -- the different texts at places of selectors are too many
 unfoldable pub has_many_selectors : Form → Bool
-has_many_selectors f = nat_lt 4096 (length (distinct (selector_texts f)))
+has_many_selectors f = nat_lt MAX_NAMES (length (distinct (selector_texts f)))
 
 unfoldable pub is_over_limit : Form → Bool
 is_over_limit f = has_long_list f || has_many_entries f || has_many_selectors f
@@ -144,9 +146,9 @@ has_wrong_argument_index f = list_any reads_beyond f.imps
 
 -- ---- BodyTooDeep
 
--- a body has a depth above 32 or more than 256 expressions
+-- a body is too deep or has too many expressions
 abbrev pub is_too_deep : Expression → Bool
-is_too_deep body = nat_lt 32 (depth body) || nat_lt 256 (length (parts body))
+is_too_deep body = nat_lt MAX_DEPTH (depth body) || nat_lt MAX_EXPRESSIONS (length (parts body))
 
 unfoldable pub has_too_deep_body : Form → Bool
 has_too_deep_body f = list_any (λ i. is_too_deep i.body) f.imps

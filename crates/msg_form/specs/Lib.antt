@@ -15,6 +15,7 @@ pub mod Lists
 pub mod NameSet
 pub mod Walk
 pub mod Faults
+pub mod FormNames
 pub mod BodyFaults
 pub mod ImpArgs
 pub mod Unread

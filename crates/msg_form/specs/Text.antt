@@ -4,6 +4,7 @@ use Rattle.std.specs.Borrow.{Bor}
 use Rattle.std.specs.List.{list_any}
 use Rattle.std.specs.Str.{bytes_eq}
 use Rattle.msg_names.specs.Numbering.{number_of, with_name}
+use Rattle.msg_names.specs.declared.names.TheConstants.{MAX_NAMES}
 
 -- the bytes of a text
 abbrev pub Text : Type 0
@@ -34,10 +35,10 @@ number_among names name = unwrap_or (number_of names name) 1 - 1
 unfoldable pub distinct : List Text → List Text
 distinct texts = fold with_name [] texts
 
--- the names are the different texts, or more than 4,096 of them
+-- the names are the different texts, or more of them than fit
 pub record AreDistinct (names texts : List Text) : Type 0 where
-  pub many : nat_lt 4096 (length names) ≡ nat_lt 4096 (length (distinct texts))
-  pub all : length names ≤ 4096 → names ≡ distinct texts
+  pub many : nat_lt MAX_NAMES (length names) ≡ nat_lt MAX_NAMES (length (distinct texts))
+  pub all : length names ≤ MAX_NAMES → names ≡ distinct texts
 
 -- what the references point to
 abbrev pub texts_view : List (Bor Text) → List Text

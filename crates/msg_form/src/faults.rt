@@ -1,16 +1,17 @@
 //! Why a document is refused.
 
 ghost use Rattle.std.specs.Prelude.{◌≡◌};
-ghost use Rattle.msg_form.specs.FaultNumber.{document_fault_number};
+ghost use Rattle.msg_form.specs.FaultNumber.{document_fault_number, document_fault_text};
 ghost use Rattle.msg_form.specs.Unread.{unread};
 ghost use Rattle.msg_form.specs.declared.faults.DocumentFault.TheVariants as DocumentFault;
 ghost use Rattle.msg_form.specs.declared.faults.ReadFault.TheVariants.{Memory};
 
 use std::alloc::{AllocError, AllocFailed};
-use thiserror::Error;
+use std::error::Error;
+use std::fmt;
 
 /// Why a value was not read.
-#[derive(Clone, Copy, Debug, PartialEq, Eq, Error)]
+#[derive(Clone, Copy, Debug, PartialEq, Eq, thiserror::Error)]
 pub enum ReadFault {
     /// The value has not the form of what was to be read.
     #[error("shape")]
@@ -36,43 +37,25 @@ impl<T: Drop> From<AllocFailed<T>> for ReadFault {
 }
 
 /// What is wrong with a document, in the order of its numbers, which is that in which it is judged.
-#[derive(Clone, Copy, Debug, PartialEq, Eq, Error)]
+#[derive(Clone, Copy, Debug, PartialEq, Eq)]
 pub enum DocumentFault {
-    #[error("not json")]
     NotJson,
-    #[error("shape")]
     Shape,
-    #[error("version")]
     Version,
-    #[error("limit")]
     Limit,
-    #[error("duplicate class")]
     DuplicateClass,
-    #[error("unknown superclass")]
     UnknownSuperclass,
-    #[error("unknown class")]
     UnknownClass,
-    #[error("duplicate object")]
     DuplicateObject,
-    #[error("unknown object")]
     UnknownObject,
-    #[error("duplicate implementation")]
     DuplicateImp,
-    #[error("unknown implementation")]
     UnknownImp,
-    #[error("bad selector")]
     BadSelector,
-    #[error("duplicate selector")]
     DuplicateSelector,
-    #[error("argument count")]
     ArgumentCount,
-    #[error("argument index")]
     ArgumentIndex,
-    #[error("body too deep")]
     BodyTooDeep,
-    #[error("out of memory")]
     Memory,
-    #[error("class cycle")]
     ClassCycle,
 }
 
@@ -102,4 +85,42 @@ impl DocumentFault {
     {
         self as u32 + 1
     }
+
+    /// What is said of the fault.
+    pub fn text(self) -> &'static str
+        ensures { result.now ≡ document_fault_text self }
+    {
+        match self {
+            DocumentFault::NotJson => "not json",
+            DocumentFault::Shape => "shape",
+            DocumentFault::Version => "version",
+            DocumentFault::Limit => "limit",
+            DocumentFault::DuplicateClass => "duplicate class",
+            DocumentFault::UnknownSuperclass => "unknown superclass",
+            DocumentFault::UnknownClass => "unknown class",
+            DocumentFault::DuplicateObject => "duplicate object",
+            DocumentFault::UnknownObject => "unknown object",
+            DocumentFault::DuplicateImp => "duplicate implementation",
+            DocumentFault::UnknownImp => "unknown implementation",
+            DocumentFault::BadSelector => "bad selector",
+            DocumentFault::DuplicateSelector => "duplicate selector",
+            DocumentFault::ArgumentCount => "argument count",
+            DocumentFault::ArgumentIndex => "argument index",
+            DocumentFault::BodyTooDeep => "body too deep",
+            DocumentFault::Memory => "out of memory",
+            DocumentFault::ClassCycle => "class cycle",
+        }
+    }
 }
+
+impl fmt::Display for DocumentFault {
+    ghost use Rattle.std.specs.Prelude.{Some};
+
+    ghost output = { λ f. Some (document_fault_text f) };
+
+    fn fmt<W: fmt::Write>(&self, f: &mut fmt::Formatter<W>) -> fmt::Result {
+        f.write_str(self.text())
+    }
+}
+
+impl Error for DocumentFault {}

@@ -1,25 +1,24 @@
 //! The least fault of a document.
 //!
 //! All checks together take time in proportion to the document's size: each goes once over the parts
-//! that its fault speaks of, and looks names up in hash sets. The walk over the places of selectors
-//! and the one over the bodies are the dear ones, since the others judge at most 75,776 parts,
-//! 16,384 method entries and the lists of attached categories. They take memory for a reference to each place of a selector and to each
-//! list of pairs, and for sets of at most 4,097 names.
+//! that its fault speaks of, and looks names up in the form's sets of names. The walk over the places of selectors
+//! and the one over the bodies are the dear ones. They take memory for a reference to each list of pairs.
 
 ghost use Rattle.std.specs.Prelude.{◌≡◌, ◌≤◌, drop, length, IfOk};
 ghost use Rattle.msg_form.specs.BodyFaults.{AreBodyFaults};
 ghost use Rattle.msg_form.specs.Faults as spec;
+ghost use Rattle.msg_form.specs.FormNames.{AreNamesOf};
 ghost use Rattle.msg_form.specs.Text.{distinct};
 ghost use Rattle.msg_form.specs.Views.{form_view};
 ghost use Rattle.msg_form.specs.Walk.{selector_texts};
 
 mod bodies;
 mod classes;
+mod clean;
 mod constants;
 mod counts;
 mod cycle;
 mod depth;
-mod keyed;
 mod limits;
 mod lists;
 mod names;
@@ -28,50 +27,59 @@ mod selectors;
 
 use crate::faults::DocumentFault;
 use crate::form::Form;
-use crate::name_set::NameSet;
-use bodies::BodyFaults;
+use crate::form_names::FormNames;
+use crate::limits::MAX_CLASSES;
+use bodies::{BodyFaults, body_faults};
 use classes::has_unknown_superclass;
 use counts::has_wrong_argument_count;
 use cycle::has_class_cycle;
 use limits::{is_other_version, is_over_limit};
-use names::{
-    has_duplicate_class, has_duplicate_imp, has_duplicate_object, has_unknown_class,
-    has_unknown_imp, has_unknown_object,
-};
-use selectors::{has_bad_selector, has_duplicate_selector, selector_set};
+use names::{has_unknown_class, has_unknown_imp, has_unknown_object};
+use selectors::{has_bad_selector, has_duplicate_selector};
 use std::alloc::{AllocError, Global};
 
 /// The least fault of those that a form can have, [`Version`](DocumentFault::Version) to
 /// [`ClassCycle`](DocumentFault::ClassCycle).
-#[tactic(auto, unfolding(crate::specs::Faults::fault_of))]
 pub fn fault(alloc: Global, form: &Form) -> Result<Option<DocumentFault>, AllocError>
+    ensures { IfOk result (λ f. f ≡ spec.fault_of (form_view form.now)) }
+{
+    let names = FormNames::of(alloc, form)?;
+    fault_by(alloc, form, &names)
+}
+
+/// The same where the form's names are at hand.
+#[tactic(auto, unfolding(crate::specs::Faults::fault_of))]
+pub fn fault_by(
+    alloc: Global,
+    form: &Form,
+    names: &FormNames,
+) -> Result<Option<DocumentFault>, AllocError>
+    requires { AreNamesOf names.now (form_view form.now) }
     ensures { IfOk result (λ f. f ≡ spec.fault_of (form_view form.now)) }
 {
     if is_other_version(form) {
         return Ok(Some(DocumentFault::Version));
     }
-    let texts = form.selector_texts(alloc)?;
-    let selectors = selector_set(alloc, &texts)?;
-    if is_over_limit(alloc, form, &selectors)? {
+    if is_over_limit(alloc, form, &names.selectors)? {
         return Ok(Some(DocumentFault::Limit));
     }
-    if has_duplicate_class(alloc, form)? {
+    if names.class_twice {
         return Ok(Some(DocumentFault::DuplicateClass));
     }
-    let bodies = BodyFaults::of(alloc, form)?;
-    if has_unknown_superclass(alloc, form, bodies)? {
+    let bodies = body_faults(form, names);
+    if has_unknown_superclass(alloc, form, names, bodies)? {
         return Ok(Some(DocumentFault::UnknownSuperclass));
     }
-    if has_unknown_class(alloc, form, bodies)? {
+    if has_unknown_class(form, names, bodies) {
         return Ok(Some(DocumentFault::UnknownClass));
     }
-    if has_duplicate_object(alloc, form)? {
+    if names.object_twice {
         return Ok(Some(DocumentFault::DuplicateObject));
     }
-    if has_unknown_object(alloc, form, bodies)? {
+    if has_unknown_object(form, names, bodies) {
         return Ok(Some(DocumentFault::UnknownObject));
     }
-    later_fault(alloc, form, &selectors, bodies)
+    later_fault(alloc, form, names, bodies)
 }
 
 /// The least fault from [`DuplicateImp`](DocumentFault::DuplicateImp), the eighth, on.
@@ -79,21 +87,22 @@ pub fn fault(alloc: Global, form: &Form) -> Result<Option<DocumentFault>, AllocE
 fn later_fault(
     alloc: Global,
     form: &Form,
-    selectors: &NameSet,
+    names: &FormNames,
     bodies: BodyFaults,
 ) -> Result<Option<DocumentFault>, AllocError>
-    requires selectors { selectors.now ≡ distinct (selector_texts (form_view form.now)) }
+    requires names { AreNamesOf names.now (form_view form.now) }
+    requires selectors { names.now.selectors ≡ distinct (selector_texts (form_view form.now)) }
     requires bodies { AreBodyFaults bodies (form_view form.now) }
-    requires classes { length form.now.classes.items ≤ 1024 }
+    requires classes { length form.now.classes.items ≤ MAX_CLASSES }
     ensures { IfOk result (λ f. f ≡ spec.first_of (drop 7 spec.conditions) (form_view form.now)) }
 {
-    if has_duplicate_imp(alloc, form)? {
+    if names.imp_twice {
         return Ok(Some(DocumentFault::DuplicateImp));
     }
-    if has_unknown_imp(alloc, form)? {
+    if has_unknown_imp(alloc, form, names)? {
         return Ok(Some(DocumentFault::UnknownImp));
     }
-    if has_bad_selector(selectors) {
+    if has_bad_selector(&names.selectors) {
         return Ok(Some(DocumentFault::BadSelector));
     }
     if has_duplicate_selector(alloc, form)? {
@@ -108,7 +117,7 @@ fn later_fault(
     if bodies.too_deep {
         return Ok(Some(DocumentFault::BodyTooDeep));
     }
-    if has_class_cycle(alloc, form)? {
+    if has_class_cycle(alloc, form, names)? {
         return Ok(Some(DocumentFault::ClassCycle));
     }
     Ok(None)

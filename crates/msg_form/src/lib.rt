@@ -6,8 +6,10 @@
 
 mod faults;
 mod form;
+mod form_names;
 mod judge;
 pub mod laws;
+mod limits;
 mod name_set;
 mod read;
 mod walk;
@@ -17,6 +19,11 @@ pub use form::{
     BinaryExpr, Category, Change, Class, Constant, Expr, Form, IfExpr, Imp, Item, MethodName,
     Object, Operator, Pair, SendExpr, SuperExpr,
 };
-pub use judge::fault;
+pub use form_names::FormNames;
+pub use judge::{fault, fault_by};
+pub use limits::{
+    MAX_CATEGORIES, MAX_CLASSES, MAX_DEPTH, MAX_ENTRIES, MAX_EXPRESSIONS, MAX_IMPS, MAX_ITEMS,
+    MAX_OBJECTS,
+};
 pub use name_set::NameSet;
 pub use walk::FORWARDING;

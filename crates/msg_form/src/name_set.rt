@@ -8,7 +8,8 @@ use indexmap::IndexSet;
 use std::alloc::{AllocError, Global};
 use std::marker::Model;
 
-const MAX_NAMES: usize = 4_294_967_295;
+/// How many names have numbers.
+const MAX_NUMBERED: usize = 4_294_967_295;
 
 /// Different texts of a document, numbered from 1 as they came. A look-up and an insert hash the text once.
 #[derive(Drop)]
@@ -44,7 +45,7 @@ impl<'v> NameSet<'v> {
     }
 
     /// The names, in the order in which they were inserted.
-    pub(crate) fn as_slice(&self) -> &[&'v str]
+    pub fn as_slice(&self) -> &[&'v str]
         ensures { texts_view result.now ≡ self.now }
     {
         self.names.as_slice()
@@ -76,7 +77,7 @@ impl<'v> NameSet<'v> {
         ensures names { OnOk result (self.new ≡ with_name self.old name.now) }
         ensures err { OnErr result (self.new ≡ self.old) }
     {
-        if self.names.len() >= MAX_NAMES {
+        if self.names.len() >= MAX_NUMBERED {
             return Err(AllocError);
         }
         Ok(self.names.insert(name)?)

@@ -6,6 +6,7 @@ use Rattle.std.proofs.lemmas.Bool.Decides.{nat_tests}
 use Rattle.std.proofs.lemmas.List.Folds.{list_all-append}
 use Rattle.std.proofs.lemmas.Option.{same_Some}
 use Rattle.std.proofs.lemmas.Slice.Eq.{bytes_eq-Decides}
+use Rattle.msg_names.specs.declared.names.TheConstants.{MAX_NAMES}
 use Rattle.msg_names.specs.Name.{is_selector_name, is_sized, starts_with_digit, is_selector_byte, ends_in_its_colons, colons_of, colon}
 use Rattle.msg_names.specs.Numbering.{number_of, name_at, with_name, AreNumbered, AreNames}
 
@@ -127,7 +128,7 @@ numbered-push names text new all place name e =
     ]
 
 -- names stay names where a selector name is added that finds room
-pub names-with_name : (names : List (List ℕ)) (text : List ℕ) → AreNames names → is_selector_name text ≡ true → length (with_name names text) ≤ 4096 → AreNames (with_name names text)
+pub names-with_name : (names : List (List ℕ)) (text : List ℕ) → AreNames names → is_selector_name text ≡ true → length (with_name names text) ≤ MAX_NAMES → AreNames (with_name names text)
 names-with_name names text all good few = at_number (number_of names text) refl
   where
     at_number : (r : Option ℕ) → number_of names text ≡ r → AreNames (with_name names text)

@@ -6,6 +6,7 @@ use Rattle.std.specs.String.{string_eq}
 use Rattle.std.proofs.lemmas.Bool.Decides.{nat_tests}
 use Rattle.std.proofs.lemmas.List.{map-append, length-map}
 use Rattle.indexmap.specs.IndexSet.{insert_key}
+use Rattle.msg_names.specs.declared.names.TheConstants.{MAX_NAMES}
 use Rattle.msg_names.proofs.TestLemmas.{list_any-map}
 use Rattle.msg_names.specs.Name.{is_selector_name}
 use Rattle.msg_names.specs.Numbering.{number_of, with_name, AreNames}
@@ -38,9 +39,9 @@ names-insert_key keys after k text is e =
     at_test false = map-append string_bytes keys (k ∷ [])
 
 -- the names after an intern, whatever it answered
-pub names-interned : {T E : Type 0} (r : Result T E) (keys after : List (String Global)) (text : List ℕ) → OnOk r (map string_bytes after ≡ with_name (map string_bytes keys) text) → OnErr r (after ≡ keys) → length after ≤ 4096
+pub names-interned : {T E : Type 0} (r : Result T E) (keys after : List (String Global)) (text : List ℕ) → OnOk r (map string_bytes after ≡ with_name (map string_bytes keys) text) → OnErr r (after ≡ keys) → length after ≤ MAX_NAMES
     → is_selector_name text ≡ true → AreNames (map string_bytes keys) → AreNames (map string_bytes after)
 names-interned (Ok x) keys after text grown same few good all =
-    let count : length (with_name (map string_bytes keys) text) ≤ 4096 = omega (arith, few, length-map after string_bytes, ap length grown) in
+    let count : length (with_name (map string_bytes keys) text) ≤ MAX_NAMES = omega (arith, few, length-map after string_bytes, ap length grown) in
     rw grown (names-with_name (map string_bytes keys) text all good count)
 names-interned (Err e) keys after text grown same few good all = rw same all

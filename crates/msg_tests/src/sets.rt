@@ -83,6 +83,7 @@ fn faults_have_numbers_and_texts(rt: HostRuntime) -> Result<(), Fail> {
         (DocumentFault::ClassCycle, 18, "class cycle"),
     ] {
         assert_eq!(rt; fault.number(), number, "{text}");
+        assert_eq!(rt; fault.text(), text, "{number}");
         assert_eq!(rt; fault.to_string(alloc)?.as_str(), text, "{number}");
     }
     assert_eq!(rt; ReadFault::Shape.to_string(alloc)?.as_str(), "shape");

@@ -116,7 +116,7 @@ fn is_miscounted_item(item: &Item) -> bool
     }
 }
 
-fn is_miscounted_send(selector: &str, count: usize) -> bool
+pub(super) fn is_miscounted_send(selector: &str, count: usize) -> bool
     ensures { result ≡ spec.is_miscounted_send (selector.now, count) }
 {
     count != colons(selector)

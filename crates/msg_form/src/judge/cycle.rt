@@ -2,37 +2,48 @@
 
 ghost use Rattle.std.specs.Prelude.{◌≡◌, ◌≤◌, length, map, option_map, IfOk};
 ghost use Rattle.msg_form.specs.Faults as spec;
+ghost use Rattle.msg_form.specs.FormNames.{AreNamesOf};
 ghost use Rattle.msg_form.specs.Text.{distinct, number_among};
 ghost use Rattle.msg_form.specs.Views.{class_view, classes_view, form_view};
 ghost use Rattle.msg_order.specs.Superclasses.{AreListed};
 
-use super::keyed::key_set;
 use crate::form::{Class, Form, is_second};
+use crate::form_names::FormNames;
+use crate::limits::MAX_CLASSES;
 use crate::name_set::NameSet;
 use msg_order::class_order;
 use std::alloc::{AllocError, Global};
 
 #[tactic(auto, unfolding(crate::specs::Faults::has_class_cycle))]
-pub(super) fn has_class_cycle(alloc: Global, form: &Form) -> Result<bool, AllocError>
-    requires { length form.now.classes.items ≤ 1024 }
+pub(super) fn has_class_cycle(
+    alloc: Global,
+    form: &Form,
+    names: &FormNames,
+) -> Result<bool, AllocError>
+    requires names { AreNamesOf names.now (form_view form.now) }
+    requires classes { length form.now.classes.items ≤ MAX_CLASSES }
     ensures { IfOk result (λ b. b ≡ spec.has_class_cycle (form_view form.now)) }
 {
     if !is_second(form.version) {
         return Ok(false);
     }
-    let supers = superclasses(alloc, &form.classes)?;
+    let supers = superclasses(alloc, &names.listed, &form.classes)?;
     let order = class_order(alloc, &supers)?;
     Ok(order.is_none())
 }
 
 /// The superclasses of the listed classes, by their numbers from 0.
-fn superclasses(alloc: Global, classes: &[Class]) -> Result<Vec<Option<u32>>, AllocError>
+fn superclasses(
+    alloc: Global,
+    listed: &NameSet,
+    classes: &[Class],
+) -> Result<Vec<Option<u32>>, AllocError>
+    requires { listed.now ≡ distinct (map (λ c. c.name) (classes_view classes.now)) }
     ensures numbers { IfOk result
         (λ v. v.items ≡ spec.superclasses_of (classes_view classes.now)) }
     ensures listed { IfOk result (λ v. AreListed v.items) }
 {
-    let names = key_set(alloc, classes)?;
-    superclasses_among(alloc, &names, classes)
+    superclasses_among(alloc, listed, classes)
 }
 
 fn superclasses_among(

@@ -6,12 +6,7 @@ ghost use Rattle.msg_form.specs.Faults as spec;
 ghost use Rattle.msg_form.specs.Parts.{all_parts, depth, greatest_depth, parts};
 
 use crate::form::Expr;
-
-/// The greatest depth of a body.
-const MAX_DEPTH: u32 = 32;
-
-/// The most expressions of a body.
-const MAX_EXPRESSIONS: u32 = 256;
+use crate::limits::{MAX_DEPTH, MAX_EXPRESSIONS};
 
 pub(super) fn is_too_deep(body: &Expr) -> bool
     ensures { result ≡ spec.is_too_deep (expr_view body.now) }

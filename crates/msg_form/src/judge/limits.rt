@@ -9,21 +9,10 @@ ghost use Rattle.msg_form.specs.Walk.{selector_texts};
 
 use super::lists::method_lists;
 use crate::form::{Form, Pair, is_second};
+use crate::limits::{MAX_CATEGORIES, MAX_CLASSES, MAX_ENTRIES, MAX_IMPS, MAX_ITEMS, MAX_OBJECTS};
 use crate::name_set::NameSet;
 use msg_names::MAX_NAMES;
 use std::alloc::{AllocError, Global};
-
-/// The most classes, listed and that may be made, and the most categories.
-const MAX_CLASSES: usize = 1024;
-
-/// The most objects, and the most implementations.
-const MAX_OBJECTS: usize = 4096;
-
-/// The most items.
-const MAX_ITEMS: usize = 65536;
-
-/// The most method entries of classes and categories together.
-const MAX_ENTRIES: usize = 16384;
 
 #[tactic(auto, unfolding(crate::specs::Faults::is_other_version))]
 pub(super) fn is_other_version(form: &Form) -> bool
@@ -55,9 +44,9 @@ fn has_long_list(form: &Form) -> bool
     ensures { result ≡ spec.has_long_list (form_view form.now) }
 {
     form.classes.len() + form.made.len() > MAX_CLASSES
-        || form.categories.len() > MAX_CLASSES
+        || form.categories.len() > MAX_CATEGORIES
         || form.objects.len() > MAX_OBJECTS
-        || form.imps.len() > MAX_OBJECTS
+        || form.imps.len() > MAX_IMPS
         || form.items.len() > MAX_ITEMS
 }
 
@@ -70,7 +59,7 @@ fn has_many_entries(alloc: Global, form: &Form) -> Result<bool, AllocError>
 }
 
 fn are_many(lists: &[&[Pair]]) -> bool
-    ensures { result ≡ nat_lt 16384 (length (flat_map (λ l. l.now) lists.now)) }
+    ensures { result ≡ nat_lt MAX_ENTRIES (length (flat_map (λ l. l.now) lists.now)) }
 {
     let mut room = MAX_ENTRIES;
     for list in lists {

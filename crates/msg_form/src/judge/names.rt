@@ -1,12 +1,12 @@
-//! What is wrong with the names that a document gives and cites.
+//! What is wrong with the names that a document cites.
 //!
-//! Each check makes one set of names and goes once over the parts that cite such names. What bodies
-//! cite was looked up before.
+//! Each check goes once over the parts that cite such names. What bodies cite was looked up before.
 
-ghost use Rattle.std.specs.Prelude.{◌≡◌, ◌++◌, map, not, IfOk};
+ghost use Rattle.std.specs.Prelude.{◌≡◌, ◌++◌, map, IfOk};
 ghost use Rattle.std.specs.List.{list_any};
 ghost use Rattle.msg_form.specs.BodyFaults.{AreBodyFaults};
 ghost use Rattle.msg_form.specs.Faults as spec;
+ghost use Rattle.msg_form.specs.FormNames.{AreNamesOf};
 ghost use Rattle.msg_form.specs.Lists.{imps_cited, other_classes};
 ghost use Rattle.msg_form.specs.Lists.{change_classes, item_classes, item_imps, item_objects};
 ghost use Rattle.msg_form.specs.Text.{is_unknown};
@@ -15,53 +15,24 @@ ghost use Rattle.msg_form.specs.Views.{change_view, item_view, items_view, lists
 use super::bodies::BodyFaults;
 use super::classes::is_outside;
 use super::constants::{ClassOutside, ObjectOutside, any_in_send};
-use super::keyed::{has_duplicate, key_set, repeats, with_keys};
 use super::lists::all_lists;
 use crate::form::{Change, Form, Item, Object, Pair};
+use crate::form_names::FormNames;
 use crate::name_set::NameSet;
 use std::alloc::{AllocError, Global};
 
-pub(super) fn has_duplicate_class(alloc: Global, form: &Form) -> Result<bool, AllocError>
-    ensures { IfOk result (λ b. b ≡ spec.has_duplicate_class (form_view form.now)) }
-{
-    let mut names = NameSet::new(alloc);
-    if repeats(&mut names, &form.classes)? {
-        return Ok(true);
-    }
-    repeats(&mut names, &form.made)
-}
-
-#[tactic(auto, using(crate::proofs::AnyLemmas::maps), unfolding(crate::specs::Faults::has_duplicate_object))]
-pub(super) fn has_duplicate_object(alloc: Global, form: &Form) -> Result<bool, AllocError>
-    ensures { IfOk result (λ b. b ≡ spec.has_duplicate_object (form_view form.now)) }
-{
-    has_duplicate(alloc, &form.objects)
-}
-
-#[tactic(auto, using(crate::proofs::AnyLemmas::maps), unfolding(crate::specs::Faults::has_duplicate_imp))]
-pub(super) fn has_duplicate_imp(alloc: Global, form: &Form) -> Result<bool, AllocError>
-    ensures { IfOk result (λ b. b ≡ spec.has_duplicate_imp (form_view form.now)) }
-{
-    has_duplicate(alloc, &form.imps)
-}
-
-pub(super) fn has_unknown_class(
-    alloc: Global,
-    form: &Form,
-    bodies: BodyFaults,
-) -> Result<bool, AllocError>
-    requires { AreBodyFaults bodies (form_view form.now) }
-    ensures { IfOk result (λ b. b ≡ spec.has_unknown_class (form_view form.now)) }
+pub(super) fn has_unknown_class(form: &Form, names: &FormNames, bodies: BodyFaults) -> bool
+    requires names { AreNamesOf names.now (form_view form.now) }
+    requires bodies { AreBodyFaults bodies (form_view form.now) }
+    ensures { result ≡ spec.has_unknown_class (form_view form.now) }
 {
     if bodies.unknown_class {
-        return Ok(true);
+        return true;
     }
-    let listed = key_set(alloc, &form.classes)?;
-    if any_home_outside(&listed, form) {
-        return Ok(true);
+    if any_home_outside(&names.listed, form) {
+        return true;
     }
-    let classes = with_keys(listed, &form.made)?;
-    Ok(names_class_outside(&classes, form))
+    names_class_outside(&names.classes, form)
 }
 
 /// Whether a class beyond the set is named outside of bodies.
@@ -126,19 +97,12 @@ fn change_names_class_outside(classes: &NameSet, change: &Change) -> bool
     }
 }
 
-pub(super) fn has_unknown_object(
-    alloc: Global,
-    form: &Form,
-    bodies: BodyFaults,
-) -> Result<bool, AllocError>
-    requires { AreBodyFaults bodies (form_view form.now) }
-    ensures { IfOk result (λ b. b ≡ spec.has_unknown_object (form_view form.now)) }
+pub(super) fn has_unknown_object(form: &Form, names: &FormNames, bodies: BodyFaults) -> bool
+    requires names { AreNamesOf names.now (form_view form.now) }
+    requires bodies { AreBodyFaults bodies (form_view form.now) }
+    ensures { result ≡ spec.has_unknown_object (form_view form.now) }
 {
-    if bodies.unknown_object {
-        return Ok(true);
-    }
-    let objects = key_set(alloc, &form.objects)?;
-    Ok(any_object_outside(&objects, &form.items))
+    bodies.unknown_object || any_object_outside(&names.objects, &form.items)
 }
 
 fn any_object_outside(objects: &NameSet, items: &[Item]) -> bool
@@ -162,12 +126,16 @@ fn item_names_object_outside(objects: &NameSet, item: &Item) -> bool
     }
 }
 
-pub(super) fn has_unknown_imp(alloc: Global, form: &Form) -> Result<bool, AllocError>
+pub(super) fn has_unknown_imp(
+    alloc: Global,
+    form: &Form,
+    names: &FormNames,
+) -> Result<bool, AllocError>
+    requires { AreNamesOf names.now (form_view form.now) }
     ensures { IfOk result (λ b. b ≡ spec.has_unknown_imp (form_view form.now)) }
 {
-    let imps = key_set(alloc, &form.imps)?;
     let lists = all_lists(alloc, form)?;
-    Ok(names_imp_outside(&imps, &lists, &form.items))
+    Ok(names_imp_outside(&names.imps, &lists, &form.items))
 }
 
 #[tactic(auto, using(crate::proofs::AnyLemmas::anys))]

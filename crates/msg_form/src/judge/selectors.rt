@@ -4,29 +4,15 @@ ghost use Rattle.std.specs.Prelude.{◌≡◌, map, not, IfOk};
 ghost use Rattle.std.specs.List.{list_any};
 ghost use Rattle.msg_names.specs.Name.{is_selector_name};
 ghost use Rattle.msg_form.specs.Faults as spec;
-ghost use Rattle.msg_form.specs.Text.{AreDistinct, has_duplicate, texts_view};
+ghost use Rattle.msg_form.specs.Text.{has_duplicate};
 ghost use Rattle.msg_form.specs.Views.{form_view};
 
-use super::keyed::has_duplicate;
 use super::lists::all_lists;
 use crate::form::{Form, Pair};
+use crate::form_names::names_of;
 use crate::name_set::NameSet;
-use msg_names::{MAX_NAMES, is_selector_name};
+use msg_names::is_selector_name;
 use std::alloc::{AllocError, Global};
-
-/// The different texts, or some of them that are too many to have numbers.
-pub(super) fn selector_set<'v>(alloc: Global, texts: &[&'v str]) -> Result<NameSet<'v>, AllocError>
-    ensures { IfOk result (λ s. AreDistinct s (texts_view texts.now)) }
-{
-    let mut selectors = NameSet::new(alloc);
-    for text in texts {
-        selectors.insert(*text)?;
-        if selectors.len() > MAX_NAMES {
-            return Ok(selectors);
-        }
-    }
-    Ok(selectors)
-}
 
 /// Whether one of the set isn't the name of a selector.
 pub(super) fn has_bad_selector(selectors: &NameSet) -> bool
@@ -52,7 +38,7 @@ fn any_repeats(alloc: Global, lists: &[&[Pair]]) -> Result<bool, AllocError>
         (λ b. b ≡ list_any (λ l. has_duplicate (map (λ p. p.selector.now) l.now)) lists.now) }
 {
     for list in lists {
-        if has_duplicate(alloc, list)? {
+        if names_of(alloc, list)?.1 {
             return Ok(true);
         }
     }

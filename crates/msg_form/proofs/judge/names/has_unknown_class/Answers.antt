@@ -2,23 +2,20 @@ use Rattle.std.proofs.Common.{◌∙◌}
 use Rattle.msg_form.specs.Text.{is_unknown}
 use Rattle.msg_form.specs.Views.{form_view}
 use Rattle.msg_form.proofs.CitedLemmas.{any_home, unknown-in_bodies, unknown-at_home, unknown-elsewhere}
-use Rattle.msg_form.proofs.ClassLemmas.{class_names-are, listed_names-are}
 use Rattle.msg_form.proofs.judge.names.has_unknown_class.Goals as goal
 
 pub returns-then-bodies : goal.returns-then-bodies
-returns-then-bodies c = unknown-in_bodies (form_view c.args.form.now) c.args.bodies.unknown_class c.requires.unknown_class c.if-bodies.true
+returns-then-bodies c = unknown-in_bodies (form_view c.args.form.now) c.args.bodies.unknown_class c.requires.bodies.unknown_class c.if-bodies.true
 
 pub returns-then-any_home_outside : goal.returns-then-any_home_outside
 returns-then-any_home_outside c =
     let f = c.args.form.now in
-    let listed = c.in_ok-listed.listed in
-    unknown-at_home (form_view f) c.args.bodies.unknown_class c.requires.unknown_class listed c.any_home_outside.result (listed_names-are f c.deref.result.now listed c.deref.ensures.value c.in_ok-listed.ensures) (c.any_home_outside.ensures ∙ any_home (is_unknown listed) f) c.if-any_home_outside.true
+    let names = c.args.names.now in
+    unknown-at_home (form_view f) c.args.bodies.unknown_class c.requires.bodies.unknown_class names.listed c.any_home_outside.result c.requires.names.listed (c.any_home_outside.ensures ∙ any_home (is_unknown names.listed) f) c.if-any_home_outside.true
 
 pub returns : goal.returns
 returns c =
     let f = c.args.form.now in
-    let listed = c.in_ok-listed.listed in
-    let classes = c.in_ok-classes.classes in
-    unknown-elsewhere (form_view f) c.args.bodies.unknown_class c.requires.unknown_class listed classes c.any_home_outside.result c.names_class_outside.result c.if-bodies.false
-    (listed_names-are f c.deref.result.now listed c.deref.ensures.value c.in_ok-listed.ensures) (c.any_home_outside.ensures ∙ any_home (is_unknown listed) f) c.if-any_home_outside.false
-    (class_names-are f c.deref.result.now c.deref-2.result.now listed classes c.deref.ensures.value c.deref-2.ensures.value c.in_ok-listed.ensures c.in_ok-classes.ensures) c.names_class_outside.ensures
+    let names = c.args.names.now in
+    unknown-elsewhere (form_view f) c.args.bodies.unknown_class c.requires.bodies.unknown_class names.listed names.classes c.any_home_outside.result c.names_class_outside.result c.if-bodies.false
+    c.requires.names.listed (c.any_home_outside.ensures ∙ any_home (is_unknown names.listed) f) c.if-any_home_outside.false c.requires.names.classes c.names_class_outside.ensures

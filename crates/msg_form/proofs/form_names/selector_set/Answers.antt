@@ -1,5 +1,5 @@
 use Rattle.msg_form.proofs.TextLemmas.{many_so_far, few_gathered}
-use Rattle.msg_form.proofs.judge.selectors.selector_set.Goals as goal
+use Rattle.msg_form.proofs.form_names.selector_set.Goals as goal
 
 pub returns-then-len-gt-MAX_NAMES : goal.returns-then-len-gt-MAX_NAMES
 returns-then-len-gt-MAX_NAMES c =

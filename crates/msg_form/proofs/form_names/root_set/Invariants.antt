@@ -2,7 +2,7 @@ use Rattle.std.proofs.Common.{◌≡◌, [], map, filter, drop}
 use Rattle.std.specs.Prelude.{fold, is_none}
 use Rattle.msg_names.specs.Numbering.{with_name}
 use Rattle.msg_form.specs.Views.{class_view}
-use Rattle.msg_form.proofs.judge.classes.root_set.Given as goal
+use Rattle.msg_form.proofs.form_names.root_set.Given as goal
 
 abbrev pub invariant-loop-class : goal.invariant-loop-class
 invariant-loop-class l =
