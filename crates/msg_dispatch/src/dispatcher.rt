@@ -69,6 +69,7 @@ impl<N: ArenaName> Dispatcher<N> {
                 dispatcher: self,
                 prober,
                 takings: 0,
+                count: None,
             }),
             None => Err(NoSenderFree),
         }
