@@ -10,4 +10,6 @@ mod images;
 #[cfg(test)]
 mod one_thread;
 #[cfg(test)]
+mod remembering;
+#[cfg(test)]
 mod threads;

@@ -67,7 +67,7 @@ pub(crate) fn serve_with<'d, N: ArenaName, G: Gate, R: Wait>(
 }
 
 // Makes a change, and says why not, if so.
-fn change_one<'d, N: ArenaName, R: Wait>(
+pub(crate) fn change_one<'d, N: ArenaName, R: Wait>(
     rt: &R,
     changer: &mut Changer<'d, N>,
     change: &Change,

@@ -1,6 +1,8 @@
 //! What the program `msgrun` does: its devices, its command line, and the run from bytes to bytes.
 #![tactic(auto)]
 
+mod alone;
+mod arrays;
 mod asking;
 mod batch;
 mod command_line;
