@@ -59,10 +59,10 @@ copies_store z k k' whereabouts words i w lt len is s = record {
 copies_same : (z : Layout) (k : KeeperView) (whereabouts : ℕ → Whereabouts) (words : List ℕ) (i : ℕ) → IsCopied z k whereabouts words → IsCopied z k whereabouts (slice_set words i (slice_index words i))
 copies_same z k whereabouts words i s = subst (IsCopied z k whereabouts) (sym (set-get_or words i 0)) s
 
--- the keeper's view, with words and standings of the same number
-kept_as : (z : Layout) (image : ImageParts) (k : KeeperView) (words : List ℕ) (standings : List Standing) → IsKept z image k → length words ≡ length k.words → length standings ≡ length k.standings
-    → slice_index words 0 ≡ slice_index k.words 0 → IsKept z image (record k { words = words; standings = standings })
-kept_as z image k words standings s count same version = record {
+-- the keeper's view, with words and standings of the same number, and other stores
+kept_as : (z : Layout) (image : ImageParts) (k : KeeperView) (words : List ℕ) (standings : List Standing) (stores : List (ℕ × ℕ)) → IsKept z image k → length words ≡ length k.words → length standings ≡ length k.standings
+    → slice_index words 0 ≡ slice_index k.words 0 → IsKept z image (record k { words = words; standings = standings; stores = stores })
+kept_as z image k words standings stores s count same version = record {
   words = count ∙ s.words;
   standings = same ∙ s.standings;
   given = s.given;
@@ -125,7 +125,7 @@ module _ (look : History → ClassRef → ℕ → ℕ) (z : Layout) (image : Ima
       let live : m.live c ≡ Some a = r.sound.lawful.stands_live c a lives in
       let words_are = word_set z k.words a p w lt r.kept.words ∙ sym (ap (λ o. stored_at m.word o p w) live) in
       by_event (slice_set words i w) (stored i w k) (Fill c p w)
-      (kept_as z image k (slice_set k.words i w) k.standings r.kept (length-set k.words i w) refl (get_or-set_other k.words i 0 w 0 (λ e. omega arith)))
+      (kept_as z image k (slice_set k.words i w) k.standings (stored i w k).stores r.kept (length-set k.words i w) refl (get_or-set_other k.words i 0 w 0 (λ e. omega arith)))
       (copies_store z k (stored i w k) r.whereabouts words i w il r.kept.words refl r.copies)
       (may_fill look z m c a p w (r.sound.in_range.live_class c a lives) live lt (word_is z k.words a p lt ∙ clear) sel imp)
       (λ j. state_from k.history (live_bucket z k.words a p w j) (words_are j) (standing_at k.standings) r.whereabouts)
@@ -138,7 +138,7 @@ module _ (look : History → ClassRef → ℕ → ℕ) (z : Layout) (image : Ima
       let k = r.keeper in
       let i : ℕ = base z a + p in
       by_event (slice_set words i 0) (stored i 0 k) (Clear a p)
-      (kept_as z image k (slice_set k.words i 0) k.standings r.kept (length-set k.words i 0) refl (get_or-set_other k.words i 0 0 0 (λ e. omega arith)))
+      (kept_as z image k (slice_set k.words i 0) k.standings (stored i 0 k).stores r.kept (length-set k.words i 0) refl (get_or-set_other k.words i 0 0 0 (λ e. omega arith)))
       (copies_store z k (stored i 0 k) r.whereabouts words i 0 (inside z a p lt) r.kept.words refl r.copies)
       (may_clear look z (shown_by look z image r) a p (below_entry z.capacities a p lt) lt free)
       (λ j. state_from k.history (live_bucket z k.words a p 0 j) (word_set z k.words a p 0 lt r.kept.words j) (standing_at k.standings) r.whereabouts)
@@ -191,7 +191,7 @@ module _ (look : History → ClassRef → ℕ → ℕ) (z : Layout) (image : Ima
       let is : m.live c ≡ o = live_is z k.words c lt in
       let stands = retire_is z k r.whereabouts c o r.kept.given (listed c lt) ∙ sym (ap (retired z m c) is) in
       by_event (slice_set words i 0) (flushed c k) (Flush c)
-      (kept_as z image k (slice_set k.words i 0) (retire c o k) r.kept (length-set k.words i 0) (retire_length z k r.whereabouts c o) (get_or-set_other k.words i 0 0 0 (λ e. omega arith)))
+      (kept_as z image k (slice_set k.words i 0) (retire c o k) (flushed c k).stores r.kept (length-set k.words i 0) (retire_length z k r.whereabouts c o) (get_or-set_other k.words i 0 0 0 (λ e. omega arith)))
       (copies_store z k (flushed c k) r.whereabouts words i 0 (header_inside z c lt) r.kept.words refl r.copies)
       (may_flush look z m c a lt (is ∙ ap named here))
       (λ j. state_from k.history (live_set z k.words c 0 lt r.kept.words j) (word_header z k.words c 0 lt j) (stands j) r.whereabouts)
@@ -209,7 +209,7 @@ module _ (look : History → ClassRef → ℕ → ℕ) (z : Layout) (image : Ima
       let stands = set_as_at (retire c o k) a (Live c) Free (let s = retire_length z k r.whereabouts c o in let t = r.kept.standings in omega arith)
       ∙ ap (λ f. at f a (Live c)) (retire_is z k r.whereabouts c o r.kept.given (listed c lt) ∙ sym (ap (retired z m c) is)) in
       by_event (slice_set words i (suc a)) (installed c a k) (Install c a)
-      (kept_as z image k (slice_set k.words i (suc a)) (slice_set (retire c o k) a (Live c)) r.kept (length-set k.words i (suc a)) (length-set (retire c o k) a (Live c) ∙ retire_length z k r.whereabouts c o)
+      (kept_as z image k (slice_set k.words i (suc a)) (slice_set (retire c o k) a (Live c)) (installed c a k).stores r.kept (length-set k.words i (suc a)) (length-set (retire c o k) a (Live c) ∙ retire_length z k r.whereabouts c o)
       (get_or-set_other k.words i 0 (suc a) 0 (λ e. omega arith)))
       (copies_store z k (installed c a k) r.whereabouts words i (suc a) (header_inside z c lt) r.kept.words refl r.copies)
       (may_install look z m c a lt there free (λ q ql. word_is z k.words a q ql ∙ clear q ql))
@@ -252,7 +252,7 @@ module _ (look : History → ClassRef → ℕ → ℕ) (z : Layout) (image : Ima
           standings_looked n r.keeper.standings ∙ sym (ap (λ p. if is_out p then (λ a. seen_out n (standing_at r.keeper.standings a)) else standing_at r.keeper.standings) e) in
           subst Goal (sym (eq-eqb (slice_index words i) 0 found))
           (by_event (slice_set words i (slice_index words i)) (looked n r.keeper) (Look n)
-          (kept_as z image r.keeper r.keeper.words (map (seen_out n) r.keeper.standings) r.kept refl (length-map r.keeper.standings (seen_out n)) refl)
+          (kept_as z image r.keeper r.keeper.words (map (seen_out n) r.keeper.standings) r.keeper.stores r.kept refl (length-map r.keeper.standings (seen_out n)) refl)
           (let s = copies_same z r.keeper r.whereabouts words i r.copies in record { copied = s.copied; probed = s.probed; count = s.count })
           (may_look look z (shown_by look z image r) n lt)
           (λ j. state_from r.keeper.history (live_in z r.keeper.words) (word_in z r.keeper.words) (seen j) r.whereabouts)

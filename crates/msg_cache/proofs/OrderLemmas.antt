@@ -258,15 +258,15 @@ module _ (look : History → ClassRef → ℕ → ℕ) (key : SettingView) (k : 
 
 -- ---- a collection
 
-pub collected_rest : (z : Layout) (outs : List Bool) (k : KeeperView) → collected z outs k ≡ record k { words = (collected z outs k).words; standings = (looks z.senders outs k).standings }
+pub collected_rest : (z : Layout) (outs : List Bool) (k : KeeperView) → collected z outs k ≡ record k { words = (collected z outs k).words; standings = (looks z.senders outs k).standings; stores = (collected z outs k).stores }
 collected_rest z outs k =
     let j = looks z.senders outs k in
-    all_emptied_rest z (freed z outs k) j ∙ ap (λ (x : KeeperView). record x { words = (collected z outs k).words }) (looks_rest z.senders outs k)
+    all_emptied_rest z (freed z outs k) j ∙ ap (λ (x : KeeperView). record x { words = (collected z outs k).words; stores = (collected z outs k).stores }) (looks_rest z.senders outs k)
 
-pub collects_rest : {z : Layout} {k k' : KeeperView} {n : ℕ} → Collects z k k' n → k' ≡ record k { words = k'.words; standings = k'.standings }
+pub collects_rest : {z : Layout} {k k' : KeeperView} {n : ℕ} → Collects z k k' n → k' ≡ record k { words = k'.words; standings = k'.standings; stores = k'.stores }
 collects_rest {z} {k} {k'} t =
     let is = t.view ∙ collected_rest z t.outs k in
-    is ∙ (λ i. record k { words = (sym is i).words; standings = (sym is i).standings })
+    is ∙ (λ i. record k { words = (sym is i).words; standings = (sym is i).standings; stores = (sym is i).stores })
 
 -- ---- what a header word names
 

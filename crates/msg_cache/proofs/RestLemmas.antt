@@ -1,5 +1,5 @@
 -- A fill and a collection change caches alone.
-use Rattle.std.proofs.Common.{◌≡◌, ℕ, zero, suc, List, [], ◌∷◌, Bool, true, false, cond, Option, Some, None, refl, ap, ◌∙◌}
+use Rattle.std.proofs.Common.{◌≡◌, ℕ, zero, suc, ◌+◌, List, [], ◌∷◌, Bool, true, false, cond, Option, Some, None, refl, ap, ◌∙◌}
 use Rattle.std.specs.Prelude.{MatchOption}
 use Rattle.msg_names.specs.declared.value.ClassRef.{ClassRef}
 use Rattle.msg_tables.specs.History.{History}
@@ -13,6 +13,7 @@ use Rattle.msg_cache.specs.declared.answer.Way.{Way}
 use Rattle.msg_cache.specs.declared.answer.Way.TheVariants.{Present, Use, Take}
 use Rattle.msg_cache.specs.declared.view.KeeperView.{KeeperView}
 use Rattle.msg_cache.specs.declared.view.TurnAt.{TurnAt}
+use Rattle.msg_cache.proofs.ClearingLemmas.{cleared_is}
 
 -- what the keeper's view has beside the caches
 pub record Rest : Type 0 where
@@ -35,7 +36,7 @@ looks-rest (suc n) outs k = step (awaits outs n) (looks n outs k) (looks-rest n 
 
 clears-rest : (b n : ℕ) (k : KeeperView) → rest (clears b n k) ≡ rest k
 clears-rest b zero k = refl
-clears-rest b (suc n) k = clears-rest b n k
+clears-rest b (suc n) k = ap rest (cleared_is (b + n) (clears b n k)) ∙ clears-rest b n k
 
 all_emptied-rest : (z : Layout) (arrays : List ℕ) (k : KeeperView) → rest (all_emptied z arrays k) ≡ rest k
 all_emptied-rest z [] k = refl

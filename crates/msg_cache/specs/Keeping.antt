@@ -68,12 +68,16 @@ abbrev pub minus : ℕ → List Bool → List Bool → List Bool
 minus zero outs aw = aw
 minus (suc n) outs aw = if awaits outs n then slice_set (minus n outs aw) n false else minus n outs aw
 
--- a Clear of the first n words of those that begin at b
+-- a Clear of a word that isn't 0, and no store where it is
+abbrev pub cleared : ℕ → KeeperView → KeeperView
+cleared i k = if slice_index k.words i == 0 then k else stored i 0 k
+
+-- the same of each of the first n words of those that begin at b
 abbrev pub clears : ℕ → ℕ → KeeperView → KeeperView
 clears b zero k = k
-clears b (suc n) k = stored (b + n) 0 (clears b n k)
+clears b (suc n) k = cleared (b + n) (clears b n k)
 
--- a Clear of the words of an array
+-- a Clear of each word of an array that isn't 0
 abbrev pub emptied : Layout → ℕ → KeeperView → KeeperView
 emptied z a k = clears (base z a) (capacity z a) k
 
@@ -90,7 +94,7 @@ newly_free z k j = filter (λ a. is_free (standing_of j a) && not (is_free (stan
 abbrev pub freed : Layout → List Bool → KeeperView → List ℕ
 freed z outs k = newly_free z k (looks z.senders outs k)
 
--- one Look at each sender number, then a Clear of the words of each array that became free
+-- one Look at each sender number, then a Clear of each word that isn't 0 of each array that became free
 abbrev pub collected : Layout → List Bool → KeeperView → KeeperView
 collected z outs k = all_emptied z (freed z outs k) (looks z.senders outs k)
 

@@ -40,7 +40,7 @@ abbrev pub nobody : SenderView
 nobody = record { number = 0; front = no_history; whereabouts = Out; count = 0; last = record { class = no_class; sel = 0; array = None; reads = [] } }
 
 abbrev pub no_keeper : KeeperView
-no_keeper = record { history = no_history; words = []; standings = []; given = []; turn = Never; told = no_history }
+no_keeper = record { history = no_history; words = []; standings = []; given = []; turn = Never; told = no_history; stores = [] }
 
 -- a setting
 abbrev pub no_setting : SettingView
@@ -136,7 +136,7 @@ Goes p st m n m' = m' ≡ seated (gone_to (sender_of m.0) (sender_of m.0).front 
 
 -- one word stored
 abbrev pub stored : ℕ → ℕ → KeeperView → KeeperView
-stored i w k = record k { words = slice_set k.words i w }
+stored i w k = record k { words = slice_set k.words i w; stores = k.stores ++ (i, w) ∷ [] }
 
 -- an array, if there is one, is retired from the class reference and awaits all senders
 abbrev pub retire : ClassRef → Option ℕ → KeeperView → List Standing
@@ -145,14 +145,14 @@ retire c (Some a) k = slice_set k.standings a (Retired c (size k.history) (every
 
 -- the header word of a class reference is 0, and its array is retired
 abbrev pub flushed : ClassRef → KeeperView → KeeperView
-flushed c k = record k { words = slice_set k.words (header_at c) 0; standings = retire c (named (slice_index k.words (header_at c))) k }
+flushed c k = record k { words = slice_set k.words (header_at c) 0; standings = retire c (named (slice_index k.words (header_at c))) k; stores = k.stores ++ (header_at c, 0) ∷ [] }
 
 abbrev pub installed : ClassRef → ℕ → KeeperView → KeeperView
-installed c a k = record k { words = slice_set k.words (header_at c) (suc a); standings = slice_set (retire c (named (slice_index k.words (header_at c))) k) a (Live c) }
+installed c a k = record k { words = slice_set k.words (header_at c) (suc a); standings = slice_set (retire c (named (slice_index k.words (header_at c))) k) a (Live c); stores = k.stores ++ (header_at c, suc a) ∷ [] }
 
 -- the history is longer by a change, and word 0 counts it
 abbrev pub committed : Change → KeeperView → KeeperView
-committed x k = record k { history = and_then k.history x; words = slice_set k.words 0 (size k.history + 1); turn = Home (and_then k.history x) }
+committed x k = record k { history = and_then k.history x; words = slice_set k.words 0 (size k.history + 1); turn = Home (and_then k.history x); stores = k.stores ++ (0, size k.history + 1) ∷ [] }
 
 abbrev pub looked : ℕ → KeeperView → KeeperView
 looked n k = record k { standings = map (seen_out n) k.standings }

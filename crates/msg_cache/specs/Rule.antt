@@ -1,5 +1,5 @@
 -- The rule of a table: what its words, the keeper's view and the senders' views have to do with one another, and the state that it shows.
-use Rattle.std.specs.Prelude.{◌≡◌, ℕ, zero, suc, ◌+◌, ◌<◌, ◌≤◌, List, length, Bool, true, false, nat_lt, Option, Some, None, slice_index, replicate, if◌then◌else◌}
+use Rattle.std.specs.Prelude.{◌≡◌, ℕ, zero, suc, ◌+◌, ◌<◌, ◌≤◌, List, [], length, Bool, true, false, nat_lt, Option, Some, None, slice_index, replicate, if◌then◌else◌}
 use mathlib.Core.Option.{some}
 use lib.ListN.{get_elem?}
 use Rattle.atomic_table.specs.Table.{State as Table}
@@ -138,8 +138,8 @@ TidyBy look key k = IsTidy look (layout_of key) key.image k
 abbrev pub holds : (History → ClassRef → ℕ → ℕ) → SettingView → Table ℕ View → Type 0
 holds look key s = RuledBy look key s.words s.views
 
--- the keeper's view when the table is made: no class reference has a live array, and no number is given out
+-- the keeper's view when the table is made: no class reference has a live array, no number is given out, and nothing was stored
 abbrev pub first_keeper : SettingView → KeeperView
 first_keeper key =
     let z = layout_of key in
-    record { history = empty key.image; words = replicate (probes z) 0; standings = replicate (length z.capacities) Free; given = replicate z.senders false; turn = Never; told = empty key.image }
+    record { history = empty key.image; words = replicate (probes z) 0; standings = replicate (length z.capacities) Free; given = replicate z.senders false; turn = Never; told = empty key.image; stores = [] }

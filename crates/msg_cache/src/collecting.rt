@@ -1,19 +1,19 @@
 //! A collection: who is out, which arrays nobody holds any more, and their words cleared.
 
-ghost use Rattle.std.specs.Prelude.{◌≡◌, ◌&&◌, not, ℕ, List, Bool, ◌<◌, ◌≤◌, length, true, false};
+ghost use Rattle.std.specs.Prelude.{◌≡◌, ◌&&◌, not, ℕ, List, Bool, ◌+◌, ◌^◌, ◌<◌, ◌≤◌, length, true, false};
 ghost use Rattle.std.specs.List.{list_any};
 ghost use Rattle.msg_names.specs.declared.value.ClassRef.{ClassRef};
 ghost use Rattle.msg_tables.specs.History.{lookup};
 ghost use Rattle.msg_core.specs.declared.state.Standing.TheVariants.{Free, Live, Retired};
-ghost use Rattle.msg_core.specs.State.{awaits};
+ghost use Rattle.msg_core.specs.State.{awaits, capacity};
 ghost use Rattle.msg_core.specs.Steps.{is_free};
-ghost use Rattle.msg_cache.specs.Layout.{layout_of};
+ghost use Rattle.msg_cache.specs.Layout.{layout_of, base as base_of};
 ghost use Rattle.msg_cache.specs.Rule.{TidyBy};
 ghost use Rattle.msg_cache.specs.Plays.{keeper_of, kept};
-ghost use Rattle.msg_cache.specs.Keeping.{standing_of, looks, looked_by, minus, emptied, Collects, InOrder};
+ghost use Rattle.msg_cache.specs.Keeping.{standing_of, looks, looked_by, minus, cleared, emptied, Collects, InOrder};
 
 use crate::arena::Arena;
-use crate::steps::{Seat, clear_word, load_probe};
+use crate::steps::{Seat, Words, clear_word, load_probe};
 use msg_core::Standing;
 
 fn any_awaited(left: &[bool; 64]) -> bool
@@ -89,6 +89,34 @@ fn look_at_senders(arena: &Arena, seat: &mut Seat) -> [bool; 64]
     outs
 }
 
+// Clears a word of a free array, where it isn't 0.
+#[tactic(auto, using(crate::proofs::ClearingLemmas::cleared_zero, crate::proofs::ClearingLemmas::cleared_some))]
+fn clear_place(
+    shared: &Words,
+    seat: &mut Seat,
+    words: &mut Vec<u64>,
+    array: usize,
+    base: usize,
+    place: usize,
+)
+    requires table { (seat.old.table_id ≡ shared.now.table_id) × (base + place < shared.now.table_id.words) × (shared.now.table_id.words < 2 ^ 32) }
+    requires keeper { seat.old.me ≡ kept (keeper_of seat.old.me.0) }
+    requires tidy { TidyBy lookup shared.now.key (keeper_of seat.old.me.0) }
+    requires words { (words.old.items ≡ (keeper_of seat.old.me.0).words) × (base + place < length words.old.items) }
+    requires place { (base ≡ base_of (layout_of shared.now.key) array) × (place < capacity (layout_of shared.now.key) array) }
+    requires free { standing_of (keeper_of seat.old.me.0) array ≡ Free }
+    ensures seat { (seat.new.table_id ≡ seat.old.table_id) × (seat.new.id ≡ seat.old.id) }
+    ensures told { seat.new.me ≡ kept (cleared (base + place) (keeper_of seat.old.me.0)) }
+    ensures tidy { TidyBy lookup shared.now.key (keeper_of seat.new.me.0) }
+    ensures words { words.new.items ≡ (keeper_of seat.new.me.0).words }
+{
+    let at = base + place;
+    if words[at] != 0 {
+        clear_word(shared, seat, array, base, place);
+        words[at] = 0;
+    }
+}
+
 // Clears each word of a free array that isn't 0.
 fn clear_array(arena: &Arena, seat: &mut Seat, words: &mut Vec<u64>, array: usize)
     requires table { seat.old.table_id ≡ arena.now.table }
@@ -106,10 +134,7 @@ fn clear_array(arena: &Arena, seat: &mut Seat, words: &mut Vec<u64>, array: usiz
     let base = arena.base(array);
     let capacity = arena.capacity(array) as usize;
     for place in 0..capacity {
-        if words[base + place] != 0 {
-            clear_word(shared, seat, array, base, place);
-            words[base + place] = 0;
-        }
+        clear_place(shared, seat, words, array, base, place);
     }
 }
 

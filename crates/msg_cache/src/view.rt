@@ -50,7 +50,7 @@ pub enum TurnAt {
 }
 
 /// What the keeper's seat knows: the history, a copy of all words but the probe words, what each array is for, which sender numbers are
-/// given out, where the turn is, and what a joined sender had seen.
+/// given out, where the turn is, what a joined sender had seen, and each word that was stored, with its place in the table.
 pub struct KeeperView {
     pub history: Past,
     pub words: LinkedList<u64>,
@@ -58,6 +58,7 @@ pub struct KeeperView {
     pub given: LinkedList<bool>,
     pub turn: TurnAt,
     pub told: Past,
+    pub stores: LinkedList<(u64, u64)>,
 }
 
 /// What a seat knows. A seat that was joined to another knows nothing.

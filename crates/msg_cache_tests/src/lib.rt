@@ -7,3 +7,5 @@ mod desk;
 mod rows;
 #[cfg(test)]
 mod stops;
+#[cfg(test)]
+mod threads;

@@ -1,4 +1,4 @@
-//! What the program `msgrun` does: its devices, its command line, and the run from bytes to bytes.
+//! What the programs `msgrun` and `msgbeside` do: their devices, their command line, and the runs from bytes to bytes.
 #![tactic(auto)]
 
 mod alone;
@@ -24,8 +24,8 @@ mod to_writer;
 mod work;
 mod writing;
 
-pub use command_line::arguments;
-pub use complaint::complain;
+pub use command_line::{arguments, words};
+pub use complaint::{Program, complain};
 pub use device::{Failed, Sink, Source};
 pub use fault::RunFault;
 pub use from_reader::FromReader;

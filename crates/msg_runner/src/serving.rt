@@ -312,6 +312,7 @@ pub(crate) fn text<G: Gate, R: Threads + Wait + Sync>(
 }
 
 /// The text of a document whose sends are answered by so many workers, with this cut, beside its changes.
+#[tactic(auto, unfolding(crate::specs::Text::output_of))]
 pub(crate) fn text_beside<G: Gate, R: Threads + Wait + Sync>(
     rt: &R,
     alloc: Global,
@@ -324,7 +325,8 @@ pub(crate) fn text_beside<G: Gate, R: Threads + Wait + Sync>(
     requires cut { 1 ≤ cut }
     requires sound { All (IsSoundItem document.now.image) (map item_parts document.now.items.items) }
     requires few { length document.now.items.items ≤ 65536 }
-    ensures { IfOk result (λ text. AreAnswered document.now.image workers cut (empty document.now.image) (map item_parts document.now.items.items) [] text.items) }
+    ensures answered { IfOk result (λ text. AreAnswered document.now.image workers cut (empty document.now.image) (map item_parts document.now.items.items) [] text.items) }
+    ensures alone { IfOk result (λ text. AllSends (map item_parts document.now.items.items) → text.items ≡ output_of (document_parts document.now)) }
 {
     let (arena, keeper) = arena_for(alloc, &document.image, workers)?;
     let deal = Deal {

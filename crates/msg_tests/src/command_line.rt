@@ -1,7 +1,7 @@
 //! The words of the command line, and what is said of a fault.
 
 use msg_form::DocumentFault;
-use msg_runner::{RunFault, ToWriter, arguments, complain};
+use msg_runner::{Program, RunFault, ToWriter, arguments, complain};
 use std::alloc::Global;
 use std::io;
 use std::test::Fail;
@@ -54,122 +54,139 @@ fn words_are_two_numbers_at_most(rt: HostRuntime) -> Result<(), Fail> {
     Ok(())
 }
 
+// What is said after the name of the program, which is PROGRAM here.
 const LINES: [(Option<RunFault>, &str, u8); 23] = [
-    (None, "msgrun: usage: msgrun [workers [cut]]\n", 2),
-    (Some(RunFault::Read), "msgrun: read failed\n", 1),
-    (Some(RunFault::Memory), "msgrun: out of memory\n", 1),
-    (Some(RunFault::Write), "msgrun: write failed\n", 1),
-    (
-        Some(RunFault::Workers),
-        "msgrun: workers must be 1 to 64\n",
-        2,
-    ),
-    (Some(RunFault::Cut), "msgrun: cut must be at least 1\n", 2),
+    (None, "usage: PROGRAM [workers [cut]]\n", 2),
+    (Some(RunFault::Read), "read failed\n", 1),
+    (Some(RunFault::Memory), "out of memory\n", 1),
+    (Some(RunFault::Write), "write failed\n", 1),
+    (Some(RunFault::Workers), "workers must be 1 to 64\n", 2),
+    (Some(RunFault::Cut), "cut must be at least 1\n", 2),
     (
         Some(RunFault::Document(DocumentFault::NotJson)),
-        "msgrun: document fault 1: not json\n",
+        "document fault 1: not json\n",
         2,
     ),
     (
         Some(RunFault::Document(DocumentFault::Shape)),
-        "msgrun: document fault 2: shape\n",
+        "document fault 2: shape\n",
         2,
     ),
     (
         Some(RunFault::Document(DocumentFault::Version)),
-        "msgrun: document fault 3: version\n",
+        "document fault 3: version\n",
         2,
     ),
     (
         Some(RunFault::Document(DocumentFault::Limit)),
-        "msgrun: document fault 4: limit\n",
+        "document fault 4: limit\n",
         2,
     ),
     (
         Some(RunFault::Document(DocumentFault::DuplicateClass)),
-        "msgrun: document fault 5: duplicate class\n",
+        "document fault 5: duplicate class\n",
         2,
     ),
     (
         Some(RunFault::Document(DocumentFault::UnknownSuperclass)),
-        "msgrun: document fault 6: unknown superclass\n",
+        "document fault 6: unknown superclass\n",
         2,
     ),
     (
         Some(RunFault::Document(DocumentFault::UnknownClass)),
-        "msgrun: document fault 7: unknown class\n",
+        "document fault 7: unknown class\n",
         2,
     ),
     (
         Some(RunFault::Document(DocumentFault::DuplicateObject)),
-        "msgrun: document fault 8: duplicate object\n",
+        "document fault 8: duplicate object\n",
         2,
     ),
     (
         Some(RunFault::Document(DocumentFault::UnknownObject)),
-        "msgrun: document fault 9: unknown object\n",
+        "document fault 9: unknown object\n",
         2,
     ),
     (
         Some(RunFault::Document(DocumentFault::DuplicateImp)),
-        "msgrun: document fault 10: duplicate implementation\n",
+        "document fault 10: duplicate implementation\n",
         2,
     ),
     (
         Some(RunFault::Document(DocumentFault::UnknownImp)),
-        "msgrun: document fault 11: unknown implementation\n",
+        "document fault 11: unknown implementation\n",
         2,
     ),
     (
         Some(RunFault::Document(DocumentFault::BadSelector)),
-        "msgrun: document fault 12: bad selector\n",
+        "document fault 12: bad selector\n",
         2,
     ),
     (
         Some(RunFault::Document(DocumentFault::DuplicateSelector)),
-        "msgrun: document fault 13: duplicate selector\n",
+        "document fault 13: duplicate selector\n",
         2,
     ),
     (
         Some(RunFault::Document(DocumentFault::ArgumentCount)),
-        "msgrun: document fault 14: argument count\n",
+        "document fault 14: argument count\n",
         2,
     ),
     (
         Some(RunFault::Document(DocumentFault::ArgumentIndex)),
-        "msgrun: document fault 15: argument index\n",
+        "document fault 15: argument index\n",
         2,
     ),
     (
         Some(RunFault::Document(DocumentFault::BodyTooDeep)),
-        "msgrun: document fault 16: body too deep\n",
+        "document fault 16: body too deep\n",
         2,
     ),
     (
         Some(RunFault::Document(DocumentFault::ClassCycle)),
-        "msgrun: document fault 18: class cycle\n",
+        "document fault 18: class cycle\n",
         2,
     ),
 ];
 
+const PROGRAMS: [(Program, &str); 2] = [
+    (Program::Msgrun, "msgrun"),
+    (Program::Msgbeside, "msgbeside"),
+];
+
 #[test]
-fn each_fault_has_a_line_and_a_status(rt: HostRuntime) {
+fn each_fault_has_a_line_and_a_status(rt: HostRuntime) -> Result<(), Fail> {
     let alloc = rt.alloc();
-    for (fault, line, status) in LINES {
-        let mut sink = ToWriter::new(Vec::new(alloc));
-        assert_eq!(rt; complain(&mut sink, fault.as_ref()), status, "{line}");
-        assert_eq!(rt; sink.writer.as_slice(), line.as_bytes());
+    for (program, name) in PROGRAMS {
+        for (fault, said, status) in LINES {
+            let said = said.replace(alloc, "PROGRAM", name)?;
+            let line = format!(in alloc; "{name}: {said}")?;
+            let mut sink = ToWriter::new(Vec::new(alloc));
+            assert_eq!(rt;
+                complain(&mut sink, program, fault.as_ref()),
+                status,
+                "{line}"
+            );
+            assert_eq!(rt; sink.writer.as_slice(), line.as_bytes());
+        }
     }
+    Ok(())
 }
 
 #[test]
 fn a_failed_write_leaves_the_status(rt: HostRuntime) {
-    for (fault, _line, status) in LINES {
-        let mut room = [0; 12];
-        let mut sink = ToWriter::new(io::Cursor::new(room.as_mut_slice()));
-        assert_eq!(rt; complain(&mut sink, fault.as_ref()), status);
-        let front = sink.failed;
-        assert!(rt; front);
-        assert_eq!(rt; room.as_slice().first(), Some(&b'm'));
+    for (fault, _said, status) in LINES {
+        // room for the name, and for a front of what is said
+        for size in [3, 12] {
+            let mut room = [0; 12];
+            let mut sink = ToWriter::new(io::Cursor::new(&mut room[..size.min(12)]));
+            assert_eq!(rt;
+                complain(&mut sink, Program::Msgrun, fault.as_ref()),
+                status
+            );
+            let front = sink.failed;
+            assert!(rt; front);
+            assert_eq!(rt; room.as_slice().first(), Some(&b'm'));
+        }
     }
 }
