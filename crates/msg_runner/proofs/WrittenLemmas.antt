@@ -21,14 +21,15 @@ use Rattle.msg_runner.specs.Text.{text_of, answer_line}
 use Rattle.msg_runner.specs.Written.{AreWritten}
 use Rattle.msg_runner.proofs.AnsweredLemmas.{served_plain, text_split}
 use Rattle.msg_runner.proofs.PartLemmas.{all_right}
-use Rattle.msg_runner.proofs.ServingLemmas.{all_tail}
+use Rattle.msg_runner.proofs.ServingLemmas.{all_tail, served_from}
+use Rattle.msg_cache.proofs.PastLemmas.{begins_refl}
 
 -- whatever is written of the rest, the whole is written
 abbrev pub GoesOn : ImageParts → History → List Meaning → List ℕ → History → List Meaning → List ℕ → Type 0
 GoesOn image h0 all old h left now = (last : History) (new : List ℕ) → AreWritten image h left last now new → AreWritten image h0 all last old new
 
 pub nothing_written : (image : ImageParts) (h : History) (text : List ℕ) → AreWritten image h [] h text text
-nothing_written image h text = record { replies = []; served = refl; text = sym (append-nil text) }
+nothing_written image h text = record { replies = []; served = begins_refl h; text = sym (append-nil text) }
 
 pub one_written : (image : ImageParts) (h now : History) (m : Meaning) (left : List Meaning) (r : Reply) (points : List History) (last : History) (old text new : List ℕ)
     → Rise h points → EndsAfter m points r → now ≡ last_of h points → text ≡ old ++ answer_line image (Replied r)
@@ -40,7 +41,7 @@ one_written image h now m left r points last old text new rise ends is grown lat
 }
 
 served_append : (h mid last : History) (ms ns : List Meaning) (rs ss : List Reply) → Served h ms rs mid → Served mid ns ss last → Served h (ms ++ ns) (rs ++ ss) last
-served_append h mid last [] ns [] ss a b = subst (λ g. Served g ns ss last) (sym a) b
+served_append h mid last [] ns [] ss a b = served_from h mid ns ss last a b
 served_append h mid last [] ns (r ∷ rs) ss a b = absurd a
 served_append h mid last (m ∷ ms) ns [] ss a b = absurd a
 served_append h mid last (m ∷ ms) ns (r ∷ rs) ss (points, rise, ends, more) b = (points, rise, ends, served_append (last_of h points) mid last ms ns rs ss more b)

@@ -15,7 +15,7 @@ use crate::deal::Deal;
 use crate::gate::Gate;
 use crate::gather::push_outcome;
 use crate::text::push_reply;
-use msg_dispatch::{ArenaName, Changer, Sender};
+use msg_dispatch::{ArenaName, Changer, Recalling};
 use msg_image::{Change, Image, Item};
 use std::alloc::AllocError;
 use std::sync::Wait;
@@ -111,13 +111,13 @@ fn answer_pieces<'r, 'd, N: ArenaName, R: Wait, G: Gate>(
 pub(crate) fn answer_sends<'d, N: ArenaName, R: Wait, G: Gate>(
     rt: &R,
     changer: &mut Changer<'d, N>,
-    sender: Sender<'d, N>,
+    sender: Recalling<'d, N>,
     gate: &G,
     deal: Deal,
     image: &Image,
     items: &[Item],
     text: &mut Vec<u8>,
-) -> Result<(Sender<'d, N>, u32), AllocError>
+) -> Result<(Recalling<'d, N>, u32), AllocError>
     requires image { changer.old.image ≡ image.now }
     requires sound { All (IsSoundItem image.now) (map item_parts items.now) }
     requires places { deal.first + length items.now < 2 ^ 32 }
@@ -127,10 +127,10 @@ pub(crate) fn answer_sends<'d, N: ArenaName, R: Wait, G: Gate>(
     ensures text { OnOk result (text.new.items ≡ text.old.items ++ text_of image.now (serial_from changer.old (map item_parts items.now))) }
 {
     let mut sender = sender;
-    changer.meet(rt, &mut sender);
+    sender.meet(rt, changer);
     let mut asking = Asking { rt, sender };
     let pieces = answer_pieces(&mut asking, gate, deal, image, items, text)?;
     let Asking { mut sender, .. } = asking;
-    changer.meet(rt, &mut sender);
+    sender.meet(rt, changer);
     Ok((sender, pieces))
 }

@@ -16,7 +16,7 @@ use crate::batch::{After, answer_batch};
 use crate::deal::Deal;
 use crate::gate::Gate;
 use msg_cache::{Arena, Config, Keeper};
-use msg_dispatch::{ArenaName, Changer, Dispatcher, Sender};
+use msg_dispatch::{ArenaName, Changer, Dispatcher, Recalling};
 use msg_image::{Document, Image, Item};
 use std::alloc::{AllocError, Global};
 use std::marker::Brand;
@@ -44,7 +44,7 @@ fn part_len(items: &[Item]) -> usize
 fn answer_alone<'d, N: ArenaName, G: Gate, R: Wait>(
     rt: &R,
     changer: Changer<'d, N>,
-    senders: Vec<Sender<'d, N>>,
+    senders: Vec<Recalling<'d, N>>,
     gate: &G,
     deal: Deal,
     image: &Image,
@@ -56,7 +56,7 @@ fn answer_alone<'d, N: ArenaName, G: Gate, R: Wait>(
     requires places { deal.first + length part.now < 2 ^ 32 }
     requires sends { AllSends (map item_parts part.now) }
     ensures text { OnOk result (text.new.items ≡ text.old.items ++ text_of image.now (serial_from changer.entry (map item_parts part.now))) }
-    ensures history { IfOk result (λ a. a.changer ≡ changer.entry) }
+    ensures history { IfOk result (λ a. a.changer ≡ history_of changer.entry (map item_parts part.now)) }
     ensures senders { IfOk result (λ a. vec_len a.senders ≡ vec_len senders.entry) }
     ensures pieces { IfOk result (λ a. a.pieces ≤ length part.now) }
     ensures changes { IfOk result (λ a. a.changes ≡ 0) }
@@ -82,7 +82,7 @@ fn answer_part<'d, N: ArenaName + Send + Sync + 'd, G: Gate, R: Threads + Wait +
     rt: &'d R,
     alloc: Global,
     changer: Changer<'d, N>,
-    senders: Vec<Sender<'d, N>>,
+    senders: Vec<Recalling<'d, N>>,
     gate: &'d G,
     deal: Deal,
     first_change: u32,
@@ -115,7 +115,7 @@ fn answer_part<'d, N: ArenaName + Send + Sync + 'd, G: Gate, R: Threads + Wait +
     if deal.workers == 1 || part.len() <= deal.cut as usize {
         return answer_alone(rt, changer, senders, gate, deal, image, part, text);
     }
-    answer_batch(
+    let after = answer_batch(
         rt,
         alloc,
         changer,
@@ -126,7 +126,8 @@ fn answer_part<'d, N: ArenaName + Send + Sync + 'd, G: Gate, R: Threads + Wait +
         image,
         part,
         text,
-    )
+    )?;
+    Ok(after)
 }
 
 // The text of all items, part by part.
@@ -134,7 +135,7 @@ fn answer_parts<'d, N: ArenaName + Send + Sync + 'd, G: Gate, R: Threads + Wait 
     rt: &'d R,
     alloc: Global,
     changer: Changer<'d, N>,
-    senders: Vec<Sender<'d, N>>,
+    senders: Vec<Recalling<'d, N>>,
     gate: &'d G,
     deal: Deal,
     image: &'d Image,
@@ -175,13 +176,13 @@ fn answer_parts<'d, N: ArenaName + Send + Sync + 'd, G: Gate, R: Threads + Wait 
     Ok(text)
 }
 
-// So many senders.
+// So many senders, each with a memory.
 fn senders_of<'d, N: ArenaName, R: Wait>(
     rt: &R,
     alloc: Global,
     dispatcher: &'d Dispatcher<N>,
     count: u32,
-) -> Result<Vec<Sender<'d, N>>, AllocError>
+) -> Result<Vec<Recalling<'d, N>>, AllocError>
     ensures { IfOk result (λ senders. vec_len senders ≡ count) }
 {
     let mut senders = Vec::new(alloc);
@@ -189,7 +190,7 @@ fn senders_of<'d, N: ArenaName, R: Wait>(
         let Ok(sender) = dispatcher.sender(rt) else {
             return Err(AllocError);
         };
-        senders.push(sender)?;
+        senders.push(Recalling::new(alloc, sender)?)?;
     }
     Ok(senders)
 }
