@@ -311,6 +311,14 @@ impl Keeper {
         }
     }
 
+    /// How many changes were made.
+    #[inline]
+    pub fn count(&self) -> u64
+        ensures { result ≡ size (view self.now).history }
+    {
+        self.count
+    }
+
     /// What was done so far.
     pub fn report(&self) -> Report
         ensures { result ≡ self.now.report }

@@ -80,5 +80,6 @@ impl<'d, N: ArenaName> Changer<'d, N> {
             .desk
             .lock(rt)
             .meet(&dispatcher.arena, &mut self.turn, &mut sender.prober);
+        sender.count = Some(self.count);
     }
 }

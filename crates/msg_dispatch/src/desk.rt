@@ -15,6 +15,13 @@ use msg_runtime::Runtime;
 use msg_tables::ChangeFault;
 use std::marker::{Model, PhantomData};
 
+// What a lookup found, and how many changes there were.
+#[derive(Clone, Copy)]
+pub(crate) struct Answer {
+    pub(crate) imp: ImpRef,
+    pub(crate) count: u64,
+}
+
 // The runtime of the arena that N names.
 #[derive(Drop)]
 pub(crate) struct Desk<N: ArenaName> {
@@ -40,17 +47,20 @@ impl<N: ArenaName> Desk<N> {
         prober: &mut Prober,
         class: ClassRef,
         sel: Selector,
-    ) -> ImpRef
+    ) -> Answer
         requires arena { arena.now ≡ N.arena }
         requires prober { IsSenderOf N.arena prober.old }
         requires class { class.class < classes N.arena }
         ensures prober { IsSenderOf N.arena prober.new }
         ensures image { prober.new.sender.front.image ≡ N.arena.key.image }
         ensures begins { BeginsWith prober.new.sender.front prober.old.sender.front }
-        ensures found { imp_number result ≡ lookup prober.new.sender.front class (selector_number sel) }
-        ensures listed { imp_number result ≤ length N.arena.key.image.imps }
+        ensures found { imp_number result.imp ≡ lookup prober.new.sender.front class (selector_number sel) }
+        ensures listed { imp_number result.imp ≤ length N.arena.key.image.imps }
+        ensures count { result.count ≡ length prober.new.sender.front.changes }
     {
-        self.runtime.answer(arena, prober, class, sel)
+        let imp = self.runtime.answer(arena, prober, class, sel);
+        let count = self.runtime.count();
+        Answer { imp, count }
     }
 
     pub(crate) fn change(

@@ -72,6 +72,7 @@ impl<N: ArenaName> Dispatcher<N> {
                 dispatcher: self,
                 prober,
                 takings: 0,
+                count: None,
             }),
             None => Err(NoSenderFree),
         }

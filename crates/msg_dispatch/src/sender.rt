@@ -7,6 +7,7 @@ ghost use Rattle.msg_tables.specs.History.{BeginsWith, lookup};
 ghost use Rattle.msg_cache.specs.Record.{Probes, Hits, Misses};
 ghost use Rattle.msg_cache.specs.Views.{layout};
 
+use crate::desk::Answer;
 use crate::dispatcher::Dispatcher;
 use crate::name::ArenaName;
 use msg_cache::Prober;
@@ -21,10 +22,12 @@ pub struct Sender<'d, N: ArenaName> {
     pub(crate) dispatcher: &'d Dispatcher<N>,
     pub(crate) prober: Prober,
     pub(crate) takings: u64,
+    // how many changes it has seen, where it knows
+    pub(crate) count: Option<u64>,
 }
 
 impl<'d, N: ArenaName> Model for Sender<'d, N> {
-    ghost use Rattle.std.specs.Prelude.{◌≡◌};
+    ghost use Rattle.std.specs.Prelude.{◌≡◌, length, IfSome};
     ghost use Rattle.msg_cache.specs.Views.{IsSenderOf};
     ghost use Rattle.msg_dispatch.specs.Seen.{SenderView};
 
@@ -37,7 +40,7 @@ impl<'d, N: ArenaName> Model for Sender<'d, N> {
 
     ghost view = { λ s. record { seen = s.prober.sender; takings = s.takings } };
 
-    ghost invariant = { λ s. IsSenderOf N.arena s.prober × (s.prober.sender.front.image ≡ N.arena.key.image) };
+    ghost invariant = { λ s. IsSenderOf N.arena s.prober × (s.prober.sender.front.image ≡ N.arena.key.image) × IfSome s.count (λ n. n ≡ length s.prober.sender.front.changes) };
 }
 
 impl<'d, N: ArenaName> Sender<'d, N> {
@@ -50,24 +53,28 @@ impl<'d, N: ArenaName> Sender<'d, N> {
         ensures some { IfSome result (λ i. Hits self.new.seen.last (imp_number i) × (imp_number i ≡ lookup self.new.seen.front class (selector_number sel))) }
         ensures none { IfNone result (Misses (layout N.arena) self.new.seen.last) }
     {
+        self.count = None;
         self.prober.probe(&self.dispatcher.arena, class, sel)
     }
 
-    // After a miss: takes the lock.
-    fn find_locked<R: Wait>(&mut self, rt: &R, class: ClassRef, sel: Selector) -> ImpRef
+    // After a miss: takes the lock. The sender then knows how many changes it has seen.
+    pub(crate) fn find_locked<R: Wait>(&mut self, rt: &R, class: ClassRef, sel: Selector) -> Answer
         requires class { class.class < class_total self.old.seen.front.image }
         ensures begins { BeginsWith self.new.seen.front self.old.seen.front }
-        ensures found { imp_number result ≡ lookup self.new.seen.front class (selector_number sel) }
-        ensures listed { imp_number result ≤ length self.new.seen.front.image.imps }
+        ensures found { imp_number result.imp ≡ lookup self.new.seen.front class (selector_number sel) }
+        ensures listed { imp_number result.imp ≤ length self.new.seen.front.image.imps }
+        ensures count { result.count ≡ length self.new.seen.front.changes }
         ensures takings { (self.old.takings ≤ self.new.takings) × (self.new.takings ≤ self.old.takings + 1) }
         ensures counted { self.old.takings < 2 ^ 64 - 1 → self.new.takings ≡ self.old.takings + 1 }
     {
         let dispatcher = self.dispatcher;
         self.takings = self.takings.saturating_add(1);
-        dispatcher
+        let answer = dispatcher
             .desk
             .lock(rt)
-            .answer(&dispatcher.arena, &mut self.prober, class, sel)
+            .answer(&dispatcher.arena, &mut self.prober, class, sel);
+        self.count = Some(answer.count);
+        answer
     }
 
     /// The implementation that a lookup finds at what the sender has then seen. After a miss it takes the lock, once.
@@ -84,7 +91,7 @@ impl<'d, N: ArenaName> Sender<'d, N> {
         a_found_implementation_is_listed();
         match self.find_cached(class, sel) {
             Some(imp) => imp,
-            None => self.find_locked(rt, class, sel),
+            None => self.find_locked(rt, class, sel).imp,
         }
     }
 
@@ -94,7 +101,9 @@ impl<'d, N: ArenaName> Sender<'d, N> {
         ensures length { result ≡ length self.new.seen.front.changes }
         ensures takings { self.new.takings ≡ self.old.takings }
     {
-        self.prober.published(&self.dispatcher.arena)
+        let count = self.prober.published(&self.dispatcher.arena);
+        self.count = Some(count);
+        count
     }
 
     /// How often `find` took the lock.

@@ -12,4 +12,6 @@ mod memory;
 #[cfg(test)]
 mod one_thread;
 #[cfg(test)]
+mod remembering;
+#[cfg(test)]
 mod threads;

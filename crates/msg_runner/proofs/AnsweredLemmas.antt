@@ -29,7 +29,7 @@ rise_length h [] rise = omega arith
 rise_length h (p ∷ ps) rise = let a = begins_length p h rise.0 in let b = rise_length p ps rise.1 in omega (arith, a, b)
 
 served_length : (h : History) (ms : List Meaning) (rs : List Reply) (last : History) → Served h ms rs last → length h.changes ≤ length last.changes
-served_length h [] [] last s = let e = ap (λ (k : History). length k.changes) s in omega (arith, e)
+served_length h [] [] last s = begins_length last h s
 served_length h [] (r ∷ rs) last s = absurd s
 served_length h (m ∷ ms) [] last s = absurd s
 served_length h (m ∷ ms) (r ∷ rs) last (points, rise, ends, more) =
@@ -77,7 +77,7 @@ module _ (image : ImageParts) (who : ℕ → ℕ) (workers : ℕ) (h : History) 
 
 -- ---- sends alone, or one change
 
-sends_stay : (h : History) (items : List ItemParts) → AllSends items → history_of h items ≡ h
+pub sends_stay : (h : History) (items : List ItemParts) → AllSends items → history_of h items ≡ h
 sends_stay h [] all = refl
 sends_stay h (SendItem r s args ∷ items) all = sends_stay h items all
 sends_stay h (ChangeItem x ∷ items) all = absurd all

@@ -15,10 +15,25 @@ use Rattle.msg_eval.specs.Evaluation.{send_of}
 use Rattle.msg_image.specs.Items.{ItemParts, SendItem, ChangeItem}
 use Rattle.msg_image.specs.Parts.{ImageParts}
 use Rattle.msg_tables.specs.History.{History, BeginsWith}
+use Rattle.msg_cache.proofs.PastLemmas.{begins_refl, begins_trans}
 use Rattle.msg_eval.specs.declared.reply.Reply.{Reply}
 use Rattle.msg_eval.specs.Meaning.{Meaning}
 use Rattle.msg_eval.specs.Points.{Rise, EndsAfter, last_of}
 use Rattle.msg_runner.specs.Serving.{Goes, Served, share_of, count_of, sends_of, at_worker}
+
+-- points that rise from a later history rise from an earlier one
+pub rise_from : (h k : History) (points : List History) → BeginsWith k h → Rise k points → Rise h points × BeginsWith (last_of k points) (last_of h points)
+rise_from h k [] begins rise = (tt, begins)
+rise_from h k (p ∷ ps) begins rise = ((begins_trans p k h rise.0 begins, rise.1), begins_refl (last_of p ps))
+
+-- what was served from a later history on was served from an earlier one on
+pub served_from : (h k : History) (ms : List Meaning) (rs : List Reply) (last : History) → BeginsWith k h → Served k ms rs last → Served h ms rs last
+served_from h k [] [] last begins s = begins_trans last k h s begins
+served_from h k [] (r ∷ rs) last begins s = absurd s
+served_from h k (m ∷ ms) [] last begins s = absurd s
+served_from h k (m ∷ ms) (r ∷ rs) last begins (points, rise, ends, more) =
+    let (low, high) = rise_from h k points begins rise in
+    (points, low, ends, served_from (last_of h points) (last_of k points) ms rs last high more)
 
 -- what was served from a place on is served from the start
 abbrev pub Serves : History → List Meaning → List Reply → History → List Meaning → Type 0
@@ -28,7 +43,7 @@ pub serve_step : (h0 : History) (start : List Meaning) (b : Bool) (h now : Histo
     → Goes b h m old new now → ((later : List Reply) (last : History) → Served h (cond b (m ∷ left) left) later last → Served h0 start (old ++ later) last)
     → (later : List Reply) (last : History) → Served now left later last → Served h0 start (new ++ later) last
 serve_step h0 start true h now m left old new (r, points, rise, ends, is, grown) so_far later last s =
-    let more = so_far (r ∷ later) last (points, rise, ends, subst (λ g. Served g left later last) is s) in
+    let more = so_far (r ∷ later) last (points, rise, ends, served_from (last_of h points) now left later last is s) in
     subst (λ done. Served h0 start done last) (sym (append_assoc old (r ∷ []) later) ∙ ap (λ done. done ++ later) (sym grown)) more
 serve_step h0 start false h now m left old new (is, grown) so_far later last s =
     subst (λ done. Served h0 start (done ++ later) last) (sym grown) (so_far later last (subst (λ g. Served g left later last) is s))
@@ -69,7 +84,7 @@ module _ (image : ImageParts) (who : ℕ → ℕ) (me : ℕ) (h0 : History) (sta
   pub serving_end : (h : History) (place : ℕ) (rest : List Item) (done : List Reply) → IsServing image who me h0 start h place (map item_parts rest) done → rest ≡ [] → Served h0 start done h
   serving_end h place rest done so_far none =
       let ended = subst (λ xs. IsServing image who me h0 start h place (map item_parts xs) done) none so_far in
-      subst (λ z. Served h0 start z h) (append-nil done) (ended.serves [] h refl)
+      subst (λ z. Served h0 start z h) (append-nil done) (ended.serves [] h (begins_refl h))
 
 -- a worker before the first place
 pub serving_start : (image : ImageParts) (who : ℕ → ℕ) (me : ℕ) (h : History) (all : List ItemParts) → h.image ≡ image → All (IsSoundItem image) all

@@ -37,16 +37,16 @@ woven (SendItem r s args ∷ items) (reply ∷ rs) os = Replied reply ∷ woven 
 woven (ChangeItem x ∷ items) rs [] = woven items rs []
 woven (ChangeItem x ∷ items) rs (o ∷ os) = answer_to_change o ∷ woven items rs os
 
--- sends end with these replies at points that rise from one history to another
+-- sends end with these replies at points that rise from one history on, and that another begins with
 abbrev pub Served : History → List Meaning → List Reply → History → Type 0
-Served h [] [] last = h ≡ last
+Served h [] [] last = BeginsWith last h
 Served h [] (r ∷ rs) last = ⊥
 Served h (m ∷ ms) [] last = ⊥
 Served h (m ∷ ms) (r ∷ rs) last = (points : List History) × Rise h points × EndsAfter m points r × Served (last_of h points) ms rs last
 
--- a worker comes to a send: where it is the worker's own a reply was added, and the sender stands at the last of its points
+-- a worker comes to a send: where it is the worker's own a reply was added, and what the sender has seen begins with the last of its points
 abbrev pub Goes : Bool → History → Meaning → List Reply → List Reply → History → Type 0
-Goes true h m old new now = (r : Reply) × (points : List History) × Rise h points × EndsAfter m points r × (now ≡ last_of h points) × (new ≡ old ++ r ∷ [])
+Goes true h m old new now = (r : Reply) × (points : List History) × Rise h points × EndsAfter m points r × BeginsWith now (last_of h points) × (new ≡ old ++ r ∷ [])
 Goes false h m old new now = (now ≡ h) × (new ≡ old)
 
 -- the worker of a place: pieces of `cut` places go to the workers in turn

@@ -2,21 +2,21 @@
 
 ghost use Rattle.std.specs.Prelude.{◌≡◌, All, List};
 ghost use Rattle.msg_image.specs.Sound.{IsOf};
-ghost use Rattle.msg_tables.specs.History.{History};
+ghost use Rattle.msg_tables.specs.History.{History, BeginsWith};
 ghost use Rattle.msg_eval.specs.Evaluation.{send_of};
 ghost use Rattle.msg_eval.specs.Points.{Rise, EndsAfter, last_of};
 
-use msg_dispatch::{ArenaName, Sender};
+use msg_dispatch::{ArenaName, Recalling};
 use msg_eval::{Args, Finder, Reply, send};
 use msg_image::Image;
 use msg_names::{ClassRef, ImpRef, Selector, Value};
 use std::sync::Wait;
 
-// A sender with the handle by which its misses wait.
+// A sender and its memory, with the handle by which its misses wait.
 #[derive(Drop)]
 pub(crate) struct Asking<'r, 'd, N: ArenaName, R: Wait> {
     pub(crate) rt: &'r R,
-    pub(crate) sender: Sender<'d, N>,
+    pub(crate) sender: Recalling<'d, N>,
 }
 
 impl<'r, 'd, N: ArenaName, R: Wait> Finder for Asking<'r, 'd, N, R> {
@@ -53,5 +53,23 @@ impl<'r, 'd, N: ArenaName, R: Wait> Asking<'r, 'd, N, R> {
         ensures points { (points : List History) × Rise self.old.sender.seen.front points × EndsAfter (send_of image.now receiver sel args.now.items) points result × (self.new.sender.seen.front ≡ last_of self.old.sender.seen.front points) }
     {
         send(self, image, receiver, sel, args)
+    }
+
+    // The same, at points that have each change that was published before.
+    pub(crate) fn reply_fresh(
+        &mut self,
+        image: &Image,
+        receiver: Value,
+        sel: Selector,
+        args: &Args,
+    ) -> Reply
+        requires image { self.old.sender.seen.front.image ≡ image.now }
+        requires receiver { IsOf image.now receiver }
+        requires args { All (IsOf image.now) args.now.items }
+        ensures image { self.new.sender.seen.front.image ≡ image.now }
+        ensures points { (points : List History) × Rise self.old.sender.seen.front points × EndsAfter (send_of image.now receiver sel args.now.items) points result × BeginsWith self.new.sender.seen.front (last_of self.old.sender.seen.front points) }
+    {
+        let _changes = self.sender.refresh();
+        self.reply(image, receiver, sel, args)
     }
 }

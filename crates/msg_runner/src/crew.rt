@@ -13,7 +13,7 @@ use crate::asking::Asking;
 use crate::deal::Deal;
 use crate::gate::Gate;
 use crate::work::serve;
-use msg_dispatch::{ArenaName, Changer, Sender};
+use msg_dispatch::{ArenaName, Changer, Recalling};
 use msg_eval::Reply;
 use msg_image::{Change, Image, Item};
 use msg_tables::ChangeFault;
@@ -25,14 +25,14 @@ use std::thread::{Promise, Scope, Threads};
 // A sender after a batch, with its replies.
 #[derive(Drop)]
 pub(crate) struct Done<'d, N: ArenaName> {
-    pub(crate) sender: Sender<'d, N>,
+    pub(crate) sender: Recalling<'d, N>,
     pub(crate) replies: Vec<Reply>,
 }
 
 // That a worker serves its share.
 #[derive(Drop)]
 pub(crate) struct ServesShare<'a, 'd, N: ArenaName> {
-    pub(crate) was: Snapshot<Sender<'d, N>>,
+    pub(crate) was: Snapshot<Recalling<'d, N>>,
     pub(crate) deal: Deal,
     pub(crate) me: u32,
     pub(crate) image: &'a Image,
@@ -47,7 +47,7 @@ impl<'a, 'd, N: ArenaName> Promise<Result<Done<'d, N>, AllocError>> for ServesSh
 pub(crate) fn serve_with<'d, N: ArenaName, G: Gate, R: Wait>(
     rt: &R,
     alloc: Global,
-    sender: Sender<'d, N>,
+    sender: Recalling<'d, N>,
     gate: &G,
     deal: Deal,
     me: u32,
@@ -67,7 +67,7 @@ pub(crate) fn serve_with<'d, N: ArenaName, G: Gate, R: Wait>(
 }
 
 // Makes a change, and says why not, if so.
-fn change_one<'d, N: ArenaName, R: Wait>(
+pub(crate) fn change_one<'d, N: ArenaName, R: Wait>(
     rt: &R,
     changer: &mut Changer<'d, N>,
     change: &Change,
@@ -128,7 +128,7 @@ pub(crate) fn serve_beside<
     scope: &'s Scope<'s, &'e ()>,
     alloc: Global,
     changer: &mut Changer<'d, N>,
-    senders: &mut Vec<Sender<'d, N>>,
+    senders: &mut Vec<Recalling<'d, N>>,
     workers: u32,
     gate: &'s G,
     deal: Deal,
@@ -156,7 +156,7 @@ pub(crate) fn serve_beside<
     let Some(mut sender) = senders.pop() else {
         return Err(AllocError);
     };
-    changer.meet(rt, &mut sender);
+    sender.meet(rt, changer);
     let promise = ServesShare {
         was: Snapshot::of(&sender),
         deal,
@@ -188,7 +188,7 @@ pub(crate) fn serve_beside<
     let mine = last.join(rt);
     let (mut all, outcomes) = others?;
     let mut mine = mine?;
-    changer.meet(rt, &mut mine.sender);
+    mine.sender.meet(rt, changer);
     senders.push(mine.sender)?;
     all.push(mine.replies)?;
     Ok((all, outcomes))

@@ -24,7 +24,7 @@ fn reply_of(shares: &[Vec<Reply>], worker: usize, at: usize) -> Reply
     shares[worker][at]
 }
 
-fn push_outcome(
+pub(crate) fn push_outcome(
     text: &mut Vec<u8>,
     image: &Image,
     outcome: Option<ChangeFault>,

@@ -1,6 +1,8 @@
 //! What the programs `msgrun` and `msgbeside` do: their devices, their command line, and the runs from bytes to bytes.
 #![tactic(auto)]
 
+mod alone;
+mod arrays;
 mod asking;
 mod batch;
 mod command_line;

@@ -1,28 +1,27 @@
 //! The text of a document, by workers.
 
-ghost use Rattle.std.specs.Prelude.{◌≡◌, ◌≤◌, ◌<◌, ◌+◌, ◌^◌, ◌⊎◌, [], All, length, map, take, vec_len, IfOk};
+ghost use Rattle.std.specs.Prelude.{◌≡◌, ◌≤◌, ◌<◌, ◌+◌, ◌^◌, ◌⊎◌, ◌++◌, [], All, length, map, take, vec_len, IfOk, OnOk};
 ghost use Rattle.msg_image.specs.DocumentParts.{document_parts};
 ghost use Rattle.msg_image.specs.Plain.{item_parts};
 ghost use Rattle.msg_image.specs.Sound.{IsSoundItem};
 ghost use Rattle.msg_tables.specs.History.{empty};
 ghost use Rattle.msg_runtime.specs.Parts.{IsKeeperOf, keeper_history};
 ghost use Rattle.msg_runner.specs.Serial.{serial_from};
-ghost use Rattle.msg_runner.specs.Serving.{AllSends, IsOneChange, AreAnswered};
+ghost use Rattle.msg_runner.specs.Serving.{AllSends, IsOneChange, AreAnswered, history_of};
 ghost use Rattle.msg_runner.specs.Text.{text_of, output_of};
 
-use crate::batch::answer_batch;
+use crate::alone::{answer_change, answer_sends};
+use crate::arrays::arrays_for;
+use crate::batch::{After, answer_batch};
 use crate::deal::Deal;
 use crate::gate::Gate;
 use msg_cache::{Arena, Config, Keeper};
-use msg_dispatch::{ArenaName, Changer, Dispatcher, Sender};
+use msg_dispatch::{ArenaName, Changer, Dispatcher, Recalling};
 use msg_image::{Document, Image, Item};
 use std::alloc::{AllocError, Global};
 use std::marker::Brand;
 use std::sync::Wait;
 use std::thread::Threads;
-
-// How many arrays of capacity 4, 8, .., 1,024 a run has.
-const ARRAYS: [u16; 9] = [2048, 512, 128, 64, 32, 16, 8, 4, 4];
 
 // How many items are a part: the sends before the next change, or one change.
 fn part_len(items: &[Item]) -> usize
@@ -41,12 +40,102 @@ fn part_len(items: &[Item]) -> usize
     count
 }
 
+// Answers sends on the calling thread.
+fn answer_alone<'d, N: ArenaName, G: Gate, R: Wait>(
+    rt: &R,
+    changer: Changer<'d, N>,
+    senders: Vec<Recalling<'d, N>>,
+    gate: &G,
+    deal: Deal,
+    image: &Image,
+    part: &[Item],
+    text: &mut Vec<u8>,
+) -> Result<After<'d, N>, AllocError>
+    requires image { changer.image ≡ image.now }
+    requires sound { All (IsSoundItem image.now) (map item_parts part.now) }
+    requires places { deal.first + length part.now < 2 ^ 32 }
+    requires sends { AllSends (map item_parts part.now) }
+    ensures text { OnOk result (text.new.items ≡ text.old.items ++ text_of image.now (serial_from changer.entry (map item_parts part.now))) }
+    ensures history { IfOk result (λ a. a.changer ≡ history_of changer.entry (map item_parts part.now)) }
+    ensures senders { IfOk result (λ a. vec_len a.senders ≡ vec_len senders.entry) }
+    ensures pieces { IfOk result (λ a. a.pieces ≤ length part.now) }
+    ensures changes { IfOk result (λ a. a.changes ≡ 0) }
+{
+    let mut changer = changer;
+    let mut senders = senders;
+    let Some(sender) = senders.pop() else {
+        return Err(AllocError);
+    };
+    let (sender, pieces) = answer_sends(rt, &mut changer, sender, gate, deal, image, part, text)?;
+    senders.push(sender)?;
+    Ok(After {
+        changer,
+        senders,
+        pieces,
+        changes: 0,
+    })
+}
+
+// Answers a part: the sends before the next change, or one change. The calling thread does so by itself where it is a change, one worker takes part, or there
+// is one piece.
+fn answer_part<'d, N: ArenaName + Send + Sync + 'd, G: Gate, R: Threads + Wait + Sync>(
+    rt: &'d R,
+    alloc: Global,
+    changer: Changer<'d, N>,
+    senders: Vec<Recalling<'d, N>>,
+    gate: &'d G,
+    deal: Deal,
+    first_change: u32,
+    image: &'d Image,
+    part: &'d [Item],
+    text: &mut Vec<u8>,
+) -> Result<After<'d, N>, AllocError>
+    requires image { changer.image ≡ image.now }
+    requires sound { All (IsSoundItem image.now) (map item_parts part.now) }
+    requires places { deal.first + length part.now < 2 ^ 32 }
+    requires changes { first_change + length part.now < 2 ^ 32 }
+    requires enough { deal.workers ≤ vec_len senders }
+    requires part { AllSends (map item_parts part.now) ⊎ IsOneChange (map item_parts part.now) }
+    ensures text { OnOk result (text.new.items ≡ text.old.items ++ text_of image.now (serial_from changer.entry (map item_parts part.now))) }
+    ensures history { IfOk result (λ a. a.changer ≡ history_of changer.entry (map item_parts part.now)) }
+    ensures senders { IfOk result (λ a. vec_len a.senders ≡ vec_len senders.entry) }
+    ensures pieces { IfOk result (λ a. a.pieces ≤ length part.now) }
+    ensures few_changes { IfOk result (λ a. a.changes ≤ length part.now) }
+{
+    if let Some(Item::Change(change)) = part.first() {
+        let mut changer = changer;
+        answer_change(rt, &mut changer, gate, first_change, image, change, text)?;
+        return Ok(After {
+            changer,
+            senders,
+            pieces: 0,
+            changes: 1,
+        });
+    }
+    if deal.workers == 1 || part.len() <= deal.cut as usize {
+        return answer_alone(rt, changer, senders, gate, deal, image, part, text);
+    }
+    let after = answer_batch(
+        rt,
+        alloc,
+        changer,
+        senders,
+        gate,
+        deal,
+        first_change,
+        image,
+        part,
+        text,
+    )?;
+    Ok(after)
+}
+
 // The text of all items, part by part.
 fn answer_parts<'d, N: ArenaName + Send + Sync + 'd, G: Gate, R: Threads + Wait + Sync>(
     rt: &'d R,
     alloc: Global,
     changer: Changer<'d, N>,
-    senders: Vec<Sender<'d, N>>,
+    senders: Vec<Recalling<'d, N>>,
     gate: &'d G,
     deal: Deal,
     image: &'d Image,
@@ -67,7 +156,7 @@ fn answer_parts<'d, N: ArenaName + Send + Sync + 'd, G: Gate, R: Threads + Wait 
     let mut rest = items;
     while !rest.is_empty() {
         let (part, later) = rest.split_at(part_len(rest));
-        let after = answer_batch(
+        let after = answer_part(
             rt,
             alloc,
             changer,
@@ -87,13 +176,13 @@ fn answer_parts<'d, N: ArenaName + Send + Sync + 'd, G: Gate, R: Threads + Wait 
     Ok(text)
 }
 
-// So many senders.
+// So many senders, each with a memory.
 fn senders_of<'d, N: ArenaName, R: Wait>(
     rt: &R,
     alloc: Global,
     dispatcher: &'d Dispatcher<N>,
     count: u32,
-) -> Result<Vec<Sender<'d, N>>, AllocError>
+) -> Result<Vec<Recalling<'d, N>>, AllocError>
     ensures { IfOk result (λ senders. vec_len senders ≡ count) }
 {
     let mut senders = Vec::new(alloc);
@@ -101,7 +190,7 @@ fn senders_of<'d, N: ArenaName, R: Wait>(
         let Ok(sender) = dispatcher.sender(rt) else {
             return Err(AllocError);
         };
-        senders.push(sender)?;
+        senders.push(Recalling::new(alloc, sender)?)?;
     }
     Ok(senders)
 }
@@ -190,7 +279,7 @@ fn arena_for(alloc: Global, image: &Image, senders: u32) -> Result<(Arena, Keepe
 {
     let config = Config {
         senders,
-        arrays: ARRAYS,
+        arrays: arrays_for(image),
     };
     match Arena::open(alloc, image, config) {
         Ok(opened) => Ok(opened),

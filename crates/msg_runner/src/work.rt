@@ -43,7 +43,7 @@ fn serve_one<'r, 'd, N: ArenaName, R: Wait, G: Gate>(
     if deal.begins(place) {
         gate.piece_starts(me, deal.piece(place));
     }
-    let reply = asking.reply(image, receiver, sel, args);
+    let reply = asking.reply_fresh(image, receiver, sel, args);
     replies.push(reply)?;
     if place + 1 == count || deal.begins(place + 1) {
         gate.piece_done(me, deal.piece(place));

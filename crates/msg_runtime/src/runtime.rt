@@ -203,6 +203,14 @@ impl Runtime {
         self.keeper.renew(arena, prober);
     }
 
+    /// How many changes were made.
+    #[inline]
+    pub fn count(&self) -> u64
+        ensures { result ≡ length self.now.history.changes }
+    {
+        self.keeper.count()
+    }
+
     /// What was done to caches so far.
     pub fn report(&self) -> Report
         ensures { result ≡ self.now.report }

@@ -1,0 +1,6 @@
+use Rattle.std.proofs.Common.{subst, sym}
+use Rattle.msg_dispatch.specs.Remembered.{IsMemoryOf}
+use Rattle.msg_dispatch.proofs.recalling.Recalling.new.Goals as goal
+
+pub invariant_of-result : goal.invariant_of-result
+invariant_of-result g c = subst (IsMemoryOf c.args.sender.seen.front) (sym c.in_ok-memory.ensures.ok) (c.new.ensures c.args.sender.seen.front)

@@ -1,0 +1,123 @@
+//! A sender with its memory.
+
+ghost use Rattle.std.specs.Prelude.{◌≡◌, ◌<◌, ◌≤◌, ◌+◌, length, IfOk, IfSome};
+ghost use Rattle.msg_names.specs.Number.{selector_number, imp_number};
+ghost use Rattle.msg_image.specs.Parts.{class_total};
+ghost use Rattle.msg_tables.specs.History.{BeginsWith, lookup};
+ghost use Rattle.msg_dispatch.specs.Remembered.{IsSiteOf};
+
+use crate::changer::Changer;
+use crate::memory::{Memory, Site};
+use crate::name::ArenaName;
+use crate::sender::Sender;
+use msg_names::{ClassRef, ImpRef, Selector};
+use std::alloc::{AllocError, Global};
+use std::marker::Model;
+use std::sync::Wait;
+
+/// A sender that remembers its lookups. Contracts see it as the sender.
+#[derive(Drop)]
+pub struct Recalling<'d, N: ArenaName> {
+    sender: Sender<'d, N>,
+    memory: Box<Memory>,
+}
+
+impl<'d, N: ArenaName> Model for Recalling<'d, N> {
+    ghost use Rattle.msg_dispatch.specs.Seen.{SenderView};
+
+    ghost Value = { SenderView };
+
+    ghost use Rattle.std.specs.Coded.{codes};
+    ghost use Rattle.msg_image.specs.Coding.{coded_expression};
+
+    ghost coded = { Prim.hlevel (codes, coded_expression) };
+
+    ghost use Rattle.msg_dispatch.specs.Remembered.{IsMemoryOf};
+
+    ghost view = { λ r. r.sender };
+
+    ghost invariant = { λ r. IsMemoryOf r.sender.seen.front r.memory.value };
+}
+
+impl<'d, N: ArenaName> Recalling<'d, N> {
+    /// The sender, which remembers nothing yet. A memory takes 20 KiB.
+    pub fn new(alloc: Global, sender: Sender<'d, N>) -> Result<Recalling<'d, N>, AllocError>
+        ensures { IfOk result (λ r. r ≡ sender.entry) }
+    {
+        let memory = Box::new(alloc, Memory::new())?;
+        Ok(Recalling { sender, memory })
+    }
+
+    /// The implementation that a lookup finds at what the sender has then seen. What it remembers of that point it answers with no load of a shared word.
+    #[inline]
+    pub fn find<R: Wait>(&mut self, rt: &R, class: ClassRef, sel: Selector) -> ImpRef
+        requires class { class.class < class_total self.old.seen.front.image }
+        ensures begins { BeginsWith self.new.seen.front self.old.seen.front }
+        ensures found { imp_number result ≡ lookup self.new.seen.front class (selector_number sel) }
+        ensures listed { imp_number result ≤ length self.new.seen.front.image.imps }
+        ensures takings { (self.old.takings ≤ self.new.takings) × (self.new.takings ≤ self.old.takings + 1) }
+    {
+        self.sender.find_by(rt, &mut self.memory, class, sel)
+    }
+
+    /// As `find`, but first from the site, which is the sender's alone.
+    #[inline]
+    pub fn find_at<R: Wait>(
+        &mut self,
+        rt: &R,
+        site: &mut Site,
+        class: ClassRef,
+        sel: Selector,
+    ) -> ImpRef
+        requires class { class.class < class_total self.old.seen.front.image }
+        requires site { IsSiteOf self.old.seen.front site.old }
+        ensures begins { BeginsWith self.new.seen.front self.old.seen.front }
+        ensures found { imp_number result ≡ lookup self.new.seen.front class (selector_number sel) }
+        ensures listed { imp_number result ≤ length self.new.seen.front.image.imps }
+        ensures site { IsSiteOf self.new.seen.front site.new }
+        ensures takings { (self.old.takings ≤ self.new.takings) × (self.new.takings ≤ self.old.takings + 1) }
+    {
+        self.sender.find_at(rt, site, class, sel)
+    }
+
+    /// What it remembers of the point at which the sender stands. It waits for nothing, and no shared word is loaded.
+    #[inline]
+    pub fn recall(&self, class: ClassRef, sel: Selector) -> Option<ImpRef>
+        ensures found { IfSome result (λ i. imp_number i ≡ lookup self.now.seen.front class (selector_number sel)) }
+        ensures listed { IfSome result (λ i. imp_number i ≤ length self.now.seen.front.image.imps) }
+    {
+        self.sender.recall(&self.memory, class, sel)
+    }
+
+    /// How many changes there are, which the sender has then seen: nothing older is answered from then on. One shared word is loaded, and nothing is forgotten.
+    pub fn refresh(&mut self) -> u64
+        ensures begins { BeginsWith self.new.seen.front self.old.seen.front }
+        ensures length { result ≡ length self.new.seen.front.changes }
+        ensures takings { self.new.takings ≡ self.old.takings }
+    {
+        self.sender.published()
+    }
+
+    /// As the changer's `meet`.
+    pub fn meet<R: Wait>(&mut self, rt: &R, changer: &mut Changer<'_, N>)
+        ensures same { changer.new ≡ changer.old }
+        ensures begins { BeginsWith changer.old self.old.seen.front }
+        ensures seen { self.new.seen.front ≡ changer.old }
+        ensures takings { self.new.takings ≡ self.old.takings }
+    {
+        changer.meet(rt, &mut self.sender);
+    }
+
+    /// How often the lock was taken to find.
+    pub fn lock_takings(&self) -> u64
+        ensures { result ≡ self.now.takings }
+    {
+        self.sender.lock_takings()
+    }
+
+    /// Gives the sender's number back.
+    pub fn finish<R: Wait>(self, rt: &R) {
+        let Recalling { sender, .. } = self;
+        sender.finish(rt);
+    }
+}

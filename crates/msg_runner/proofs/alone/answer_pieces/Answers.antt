@@ -1,0 +1,30 @@
+use Rattle.std.proofs.Common.{arith, ◌≡◌, [], map, ap, subst}
+use Rattle.std.specs.Prelude.{All}
+use Rattle.std.proofs.lemmas.List.{nil_from_length}
+use Rattle.msg_image.specs.Items.{ItemParts}
+use Rattle.msg_image.specs.Plain.{item_parts}
+use Rattle.msg_image.specs.Sound.{IsSoundItem}
+use Rattle.msg_runner.specs.Serving.{sends_of}
+use Rattle.msg_runner.proofs.PartLemmas.{all_left, split_named}
+use Rattle.msg_runner.proofs.WrittenLemmas.{writing_part}
+use Rattle.msg_runner.proofs.alone.answer_pieces.Goals as goal
+
+pub answer_piece-requires-clause-sound : goal.answer_piece-requires-clause-sound
+answer_piece-requires-clause-sound g c =
+    let P : ItemParts → Type 0 = IsSoundItem c.args.image.now in
+    let piece = c.split_at.result.0.now in
+    let later = c.split_at.result.1.now in
+    let split = split_named c.loop-rest.rest.now piece later c.piece_len.result c.split_at.ensures.front c.split_at.ensures.back in
+    all_left P (map item_parts piece) (map item_parts later) (subst (All P) split c.loop-rest.invariant.writing.sound)
+
+pub loop-rest-preserved : goal.loop-rest-preserved
+loop-rest-preserved g c =
+    let image = c.args.image.now in
+    let piece = c.split_at.result.0.now in
+    let later = c.split_at.result.1.now in
+    let split = split_named c.loop-rest.rest.now piece later c.piece_len.result c.split_at.ensures.front c.split_at.ensures.back in
+    record {
+      pieces = omega (arith, c.loop-rest.invariant.pieces, c.split_at.ensures.front_len, c.split_at.ensures.back_len, c.piece_len.ensures.some);
+      writing = writing_part image c.args.asking.now.sender.seen.front (sends_of image (map item_parts c.args.items.now)) c.args.text.now.items c.loop-rest.asking.sender.seen.front c.answer_piece.new.asking.sender.seen.front c.loop-rest.text.items c.answer_piece.new.text.items
+          (map item_parts c.loop-rest.rest.now) (map item_parts piece) (map item_parts later) c.loop-rest.invariant.writing split c.in_ok-answer_piece.ensures.image c.in_ok-answer_piece.ensures.written;
+    }

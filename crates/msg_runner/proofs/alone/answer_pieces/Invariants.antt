@@ -1,0 +1,14 @@
+use Rattle.std.proofs.Common.{◌≤◌, ◌+◌, length, map}
+use Rattle.msg_image.specs.Plain.{item_parts}
+use Rattle.msg_runner.specs.Serving.{sends_of}
+use Rattle.msg_runner.proofs.WrittenLemmas.{IsWriting}
+use Rattle.msg_runner.proofs.alone.answer_pieces.Given as goal
+
+abbrev pub invariant-loop-rest : goal.invariant-loop-rest
+invariant-loop-rest g l = record {
+  pieces : l.pieces + length l.rest ≤ length l.fn.items;
+  writing : IsWriting l.image l.fn.asking.sender.seen.front (sends_of l.image (map item_parts l.fn.items)) l.fn.text.items l.asking.sender.seen.front (map item_parts l.rest) l.text.items;
+}
+
+abbrev pub decreases-loop-rest : goal.decreases-loop-rest
+decreases-loop-rest g l = length l.rest

@@ -1,0 +1,15 @@
+use Rattle.std.proofs.Common.{map, subst, sym}
+use Rattle.msg_image.specs.Plain.{item_parts}
+use Rattle.msg_tables.specs.History.{BeginsWith}
+use Rattle.msg_runner.specs.Serving.{sends_of}
+use Rattle.msg_runner.specs.Written.{AreWritten}
+use Rattle.msg_runner.proofs.WrittenLemmas.{written_serial}
+use Rattle.msg_runner.proofs.alone.answer_sends.Goals as goal
+
+pub returns-clause-text : goal.returns-clause-text
+returns-clause-text g c =
+    let image = c.args.image.now in
+    let sends = sends_of image (map item_parts c.args.items.now) in
+    let last = c.answer_pieces.new.asking.sender.seen.front in
+    let w = subst (λ h. AreWritten image h sends last c.args.text.now.items c.answer_pieces.new.text.items) c.meet.ensures.seen c.in_ok-pieces.ensures.written in
+    written_serial image c.args.changer.now last (map item_parts c.args.items.now) c.args.text.now.items c.answer_pieces.new.text.items c.requires.image c.requires.sends (subst (λ h. BeginsWith h last) c.meet.ensures.same c.meet-2.ensures.begins) w

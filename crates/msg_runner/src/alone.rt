@@ -1,0 +1,136 @@
+//! Parts of a document that the calling thread answers by itself, with each line written at once.
+
+ghost use Rattle.std.specs.Prelude.{◌≡◌, ◌<◌, ◌≤◌, ◌+◌, ◌^◌, ◌++◌, All, length, map, IfOk, OnOk};
+ghost use Rattle.msg_image.specs.Plain.{item_parts};
+ghost use Rattle.msg_image.specs.Sound.{IsSoundItem};
+ghost use Rattle.msg_tables.specs.Refusal.{refusal};
+ghost use Rattle.msg_runner.specs.Serial.{answer_to_change, longer_by, serial_from};
+ghost use Rattle.msg_runner.specs.Serving.{AllSends, sends_of};
+ghost use Rattle.msg_runner.specs.Text.{answer_line, text_of};
+ghost use Rattle.msg_runner.specs.Written.{AreWritten};
+
+use crate::asking::Asking;
+use crate::crew::change_one;
+use crate::deal::Deal;
+use crate::gate::Gate;
+use crate::gather::push_outcome;
+use crate::text::push_reply;
+use msg_dispatch::{ArenaName, Changer, Recalling};
+use msg_image::{Change, Image, Item};
+use std::alloc::AllocError;
+use std::sync::Wait;
+
+// Makes a change, and writes what became of it.
+pub(crate) fn answer_change<'d, N: ArenaName, G: Gate, R: Wait>(
+    rt: &R,
+    changer: &mut Changer<'d, N>,
+    gate: &G,
+    number: u32,
+    image: &Image,
+    change: &Change,
+    text: &mut Vec<u8>,
+) -> Result<(), AllocError>
+    ensures history { OnOk result (changer.new ≡ longer_by changer.old change.now (refusal changer.old change.now)) }
+    ensures line { OnOk result (text.new.items ≡ text.old.items ++ answer_line image.now (answer_to_change (refusal changer.old change.now))) }
+{
+    gate.change_starts(number);
+    let outcome = change_one(rt, changer, change)?;
+    gate.change_done(number);
+    push_outcome(text, image, outcome)
+}
+
+// Answers the sends of a piece one after another.
+fn answer_piece<'r, 'd, N: ArenaName, R: Wait>(
+    asking: &mut Asking<'r, 'd, N, R>,
+    image: &Image,
+    items: &[Item],
+    text: &mut Vec<u8>,
+) -> Result<(), AllocError>
+    requires image { asking.old.sender.seen.front.image ≡ image.now }
+    requires sound { All (IsSoundItem image.now) (map item_parts items.now) }
+    ensures image { OnOk result (asking.new.sender.seen.front.image ≡ image.now) }
+    ensures written { OnOk result (AreWritten image.now asking.old.sender.seen.front (sends_of image.now (map item_parts items.now)) asking.new.sender.seen.front text.old.items text.new.items) }
+{
+    let mut rest = items;
+    while let Some((item, later)) = rest.split_first() {
+        match item {
+            Item::Send {
+                receiver,
+                sel,
+                args,
+            } => {
+                let reply = asking.reply(image, *receiver, *sel, args);
+                push_reply(text, image, reply)?;
+            }
+            Item::Change(_) => {}
+        }
+        rest = later;
+    }
+    Ok(())
+}
+
+// How many sends the next piece has.
+fn piece_len(left: usize, cut: u32) -> usize
+    requires left { 0 < left }
+    requires cut { 1 ≤ cut }
+    ensures some { 0 < result }
+    ensures most { result ≤ left }
+{
+    left.min(cut as usize)
+}
+
+// Answers sends piece by piece.
+fn answer_pieces<'r, 'd, N: ArenaName, R: Wait, G: Gate>(
+    asking: &mut Asking<'r, 'd, N, R>,
+    gate: &G,
+    deal: Deal,
+    image: &Image,
+    items: &[Item],
+    text: &mut Vec<u8>,
+) -> Result<u32, AllocError>
+    requires image { asking.old.sender.seen.front.image ≡ image.now }
+    requires sound { All (IsSoundItem image.now) (map item_parts items.now) }
+    requires places { deal.first + length items.now < 2 ^ 32 }
+    ensures pieces { IfOk result (λ pieces. pieces ≤ length items.now) }
+    ensures written { OnOk result (AreWritten image.now asking.old.sender.seen.front (sends_of image.now (map item_parts items.now)) asking.new.sender.seen.front text.old.items text.new.items) }
+{
+    let mut pieces = 0;
+    let mut rest = items;
+    while !rest.is_empty() {
+        let (piece, later) = rest.split_at(piece_len(rest.len(), deal.cut));
+        gate.piece_starts(0, deal.first + pieces);
+        answer_piece(asking, image, piece, text)?;
+        gate.piece_done(0, deal.first + pieces);
+        pieces += 1;
+        rest = later;
+    }
+    Ok(pieces)
+}
+
+// Answers sends between which and beside which no change is made. The sender meets the changer before and after.
+pub(crate) fn answer_sends<'d, N: ArenaName, R: Wait, G: Gate>(
+    rt: &R,
+    changer: &mut Changer<'d, N>,
+    sender: Recalling<'d, N>,
+    gate: &G,
+    deal: Deal,
+    image: &Image,
+    items: &[Item],
+    text: &mut Vec<u8>,
+) -> Result<(Recalling<'d, N>, u32), AllocError>
+    requires image { changer.old.image ≡ image.now }
+    requires sound { All (IsSoundItem image.now) (map item_parts items.now) }
+    requires places { deal.first + length items.now < 2 ^ 32 }
+    requires sends { AllSends (map item_parts items.now) }
+    ensures same { changer.new ≡ changer.old }
+    ensures pieces { IfOk result (λ r. r.1 ≤ length items.now) }
+    ensures text { OnOk result (text.new.items ≡ text.old.items ++ text_of image.now (serial_from changer.old (map item_parts items.now))) }
+{
+    let mut sender = sender;
+    sender.meet(rt, changer);
+    let mut asking = Asking { rt, sender };
+    let pieces = answer_pieces(&mut asking, gate, deal, image, items, text)?;
+    let Asking { mut sender, .. } = asking;
+    sender.meet(rt, changer);
+    Ok((sender, pieces))
+}
