@@ -206,7 +206,7 @@ impl Runtime {
     /// How many changes were made.
     #[inline]
     pub fn count(&self) -> u64
-        ensures { result ≡ length self.now.history.changes }
+        ensures { result ≡ length self.now.keeper.history.changes }
     {
         self.keeper.count()
     }

@@ -8,5 +8,5 @@ pub returns-clause-points : goal.returns-clause-points
 returns-clause-points g c =
     let was = c.args.self.now.sender.seen.front in
     let (points, rise, ends, is) = c.reply.ensures.points in
-    let (low, high) = rise_from was c.refresh-_changes.new.self.seen.front points c.refresh-_changes.ensures.begins rise in
+    let (low, high) = rise_from was c.refresh-changes.new.self.seen.front points c.refresh-changes.ensures.begins rise in
     (points, low, ends, subst (λ k. BeginsWith k (last_of was points)) (sym is) high)
