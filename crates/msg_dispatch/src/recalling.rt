@@ -19,7 +19,7 @@ use std::sync::Wait;
 #[derive(Drop)]
 pub struct Recalling<'d, N: ArenaName> {
     sender: Sender<'d, N>,
-    memory: Box<Memory>,
+    memory: Option<Box<Memory>>,
 }
 
 impl<'d, N: ArenaName> Model for Recalling<'d, N> {
@@ -32,11 +32,12 @@ impl<'d, N: ArenaName> Model for Recalling<'d, N> {
 
     ghost coded = { Prim.hlevel (codes, coded_expression) };
 
+    ghost use Rattle.std.specs.Prelude.{IfSome};
     ghost use Rattle.msg_dispatch.specs.Remembered.{IsMemoryOf};
 
     ghost view = { λ r. r.sender };
 
-    ghost invariant = { λ r. IsMemoryOf r.sender.seen.front r.memory.value };
+    ghost invariant = { λ r. IfSome r.memory (λ m. IsMemoryOf r.sender.seen.front m.value) };
 }
 
 impl<'d, N: ArenaName> Recalling<'d, N> {
@@ -45,7 +46,27 @@ impl<'d, N: ArenaName> Recalling<'d, N> {
         ensures { IfOk result (λ r. r ≡ sender.entry) }
     {
         let memory = Box::new(alloc, Memory::new())?;
-        Ok(Recalling { sender, memory })
+        Ok(Recalling {
+            sender,
+            memory: Some(memory),
+        })
+    }
+
+    /// The sender, which remembers nothing now or later: for so few lookups that a memory isn't worth its making.
+    pub fn without_memory(sender: Sender<'d, N>) -> Recalling<'d, N>
+        ensures { result ≡ sender.entry }
+    {
+        Recalling {
+            sender,
+            memory: None,
+        }
+    }
+
+    /// The sender without its memory.
+    pub fn into_sender(self) -> Sender<'d, N>
+        ensures { result ≡ self.entry }
+    {
+        self.sender
     }
 
     /// The implementation that a lookup finds at what the sender has then seen. What it remembers of that point it answers with no load of a shared word.
@@ -57,7 +78,10 @@ impl<'d, N: ArenaName> Recalling<'d, N> {
         ensures listed { imp_number result ≤ length self.new.seen.front.image.imps }
         ensures takings { (self.old.takings ≤ self.new.takings) × (self.new.takings ≤ self.old.takings + 1) }
     {
-        self.sender.find_by(rt, &mut self.memory, class, sel)
+        match &mut self.memory {
+            Some(memory) => self.sender.find_by(rt, memory, class, sel),
+            None => self.sender.find(rt, class, sel),
+        }
     }
 
     /// As `find`, but first from the site, which is the sender's alone.
@@ -86,7 +110,10 @@ impl<'d, N: ArenaName> Recalling<'d, N> {
         ensures found { IfSome result (λ i. imp_number i ≡ lookup self.now.seen.front class (selector_number sel)) }
         ensures listed { IfSome result (λ i. imp_number i ≤ length self.now.seen.front.image.imps) }
     {
-        self.sender.recall(&self.memory, class, sel)
+        match &self.memory {
+            Some(memory) => self.sender.recall(memory, class, sel),
+            None => None,
+        }
     }
 
     /// How many changes there are, which the sender has then seen: nothing older is answered from then on. One shared word is loaded, and nothing is forgotten.

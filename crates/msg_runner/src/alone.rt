@@ -15,9 +15,9 @@ use crate::deal::Deal;
 use crate::gate::Gate;
 use crate::gather::push_outcome;
 use crate::text::push_reply;
-use msg_dispatch::{ArenaName, Changer, Recalling};
+use msg_dispatch::{ArenaName, Changer, Recalling, Sender};
 use msg_image::{Change, Image, Item};
-use std::alloc::AllocError;
+use std::alloc::{AllocError, Global};
 use std::sync::Wait;
 
 // Makes a change, and writes what became of it.
@@ -107,17 +107,35 @@ fn answer_pieces<'r, 'd, N: ArenaName, R: Wait, G: Gate>(
     Ok(pieces)
 }
 
+// For fewer sends a memory isn't worth its making.
+const SENDS_FOR_A_MEMORY: usize = 16;
+
+// The sender with a memory, where there are sends enough for one.
+fn remembering<'d, N: ArenaName>(
+    alloc: Global,
+    sender: Sender<'d, N>,
+    sends: usize,
+) -> Result<Recalling<'d, N>, AllocError>
+    ensures { IfOk result (λ r. r ≡ sender.entry) }
+{
+    if sends < SENDS_FOR_A_MEMORY {
+        return Ok(Recalling::without_memory(sender));
+    }
+    Recalling::new(alloc, sender)
+}
+
 // Answers sends between which and beside which no change is made. The sender meets the changer before and after.
 pub(crate) fn answer_sends<'d, N: ArenaName, R: Wait, G: Gate>(
     rt: &R,
+    alloc: Global,
     changer: &mut Changer<'d, N>,
-    sender: Recalling<'d, N>,
+    sender: Sender<'d, N>,
     gate: &G,
     deal: Deal,
     image: &Image,
     items: &[Item],
     text: &mut Vec<u8>,
-) -> Result<(Recalling<'d, N>, u32), AllocError>
+) -> Result<(Sender<'d, N>, u32), AllocError>
     requires image { changer.old.image ≡ image.now }
     requires sound { All (IsSoundItem image.now) (map item_parts items.now) }
     requires places { deal.first + length items.now < 2 ^ 32 }
@@ -127,10 +145,12 @@ pub(crate) fn answer_sends<'d, N: ArenaName, R: Wait, G: Gate>(
     ensures text { OnOk result (text.new.items ≡ text.old.items ++ text_of image.now (serial_from changer.old (map item_parts items.now))) }
 {
     let mut sender = sender;
-    sender.meet(rt, changer);
+    changer.meet(rt, &mut sender);
+    let sender = remembering(alloc, sender, items.len())?;
     let mut asking = Asking { rt, sender };
     let pieces = answer_pieces(&mut asking, gate, deal, image, items, text)?;
-    let Asking { mut sender, .. } = asking;
-    sender.meet(rt, changer);
+    let Asking { sender, .. } = asking;
+    let mut sender = sender.into_sender();
+    changer.meet(rt, &mut sender);
     Ok((sender, pieces))
 }

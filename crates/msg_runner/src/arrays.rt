@@ -1,5 +1,7 @@
 //! How many arrays the method caches of a run have.
 
+ghost use Rattle.std.specs.Prelude.{◌<◌};
+
 use msg_buckets::CAPACITIES;
 use msg_image::Image;
 

@@ -10,7 +10,7 @@ use crate::crew::{change_all, serve_beside, serve_with};
 use crate::deal::Deal;
 use crate::gate::Gate;
 use crate::gather::gather;
-use msg_dispatch::{ArenaName, Changer, Recalling};
+use msg_dispatch::{ArenaName, Changer, Sender};
 use msg_eval::Reply;
 use msg_image::{Image, Item};
 use msg_tables::ChangeFault;
@@ -23,7 +23,7 @@ use std::thread::{Scope, Threads};
 #[derive(Drop)]
 pub(crate) struct Batch<'d, N: ArenaName> {
     pub(crate) changer: Changer<'d, N>,
-    pub(crate) senders: Vec<Recalling<'d, N>>,
+    pub(crate) senders: Vec<Sender<'d, N>>,
     pub(crate) shares: Vec<Vec<Reply>>,
     pub(crate) outcomes: Vec<Option<ChangeFault>>,
 }
@@ -32,7 +32,7 @@ pub(crate) struct Batch<'d, N: ArenaName> {
 #[derive(Drop)]
 pub(crate) struct Crew<'d, N: ArenaName> {
     pub(crate) changer: Changer<'d, N>,
-    pub(crate) senders: Vec<Recalling<'d, N>>,
+    pub(crate) senders: Vec<Sender<'d, N>>,
 }
 
 // The workers' threads in a scope.
@@ -138,7 +138,7 @@ fn serve_alone<'d, N: ArenaName, G: Gate, R: Wait>(
     rt: &R,
     alloc: Global,
     changer: Changer<'d, N>,
-    senders: Vec<Recalling<'d, N>>,
+    senders: Vec<Sender<'d, N>>,
     gate: &G,
     deal: Deal,
     first_change: u32,
@@ -159,10 +159,10 @@ fn serve_alone<'d, N: ArenaName, G: Gate, R: Wait>(
     let Some(mut sender) = senders.pop() else {
         return Err(AllocError);
     };
-    sender.meet(rt, &mut changer);
+    changer.meet(rt, &mut sender);
     let mut done = serve_with(rt, alloc, sender, gate, deal, 0, image, items, count)?;
     let outcomes = change_all(rt, alloc, &mut changer, gate, first_change, items)?;
-    done.sender.meet(rt, &mut changer);
+    changer.meet(rt, &mut done.sender);
     senders.push(done.sender)?;
     let mut shares = Vec::new(alloc);
     shares.push(done.replies)?;
@@ -179,7 +179,7 @@ fn serve_items<'d, N: ArenaName + Send + Sync + 'd, G: Gate, R: Threads + Wait +
     rt: &'d R,
     alloc: Global,
     changer: Changer<'d, N>,
-    senders: Vec<Recalling<'d, N>>,
+    senders: Vec<Sender<'d, N>>,
     gate: &'d G,
     deal: Deal,
     alone: bool,
@@ -255,7 +255,7 @@ fn used_for(workers: u32, pieces: usize) -> u32
 #[derive(Drop)]
 pub(crate) struct After<'d, N: ArenaName> {
     pub(crate) changer: Changer<'d, N>,
-    pub(crate) senders: Vec<Recalling<'d, N>>,
+    pub(crate) senders: Vec<Sender<'d, N>>,
     // How many pieces and changes it had.
     pub(crate) pieces: u32,
     pub(crate) changes: u32,
@@ -266,7 +266,7 @@ pub(crate) fn answer_batch<'d, N: ArenaName + Send + Sync + 'd, G: Gate, R: Thre
     rt: &'d R,
     alloc: Global,
     changer: Changer<'d, N>,
-    senders: Vec<Recalling<'d, N>>,
+    senders: Vec<Sender<'d, N>>,
     gate: &'d G,
     all: Deal,
     first_change: u32,

@@ -13,7 +13,7 @@ use crate::asking::Asking;
 use crate::deal::Deal;
 use crate::gate::Gate;
 use crate::work::serve;
-use msg_dispatch::{ArenaName, Changer, Recalling};
+use msg_dispatch::{ArenaName, Changer, Recalling, Sender};
 use msg_eval::Reply;
 use msg_image::{Change, Image, Item};
 use msg_tables::ChangeFault;
@@ -25,14 +25,14 @@ use std::thread::{Promise, Scope, Threads};
 // A sender after a batch, with its replies.
 #[derive(Drop)]
 pub(crate) struct Done<'d, N: ArenaName> {
-    pub(crate) sender: Recalling<'d, N>,
+    pub(crate) sender: Sender<'d, N>,
     pub(crate) replies: Vec<Reply>,
 }
 
 // That a worker serves its share.
 #[derive(Drop)]
 pub(crate) struct ServesShare<'a, 'd, N: ArenaName> {
-    pub(crate) was: Snapshot<Recalling<'d, N>>,
+    pub(crate) was: Snapshot<Sender<'d, N>>,
     pub(crate) deal: Deal,
     pub(crate) me: u32,
     pub(crate) image: &'a Image,
@@ -43,11 +43,11 @@ impl<'a, 'd, N: ArenaName> Promise<Result<Done<'d, N>, AllocError>> for ServesSh
     ghost kept_by = { λ p r. IfOk r (λ d. Served p.was.value.seen.front (share_of (worker_of p.deal.cut p.deal.workers) p.me 0 (sends_of p.image.now (map item_parts p.items.now))) d.replies.items d.sender.seen.front) };
 }
 
-// One worker's work, with a sender of its own.
+// One worker's work, with a sender of its own, and with a memory for this work.
 pub(crate) fn serve_with<'d, N: ArenaName, G: Gate, R: Wait>(
     rt: &R,
     alloc: Global,
-    sender: Recalling<'d, N>,
+    sender: Sender<'d, N>,
     gate: &G,
     deal: Deal,
     me: u32,
@@ -60,10 +60,14 @@ pub(crate) fn serve_with<'d, N: ArenaName, G: Gate, R: Wait>(
     requires places { deal.first + length items.now < 2 ^ 32 }
     ensures { IfOk result (λ d. Served sender.entry.seen.front (share_of (worker_of deal.cut deal.workers) me 0 (sends_of image.now (map item_parts items.now))) d.replies.items d.sender.seen.front) }
 {
+    let sender = Recalling::new(alloc, sender)?;
     let mut asking = Asking { rt, sender };
     let replies = serve(alloc, &mut asking, gate, deal, me, image, items, count)?;
     let Asking { sender, .. } = asking;
-    Ok(Done { sender, replies })
+    Ok(Done {
+        sender: sender.into_sender(),
+        replies,
+    })
 }
 
 // Makes a change, and says why not, if so.
@@ -128,7 +132,7 @@ pub(crate) fn serve_beside<
     scope: &'s Scope<'s, &'e ()>,
     alloc: Global,
     changer: &mut Changer<'d, N>,
-    senders: &mut Vec<Recalling<'d, N>>,
+    senders: &mut Vec<Sender<'d, N>>,
     workers: u32,
     gate: &'s G,
     deal: Deal,
@@ -156,7 +160,7 @@ pub(crate) fn serve_beside<
     let Some(mut sender) = senders.pop() else {
         return Err(AllocError);
     };
-    sender.meet(rt, changer);
+    changer.meet(rt, &mut sender);
     let promise = ServesShare {
         was: Snapshot::of(&sender),
         deal,
@@ -188,7 +192,7 @@ pub(crate) fn serve_beside<
     let mine = last.join(rt);
     let (mut all, outcomes) = others?;
     let mut mine = mine?;
-    mine.sender.meet(rt, changer);
+    changer.meet(rt, &mut mine.sender);
     senders.push(mine.sender)?;
     all.push(mine.replies)?;
     Ok((all, outcomes))

@@ -16,7 +16,7 @@ use crate::batch::{After, answer_batch};
 use crate::deal::Deal;
 use crate::gate::Gate;
 use msg_cache::{Arena, Config, Keeper};
-use msg_dispatch::{ArenaName, Changer, Dispatcher, Recalling};
+use msg_dispatch::{ArenaName, Changer, Dispatcher, Sender};
 use msg_image::{Document, Image, Item};
 use std::alloc::{AllocError, Global};
 use std::marker::Brand;
@@ -43,8 +43,9 @@ fn part_len(items: &[Item]) -> usize
 // Answers sends on the calling thread.
 fn answer_alone<'d, N: ArenaName, G: Gate, R: Wait>(
     rt: &R,
+    alloc: Global,
     changer: Changer<'d, N>,
-    senders: Vec<Recalling<'d, N>>,
+    senders: Vec<Sender<'d, N>>,
     gate: &G,
     deal: Deal,
     image: &Image,
@@ -66,7 +67,17 @@ fn answer_alone<'d, N: ArenaName, G: Gate, R: Wait>(
     let Some(sender) = senders.pop() else {
         return Err(AllocError);
     };
-    let (sender, pieces) = answer_sends(rt, &mut changer, sender, gate, deal, image, part, text)?;
+    let (sender, pieces) = answer_sends(
+        rt,
+        alloc,
+        &mut changer,
+        sender,
+        gate,
+        deal,
+        image,
+        part,
+        text,
+    )?;
     senders.push(sender)?;
     Ok(After {
         changer,
@@ -82,7 +93,7 @@ fn answer_part<'d, N: ArenaName + Send + Sync + 'd, G: Gate, R: Threads + Wait +
     rt: &'d R,
     alloc: Global,
     changer: Changer<'d, N>,
-    senders: Vec<Recalling<'d, N>>,
+    senders: Vec<Sender<'d, N>>,
     gate: &'d G,
     deal: Deal,
     first_change: u32,
@@ -113,7 +124,9 @@ fn answer_part<'d, N: ArenaName + Send + Sync + 'd, G: Gate, R: Threads + Wait +
         });
     }
     if deal.workers == 1 || part.len() <= deal.cut as usize {
-        return answer_alone(rt, changer, senders, gate, deal, image, part, text);
+        return answer_alone(
+            rt, alloc, changer, senders, gate, deal, image, part, text,
+        );
     }
     let after = answer_batch(
         rt,
@@ -135,7 +148,7 @@ fn answer_parts<'d, N: ArenaName + Send + Sync + 'd, G: Gate, R: Threads + Wait 
     rt: &'d R,
     alloc: Global,
     changer: Changer<'d, N>,
-    senders: Vec<Recalling<'d, N>>,
+    senders: Vec<Sender<'d, N>>,
     gate: &'d G,
     deal: Deal,
     image: &'d Image,
@@ -176,13 +189,13 @@ fn answer_parts<'d, N: ArenaName + Send + Sync + 'd, G: Gate, R: Threads + Wait 
     Ok(text)
 }
 
-// So many senders, each with a memory.
+// So many senders.
 fn senders_of<'d, N: ArenaName, R: Wait>(
     rt: &R,
     alloc: Global,
     dispatcher: &'d Dispatcher<N>,
     count: u32,
-) -> Result<Vec<Recalling<'d, N>>, AllocError>
+) -> Result<Vec<Sender<'d, N>>, AllocError>
     ensures { IfOk result (λ senders. vec_len senders ≡ count) }
 {
     let mut senders = Vec::new(alloc);
@@ -190,7 +203,7 @@ fn senders_of<'d, N: ArenaName, R: Wait>(
         let Ok(sender) = dispatcher.sender(rt) else {
             return Err(AllocError);
         };
-        senders.push(Recalling::new(alloc, sender)?)?;
+        senders.push(sender)?;
     }
     Ok(senders)
 }

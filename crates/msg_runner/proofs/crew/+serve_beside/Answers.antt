@@ -10,7 +10,7 @@ use Rattle.msg_runner.proofs.crew.+serve_beside.Goals as goal
 pub returns-clause-each : goal.returns-clause-each
 returns-clause-each g t c =
     let h = c.args.changer.now in
-    let end = c.meet-2.new.changer in
+    let end = c.meet-2.new.self in
     let who = worker_of c.args.deal.cut c.args.deal.workers in
     let sends = sends_of c.args.image.now (map item_parts c.args.items.now) in
     let me : ℕ = c.args.workers - 1 in
