@@ -4,11 +4,11 @@ ghost use Rattle.std.specs.Prelude.{◌≡◌, ◌<◌, IfOk};
 ghost use Rattle.msg_cache.specs.Views.{classes, IsSenderOf};
 ghost use Rattle.msg_hits.specs.Together.{Begin};
 
+use crate::document::image;
 use crate::draws::Draws;
 use crate::load::{Load, Queries, Query, entries};
 use anyhow::{Context, Result, bail};
 use msg_cache::{Arena, Config, Keeper, Prober, Turn};
-use msg_image::Image;
 use msg_tables::Tables;
 use std::alloc::{AllocError, Global};
 use std::marker::Model;
@@ -17,18 +17,19 @@ use std::marker::Model;
 const ARRAYS: [u16; 9] = [1, 1, 1, 32, 0, 0, 0, 0, 0];
 
 /// An arena for 64 senders, its keeper, and tables at the same history.
-pub(crate) fn open(alloc: Global, image: &Image) -> Result<(Arena, Keeper, Tables)>
+pub(crate) fn open(alloc: Global) -> Result<(Arena, Keeper, Tables)>
     ensures { IfOk result (λ r. Begin r.0 r.1 r.2) }
 {
+    let image = image(alloc)?;
     if image.class_count() != 32 {
         bail!("not 32 classes");
     }
-    let tables = Tables::open(alloc, image).context("opening the tables")?;
+    let tables = Tables::open(alloc, &image).context("opening the tables")?;
     let config = Config {
         senders: 64,
         arrays: ARRAYS,
     };
-    let (arena, keeper) = Arena::open(alloc, image, config).context("opening the arena")?;
+    let (arena, keeper) = Arena::open(alloc, &image, config).context("opening the arena")?;
     Ok((arena, keeper, tables))
 }
 

@@ -10,8 +10,8 @@ mod draws;
 mod load;
 mod racing;
 
-use crate::bed::Bed;
-use crate::load::Load;
+use crate::bed::{Bed, Sender};
+use crate::load::{Load, Queries};
 use crate::racing::race;
 use anyhow::{Context, Result};
 use std::alloc::Global;
@@ -55,26 +55,56 @@ fn print_times(rt: &impl Print, times: &[u64]) -> Result<()> {
     Ok(())
 }
 
+// The times of senders, each in a thread of its own.
+fn print_race<R: Threads + Wait + Clock + Print + Sync>(
+    rt: &R,
+    alloc: Global,
+    senders: Vec<Sender<'_>>,
+    queries: &Queries,
+    probes: u64,
+    windows: u32,
+) -> Result<()> {
+    for times in race(rt, alloc, senders, queries, probes, windows)? {
+        print_times(rt, &times?)?;
+    }
+    Ok(())
+}
+
+// What one thread finds.
+fn print_sum(
+    rt: &impl Print,
+    sender: &mut Sender<'_>,
+    queries: &Queries,
+    probes: u64,
+) -> Result<()> {
+    let sum = sender.probe(queries, 0, probes);
+    println!(rt; "{sum}")?;
+    Ok(())
+}
+
+fn measure<R: Threads + Wait + Clock + Print + Sync>(
+    rt: &R,
+    alloc: Global,
+    bed: &mut Bed<'_>,
+    task: &Task,
+) -> Result<()> {
+    let queries = bed.prepare(alloc, task.load)?;
+    if let Some((senders, windows)) = task.race {
+        let senders = bed.senders(alloc, senders)?;
+        return print_race(rt, alloc, senders, &queries, task.probes, windows);
+    }
+    let mut sender = bed.sender(0).context("no sender")?;
+    print_sum(rt, &mut sender, &queries, task.probes)
+}
+
 fn perform<R: Threads + Wait + Clock + Print + Sync>(
     rt: &R,
     alloc: Global,
     task: &Task,
 ) -> Result<()> {
-    let image = document::image(alloc)?;
-    let (arena, keeper, tables) = bed::open(alloc, &image)?;
+    let (arena, keeper, tables) = bed::open(alloc)?;
     let mut bed = Bed::at(&arena, keeper, tables)?;
-    let queries = bed.prepare(alloc, task.load)?;
-    if let Some((senders, windows)) = task.race {
-        let senders = bed.senders(alloc, senders)?;
-        for times in race(rt, alloc, senders, &queries, task.probes, windows)? {
-            print_times(rt, &times?)?;
-        }
-        return Ok(());
-    }
-    let mut sender = bed.sender(0).context("no sender")?;
-    let sum = sender.probe(&queries, 0, task.probes);
-    println!(rt; "{sum}")?;
-    Ok(())
+    measure(rt, alloc, &mut bed, task)
 }
 
 fn main(rt: HostRuntime) -> Result<()> {
