@@ -1,0 +1,129 @@
+//! What is cached, and in which order it is sought.
+
+ghost use Rattle.std.specs.Prelude.{◌≡◌, ◌<◌, ◌≤◌, length};
+
+use crate::document::{CLASSES, SELECTORS};
+use crate::draws::Draws;
+use msg_names::{ClassRef, Selector};
+use std::alloc::{AllocError, Global};
+
+/// How many classes have caches, and how many selectors each of them has.
+#[derive(Clone, Copy)]
+pub(crate) enum Load {
+    /// One class, which has one.
+    Mono,
+    /// All 32 classes, of which each has 24.
+    Mix,
+}
+
+impl Load {
+    pub(crate) fn of(word: &str) -> Option<Load> {
+        match word {
+            "mono" => Some(Load::Mono),
+            "mix" => Some(Load::Mix),
+            _ => None,
+        }
+    }
+
+    fn classes(self) -> u32
+        ensures { (0 < result) × (result ≤ 32) }
+    {
+        match self {
+            Load::Mono => 1,
+            Load::Mix => CLASSES,
+        }
+    }
+
+    fn per_class(self) -> u32
+        ensures { (0 < result) × (result ≤ 24) }
+    {
+        match self {
+            Load::Mono => 1,
+            Load::Mix => 24,
+        }
+    }
+}
+
+/// What a probe seeks.
+#[derive(Clone, Copy)]
+pub(crate) struct Query {
+    pub(crate) class: ClassRef,
+    pub(crate) sel: Selector,
+    pub ghost listed: { class.class < 32 },
+}
+
+/// The entries, those of one class after those of another.
+pub(crate) fn entries(
+    alloc: Global,
+    draws: &mut Draws,
+    load: Load,
+) -> Result<Vec<Query>, AllocError> {
+    let mut entries = Vec::new(alloc);
+    for class in 0..load.classes() {
+        let class = ClassRef { class, meta: false };
+        for sel in draw_selectors(alloc, draws, load.per_class())? {
+            entries.push(Query { class, sel })?;
+        }
+    }
+    Ok(entries)
+}
+
+// So many selectors, of which no two are one, where a thousand draws give so many. After each one number is drawn and left, where the other program draws an implementation.
+fn draw_selectors(
+    alloc: Global,
+    draws: &mut Draws,
+    count: u32,
+) -> Result<Vec<Selector>, AllocError> {
+    let mut selectors = Vec::new(alloc);
+    for _draw in 0..1000 {
+        if selectors.len() >= count as usize {
+            break;
+        }
+        if let Some(sel) = Selector::of(1 + draws.below(SELECTORS)) {
+            if !selectors.contains(&sel) {
+                selectors.push(sel)?;
+                draws.draw();
+            }
+        }
+    }
+    Ok(selectors)
+}
+
+/// How many queries there are, before they come again.
+const QUERY_COUNT: usize = 4096;
+
+/// Queries, in the order in which they are sought.
+#[derive(Drop)]
+pub(crate) struct Queries {
+    list: Vec<Query>,
+    pub ghost full: { length list.items ≡ 4096 },
+}
+
+impl Queries {
+    /// Queries that are drawn from the entries.
+    pub(crate) fn draw(
+        alloc: Global,
+        draws: &mut Draws,
+        load: Load,
+        entries: &[Query],
+    ) -> Result<Option<Queries>, AllocError> {
+        let mut list = Vec::with_capacity(alloc, QUERY_COUNT)?;
+        for _query in 0..QUERY_COUNT {
+            let class = draws.below(load.classes());
+            let place = draws.below(load.per_class());
+            if let Some(entry) = entries.get((class * load.per_class() + place) as usize) {
+                list.push(*entry)?;
+            }
+        }
+        if list.len() != QUERY_COUNT {
+            return Ok(None);
+        }
+        Ok(Some(Queries { list }))
+    }
+
+    /// The query of this number. After the last one they come again.
+    #[inline(always)]
+    pub(crate) fn at(&self, number: usize) -> Query {
+        self.list[number % QUERY_COUNT]
+    }
+}
