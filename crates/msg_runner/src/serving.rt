@@ -124,9 +124,7 @@ fn answer_part<'d, N: ArenaName + Send + Sync + 'd, G: Gate, R: Threads + Wait +
         });
     }
     if deal.workers == 1 || part.len() <= deal.cut as usize {
-        return answer_alone(
-            rt, alloc, changer, senders, gate, deal, image, part, text,
-        );
+        return answer_alone(rt, alloc, changer, senders, gate, deal, image, part, text);
     }
     let after = answer_batch(
         rt,
