@@ -233,8 +233,8 @@ fn each_line_is_that_of_some_point(rt: HostRuntime) -> Result<(), Fail> {
     let document = document(alloc, &edits)?;
     for _round in 0..ROUNDS {
         let rises = round(&rt, alloc, &points, document.as_str())?;
-        // the changes really were made among the sends
-        assert!(rt; rises > 500, "{rises}");
+        // The changes really were made among the sends: by the gate a worker's points rise at least once in sixteen of its pieces.
+        assert!(rt; rises > 100, "{rises}");
     }
     Ok(())
 }
