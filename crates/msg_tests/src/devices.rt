@@ -3,39 +3,10 @@
 ghost use Rattle.std.specs.Prelude.{◌≡◌, false};
 
 use crate::documents::SMALL;
-use msg_runner::{Failed, FromReader, OpenGate, RunFault, Sink, Source, ToWriter, run, run_beside};
+use msg_runner::{Failed, FromReader, OpenGate, RunFault, Sink, Source, ToWriter, run};
 use std::alloc::Global;
 use std::io::{self, ErrorKind, Read, Write};
-use std::process::Abort;
-use std::sync::Wait;
 use std::test::Fail;
-use std::thread::Threads;
-
-// Both runs, each with one worker.
-#[derive(Clone, Copy, Debug)]
-enum Way {
-    Between,
-    Beside,
-}
-
-const WAYS: [Way; 2] = [Way::Between, Way::Beside];
-
-fn fault_of<R: Source, W: Sink, T: Threads + Wait + Sync>(
-    rt: &T,
-    alloc: Global,
-    way: Way,
-    source: &mut R,
-    sink: &mut W,
-) -> Option<RunFault>
-    requires unread { R.mark source.old ≡ false }
-    requires unwritten { W.mark sink.old ≡ false }
-{
-    let ended = match way {
-        Way::Between => run(rt, alloc, source, sink, 1, 64, &OpenGate),
-        Way::Beside => run_beside(rt, alloc, source, sink, 1, 64, &OpenGate),
-    };
-    ended.err()
-}
 
 /// A reader that gives at most so many bytes at a call, fails at one call, and then goes on.
 #[derive(Drop)]
@@ -91,107 +62,77 @@ fn slow_sink(alloc: Global, step: usize, calls_left: u32) -> ToWriter<Slow>
     })
 }
 
-fn reads_end<T: Threads + Wait + Abort + Sync>(
-    rt: &T,
-    alloc: Global,
-    way: Way,
-    text: &str,
-    step: usize,
-    calls_left: u32,
-    fault: Option<RunFault>,
-) {
-    let mut source = FromReader::new(Unsteady {
-        rest: text.as_bytes(),
-        step,
-        calls_left,
-    });
-    let mut sink = ToWriter::new(Vec::new(alloc));
-    let ended = fault_of(rt, alloc, way, &mut source, &mut sink);
-    let failed = source.failed;
-    assert_eq!(rt;
-        ended,
-        fault,
-        "{way:?}, {step} bytes a call, failure at {calls_left}"
-    );
-    assert_eq!(rt;
-        failed,
-        fault.is_some(),
-        "{way:?}, {step} bytes a call, failure at {calls_left}"
-    );
-    let lines = if fault.is_some() { "" } else { "7\n" };
-    assert_eq!(rt;
-        sink.writer.as_slice(),
-        lines.as_bytes(),
-        "{step} bytes a call"
-    );
-    let failed = sink.failed;
-    assert!(rt; !failed);
-}
-
 #[test]
 fn a_failed_read_ends_a_run(rt: HostRuntime) -> Result<(), Fail> {
     let alloc = rt.alloc();
     let spaces = " ".repeat(alloc, 20_000)?;
     let long = format!(in alloc; "{SMALL}{spaces}")?;
-    for way in WAYS {
-        for (text, step, calls_left, fault) in [
-            (SMALL, 10, 2, Some(RunFault::Read)),
-            (SMALL, 10, 1, Some(RunFault::Read)),
-            (SMALL, 1000, 2, Some(RunFault::Read)),
-            (long.as_str(), 8192, 3, Some(RunFault::Read)),
-            (SMALL, 1, 0, None),
-            (long.as_str(), 8192, 0, None),
-        ] {
-            reads_end(&rt, alloc, way, text, step, calls_left, fault);
-        }
+    for (text, step, calls_left, fault) in [
+        (SMALL, 10, 2, Some(RunFault::Read)),
+        (SMALL, 10, 1, Some(RunFault::Read)),
+        (SMALL, 1000, 2, Some(RunFault::Read)),
+        (long.as_str(), 8192, 3, Some(RunFault::Read)),
+        (SMALL, 1, 0, None),
+        (long.as_str(), 8192, 0, None),
+    ] {
+        let mut source = FromReader::new(Unsteady {
+            rest: text.as_bytes(),
+            step,
+            calls_left,
+        });
+        let mut sink = ToWriter::new(Vec::new(alloc));
+        let ended = run(&rt, alloc, &mut source, &mut sink, 1, 64, &OpenGate).err();
+        assert_eq!(rt;
+            ended,
+            fault,
+            "{step} bytes a call, failure at {calls_left}"
+        );
+        assert_eq!(rt;
+            source.failed,
+            fault.is_some(),
+            "{step} bytes a call, failure at {calls_left}"
+        );
+        let lines = if fault.is_some() { "" } else { "7\n" };
+        assert_eq!(rt;
+            sink.writer.as_slice(),
+            lines.as_bytes(),
+            "{step} bytes a call"
+        );
+        assert!(rt; !sink.failed);
     }
     Ok(())
 }
 
-fn writes_end<T: Threads + Wait + Abort + Sync>(
-    rt: &T,
-    alloc: Global,
-    way: Way,
-    step: usize,
-    calls_left: u32,
-    fault: Option<RunFault>,
-    lines: &str,
-) {
-    let mut source = FromReader::new(SMALL.as_bytes());
-    let mut sink = slow_sink(alloc, step, calls_left);
-    let ended = fault_of(rt, alloc, way, &mut source, &mut sink);
-    let failed = sink.failed;
-    assert_eq!(rt;
-        ended,
-        fault,
-        "{way:?}, {step} bytes a call, failure at {calls_left}"
-    );
-    assert_eq!(rt;
-        failed,
-        fault.is_some(),
-        "{way:?}, {step} bytes a call, failure at {calls_left}"
-    );
-    assert_eq!(rt;
-        sink.writer.taken.as_slice(),
-        lines.as_bytes(),
-        "{step} bytes a call"
-    );
-}
-
 #[test]
-fn a_failed_write_ends_a_run(rt: HostRuntime) {
+fn a_failed_write_ends_a_run(rt: HostRuntime) -> Result<(), Fail> {
     let alloc = rt.alloc();
-    for way in WAYS {
-        for (step, calls_left, fault, lines) in [
-            (1, 2, Some(RunFault::Write), "7"),
-            (1, 1, Some(RunFault::Write), ""),
-            (0, 0, Some(RunFault::Write), ""),
-            (1, 0, None, "7\n"),
-            (2, 2, None, "7\n"),
-        ] {
-            writes_end(&rt, alloc, way, step, calls_left, fault, lines);
-        }
+    for (step, calls_left, fault, lines) in [
+        (1, 2, Some(RunFault::Write), "7"),
+        (1, 1, Some(RunFault::Write), ""),
+        (0, 0, Some(RunFault::Write), ""),
+        (1, 0, None, "7\n"),
+        (2, 2, None, "7\n"),
+    ] {
+        let mut source = FromReader::new(SMALL.as_bytes());
+        let mut sink = slow_sink(alloc, step, calls_left);
+        let ended = run(&rt, alloc, &mut source, &mut sink, 1, 64, &OpenGate).err();
+        assert_eq!(rt;
+            ended,
+            fault,
+            "{step} bytes a call, failure at {calls_left}"
+        );
+        assert_eq!(rt;
+            sink.failed,
+            fault.is_some(),
+            "{step} bytes a call, failure at {calls_left}"
+        );
+        assert_eq!(rt;
+            sink.writer.taken.as_slice(),
+            lines.as_bytes(),
+            "{step} bytes a call"
+        );
     }
+    Ok(())
 }
 
 #[test]
