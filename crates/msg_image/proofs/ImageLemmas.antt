@@ -4,17 +4,25 @@ use Rattle.std.specs.Prelude.{All, string_bytes}
 use Rattle.std.proofs.lemmas.List.{length-map}
 use Rattle.std.proofs.lemmas.List.Elements.{All-map}
 use Rattle.std.proofs.lemmas.Simd.{map-map}
+use Rattle.msg_form.specs.declared.limits.TheConstants.{MAX_ITEMS}
 use Rattle.msg_form.specs.declared.form.Form.{Form}
 use Rattle.msg_form.specs.declared.form.Class.{Class}
 use Rattle.msg_form.specs.declared.form.Category.{Category}
 use Rattle.msg_form.specs.declared.form.Object.{Object}
 use Rattle.msg_form.specs.declared.form.Imp.{Imp}
 use Rattle.msg_form.specs.declared.form.Item.{Item as ItemForm}
-use Rattle.msg_form.specs.Faults.{fault_of}
+use Rattle.msg_form.specs.Faults.{fault_of, is_over_limit}
+use Rattle.msg_form.specs.Form as plain
 use Rattle.msg_form.specs.Form.{ImpForm}
+use Rattle.msg_form.specs.FormNames.{AreNamesOf}
+use Rattle.msg_form.specs.Text.{distinct}
+use Rattle.msg_form.specs.Walk.{selector_texts}
+use Rattle.msg_form.specs.declared.form_names.FormNames.{FormNames}
+use Rattle.msg_form.proofs.LimitLemmas.{all_selectors}
+use Rattle.msg_form.proofs.TextLemmas.{distinct-distinct}
 use Rattle.msg_form.specs.Views.{class_view, category_view, object_view, imp_view, item_view, form_view}
 use Rattle.msg_image.specs.Document as spec
-use Rattle.msg_image.specs.Numbers.{numbers_of}
+use Rattle.msg_image.specs.Numbers.{numbers_of, numbers_by}
 use Rattle.msg_image.specs.Plain.{class_parts, object_parts, imp_parts, image_parts, item_parts}
 use Rattle.msg_image.specs.Sound.{IsSound, IsSoundItem}
 use Rattle.msg_image.specs.Items.{ItemParts}
@@ -25,6 +33,17 @@ use Rattle.msg_image.specs.declared.image.Image.TheInside.{Inside}
 use Rattle.msg_image.specs.declared.numbers.Numbers.{Numbers}
 use Rattle.msg_image.proofs.FaultlessLemmas.{faultless}
 use Rattle.msg_image.proofs.SoundLemmas.{image_sound, items_few}
+
+-- by the names of a form without fault its parts have their numbers
+pub numbers_are : (f : plain.Form) (names : FormNames) (n : Numbers) → fault_of f ≡ None → AreNamesOf names f → n ≡ numbers_by names → n ≡ numbers_of f
+numbers_are f names n no_fault are is =
+    let selectors : names.selectors ≡ distinct (selector_texts f) = all_selectors f names.selectors (is_over_limit f) are.selectors refl (faultless f no_fault).limit in
+    is ∙ (λ j. record {
+      selectors = (ap distinct selectors ∙ distinct-distinct (selector_texts f)) j;
+      classes = are.classes j;
+      objects = are.objects j;
+      imps = are.imps j;
+    })
 
 -- what was resolved of the forms
 pub resolved : {A B C D : Type 0} (parts : B → C) (view : A → D) (meaning : D → C) (found : List B) (forms all : List A) → forms ≡ all → map parts found ≡ map (λ a. meaning (view a)) forms → map parts found ≡ map meaning (map view all)
@@ -72,7 +91,7 @@ document_is f image items is are = λ j. record { image = is j; items = are j }
 pub sound_items : (f : Form) (image : ImageParts) (items : List ItemParts) → fault_of (form_view f) ≡ None → image ≡ spec.image_of (form_view f) → items ≡ map (spec.item (numbers_of (form_view f))) (form_view f).items → All (IsSoundItem image) items
 sound_items f image items no_fault is are = subst (λ i. All (IsSoundItem i) items) (sym is) (subst (All (IsSoundItem (spec.image_of (form_view f)))) (sym are) (items_sound (form_view f) (faultless (form_view f) no_fault)))
 
-pub few_items : (f : Form) (found : List Item) (forms : List ItemForm) (n : Numbers) → fault_of (form_view f) ≡ None → forms ≡ f.items.items → map item_parts found ≡ map (λ i. spec.item n (item_view i)) forms → length found ≤ 65536
+pub few_items : (f : Form) (found : List Item) (forms : List ItemForm) (n : Numbers) → fault_of (form_view f) ≡ None → forms ≡ f.items.items → map item_parts found ≡ map (λ i. spec.item n (item_view i)) forms → length found ≤ MAX_ITEMS
 few_items f found forms n no_fault same is =
     omega (arith, items_few (form_view f) (faultless (form_view f) no_fault), ap length is, ap length same, length-map found item_parts, length-map forms (λ i. spec.item n (item_view i)), length-map f.items.items item_view)
 

@@ -11,6 +11,7 @@ use Rattle.std.proofs.lemmas.List.Sums.{sum_by-cons}
 use Rattle.std.proofs.lemmas.Option.{slice_get-map, slice_get-get_or, same_Some}
 use Rattle.msg_order.specs.Superclasses.{super_of, has_cycle}
 use Rattle.msg_order.proofs.DepthLemmas.{listed-ends}
+use Rattle.msg_form.specs.declared.limits.TheConstants.{MAX_CATEGORIES, MAX_CLASSES, MAX_DEPTH, MAX_ENTRIES, MAX_EXPRESSIONS, MAX_IMPS, MAX_ITEMS, MAX_OBJECTS}
 use Rattle.msg_form.specs.Version.{is_second}
 use Rattle.msg_names.specs.Number.{selector_number, selector_of}
 use Rattle.msg_names.specs.Numbering.{number_of, name_at}
@@ -393,12 +394,12 @@ module _ (f : Form) (g : IsFaultless f) where
       let home = each-mapped (λ (i : ImpForm). is_among i.class (listed_names f) ≡ true) (is_unknown (listed_names f)) (λ (i : ImpForm). i.class) f.imps (λ i. among (listed_names f) i.class) home_classes_cited.1 in
       λ k d inside. under_superclass (get_or f.imps k d) (above k d inside) (home k d inside)
 
-  small : (b : form.Expression) → is_too_deep b ≡ false → (inner.depth b ≤ 32) × (length (inner.parts b) ≤ 256)
-  small b e = let each = neither (nat_lt 32 (inner.depth b)) (nat_lt 256 (length (inner.parts b))) e in (few 32 (inner.depth b) each.0, few 256 (length (inner.parts b)) each.1)
+  small : (b : form.Expression) → is_too_deep b ≡ false → (inner.depth b ≤ MAX_DEPTH) × (length (inner.parts b) ≤ MAX_EXPRESSIONS)
+  small b e = let each = neither (nat_lt MAX_DEPTH (inner.depth b)) (nat_lt MAX_EXPRESSIONS (length (inner.parts b))) e in (few MAX_DEPTH (inner.depth b) each.0, few MAX_EXPRESSIONS (length (inner.parts b)) each.1)
 
-  body_sizes : All (λ (i : ImpForm). (inner.depth i.body ≤ 32) × (length (inner.parts i.body) ≤ 256)) f.imps
+  body_sizes : All (λ (i : ImpForm). (inner.depth i.body ≤ MAX_DEPTH) × (length (inner.parts i.body) ≤ MAX_EXPRESSIONS)) f.imps
   unfolding has_too_deep_body
-  body_sizes = each-none (λ (i : ImpForm). (inner.depth i.body ≤ 32) × (length (inner.parts i.body) ≤ 256)) (λ (i : ImpForm). is_too_deep i.body) f.imps (λ i. small i.body) g.bodies
+  body_sizes = each-none (λ (i : ImpForm). (inner.depth i.body ≤ MAX_DEPTH) × (length (inner.parts i.body) ≤ MAX_EXPRESSIONS)) (λ (i : ImpForm). is_too_deep i.body) f.imps (λ i. small i.body) g.bodies
 
   homes : All (λ (i : ImpForm). class_named (numbers_of f) i.class < length (spec.image_of f).classes) f.imps
   homes = each-mapped (λ (i : ImpForm). class_named (numbers_of f) i.class < length (spec.image_of f).classes) (is_unknown (listed_names f)) (λ (i : ImpForm). i.class) f.imps (λ i. class_in i.class) home_classes_cited.1
@@ -443,17 +444,17 @@ module _ (f : Form) (g : IsFaultless f) where
   unfolding is_over_limit
   limits = neither (has_long_list f) (has_many_entries f) (neither (has_long_list f || has_many_entries f) (has_many_selectors f) g.limit).0
 
-  pub items_few : length f.items ≤ 65536
+  pub items_few : length f.items ≤ MAX_ITEMS
   unfolding has_long_list
-  items_few = few 65536 (length f.items) (neither (nat_lt 1024 (length f.classes + length f.made) || nat_lt 1024 (length f.categories) || nat_lt 4096 (length f.objects) || nat_lt 4096 (length f.imps)) (nat_lt 65536 (length f.items)) limits.0).1
+  items_few = few MAX_ITEMS (length f.items) (neither (nat_lt MAX_CLASSES (length f.classes + length f.made) || nat_lt MAX_CATEGORIES (length f.categories) || nat_lt MAX_OBJECTS (length f.objects) || nat_lt MAX_IMPS (length f.imps)) (nat_lt MAX_ITEMS (length f.items)) limits.0).1
 
   pub image_sound : All (λ (i : ImpForm). i.args ≤ 4) f.imps → IsSound (spec.image_of f)
   unfolding has_long_list has_many_entries
   image_sound args =
-      let imps = neither (nat_lt 1024 (length f.classes + length f.made) || nat_lt 1024 (length f.categories) || nat_lt 4096 (length f.objects) || nat_lt 4096 (length f.imps)) (nat_lt 65536 (length f.items)) limits.0 in
-      let objects = neither (nat_lt 1024 (length f.classes + length f.made) || nat_lt 1024 (length f.categories) || nat_lt 4096 (length f.objects)) (nat_lt 4096 (length f.imps)) imps.0 in
-      let categories = neither (nat_lt 1024 (length f.classes + length f.made) || nat_lt 1024 (length f.categories)) (nat_lt 4096 (length f.objects)) objects.0 in
-      let classes = neither (nat_lt 1024 (length f.classes + length f.made)) (nat_lt 1024 (length f.categories)) categories.0 in
+      let imps = neither (nat_lt MAX_CLASSES (length f.classes + length f.made) || nat_lt MAX_CATEGORIES (length f.categories) || nat_lt MAX_OBJECTS (length f.objects) || nat_lt MAX_IMPS (length f.imps)) (nat_lt MAX_ITEMS (length f.items)) limits.0 in
+      let objects = neither (nat_lt MAX_CLASSES (length f.classes + length f.made) || nat_lt MAX_CATEGORIES (length f.categories) || nat_lt MAX_OBJECTS (length f.objects)) (nat_lt MAX_IMPS (length f.imps)) imps.0 in
+      let categories = neither (nat_lt MAX_CLASSES (length f.classes + length f.made) || nat_lt MAX_CATEGORIES (length f.categories)) (nat_lt MAX_OBJECTS (length f.objects)) objects.0 in
+      let classes = neither (nat_lt MAX_CLASSES (length f.classes + length f.made)) (nat_lt MAX_CATEGORIES (length f.categories)) categories.0 in
       record {
         forwarding = first_name;
         classes = class_sound;
@@ -461,9 +462,9 @@ module _ (f : Form) (g : IsFaultless f) where
         categories = categories_sound;
         objects = objects_sound;
         imps = imps_sound args;
-        few_classes = omega (arith, few 1024 (length f.classes + length f.made) classes.0, length-map f.classes (spec.class (numbers_of f)));
-        few_categories = omega (arith, few 1024 (length f.categories) classes.1, length-map f.categories (spec.category (numbers_of f)));
-        few_objects = omega (arith, few 4096 (length f.objects) categories.1, length-map f.objects (spec.object (numbers_of f)));
-        few_imps = omega (arith, few 4096 (length f.imps) objects.1, length-map f.imps (spec.imp (numbers_of f)));
-        few_rows = omega (arith, rows (numbers_of f) f, few 16384 (length (method_entries f)) limits.1);
+        few_classes = omega (arith, few MAX_CLASSES (length f.classes + length f.made) classes.0, length-map f.classes (spec.class (numbers_of f)));
+        few_categories = omega (arith, few MAX_CATEGORIES (length f.categories) classes.1, length-map f.categories (spec.category (numbers_of f)));
+        few_objects = omega (arith, few MAX_OBJECTS (length f.objects) categories.1, length-map f.objects (spec.object (numbers_of f)));
+        few_imps = omega (arith, few MAX_IMPS (length f.imps) objects.1, length-map f.imps (spec.imp (numbers_of f)));
+        few_rows = omega (arith, rows (numbers_of f) f, few MAX_ENTRIES (length (method_entries f)) limits.1);
       }

@@ -7,6 +7,7 @@ use Rattle.msg_form.specs.Form.{Form}
 use Rattle.msg_form.specs.Shape.{form_of}
 use Rattle.msg_form.specs.declared.faults.DocumentFault.{DocumentFault}
 use Rattle.msg_form.specs.declared.faults.DocumentFault.TheVariants.{NotJson, Shape, Limit}
+use Rattle.msg_image.specs.declared.document.TheConstants.{MOST_BYTES}
 use Rattle.msg_image.specs.Document.{document_of}
 use Rattle.msg_image.specs.Items.{DocumentParts}
 
@@ -28,9 +29,10 @@ abbrev pub answer : Option Data → Result DocumentParts DocumentFault
 answer None = Err NotJson
 answer (Some d) = judged (form_of d)
 
+-- the length of the longest document
 abbrev pub most_bytes : ℕ
-most_bytes = 16777216
+most_bytes = MOST_BYTES
 
--- a text of more than 16,777,216 bytes is too long, whatever it says
+-- a text of more than the most bytes is too long, whatever it says
 abbrev pub IsAnswer : List ℕ → Result DocumentParts DocumentFault → Type 0
 IsAnswer bytes r = MatchBool (nat_lt most_bytes (length bytes)) (r ≡ Err Limit) ((o : Option Data) × IsJson bytes o × (r ≡ answer o))

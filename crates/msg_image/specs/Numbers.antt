@@ -6,6 +6,7 @@ use Rattle.msg_names.specs.declared.value.ImpRef.{ImpRef}
 use Rattle.msg_names.specs.declared.value.ObjectRef.{ObjectRef}
 use Rattle.msg_names.specs.declared.value.Selector.{Selector}
 use Rattle.msg_form.specs.Form.{Form}
+use Rattle.msg_form.specs.declared.form_names.FormNames.{FormNames}
 use Rattle.msg_form.specs.Lists.{class_names, object_names, imp_names}
 use Rattle.msg_form.specs.Text.{Text, distinct}
 use Rattle.msg_form.specs.Walk.{selector_texts}
@@ -19,6 +20,10 @@ numbers_of f = record {
   objects = distinct (object_names f);
   imps = distinct (imp_names f);
 }
+
+-- the numbers that a form's names have
+abbrev pub numbers_by : FormNames → Numbers
+numbers_by n = record { selectors = distinct n.selectors; classes = n.classes; objects = n.objects; imps = n.imps }
 
 -- A name that is none of the names would stand for the first, or for forwarding; a document without fault has no such name.
 unfoldable pub selector_named : Numbers → Text → Selector

@@ -18,6 +18,7 @@ use Rattle.msg_image.specs.Parts.{ImageParts, class_total, ClassParts, ObjectPar
 use Rattle.msg_image.specs.Contents.{own_selector, selectors_in, arguments_in, has_super_send}
 use Rattle.msg_image.specs.Sizes.{count, depth, arity}
 use Rattle.msg_form.specs.Walk.{forwarding_text}
+use Rattle.msg_form.specs.declared.limits.TheConstants.{MAX_CATEGORIES, MAX_CLASSES, MAX_DEPTH, MAX_ENTRIES, MAX_EXPRESSIONS, MAX_IMPS, MAX_OBJECTS}
 
 -- an object or a class is one of the image's
 abbrev pub IsOf : ImageParts → Value → Type 0
@@ -89,8 +90,8 @@ pub record IsSoundImp (image : ImageParts) (i : ImpParts) : Type 0 where
   pub arguments : All (λ k. k < i.args) (arguments_in i.body)
   -- where the body has a super send there is a class above the home class
   pub above : has_super_send i.body ≡ true → IsSome (superclass_in image i.home)
-  pub count : count i.body ≤ 256
-  pub depth : depth i.body ≤ 32
+  pub count : count i.body ≤ MAX_EXPRESSIONS
+  pub depth : depth i.body ≤ MAX_DEPTH
 
 -- numbers are those of parts that are there, and sizes are within the limits
 pub record IsSound (image : ImageParts) : Type 0 where
@@ -102,11 +103,11 @@ pub record IsSound (image : ImageParts) : Type 0 where
   pub categories : All (IsSoundCategory image) image.categories
   pub objects : All (λ (o : ObjectParts). o.class < class_total image) image.objects
   pub imps : All (IsSoundImp image) image.imps
-  pub few_classes : class_total image ≤ 1024
-  pub few_categories : length image.categories ≤ 1024
-  pub few_objects : length image.objects ≤ 4096
-  pub few_imps : length image.imps ≤ 4096
-  pub few_rows : row_count image ≤ 16384
+  pub few_classes : class_total image ≤ MAX_CLASSES
+  pub few_categories : length image.categories ≤ MAX_CATEGORIES
+  pub few_objects : length image.objects ≤ MAX_OBJECTS
+  pub few_imps : length image.imps ≤ MAX_IMPS
+  pub few_rows : row_count image ≤ MAX_ENTRIES
 
 -- the image has the selector, and that takes so many arguments
 abbrev pub Takes : ImageParts → Selector → ℕ → Type 0

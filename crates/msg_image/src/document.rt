@@ -4,6 +4,7 @@ ghost use Rattle.std.specs.Prelude.{◌≡◌, ◌≢◌, ◌≤◌, ℕ, List, 
 ghost use Rattle.msg_json.specs.View.{view};
 ghost use Rattle.msg_form.specs.Faults.{fault_of};
 ghost use Rattle.msg_form.specs.Form.{Form};
+ghost use Rattle.msg_form.specs.FormNames.{AreNamesOf};
 ghost use Rattle.msg_form.specs.Shape.{form_of};
 ghost use Rattle.msg_form.specs.Views.{form_view};
 ghost use Rattle.msg_form.specs.declared.faults.DocumentFault.{DocumentFault};
@@ -18,12 +19,12 @@ use crate::change::Item;
 use crate::image::Image;
 use crate::numbers::Numbers;
 use crate::resolve::each;
-use msg_form::{DocumentFault, Form};
+use msg_form::{DocumentFault, Form, FormNames, MAX_ITEMS};
 use msg_json::{JsonFault, Scratch, Value};
 use std::alloc::{AllocError, Global};
 
 /// The longest document, in bytes.
-pub const MOST_BYTES: usize = 16777216;
+pub const MOST_BYTES: usize = 16_777_216;
 
 /// An image, and what is to be sent and changed.
 #[derive(Drop)]
@@ -48,29 +49,44 @@ fn parsed<'t>(
 }
 
 // The document of a form without fault.
-fn numbered(alloc: Global, form: &Form) -> Result<Document, AllocError>
-    requires { fault_of (form_view form.now) ≡ None }
+fn numbered(alloc: Global, form: &Form, names: FormNames) -> Result<Document, AllocError>
+    requires fault { fault_of (form_view form.now) ≡ None }
+    requires names { AreNamesOf names (form_view form.now) }
     ensures document { IfOk result (λ d. document_parts d ≡ document_of (form_view form.now)) }
     ensures sound { IfOk result (λ d. All (IsSoundItem d.image) (map item_parts d.items.items)) }
-    ensures few { IfOk result (λ d. length d.items.items ≤ 65536) }
+    ensures few { IfOk result (λ d. length d.items.items ≤ MAX_ITEMS) }
 {
-    let numbers = Numbers::of(alloc, form)?;
+    let numbers = Numbers::of(alloc, names)?;
     let items = each(alloc, &numbers, &form.items)?;
     let image = Image::of(alloc, form, numbers)?;
     Ok(Document { image, items })
 }
 
-fn judged(alloc: Global, value: &Value) -> Result<Document, DocumentFault>
-    ensures ok { IfOk result (λ d. judged (form_of (view value.now)) ≡ Ok (document_parts d)) }
-    ensures err { IfErr result (λ e. e ≢ DocumentFault.Memory → judged (form_of (view value.now)) ≡ Err e) }
+// The document of a form, or the form's least fault.
+fn of_form(alloc: Global, form: &Form) -> Result<Document, DocumentFault>
+    ensures ok { IfOk result (λ d. judged (Some (form_view form.now)) ≡ Ok (document_parts d)) }
+    ensures err { IfErr result (λ e. e ≢ DocumentFault.Memory → judged (Some (form_view form.now)) ≡ Err e) }
     ensures sound { IfOk result (λ d. All (IsSoundItem d.image) (map item_parts d.items.items)) }
-    ensures few { IfOk result (λ d. length d.items.items ≤ 65536) }
+    ensures few { IfOk result (λ d. length d.items.items ≤ MAX_ITEMS) }
 {
-    let form = Form::read(alloc, value)?;
-    match msg_form::fault(alloc, &form)? {
+    let names = FormNames::of(alloc, form)?;
+    let least = msg_form::fault_by(alloc, form, &names)?;
+    match least {
         Some(fault) => Err(fault),
-        None => Ok(numbered(alloc, &form)?),
+        None => Ok(numbered(alloc, form, names)?),
     }
+}
+
+// The tree isn't kept beside what is made of the form.
+fn judged(alloc: Global, value: Value) -> Result<Document, DocumentFault>
+    ensures ok { IfOk result (λ d. judged (form_of (view value.entry)) ≡ Ok (document_parts d)) }
+    ensures err { IfErr result (λ e. e ≢ DocumentFault.Memory → judged (form_of (view value.entry)) ≡ Err e) }
+    ensures sound { IfOk result (λ d. All (IsSoundItem d.image) (map item_parts d.items.items)) }
+    ensures few { IfOk result (λ d. length d.items.items ≤ MAX_ITEMS) }
+{
+    let form = Form::read(alloc, &value)?;
+    drop(value);
+    of_form(alloc, &form)
 }
 
 /// Reads a document: the image and the items that the bytes spell, or the first fault in the order of [`DocumentFault`].
@@ -81,14 +97,14 @@ pub fn read_document(alloc: Global, bytes: &[u8]) -> Result<Document, DocumentFa
     ensures ok { IfOk result (λ d. IsAnswer bytes.now (Ok (document_parts d))) }
     ensures err { IfErr result (λ e. e ≢ DocumentFault.Memory → IsAnswer bytes.now (Err e)) }
     ensures sound { IfOk result (λ d. All (IsSoundItem d.image) (map item_parts d.items.items)) }
-    ensures few { IfOk result (λ d. length d.items.items ≤ 65536) }
+    ensures few { IfOk result (λ d. length d.items.items ≤ MAX_ITEMS) }
 {
     if bytes.len() > MOST_BYTES {
         return Err(DocumentFault::Limit);
     }
     let mut scratch = Scratch::new(alloc);
     let value = parsed(alloc, bytes, &mut scratch)?;
-    judged(alloc, &value)
+    judged(alloc, value)
 }
 
 /// Bytes have one answer.

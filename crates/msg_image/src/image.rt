@@ -13,7 +13,7 @@ use crate::expr::Expr;
 use crate::methods::MethodList;
 use crate::numbers::{Numbers, forwarding_selector};
 use crate::resolve::each;
-use msg_form::Form;
+use msg_form::{Form, MAX_CLASSES};
 use msg_names::{ClassRef, ImpRef, Names, ObjectRef, Selector};
 use std::alloc::{AllocError, Global};
 use std::marker::Model;
@@ -84,7 +84,7 @@ impl Model for Image {
 
 fn superclass_count(classes: &[Class], class: u32) -> u32
     requires class { class < length classes.now }
-    requires few { length classes.now ≤ 1024 }
+    requires few { length classes.now ≤ MAX_CLASSES }
     requires listed { AreClasses (map (λ c. c.superclass) classes.now) }
     requires chains { has_cycle (map (λ c. c.superclass) classes.now) ≡ false }
     ensures { result ≡ depth_of (map (λ c. c.superclass) classes.now) class }

@@ -15,4 +15,4 @@ pub use document::{Document, MOST_BYTES, one_answer, read_document};
 pub use expr::Expr;
 pub use image::{Category, Image, Imp};
 pub use methods::MethodList;
-pub use msg_form::DocumentFault;
+pub use msg_form::{DocumentFault, MAX_CLASSES, MAX_ENTRIES, MAX_ITEMS};

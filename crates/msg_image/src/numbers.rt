@@ -1,14 +1,11 @@
 //! The numbers of a document's names.
 
-ghost use Rattle.std.specs.Prelude.{◌≡◌, fold, IfOk, map};
-ghost use Rattle.msg_names.specs.Numbering.{with_name};
-ghost use Rattle.msg_form.specs.Lists.{class_names};
-ghost use Rattle.msg_form.specs.Text.{Text, distinct, texts_view};
-ghost use Rattle.msg_form.specs.Views.{class_view, object_view, imp_view, form_view};
+ghost use Rattle.std.specs.Prelude.{◌≡◌, IfOk};
+ghost use Rattle.msg_form.specs.Text.{distinct, texts_view};
 ghost use Rattle.msg_image.specs.Numbers as spec;
 ghost use Rattle.msg_image.specs.Parts.{forwarding_selector};
 
-use msg_form::{self as form, Form, NameSet};
+use msg_form::{FormNames, NameSet};
 use msg_names::{ImpRef, Names, ObjectRef, Selector};
 use std::alloc::{AllocError, Global};
 
@@ -28,72 +25,7 @@ pub(crate) struct Numbers<'v> {
     pub(crate) imps: NameSet<'v>,
 }
 
-trait Named<'v> {
-    ghost named: { Self → Text };
-
-    fn name(&self) -> &'v str
-        ensures { result.now ≡ named self.now };
-}
-
-impl<'v> Named<'v> for form::Class<'v> {
-    ghost named = { λ c. (class_view c).name };
-
-    fn name(&self) -> &'v str {
-        self.name
-    }
-}
-
-impl<'v> Named<'v> for form::Object<'v> {
-    ghost named = { λ o. (object_view o).name };
-
-    fn name(&self) -> &'v str {
-        self.name
-    }
-}
-
-impl<'v> Named<'v> for form::Imp<'v> {
-    ghost named = { λ i. (imp_view i).name };
-
-    fn name(&self) -> &'v str {
-        self.name
-    }
-}
-
-impl<'v> Named<'v> for &'v str {
-    ghost named = { λ s. s.now };
-
-    fn name(&self) -> &'v str {
-        *self
-    }
-}
-
-// The names with those of the parts.
-fn with_names<'v, T: Named<'v>>(
-    mut names: NameSet<'v>,
-    parts: &[T],
-) -> Result<NameSet<'v>, AllocError>
-    ensures { IfOk result (λ all. all ≡ fold with_name names.entry (map T.named parts.now)) }
-{
-    for part in parts {
-        names.insert(part.name())?;
-    }
-    Ok(names)
-}
-
-fn names_of<'v, T: Named<'v>>(alloc: Global, parts: &[T]) -> Result<NameSet<'v>, AllocError>
-    ensures { IfOk result (λ names. names ≡ distinct (map T.named parts.now)) }
-{
-    with_names(NameSet::new(alloc), parts)
-}
-
-// The names of the listed classes, and of those that may be made.
-fn class_names<'v>(alloc: Global, form: &Form<'v>) -> Result<NameSet<'v>, AllocError>
-    ensures { IfOk result (λ names. names ≡ distinct (class_names (form_view form.now))) }
-{
-    with_names(names_of(alloc, &form.classes)?, &form.made)
-}
-
-// The names of selectors, numbered. Of a form without fault there are 4,096 at most, all of them good.
+// The names of selectors, numbered.
 fn selector_names(alloc: Global, texts: &[&str]) -> Result<Names, AllocError>
     ensures { IfOk result (λ names. names ≡ distinct (texts_view texts.now)) }
 {
@@ -107,15 +39,15 @@ fn selector_names(alloc: Global, texts: &[&str]) -> Result<Names, AllocError>
 }
 
 impl<'v> Numbers<'v> {
-    pub(crate) fn of(alloc: Global, form: &Form<'v>) -> Result<Numbers<'v>, AllocError>
-        ensures { IfOk result (λ numbers. numbers ≡ spec.numbers_of (form_view form.now)) }
+    // The names of selectors are copied, since they stay. Those of a form without fault are few enough, and good.
+    pub(crate) fn of(alloc: Global, names: FormNames<'v>) -> Result<Numbers<'v>, AllocError>
+        ensures { IfOk result (λ numbers. numbers ≡ spec.numbers_by names.entry) }
     {
-        let texts = form.selector_texts(alloc)?;
         Ok(Numbers {
-            selectors: selector_names(alloc, &texts)?,
-            classes: class_names(alloc, form)?,
-            objects: names_of(alloc, &form.objects)?,
-            imps: names_of(alloc, &form.imps)?,
+            selectors: selector_names(alloc, names.selectors.as_slice())?,
+            classes: names.classes,
+            objects: names.objects,
+            imps: names.imps,
         })
     }
 

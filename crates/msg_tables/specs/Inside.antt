@@ -1,7 +1,8 @@
 -- The fields of `Tables`.
-use Rattle.std.specs.Prelude.{◌≡◌, ◌<◌, ◌≤◌, ◌*◌, ℕ, Some, true, length, slice_get}
+use Rattle.std.specs.Prelude.{◌≡◌, ◌≤◌, ◌*◌, true, length}
 use Rattle.std.specs.List.{list_all}
 use Rattle.std.specs.Vec.{vec_capacity}
+use Rattle.msg_form.specs.declared.limits.TheConstants.{MAX_CLASSES}
 use Rattle.msg_tables.specs.declared.tables.TheConstants.{MAX_ROWS, MAX_CHANGES}
 use Rattle.msg_tables.specs.Order.{IsOrder}
 use Rattle.msg_tables.specs.RowList.{rows_of}
@@ -29,6 +30,6 @@ pub record AreSoundTables (t : Inside) : Type 0 where
   -- there is a list for each class reference
   pub lists : length t.lists.items ≡ 2 * length t.supers.items
   pub listed : list_all (are_listed (length t.args.items)) (rows_of t.lists.items) ≡ true
-  pub few_classes : length t.supers.items ≤ 1024
+  pub few_classes : length t.supers.items ≤ MAX_CLASSES
   pub few_rows : t.row_count ≤ MAX_ROWS
   pub few_changes : t.change_count ≤ MAX_CHANGES

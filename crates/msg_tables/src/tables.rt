@@ -11,11 +11,12 @@ ghost use Rattle.msg_tables.specs.View.{kept, kept_method, are_listed};
 
 use crate::presence::Presence;
 use crate::rows::MethodRows;
+use msg_form::MAX_ENTRIES;
 use msg_names::{ClassRef, ImpRef, Selector};
 use std::marker::Model;
 
-/// How many rows may stand at any time.
-pub const MAX_ROWS: u32 = 16_384;
+/// How many rows may stand at any time: as many as a document may list.
+pub const MAX_ROWS: u32 = MAX_ENTRIES as u32;
 
 /// How many changes are accepted.
 pub const MAX_CHANGES: u32 = 65_536;
