@@ -1,3 +1,4 @@
 pub mod ViewLemmas
 pub mod ReadableLemmas
 pub mod KeyLemmas
+pub mod NumberLemmas

@@ -1,4 +1,4 @@
-use Rattle.std.proofs.Common.{◌≡◌, drop, get_or, true, false, ◌==◌, sym, ap, ◌∙◌, arith, take_all, length-drop}
+use Rattle.std.proofs.Common.{◌≡◌, Some, drop, get_or, true, false, ◌==◌, sym, ap, ◌∙◌, arith, take_all, length-drop}
 use Rattle.fast_float.specs.Text.{scan}
 use Rattle.serde_json.specs.Read.{number_of, number_from}
 use Rattle.msg_json.proofs.numbers.number.Goals as goal
@@ -12,10 +12,18 @@ returns-then-has_minus c =
     let here : number_from true (scan (drop 1 bytes)) ≡ number_of bytes = rw minus in
     c.negative.ensures ∙ ap (number_from true) after ∙ here ∙ ap number_of c.as_bytes-bytes.ensures.value
 
-pub returns-else-has_minus : goal.returns-else-has_minus
+pub returns-in-Some : goal.returns-in-Some
 unfolding number_of
-returns-else-has_minus c =
+returns-in-Some c =
     let bytes = c.as_bytes-bytes.result.now in
     let plain : (get_or bytes 0 0 == 45) ≡ false = sym c.if-has_minus.ensures.value in
     let here : number_from false (scan bytes) ≡ number_of bytes = rw plain in
-    c.unsigned.ensures ∙ ap (number_from false) c.scan-else-has_minus.ensures.parts ∙ here ∙ ap number_of c.as_bytes-bytes.ensures.value
+    ap (λ x. Some x) c.from.ensures ∙ sym c.in-Some.ensures ∙ here ∙ ap number_of c.as_bytes-bytes.ensures.value
+
+pub returns-in-None : goal.returns-in-None
+unfolding number_of
+returns-in-None c =
+    let bytes = c.as_bytes-bytes.result.now in
+    let plain : (get_or bytes 0 0 == 45) ≡ false = sym c.if-has_minus.ensures.value in
+    let here : number_from false (scan bytes) ≡ number_of bytes = rw plain in
+    c.unsigned.ensures ∙ ap (number_from false) c.scan-in-None.ensures.parts ∙ here ∙ ap number_of c.as_bytes-bytes.ensures.value
