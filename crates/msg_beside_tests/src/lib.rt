@@ -1,6 +1,8 @@
-//! Tests of runs whose sends and changes are made in several threads: gates that hold one thread until another comes, and many sends beside many changes.
+//! Tests of runs: gates that hold one thread until another comes, many sends beside many changes, and devices that fail.
 #![tactic(auto)]
 
+#[cfg(test)]
+mod devices;
 #[cfg(test)]
 mod documents;
 #[cfg(test)]

@@ -6,8 +6,6 @@ mod buckets;
 #[cfg(test)]
 mod command_line;
 #[cfg(test)]
-mod devices;
-#[cfg(test)]
 mod documents;
 #[cfg(test)]
 mod faults;
