@@ -3,3 +3,4 @@ pub mod BoundLemmas
 pub mod DispatchLemmas
 pub mod PointLemmas
 pub mod StepLemmas
+pub mod OperationLemmas

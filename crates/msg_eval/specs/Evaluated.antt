@@ -1,5 +1,5 @@
 -- What the evaluator's functions are to find, each for what the code has at hand.
-use Rattle.std.specs.Prelude.{ℕ, List}
+use Rattle.std.specs.Prelude.{◌≡◌, ℕ, List}
 use Rattle.msg_names.specs.Number.{imp_number}
 use Rattle.msg_names.specs.declared.value.ClassRef.{ClassRef}
 use Rattle.msg_names.specs.declared.value.ImpRef.{ImpRef}
@@ -19,6 +19,10 @@ scope_of f = record { me = f.me; args = f.args.now.items; home = f.home }
 
 abbrev pub evaluated : Frame → Expression → ℕ → Rest → Meaning
 evaluated f e n = eval f.image.now (bodies f.image.now f.depth) (scope_of f) e n
+
+-- nothing is looked up for the expression, whose value this is
+abbrev pub IsValue : Frame → Expression → Value → Type 0
+IsValue f e v = (n : ℕ) (k : Rest) → evaluated f e n k ≡ k v n
 
 abbrev pub all_evaluated : Frame → Expressions → List Value → ℕ → (List Value → ℕ → Meaning) → Meaning
 all_evaluated f es done n = eval_all f.image.now (bodies f.image.now f.depth) (scope_of f) es done n

@@ -94,31 +94,9 @@ fn eval_expr<F: Finder>(
     }
 }
 
-// Evaluates an operand. A leaf, as every second expression of a body is, makes no call here.
-#[cycle(eval)]
-fn eval_operand<F: Finder>(
-    finder: &mut F,
-    frame: &Frame<'_>,
-    expr: &Expr,
-    left: &mut u32,
-) -> Result<Value, SendFault>
-    requires sizes { F.sizes (F.kept finder.old) ≡ sizes_of frame.now.image.now }
-    requires expr_of { IsExpressionOf frame.now.image.now (plain expr.now) }
-    ensures kept { F.kept finder.new ≡ F.kept finder.old }
-    ensures no_more { left.new ≤ left.old }
-    ensures value_of { IfOk result (IsOf frame.now.image.now) }
-    ensures meaning { (h : History) → F.stands finder.old h
-        → Gives (F.stands finder.new) h (evaluated frame.now (plain expr.now) left.old) result left.new }
-{
-    match expr {
-        Expr::Const(value) => Ok(*value),
-        Expr::Me => Ok(frame.me),
-        Expr::Arg(place) => Ok(frame.argument(*place)),
-        inner => eval_expr(finder, frame, inner, left),
-    }
-}
-
 // Evaluates both operands, and operates on them.
+//
+// A leaf, as every second expression of a body is, is looked at before a call that might wait: after each of those the compiled code has a test more.
 #[cycle(eval)]
 fn eval_two<F: Finder>(
     finder: &mut F,
@@ -137,8 +115,14 @@ fn eval_two<F: Finder>(
     ensures meaning { (h : History) → F.stands finder.old h
         → Gives (F.stands finder.new) h (evaluated frame.now (Two (op_of op) (plain a.now) (plain b.now)) left.old) result left.new }
 {
-    let x = eval_operand(finder, frame, a, left)?;
-    let y = eval_operand(finder, frame, b, left)?;
+    let x = match frame.leaf(a) {
+        Some(value) => value,
+        None => eval_expr(finder, frame, a, left)?,
+    };
+    let y = match frame.leaf(b) {
+        Some(value) => value,
+        None => eval_expr(finder, frame, b, left)?,
+    };
     operate(op, x, y)
 }
 
@@ -162,7 +146,10 @@ fn eval_if<F: Finder>(
     ensures meaning { (h : History) → F.stands finder.old h
         → Gives (F.stands finder.new) h (evaluated frame.now (If (plain test.now) (plain yes.now) (plain no.now)) left.old) result left.new }
 {
-    let chosen = eval_expr(finder, frame, test, left)?;
+    let chosen = match frame.leaf(test) {
+        Some(value) => value,
+        None => eval_expr(finder, frame, test, left)?,
+    };
     if is_no(chosen) {
         eval_expr(finder, frame, no, left)
     } else {
@@ -190,7 +177,10 @@ fn eval_send<F: Finder>(
     ensures meaning { (h : History) → F.stands finder.old h
         → Gives (F.stands finder.new) h (evaluated frame.now (Send (plain receiver.now) sel (plain_all args.now)) left.old) result left.new }
 {
-    let receiver = eval_expr(finder, frame, receiver, left)?;
+    let receiver = match frame.leaf(receiver) {
+        Some(value) => value,
+        None => eval_expr(finder, frame, receiver, left)?,
+    };
     let mut values = Args::new();
     eval_args(finder, frame, args, &mut values, left)?;
     let message = Message {

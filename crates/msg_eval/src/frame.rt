@@ -1,12 +1,12 @@
 //! What a body sees, and a message on its way to one.
 
-ghost use Rattle.std.specs.Prelude.{◌≡◌, ◌<◌, ℕ, All, length};
+ghost use Rattle.std.specs.Prelude.{◌≡◌, ◌<◌, ℕ, All, IfSome, length};
 ghost use Rattle.msg_image.specs.Parts.{ImageParts};
 ghost use Rattle.msg_image.specs.Sound.{IsOf};
 ghost use Rattle.msg_eval.specs.Facts.{of_image, all_of_image};
 
 use arrayvec::ArrayVec;
-use msg_image::Image;
+use msg_image::{Expr, Image};
 use msg_names::{ClassRef, Selector, Value};
 
 /// The arguments of a send.
@@ -36,7 +36,10 @@ pub(crate) struct Message<'a> {
 }
 
 impl Frame<'_> {
+    ghost use Rattle.msg_image.specs.Plain.{plain};
+    ghost use Rattle.msg_image.specs.Sound.{IsExpressionOf};
     ghost use Rattle.msg_eval.specs.Argument.{argument};
+    ghost use Rattle.msg_eval.specs.Evaluated.{IsValue};
 
     // An argument, from 0.
     pub(crate) fn argument(&self, place: u8) -> Value
@@ -46,6 +49,20 @@ impl Frame<'_> {
         match self.args.as_slice().get(usize::from(place)) {
             Some(value) => *value,
             None => Value::Nil,
+        }
+    }
+
+    // The value of an expression that has no parts: a constant, the receiver or an argument.
+    pub(crate) fn leaf(&self, expr: &Expr) -> Option<Value>
+        requires expr_of { IsExpressionOf self.now.image.now (plain expr.now) }
+        ensures value_of { IfSome result (IsOf self.now.image.now) }
+        ensures meaning { IfSome result (IsValue self.now (plain expr.now)) }
+    {
+        match expr {
+            Expr::Const(value) => Some(*value),
+            Expr::Me => Some(self.me),
+            Expr::Arg(place) => Some(self.argument(*place)),
+            _ => None,
         }
     }
 }

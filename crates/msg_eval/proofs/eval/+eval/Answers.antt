@@ -1,14 +1,16 @@
-use Rattle.std.proofs.Common.{rules, ◌≡◌, ◌<◌, ◌≤◌, ◌+◌, ◌-◌, List, length, sym, ap, ◌∙◌, subst, arith}
+use Rattle.std.proofs.Common.{rules, IfOk, ◌≡◌, ◌<◌, ◌≤◌, ◌+◌, ◌-◌, List, length, sym, ap, ◌∙◌, subst, arith}
 use Rattle.std.proofs.lemmas.Result.{err_from_is_err_and}
 use Rattle.msg_names.specs.Number.{imp_number}
 use Rattle.msg_image.specs.Parts.{Send, Super}
 use Rattle.msg_image.specs.Plain.{plain, plain_all}
 use Rattle.msg_image.specs.Sizes.{count, count_all}
-use Rattle.msg_image.specs.Sound.{IsExpressionOf}
+use Rattle.msg_image.specs.Sound.{IsExpressionOf, IsOf}
 use Rattle.msg_image.specs.declared.expr.Expr.{Expr}
 use Rattle.msg_eval.specs.Evaluated.{dispatched}
 use Rattle.msg_eval.specs.Evaluation.{bodies}
 use Rattle.msg_eval.proofs.ExprLemmas.{arity-plain_all, plain-Send, plain-Super}
+use Rattle.msg_eval.specs.Operation.{op_of}
+use Rattle.msg_eval.proofs.OperationLemmas.{result_is_of}
 use Rattle.msg_eval.proofs.DispatchLemmas.{lookup_fails, body_gives, forwarding_fails, starts_again, no_body, body_of}
 use Rattle.msg_eval.proofs.eval.+eval.Goals as goal
 
@@ -77,3 +79,6 @@ eval_expr-eval_super-requires g t c κs within =
     let smaller : count (plain c.args.expr.now) ≡ 1 + count_all (plain_all c.deref-in-Super.result.now) = ap count is in
     let few : length c.deref-in-Super.result.now ≤ 4 = subst (λ n. n ≤ 4) (arity-plain_all c.deref-in-Super.result.now) all.1 in
     search rules
+
+pub eval_two-returns-clause-value_of : goal.eval_two-returns-clause-value_of
+eval_two-returns-clause-value_of g t c = subst (λ r. IfOk r (IsOf c.args.frame.now.image.now)) (sym c.operate.ensures) (result_is_of c.args.frame.now.image.now (op_of c.args.op) _ _)

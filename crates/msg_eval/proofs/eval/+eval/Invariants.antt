@@ -18,9 +18,6 @@ decreases-enter g l = l.message.now.depth * 2048
 abbrev pub decreases-eval_expr : goal.decreases-eval_expr
 decreases-eval_expr g l = l.frame.now.depth * 2048 + 3 + 4 * count (plain l.expr.now)
 
-abbrev pub decreases-eval_operand : goal.decreases-eval_operand
-decreases-eval_operand g l = l.frame.now.depth * 2048 + 4 + 4 * count (plain l.expr.now)
-
 abbrev pub decreases-eval_args : goal.decreases-eval_args
 decreases-eval_args g l = l.frame.now.depth * 2048 + 4 + 4 * count_all (plain_all l.exprs.now)
 
