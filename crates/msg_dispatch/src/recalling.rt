@@ -41,7 +41,7 @@ impl<'d, N: ArenaName> Model for Recalling<'d, N> {
 }
 
 impl<'d, N: ArenaName> Recalling<'d, N> {
-    /// The sender, which remembers nothing yet. A memory takes 20 KiB.
+    /// The sender, which remembers nothing yet. A memory takes 40 KiB.
     pub fn new(alloc: Global, sender: Sender<'d, N>) -> Result<Recalling<'d, N>, AllocError>
         ensures { IfOk result (λ r. r ≡ sender.entry) }
     {

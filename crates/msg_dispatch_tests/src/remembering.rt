@@ -6,7 +6,8 @@ ghost use Rattle.msg_runtime.specs.Parts.{IsKeeperOf, keeper_history};
 
 use crate::images::{CHAIN, CHILD, GRAND, image, opened};
 use msg_cache::{Arena, Keeper};
-use msg_dispatch::{ArenaName, Dispatcher, Recalling};
+use msg_dispatch::laws::a_site_is_one_of_a_later_history;
+use msg_dispatch::{ArenaName, Dispatcher, Recalling, Site};
 use msg_image::{Change, Image};
 use msg_names::{ImpRef, Selector};
 use std::alloc::Global;
@@ -71,4 +72,43 @@ fn a_memory_is_taken_until_a_change_is_seen(rt: HostRuntime) -> Result<(), Fail>
     let image = image(alloc, CHAIN)?;
     let (arena, keeper) = opened(alloc, &image, 1, [1, 0, 0, 0, 0, 0, 0, 0, 0])?;
     remembers::<Brand, HostRuntime>(&rt, alloc, arena, keeper, &image)
+}
+
+fn notes_at_a_site<N: ArenaName, R: Wait + Abort>(
+    rt: &R,
+    alloc: Global,
+    arena: Arena,
+    keeper: Keeper,
+    image: &Image,
+) -> Result<(), Fail>
+    requires arena { arena ≡ N.arena }
+    requires keeper { IsKeeperOf N.arena keeper }
+    requires image { image.now ≡ N.arena.key.image }
+    requires history { keeper_history keeper ≡ empty image.now }
+{
+    assert!(rt; image.class_count() > GRAND.class);
+    let value = value()?;
+    let dispatcher: Dispatcher<N> = Dispatcher::open(alloc, arena, keeper, image)?;
+    let mut sender = dispatcher.sender(rt)?;
+    let mut changer = dispatcher.changer(rt)?;
+    let mut site = Site::new();
+    a_site_is_one_of_a_later_history();
+    assert_eq!(rt; sender.find_at(rt, &mut site, GRAND, value), ImpRef::of(1));
+    assert_eq!(rt; sender.recall_at(&site, GRAND, value), Some(ImpRef::of(1)));
+    assert_eq!(rt; sender.recall_at(&site, CHILD, value), None);
+    let _receipt = changer.change(rt, &addition()?);
+    assert_eq!(rt; sender.published(), 1);
+    assert_eq!(rt; sender.recall_at(&site, GRAND, value), None);
+    assert_eq!(rt; sender.find_at(rt, &mut site, GRAND, value), ImpRef::of(2));
+    assert_eq!(rt; sender.find_at(rt, &mut site, GRAND, value), ImpRef::of(2));
+    assert_eq!(rt; sender.lock_takings(), 2);
+    Ok(())
+}
+
+#[test]
+fn a_site_is_taken_until_a_change_is_seen(rt: HostRuntime) -> Result<(), Fail> {
+    let alloc = rt.alloc();
+    let image = image(alloc, CHAIN)?;
+    let (arena, keeper) = opened(alloc, &image, 1, [1, 0, 0, 0, 0, 0, 0, 0, 0])?;
+    notes_at_a_site::<Brand, HostRuntime>(&rt, alloc, arena, keeper, &image)
 }

@@ -22,7 +22,8 @@ use Rattle.msg_runner.specs.Written.{AreWritten}
 use Rattle.msg_runner.proofs.AnsweredLemmas.{served_plain, text_split}
 use Rattle.msg_runner.proofs.PartLemmas.{all_right}
 use Rattle.msg_runner.proofs.ServingLemmas.{all_tail, served_from}
-use Rattle.msg_cache.proofs.PastLemmas.{begins_refl}
+use Rattle.msg_cache.proofs.PastLemmas.{begins_refl, begins_trans}
+use Rattle.msg_dispatch.proofs.MemoryLemmas.{begins_same}
 
 -- whatever is written of the rest, the whole is written
 abbrev pub GoesOn : ImageParts → History → List Meaning → List ℕ → History → List Meaning → List ℕ → Type 0
@@ -90,6 +91,24 @@ written_serial image h last items old new same all below w =
     let plain : mine.replies ≡ map (plain_reply h) (sends_of h.image items) = served_plain h (sends_of h.image items) mine.replies last mine.served below in
     let here : new ≡ old ++ text_of h.image (serial_from h items) = mine.text ∙ ap (λ rs. old ++ text_of h.image (map Replied rs)) plain ∙ ap (λ zs. old ++ text_of h.image zs) (plain_serial h items all) in
     here ∙ ap (λ m. old ++ text_of m (serial_from h items)) same
+
+rise_begins : (h : History) (points : List History) → Rise h points → BeginsWith (last_of h points) h
+rise_begins h [] rise = begins_refl h
+rise_begins h (p ∷ ps) rise = begins_trans (last_of p ps) p h (rise_begins p ps rise.1) rise.0
+
+served_begins : (h : History) (ms : List Meaning) (rs : List Reply) (last : History) → Served h ms rs last → BeginsWith last h
+served_begins h [] [] last s = s
+served_begins h [] (r ∷ rs) last s = absurd s
+served_begins h (m ∷ ms) [] last s = absurd s
+served_begins h (m ∷ ms) (r ∷ rs) last (points, rise, ends, more) =
+    begins_trans last (last_of h points) h (served_begins (last_of h points) ms rs last more) (rise_begins h points rise)
+
+-- where a sender later stood at no more changes than at first, it had seen no more
+pub written_here : (image : ImageParts) (h last later : History) (sends : List Meaning) (old new : List ℕ) → AreWritten image h sends last old new
+    → BeginsWith later last → length later.changes ≡ length h.changes → BeginsWith h last
+written_here image h last later sends old new w begins same =
+    let all = begins_trans later last h begins (served_begins h sends w.replies last w.served) in
+    subst (λ k. BeginsWith k last) (begins_same later h all same) begins
 
 module _ (image : ImageParts) (h0 : History) (all : List Meaning) (old : List ℕ) where
   pub writing_here : (h : History) (rest : List Item) (text : List ℕ) (item : Item) (x : ItemParts) (later : List Item) → IsWriting image h0 all old h (map item_parts rest) text → rest ≡ item ∷ later → item_parts item ≡ x

@@ -124,7 +124,8 @@ fn remembering<'d, N: ArenaName>(
     Recalling::new(alloc, sender)
 }
 
-// Answers sends between which and beside which no change is made. The sender meets the changer before and after.
+// Answers sends between which and beside which no change is made. The sender meets the changer before. Afterwards the number of changes tells that it has seen
+// no more, so that no second lock is taken.
 pub(crate) fn answer_sends<'d, N: ArenaName, R: Wait, G: Gate>(
     rt: &R,
     alloc: Global,
@@ -151,6 +152,8 @@ pub(crate) fn answer_sends<'d, N: ArenaName, R: Wait, G: Gate>(
     let pieces = answer_pieces(&mut asking, gate, deal, image, items, text)?;
     let Asking { sender, .. } = asking;
     let mut sender = sender.into_sender();
-    changer.meet(rt, &mut sender);
+    if sender.published() != changer.count() {
+        changer.meet(rt, &mut sender);
+    }
     Ok((sender, pieces))
 }
