@@ -1,17 +1,16 @@
 -- From what workers served to the answers of one thread.
-use Rattle.std.proofs.Common.{◌≡◌, ◌<◌, ◌≤◌, ◌+◌, ◌⊎◌, ℕ, zero, suc, Bool, true, false, List, [], ◌∷◌, ◌++◌, map, length, Option, Some, None, refl, sym, ap, ap₂, ◌∙◌, subst, append_assoc, arith, length-append, inl, inr}
-use Rattle.std.proofs.lemmas.List.{append-nil, length-map}
+use Rattle.std.proofs.Common.{◌≡◌, ◌<◌, ◌≤◌, ◌+◌, ◌⊎◌, ℕ, suc, List, [], ◌∷◌, ◌++◌, map, length, Option, refl, sym, ap, ap₂, ◌∙◌, subst, append_assoc, arith, length-append, inl, inr}
+use Rattle.std.proofs.lemmas.List.{length-map}
 use Rattle.msg_image.specs.Items.{ItemParts, SendItem, ChangeItem}
 use Rattle.msg_image.specs.Parts.{ImageParts}
 use Rattle.msg_tables.specs.History.{History, BeginsWith}
-use Rattle.msg_tables.specs.Refusal.{refusal}
 use Rattle.msg_tables.specs.declared.fault.ChangeFault.{ChangeFault}
 use Rattle.msg_eval.specs.declared.reply.Reply.{Reply}
 use Rattle.msg_eval.specs.Evaluation.{send_of}
 use Rattle.msg_eval.specs.Meaning.{Meaning}
-use Rattle.msg_eval.specs.Points.{Rise, EndsAfter, last_of, AllAre, plain_reply}
+use Rattle.msg_eval.specs.Points.{Rise, last_of, AllAre, plain_reply}
 use Rattle.msg_eval.proofs.PointLemmas.{all_one, plain_only}
-use Rattle.msg_runner.specs.Serial.{Answer, Replied, answer_to_change, answer_at, history_after, serial_from}
+use Rattle.msg_runner.specs.Serial.{Answer, Replied, answer_at, history_after, serial_from}
 use Rattle.msg_runner.specs.Serving.{sends_of, history_of, refusals_of, woven, Served, share_of, count_of, at_worker, IsGathered, IsServed, IsAnswered, AllSends, IsOneChange}
 use Rattle.msg_runner.specs.Text.{text_of, answer_line}
 use Rattle.msg_runner.proofs.GatherLemmas.{shares_same, share_count, share_map}

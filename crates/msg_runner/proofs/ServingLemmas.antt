@@ -1,8 +1,7 @@
 -- What workers serve.
-use Rattle.std.proofs.Common.{◌≡◌, ◌≢◌, ◌<◌, ◌≤◌, ◌+◌, ℕ, zero, suc, Bool, true, false, cond, List, [], ◌∷◌, ◌++◌, map, drop, length, get_or, Option, Some, None, slice_get, refl, sym, ap, ◌∙◌, subst, append_assoc, arith}
+use Rattle.std.proofs.Common.{◌≡◌, ◌≢◌, ◌<◌, ◌+◌, ℕ, zero, suc, Bool, true, false, cond, List, [], ◌∷◌, ◌++◌, map, length, refl, sym, ap, ◌∙◌, subst, append_assoc, arith}
 use Rattle.std.specs.Prelude.{All, ◌==◌}
 use Rattle.std.proofs.lemmas.List.{append-nil}
-use Rattle.std.proofs.lemmas.Bool.{eqb-true, eqb-false}
 use mathlib.Core.Logic.{dite}
 use native.Mathlib.Decide.{ℕ_discrete}
 use Rattle.msg_names.specs.declared.value.Selector.{Selector}
@@ -18,8 +17,8 @@ use Rattle.msg_tables.specs.History.{History, BeginsWith}
 use Rattle.msg_cache.proofs.PastLemmas.{begins_refl, begins_trans}
 use Rattle.msg_eval.specs.declared.reply.Reply.{Reply}
 use Rattle.msg_eval.specs.Meaning.{Meaning}
-use Rattle.msg_eval.specs.Points.{Rise, EndsAfter, last_of}
-use Rattle.msg_runner.specs.Serving.{Goes, Served, share_of, count_of, sends_of, at_worker}
+use Rattle.msg_eval.specs.Points.{Rise, last_of}
+use Rattle.msg_runner.specs.Serving.{Goes, Served, share_of, sends_of, at_worker}
 
 -- points that rise from a later history rise from an earlier one
 pub rise_from : (h k : History) (points : List History) → BeginsWith k h → Rise k points → Rise h points × BeginsWith (last_of k points) (last_of h points)

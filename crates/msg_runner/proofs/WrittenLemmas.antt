@@ -1,5 +1,5 @@
 -- Lines that were written one after another.
-use Rattle.std.proofs.Common.{◌≡◌, ◌<◌, ◌≤◌, ◌+◌, ℕ, zero, suc, List, [], ◌∷◌, ◌++◌, map, take, drop, length, refl, sym, ap, ◌∙◌, subst, append_assoc, arith}
+use Rattle.std.proofs.Common.{◌≡◌, ℕ, List, [], ◌∷◌, ◌++◌, map, refl, sym, ap, ◌∙◌, subst, append_assoc}
 use Rattle.std.specs.Prelude.{All}
 use Rattle.std.proofs.lemmas.List.{append-nil}
 use Rattle.msg_names.specs.declared.value.Selector.{Selector}
@@ -15,7 +15,7 @@ use Rattle.msg_eval.specs.declared.reply.Reply.{Reply}
 use Rattle.msg_eval.specs.Evaluation.{send_of}
 use Rattle.msg_eval.specs.Meaning.{Meaning}
 use Rattle.msg_eval.specs.Points.{Rise, EndsAfter, last_of, plain_reply}
-use Rattle.msg_runner.specs.Serial.{Answer, Replied, serial_from}
+use Rattle.msg_runner.specs.Serial.{Replied, serial_from}
 use Rattle.msg_runner.specs.Serving.{AllSends, Served, sends_of}
 use Rattle.msg_runner.specs.Text.{text_of, answer_line}
 use Rattle.msg_runner.specs.Written.{AreWritten}
@@ -23,7 +23,6 @@ use Rattle.msg_runner.proofs.AnsweredLemmas.{served_plain, text_split}
 use Rattle.msg_runner.proofs.PartLemmas.{all_right}
 use Rattle.msg_runner.proofs.ServingLemmas.{all_tail, served_from}
 use Rattle.msg_cache.proofs.PastLemmas.{begins_refl, begins_trans}
-use Rattle.msg_dispatch.proofs.MemoryLemmas.{begins_same}
 
 -- whatever is written of the rest, the whole is written
 abbrev pub GoesOn : ImageParts → History → List Meaning → List ℕ → History → List Meaning → List ℕ → Type 0
@@ -103,12 +102,9 @@ served_begins h (m ∷ ms) [] last s = absurd s
 served_begins h (m ∷ ms) (r ∷ rs) last (points, rise, ends, more) =
     begins_trans last (last_of h points) h (served_begins (last_of h points) ms rs last more) (rise_begins h points rise)
 
--- where a sender later stood at no more changes than at first, it had seen no more
-pub written_here : (image : ImageParts) (h last later : History) (sends : List Meaning) (old new : List ℕ) → AreWritten image h sends last old new
-    → BeginsWith later last → length later.changes ≡ length h.changes → BeginsWith h last
-written_here image h last later sends old new w begins same =
-    let all = begins_trans later last h begins (served_begins h sends w.replies last w.served) in
-    subst (λ k. BeginsWith k last) (begins_same later h all same) begins
+-- what was written ends at a point that begins with the first
+pub written_begins : (image : ImageParts) (h last : History) (sends : List Meaning) (old new : List ℕ) → AreWritten image h sends last old new → BeginsWith last h
+written_begins image h last sends old new w = served_begins h sends w.replies last w.served
 
 module _ (image : ImageParts) (h0 : History) (all : List Meaning) (old : List ℕ) where
   pub writing_here : (h : History) (rest : List Item) (text : List ℕ) (item : Item) (x : ItemParts) (later : List Item) → IsWriting image h0 all old h (map item_parts rest) text → rest ≡ item ∷ later → item_parts item ≡ x

@@ -3,6 +3,7 @@
 ghost use Rattle.std.specs.Prelude.{◌≡◌, ◌<◌, ◌≤◌, ◌+◌, ◌^◌, ◌++◌, All, length, map, IfOk, OnOk};
 ghost use Rattle.msg_image.specs.Plain.{item_parts};
 ghost use Rattle.msg_image.specs.Sound.{IsSoundItem};
+ghost use Rattle.msg_tables.specs.History.{BeginsWith};
 ghost use Rattle.msg_tables.specs.Refusal.{refusal};
 ghost use Rattle.msg_runner.specs.Serial.{answer_to_change, longer_by, serial_from};
 ghost use Rattle.msg_runner.specs.Serving.{AllSends, sends_of};
@@ -124,8 +125,23 @@ fn remembering<'d, N: ArenaName>(
     Recalling::new(alloc, sender)
 }
 
-// Answers sends between which and beside which no change is made. The sender meets the changer before. Afterwards the number of changes tells that it has seen
-// no more, so that no second lock is taken.
+// Meets a changer whose whole history the sender has seen. Where there are no more changes the sender has seen no more, and no lock is taken.
+fn meet_again<'d, N: ArenaName, R: Wait>(
+    rt: &R,
+    changer: &mut Changer<'d, N>,
+    sender: &mut Sender<'d, N>,
+)
+    requires seen { BeginsWith sender.old.seen.front changer.old }
+    ensures same { changer.new ≡ changer.old }
+    ensures begins { BeginsWith changer.old sender.old.seen.front }
+{
+    if sender.published() == changer.count() {
+        return;
+    }
+    changer.meet(rt, sender);
+}
+
+// Answers sends between which and beside which no change is made. The sender meets the changer before and after.
 pub(crate) fn answer_sends<'d, N: ArenaName, R: Wait, G: Gate>(
     rt: &R,
     alloc: Global,
@@ -152,8 +168,6 @@ pub(crate) fn answer_sends<'d, N: ArenaName, R: Wait, G: Gate>(
     let pieces = answer_pieces(&mut asking, gate, deal, image, items, text)?;
     let Asking { sender, .. } = asking;
     let mut sender = sender.into_sender();
-    if sender.published() != changer.count() {
-        changer.meet(rt, &mut sender);
-    }
+    meet_again(rt, changer, &mut sender);
     Ok((sender, pieces))
 }

@@ -1,4 +1,4 @@
-use Rattle.std.proofs.Common.{map, length, ◌∷◌, [], ◌≡◌, ap, arith}
+use Rattle.std.proofs.Common.{map, [], ◌≡◌, ap, arith}
 use Rattle.std.proofs.lemmas.List.{nil_from_length}
 use Rattle.msg_image.specs.Plain.{item_parts}
 use Rattle.msg_image.specs.Items.{SendItem, ChangeItem}
