@@ -95,17 +95,6 @@ total_part [] (suc i) = omega arith
 total_part (x ∷ xs) zero = omega arith
 total_part (x ∷ xs) (suc i) = let t = total_part xs i in omega arith
 
-pub last_old : (l : List ℕ) (x k : ℕ) → k < length l → slice_index (l ++ x ∷ []) k ≡ slice_index l k
-last_old [] x k lt = absurd (omega arith)
-last_old (y ∷ ys) x zero lt = refl
-last_old (y ∷ ys) x (suc k) lt = last_old ys x k (omega arith)
-
-pub last_new : (l : List ℕ) (x k : ℕ) → length l ≡ k → slice_index (l ++ x ∷ []) k ≡ x
-last_new [] x zero e = refl
-last_new [] x (suc k) e = absurd (omega arith)
-last_new (y ∷ ys) x zero e = absurd (omega arith)
-last_new (y ∷ ys) x (suc k) e = last_new ys x k (omega arith)
-
 -- the first keeper's view is sound by itself
 pub first_tidy : (look : History → ClassRef → ℕ → ℕ) (key : SettingView) → IsSound key.image → 0 < key.senders → TidyBy look key (first_keeper key)
 first_tidy look key sound_image some_sender =

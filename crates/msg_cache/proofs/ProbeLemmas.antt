@@ -1,16 +1,17 @@
 -- What the steps of a probe add to its record.
-use Rattle.std.proofs.Common.{◌≡◌, ◌≢◌, ℕ, suc, ◌+◌, ◌-◌, ◌<◌, ◌≤◌, List, [], ◌∷◌, ◌++◌, length, take, Some, None, true, refl, sym, ap, ◌∙◌, subst, arith, length-append, ◌⊎◌, ⊎_elim}
+use Rattle.std.proofs.Common.{◌≡◌, ◌≢◌, ℕ, suc, ◌+◌, ◌-◌, ◌<◌, ◌≤◌, List, [], ◌∷◌, ◌++◌, length, take, Some, None, true, refl, sym, ap, ◌∙◌, subst, arith, length-append, ◌⊎◌, inr, ⊎_elim}
 use Rattle.std.proofs.Math.Seq.{take-append-add}
 use Rattle.msg_names.specs.declared.value.ClassRef.{ClassRef}
 use Rattle.msg_buckets.specs.Word.{sel_of, imp_of}
 use Rattle.msg_buckets.specs.Probing.{probe_place, ends, end_of, found_at, hit, empty, wrapped}
 use Rattle.msg_buckets.proofs.EndLemmas.{same_ends, free_ends, other_passes, found_at-same, found_at-free, read_ends, read_passes}
 use Rattle.msg_tables.specs.History.{History}
+use Rattle.msg_core.specs.declared.state.Whereabouts.TheVariants.{Holding}
 use Rattle.msg_core.specs.State.{Layout, capacity}
 use Rattle.msg_cache.specs.declared.view.SenderView.{SenderView}
 use Rattle.msg_cache.specs.Layout.{base}
 use Rattle.msg_cache.specs.Plays.{Sat, seated, sender_of, headed, read_on, SawHeader, SawWord}
-use Rattle.msg_cache.specs.Record.{InPlaces, earlier, Hits, Probes, HitsOrMisses, HitsOnce}
+use Rattle.msg_cache.specs.Record.{InPlaces, earlier, Hits, Misses, Probes, HitsOrMisses, HitsOnce}
 use Rattle.msg_cache.proofs.PastLemmas.{begins_trans}
 
 in_places_more : (z : Layout) (a s k : ℕ) (reads : List (ℕ × ℕ)) (read : ℕ × ℕ) → InPlaces z a s k reads → read.0 ≡ base z a + probe_place s (capacity z a) (k + length reads) → InPlaces z a s k (reads ++ read ∷ [])
@@ -101,6 +102,34 @@ module _ {look : History → ClassRef → ℕ → ℕ} {z : Layout} {c : ClassRe
 
   pub next_count : length (sender_of m'.0).last.reads ≡ step + 1
   next_count = ap (λ (w : SenderView). length w.last.reads) (read_is t) ∙ length-append v.last.reads ((b + p, n) ∷ []) ∙ ap (λ (x : ℕ). x + 1) count
+
+-- A probe of c and s has read k words of the array a. None before the last ends it, and the last is n, in the word i of the table.
+pub record Reading (look : History → ClassRef → ℕ → ℕ) (z : Layout) (c : ClassRef) (s a k i n : ℕ) (v w : SenderView) : Type 0 where
+  pub probes : Probes z c s v w
+  pub holding : w.whereabouts ≡ Holding c a
+  pub array : w.last.array ≡ Some a
+  pub count : length w.last.reads ≡ k
+  pub hit : sel_of n ≡ s → Hits w.last (imp_of n) × (imp_of n ≡ look w.front c s)
+  pub free : n ≡ 0 → found_at (end_of w.last.sel w.last.reads) ≡ empty i
+  pub passed : n ≢ 0 → sel_of n ≢ s → end_of s w.last.reads ≡ None
+
+-- the next word is read
+pub next_reading : {look : History → ClassRef → ℕ → ℕ} {z : Layout} {c : ClassRef} {s n a p b cap k : ℕ} {u v : SenderView} {m' : Sat} → 0 < s → SawWord look (b + p) n v m' → Probes z c s u v → v.whereabouts ≡ Holding c a
+    → v.last.array ≡ Some a → end_of s v.last.reads ≡ None → length v.last.reads ≡ k → k < cap → cap ≡ capacity z a → b ≡ base z a → p ≡ probe_place s cap k → Reading look z c s a (k + 1) (b + p) n u (sender_of m'.0)
+next_reading {look} {z} {c} {s} {n} {a} {p} {b} {cap} {k} {u} {v} {m'} positive t q holding array none count lt words here at = record {
+  probes = next_probes t q array none count lt words here at;
+  holding = ap (λ (w : SenderView). w.whereabouts) (read_is t) ∙ holding;
+  array = ap (λ (w : SenderView). w.last.array) (read_is t) ∙ array;
+  count = next_count t q array none count lt words here at;
+  hit = λ same. (read_hits s t q.sel_is none positive same, next_found t q array none count lt words here at same);
+  free = read_empty s t q.sel_is none;
+  passed = read_passed s t q.sel_is none;
+}
+
+-- the array has no word that was not read
+pub read_all : {look : History → ClassRef → ℕ → ℕ} {z : Layout} {c : ClassRef} {s a k i n : ℕ} {v w : SenderView} → Reading look z c s a k i n v w → n ≢ 0 → sel_of n ≢ s → k ≡ capacity z a → Misses z w.last
+read_all {look} {z} {c} {s} {a} {k} {i} {n} {v} {w} r entry other all =
+    inr (inr (a, r.array, r.count ∙ all, ap found_at (ap (λ (x : ℕ). end_of x w.last.reads) r.probes.sel_is ∙ r.passed entry other)))
 
 pub hits_or_misses : HitsOrMisses
 hits_or_misses z c s v w i q hits misses = ⊎_elim

@@ -1,7 +1,8 @@
 -- What contracts see of an arena, of a sender and of the turn, and what holds of their fields.
-use Rattle.std.specs.Prelude.{◌≡◌, ℕ, ◌+◌, ◌^◌, ◌<◌, ◌≤◌, [], ◌∷◌, All, length, slice_index}
+use Rattle.std.specs.Prelude.{◌≡◌, ℕ, ◌+◌, ◌^◌, ◌<◌, ◌≤◌, [], ◌∷◌, All, length, slice_index, slice_index_or}
 use Rattle.msg_buckets.specs.Capacity.{IsCapacity, capacities as all_capacities}
 use Rattle.msg_core.specs.declared.state.Whereabouts.TheVariants.{Out}
+use Rattle.msg_cache.specs.declared.arena.Span.{Span}
 use Rattle.msg_cache.specs.declared.arena.Arena.TheInside.{Inside as ArenaInside}
 use Rattle.msg_cache.specs.declared.prober.Prober.TheInside.{Inside as ProberInside}
 use Rattle.msg_cache.specs.declared.keeper.Turn.TheInside.{Inside as TurnInside}
@@ -16,11 +17,10 @@ arena_view a = record { table = a.table.shared.table_id; key = a.table.shared.ke
 
 -- the fields say what the table was made for
 pub record IsArena (a : ArenaInside) : Type 0 where
-  pub capacities : a.capacities.items ≡ a.table.shared.key.capacities
-  pub are_capacities : All IsCapacity a.capacities.items
-  pub bases : (i : ℕ) → i < length a.capacities.items → slice_index a.bases.items i ≡ base (layout_of a.table.shared.key) i
-  pub bases_count : length a.bases.items ≡ length a.capacities.items
-  pub firsts : (i : ℕ) → i < 9 → IsGroup a.capacities.items (slice_index all_capacities i) (slice_index a.firsts i) (slice_index a.firsts (i + 1))
+  pub are_capacities : All IsCapacity a.table.shared.key.capacities
+  pub spans : (i : ℕ) → i < length a.table.shared.key.capacities → (d : Span) → slice_index_or a.spans.items i d ≡ record { base = base (layout_of a.table.shared.key) i; capacity = slice_index a.table.shared.key.capacities i }
+  pub spans_count : length a.spans.items ≡ length a.table.shared.key.capacities
+  pub firsts : (i : ℕ) → i < 9 → IsGroup a.table.shared.key.capacities (slice_index all_capacities i) (slice_index a.firsts i) (slice_index a.firsts (i + 1))
   pub senders : a.senders ≡ a.table.shared.key.senders
   pub few_senders : a.senders ≤ 64
   pub probes : a.probes ≡ probes (layout_of a.table.shared.key)
@@ -29,7 +29,7 @@ pub record IsArena (a : ArenaInside) : Type 0 where
 
 -- a sender is what its seat knows, on its table
 abbrev pub prober_view : ProberInside → ProberView
-prober_view p = record { table = p.badge.table_id; sender = sender_in p.badge.views }
+prober_view p = record { table = p.badge.table_id; place = p.place; sender = sender_in p.badge.views }
 
 -- the badge is that of one sender's seat, which is out, and the fields say its number and how many words its last probe loaded
 pub record IsProber (p : ProberInside) : Type 0 where

@@ -5,7 +5,7 @@ use Rattle.msg_image.specs.Parts.{class_total}
 use Rattle.msg_tables.specs.History.{History}
 use Rattle.msg_core.specs.State.{Layout}
 use Rattle.msg_cache.specs.declared.view.SenderView.{SenderView}
-use Rattle.msg_cache.specs.Layout.{SettingView, layout_of}
+use Rattle.msg_cache.specs.Layout.{SettingView, layout_of, probe_at}
 
 -- which table an arena is, and what that was made for
 pub record ArenaView : Type 0 where
@@ -20,14 +20,15 @@ layout a = layout_of a.key
 abbrev pub classes : ArenaView → ℕ
 classes a = class_total a.key.image
 
--- what a sender knows, and of which table
+-- what a sender knows, of which table, and where its probe word stands
 pub record ProberView : Type 0 where
   pub table : TableId
+  pub place : ℕ
   pub sender : SenderView
 
 -- the sender is of the arena
 abbrev pub IsSenderOf : ArenaView → ProberView → Type 0
-IsSenderOf a p = (p.table ≡ a.table) × (p.sender.number < a.key.senders)
+IsSenderOf a p = (p.table ≡ a.table) × (p.sender.number < a.key.senders) × (p.place ≡ probe_at (layout a) p.sender.number)
 
 -- the history as the one who may change it knows it, and of which table
 pub record TurnView : Type 0 where

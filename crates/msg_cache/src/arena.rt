@@ -23,12 +23,18 @@ use std::alloc::{AllocError, Global};
 use std::marker::Model;
 use std::snapshot::Snapshot;
 
+// Where the words of an array begin, and how many there are.
+#[derive(Clone, Copy)]
+struct Span {
+    base: u32,
+    capacity: u32,
+}
+
 /// The words of the caches of an image.
 #[derive(Drop)]
 pub struct Arena {
     table: Table<u8, View, Setting, Law, Global>,
-    capacities: Vec<u32>,
-    bases: Vec<usize>,
+    spans: Vec<Span>,
     // the number of the first array of each capacity, and how many there are
     firsts: [usize; 10],
     senders: u32,
@@ -105,7 +111,7 @@ impl Arena {
         ensures count { result ≡ length self.now.key.capacities }
         ensures few { result < 2 ^ 32 }
     {
-        self.capacities.len()
+        self.spans.len()
     }
 
     // How many senders there may be.
@@ -124,7 +130,7 @@ impl Arena {
         ensures base { result ≡ base_of (layout_of self.now.key) array }
         ensures few { base_of (layout_of self.now.key) array + capacity (layout_of self.now.key) array < 2 ^ 32 }
     {
-        self.bases[array]
+        self.spans[array].base as usize
     }
 
     // How many there are.
@@ -134,7 +140,7 @@ impl Arena {
         ensures capacity { result ≡ capacity (layout_of self.now.key) array }
         ensures listed { IsCapacity result }
     {
-        self.capacities[array]
+        self.spans[array].capacity
     }
 
     // The arrays of a capacity, which lie beside one another.
@@ -176,10 +182,13 @@ impl Arena {
             senders,
             capacities: Snapshot::of(&capacities),
         };
-        let mut bases = Vec::new(alloc);
+        let mut spans = Vec::new(alloc);
         let mut probes = 1 + 2 * image.class_count() as usize;
         for capacity in &capacities {
-            bases.push(probes)?;
+            spans.push(Span {
+                base: probes as u32,
+                capacity: *capacity,
+            })?;
             probes += *capacity as usize;
         }
         let count = probes + 8 * senders as usize;
@@ -187,8 +196,7 @@ impl Arena {
         let (table, seat) = Table::of_words(alloc, &words, &setting)?;
         let arena = Arena {
             table,
-            capacities,
-            bases,
+            spans,
             firsts,
             senders,
             probes,

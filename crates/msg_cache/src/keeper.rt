@@ -434,7 +434,7 @@ impl Keeper {
         let shared = arena.shared();
         let seat = split_sender(shared, &mut self.seat, number);
         self.given[place] = true;
-        Some(Prober::of(seat, number))
+        Some(Prober::of(seat, number, arena.probe_at(number)))
     }
 
     /// Takes a sender back.

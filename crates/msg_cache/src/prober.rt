@@ -68,22 +68,31 @@ pub(crate) fn search<P: Pause>(
     let base = arena.base(array);
     let capacity = arena.capacity(array);
     let mut place = first_place(sel, capacity);
-    for step in 0..capacity {
-        pause.at(step + 1);
-        let word = load_bucket(shared, seat, array, base, place);
+    pause.at(1);
+    let mut word = load_bucket(shared, seat, array, base, place);
+    let mut loads = 1;
+    loop {
         match look_at(word, sel) {
-            Look::Hit(imp) => return (Some(imp), step + 1),
-            Look::Empty => return (None, step + 1),
-            Look::Other => place = next_place(place, capacity),
+            Look::Hit(imp) => return (Some(imp), loads),
+            Look::Empty => return (None, loads),
+            Look::Other => {}
         }
+        if loads == capacity {
+            return (None, loads);
+        }
+        place = next_place(place, capacity);
+        pause.at(loads + 1);
+        word = load_bucket(shared, seat, array, base, place);
+        loads += 1;
     }
-    (None, capacity)
 }
 
 /// A sender.
 #[derive(Drop)]
 pub struct Prober {
     badge: Badge<View>,
+    // where the probe word stands
+    place: usize,
     number: u32,
     loads: u32,
 }
@@ -108,15 +117,16 @@ impl Model for Prober {
 
 impl Prober {
     // A sender that probed nothing.
-    pub(crate) fn of(seat: Seat, number: u32) -> Prober
+    pub(crate) fn of(seat: Seat, number: u32, place: usize) -> Prober
         requires sender { seat.me ≡ seated (sender_of seat.me.0) }
         requires number { (sender_of seat.me.0).number ≡ number }
         requires out { (sender_of seat.me.0).whereabouts ≡ Out }
         requires reads { (sender_of seat.me.0).last.reads ≡ [] }
-        ensures { result ≡ record { table = seat.table_id; sender = sender_of seat.me.0 } }
+        ensures { result ≡ record { table = seat.table_id; place = place; sender = sender_of seat.me.0 } }
     {
         Prober {
             badge: seat.into_badge(),
+            place,
             number,
             loads: 0,
         }
@@ -128,6 +138,7 @@ impl Prober {
         requires keeper { keeper.old.me ≡ kept (keeper_of keeper.old.me.0) }
         requires number { self.old.sender.number < words.now.key.senders }
         ensures table { (self.new.table ≡ self.old.table) × (keeper.new.table_id ≡ keeper.old.table_id) }
+        ensures place { self.new.place ≡ self.old.place }
         ensures keeper { keeper.new.me ≡ kept (given_out self.old.sender.number (taken_in self.old.sender (keeper_of keeper.old.me.0))) }
         ensures tidy { TidyBy lookup words.now.key (taken_in self.old.sender (keeper_of keeper.old.me.0)) }
         ensures sender { self.new.sender ≡ newcomer self.old.sender.number (keeper_of keeper.old.me.0).history }
@@ -178,7 +189,7 @@ impl Prober {
     {
         let mut seat = replace(&mut self.badge, Badge::blank()).into_seat();
         let shared = arena.shared();
-        let word = arena.probe_at(self.number);
+        let word = self.place;
         enter(shared, &mut seat, word);
         let (found, loads) = search(arena, &mut seat, class, sel, pause);
         leave(shared, &mut seat, word);

@@ -22,4 +22,4 @@ returns c =
     let f = c.self.inside.firsts in
     let g = group_at c.args.capacity c.requires in
     let i : ℕ = trailing_zeros w32 c.args.capacity - 2 in
-    subst (λ (x : List ℕ × ℕ). IsGroup x.0 x.1 (slice_index f i) (slice_index f (i + 1))) (λ y. ((s.capacities ∙ ap (λ (a : ArenaView). a.key.capacities) c.self.view_is) y, g.2 y)) (s.firsts i (omega arith))
+    subst (λ (x : List ℕ × ℕ). IsGroup x.0 x.1 (slice_index f i) (slice_index f (i + 1))) (λ y. (ap (λ (a : ArenaView). a.key.capacities) c.self.view_is y, g.2 y)) (s.firsts i (omega arith))
