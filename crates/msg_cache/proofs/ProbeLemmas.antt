@@ -1,5 +1,5 @@
 -- What the steps of a probe add to its record.
-use Rattle.std.proofs.Common.{◌≡◌, ◌≢◌, ℕ, suc, ◌+◌, ◌-◌, ◌<◌, ◌≤◌, List, [], ◌∷◌, ◌++◌, length, take, Some, None, true, refl, sym, ap, ◌∙◌, subst, arith, length-append, ◌⊎◌, inr, ⊎_elim}
+use Rattle.std.proofs.Common.{◌≡◌, ◌≢◌, ℕ, suc, ◌+◌, ◌-◌, ◌<◌, ◌≤◌, List, [], ◌∷◌, ◌++◌, length, take, Some, None, true, refl, sym, ap, ◌∙◌, subst, arith, length-append, ◌⊎◌, ⊎_elim}
 use Rattle.std.proofs.Math.Seq.{take-append-add}
 use Rattle.msg_names.specs.declared.value.ClassRef.{ClassRef}
 use Rattle.msg_buckets.specs.Word.{sel_of, imp_of}
@@ -8,10 +8,12 @@ use Rattle.msg_buckets.proofs.EndLemmas.{same_ends, free_ends, other_passes, fou
 use Rattle.msg_tables.specs.History.{History}
 use Rattle.msg_core.specs.declared.state.Whereabouts.TheVariants.{Holding}
 use Rattle.msg_core.specs.State.{Layout, capacity}
+use Rattle.msg_core.specs.Steps.{seeing}
 use Rattle.msg_cache.specs.declared.view.SenderView.{SenderView}
 use Rattle.msg_cache.specs.Layout.{base}
 use Rattle.msg_cache.specs.Plays.{Sat, seated, sender_of, headed, read_on, SawHeader, SawWord}
-use Rattle.msg_cache.specs.Record.{InPlaces, earlier, Hits, Misses, Probes, HitsOrMisses, HitsOnce}
+use Rattle.msg_cache.specs.Rule.{named}
+use Rattle.msg_cache.specs.Record.{InPlaces, earlier, Hits, Probes, HitsOrMisses, HitsOnce}
 use Rattle.msg_cache.proofs.PastLemmas.{begins_trans}
 
 in_places_more : (z : Layout) (a s k : ℕ) (reads : List (ℕ × ℕ)) (read : ℕ × ℕ) → InPlaces z a s k reads → read.0 ≡ base z a + probe_place s (capacity z a) (k + length reads) → InPlaces z a s k (reads ++ read ∷ [])
@@ -46,6 +48,15 @@ headed_probes {z} {arrays} {c} {s} {n} {v} {m'} t = subst (Probes z c s v) (sym 
   places = λ a e. (tt, omega arith);
   unended = refl;
 })
+
+-- where the word names the array a
+pub headed_holding : {arrays : ℕ} {c : ClassRef} {s n : ℕ} {v : SenderView} {m' : Sat} (a : ℕ) → SawHeader arrays c s n v m' → n ≡ suc a
+    → ((sender_of m'.0).whereabouts ≡ Holding c a) × ((sender_of m'.0).last.array ≡ Some a) × ((sender_of m'.0).last.reads ≡ [])
+headed_holding {arrays} {c} a t e = (
+  ap (λ (w : SenderView). w.whereabouts) (headed_is t) ∙ ap (λ (m : ℕ). seeing c (named m)) e,
+  ap (λ (w : SenderView). w.last.array) (headed_is t) ∙ ap named e,
+  ap (λ (w : SenderView). w.last.reads) (headed_is t),
+)
 
 -- the view after a bucket load
 pub read_is : {look : History → ClassRef → ℕ → ℕ} {i n : ℕ} {v : SenderView} {m' : Sat} (t : SawWord look i n v m') → sender_of m'.0 ≡ read_on t.front v i n
@@ -125,11 +136,6 @@ next_reading {look} {z} {c} {s} {n} {a} {p} {b} {cap} {k} {u} {v} {m'} positive 
   free = read_empty s t q.sel_is none;
   passed = read_passed s t q.sel_is none;
 }
-
--- the array has no word that was not read
-pub read_all : {look : History → ClassRef → ℕ → ℕ} {z : Layout} {c : ClassRef} {s a k i n : ℕ} {v w : SenderView} → Reading look z c s a k i n v w → n ≢ 0 → sel_of n ≢ s → k ≡ capacity z a → Misses z w.last
-read_all {look} {z} {c} {s} {a} {k} {i} {n} {v} {w} r entry other all =
-    inr (inr (a, r.array, r.count ∙ all, ap found_at (ap (λ (x : ℕ). end_of x w.last.reads) r.probes.sel_is ∙ r.passed entry other)))
 
 pub hits_or_misses : HitsOrMisses
 hits_or_misses z c s v w i q hits misses = ⊎_elim

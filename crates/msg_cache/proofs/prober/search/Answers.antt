@@ -1,67 +1,68 @@
-use Rattle.std.proofs.Common.{◌≡◌, ℕ, ◌+◌, ◌-◌, ◌<◌, inl, inr, sym, ap, ◌∙◌, subst, arith}
+use Rattle.std.proofs.Common.{◌≡◌, ℕ, ◌+◌, ◌-◌, ◌<◌, length, ap, ◌∙◌, arith}
 use Rattle.msg_names.specs.Number.{selector_number}
+use Rattle.msg_buckets.specs.Probing.{probe_place, end_of}
 use Rattle.msg_core.specs.State.{capacity}
-use Rattle.msg_cache.specs.declared.view.SenderView.{SenderView}
 use Rattle.msg_cache.specs.Layout.{layout_of, base}
-use Rattle.msg_cache.specs.Plays.{sender_of}
-use Rattle.msg_cache.specs.Record.{Hits}
 use Rattle.msg_cache.proofs.LayoutLemmas.{inside}
-use Rattle.msg_cache.proofs.ProbeLemmas.{read_is, read_seated, read_hits, read_empty, read_passed, next_probes, next_found, next_count}
+use Rattle.msg_cache.proofs.ProbeLemmas.{headed_holding, headed_probes, read_seated, next_reading}
 use Rattle.msg_cache.proofs.prober.search.Goals as goal
 
 pub load_bucket-word-requires-clause-table : goal.load_bucket-word-requires-clause-table
 load_bucket-word-requires-clause-table g c =
     let a : ℕ = c.load_header-header.result - 1 in
-    let arena = c.args.arena.now in
-    let z = layout_of arena.key in
-    let i = c.loop-step.invariant in
-    let p : ℕ = c.loop-step.place in
+    let z = layout_of c.args.arena.now.key in
+    let p : ℕ = c.first_place-place.result in
     let b : ℕ = c.base-base.result in
-    let lt : p < capacity z a = let t = i.within in let u = c.capacity-capacity.ensures.capacity in omega arith in
+    let lt : p < capacity z a = let t = c.first_place-place.ensures.within in let u = c.capacity-capacity.ensures.capacity in omega arith in
     let t = inside z a p lt in let e : b ≡ base z a = c.base-base.ensures.base in let w = c.shared-shared.ensures.count.0 in
-    rw c.shared-shared.ensures.table (i.table ∙ c.requires.table, omega arith, c.shared-shared.ensures.count.1)
+    rw c.shared-shared.ensures.table (c.load_header-header.ensures.seat.0 ∙ c.requires.table, omega arith, c.shared-shared.ensures.count.1)
 
-pub returns-in-Hit-clause-probes : goal.returns-in-Hit-clause-probes
-returns-in-Hit-clause-probes g c =
-    let i = c.loop-step.invariant in
-    next_probes c.load_bucket-word.ensures.told i.probes i.array i.none_yet i.count c.loop-step-test.true c.capacity-capacity.ensures.capacity c.base-base.ensures.base i.place
+pub loop-imp-init : goal.loop-imp-init
+loop-imp-init g c =
+    let t = c.load_header-header.ensures.told in
+    let r = c.load_bucket-word.ensures in
+    let p = c.first_place-place.ensures in
+    let a : ℕ = c.load_header-header.result - 1 in
+    let h = headed_holding a t (let e = c.if-header-eq0.false in omega arith) in
+    record {
+      table = r.seat.0 ∙ c.load_header-header.ensures.seat.0;
+      id = r.seat.1 ∙ c.load_header-header.ensures.seat.1;
+      sender = read_seated r.told;
+      reading = next_reading c.args.sel.positive r.told (headed_probes t) h.0 h.1 (ap (end_of (selector_number c.args.sel)) h.2) (ap length h.2) (omega (arith, p.within)) c.capacity-capacity.ensures.capacity c.base-base.ensures.base p.first;
+      place = p.first;
+      within = p.within;
+      some = omega arith;
+      few = let w = p.within in omega arith;
+    }
 
-pub returns-in-Hit-clause-some : goal.returns-in-Hit-clause-some
-returns-in-Hit-clause-some g c =
-    let i = c.loop-step.invariant in
-    let t = c.load_bucket-word.ensures.told in
-    let s : ℕ = selector_number c.args.sel in
-    let h = c.in-Hit.ensures in (
-      subst (Hits (sender_of c.load_bucket-word.new.seat.me.0).last) h.1 (read_hits s t i.probes.sel_is i.none_yet c.args.sel.positive h.0),
-      sym h.1 ∙ next_found t i.probes i.array i.none_yet i.count c.loop-step-test.true c.capacity-capacity.ensures.capacity c.base-base.ensures.base i.place h.0,
-    )
+pub load_bucket-word-requires-in-loop-imp-clause-table : goal.load_bucket-word-requires-in-loop-imp-clause-table
+load_bucket-word-requires-in-loop-imp-clause-table g c =
+    let a : ℕ = c.load_header-header.result - 1 in
+    let z = layout_of c.args.arena.now.key in
+    let p : ℕ = c.next_place-place.result in
+    let b : ℕ = c.base-base.result in
+    let lt : p < capacity z a = let t = c.next_place-place.ensures.within in let u = c.capacity-capacity.ensures.capacity in omega arith in
+    let t = inside z a p lt in let e : b ≡ base z a = c.base-base.ensures.base in let w = c.shared-shared.ensures.count.0 in
+    rw c.shared-shared.ensures.table (c.loop-imp.invariant.table ∙ c.requires.table, omega arith, c.shared-shared.ensures.count.1)
 
-pub returns-in-Empty-clause-probes : goal.returns-in-Empty-clause-probes
-returns-in-Empty-clause-probes g c =
-    let i = c.loop-step.invariant in
-    next_probes c.load_bucket-word.ensures.told i.probes i.array i.none_yet i.count c.loop-step-test.true c.capacity-capacity.ensures.capacity c.base-base.ensures.base i.place
-
-pub returns-in-Empty-clause-none : goal.returns-in-Empty-clause-none
-returns-in-Empty-clause-none g c =
-    let i = c.loop-step.invariant in
-    inr (inl (c.base-base.result + c.loop-step.place, read_empty (selector_number c.args.sel) c.load_bucket-word.ensures.told i.probes.sel_is i.none_yet c.in-Empty.ensures))
-
-pub loop-step-preserved : goal.loop-step-preserved
-loop-step-preserved g c =
-    let i = c.loop-step.invariant in
-    let t = c.load_bucket-word.ensures.told in
-    let s : ℕ = selector_number c.args.sel in
+pub loop-imp-preserved : goal.loop-imp-preserved
+loop-imp-preserved g c =
+    let i = c.loop-imp.invariant in
+    let r = c.load_bucket-word-in-loop-imp.ensures in
     let o = c.in-Other.ensures in
     let n = c.next_place-place.ensures in
+    let s : ℕ = selector_number c.args.sel in
+    let cap : ℕ = c.capacity-capacity.result in
+    let k : ℕ = c.loop-imp.loads in
+    let at : c.next_place-place.result ≡ probe_place s cap k = n.next s (k - 1) i.place ∙ ap (λ (x : ℕ). probe_place s cap x) (let w = i.some in omega arith) in
+    let lt : k < cap = let w = i.few in let e = c.if-loads-capacity.false in omega arith in
     record {
-      table = c.load_bucket-word.ensures.seat.0 ∙ i.table;
-      id = c.load_bucket-word.ensures.seat.1 ∙ i.id;
-      sender = read_seated t;
-      probes = next_probes t i.probes i.array i.none_yet i.count c.loop-step-test.true c.capacity-capacity.ensures.capacity c.base-base.ensures.base i.place;
-      holding = ap (λ (w : SenderView). w.whereabouts) (read_is t) ∙ i.holding;
-      array = ap (λ (w : SenderView). w.last.array) (read_is t) ∙ i.array;
-      count = next_count t i.probes i.array i.none_yet i.count c.loop-step-test.true c.capacity-capacity.ensures.capacity c.base-base.ensures.base i.place;
-      place = n.next s c.loop-step.step i.place;
+      table = r.seat.0 ∙ i.table;
+      id = r.seat.1 ∙ i.id;
+      sender = read_seated r.told;
+      reading = next_reading c.args.sel.positive r.told i.reading.probes i.reading.holding i.reading.array (i.reading.passed o.0 o.1) i.reading.count lt c.capacity-capacity.ensures.capacity c.base-base.ensures.base at;
+      place = at ∙ ap (λ (x : ℕ). probe_place s cap x) (omega arith);
       within = n.within;
-      none_yet = read_passed s t i.probes.sel_is i.none_yet o.0 o.1;
+      some = omega arith;
+      few = omega (arith, lt);
     }

@@ -10,8 +10,8 @@ use Rattle.msg_cache.proofs.prober.search.Given as goal
 abbrev pub ghosts-load_header : goal.ghosts-load_header
 ghosts-load_header g a = record { class = a.class; sel = selector_number a._sel; arrays = length a.words.now.key.capacities }
 
-abbrev pub invariant-loop : goal.invariant-loop
-invariant-loop g l = record {
+abbrev pub invariant-loop-imp : goal.invariant-loop-imp
+invariant-loop-imp g l = record {
   table : l.seat.table_id ≡ l.fn.seat.table_id;
   id : l.seat.id ≡ l.fn.seat.id;
   sender : l.seat.me ≡ seated (sender_of l.seat.me.0);
@@ -22,5 +22,5 @@ invariant-loop g l = record {
   few : l.loads ≤ l.capacity;
 }
 
-abbrev pub decreases-loop : goal.decreases-loop
-decreases-loop g l = l.capacity - l.loads
+abbrev pub decreases-loop-imp : goal.decreases-loop-imp
+decreases-loop-imp g l = l.capacity - l.loads
