@@ -4,7 +4,7 @@ use Rattle.std.specs.Prelude.{MatchOption}
 use Rattle.msg_names.specs.declared.value.ClassRef.{ClassRef}
 use Rattle.msg_tables.specs.History.{History}
 use Rattle.msg_core.specs.State.{Layout, capacity, awaits}
-use Rattle.msg_cache.specs.Keeping.{looks, clears, emptied, all_emptied, freed, collected, lowest_free, filled, grown, FillsBy, Fills, way_of}
+use Rattle.msg_cache.specs.Keeping.{looks, clears, emptied, all_emptied, freed, collected, lowest_free, grown, FillsBy, Fills, way_of}
 use Rattle.msg_cache.specs.Layout.{base}
 use Rattle.msg_cache.specs.Plays.{looked}
 use Rattle.msg_cache.specs.declared.answer.Filled.{Filled}

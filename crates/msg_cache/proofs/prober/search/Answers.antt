@@ -1,4 +1,4 @@
-use Rattle.std.proofs.Common.{◌≡◌, ℕ, ◌+◌, ◌-◌, ◌<◌, length, ap, ◌∙◌, arith}
+use Rattle.std.proofs.Common.{◌≡◌, ℕ, ◌-◌, ◌<◌, length, ap, ◌∙◌, arith}
 use Rattle.msg_names.specs.Number.{selector_number}
 use Rattle.msg_buckets.specs.Probing.{probe_place, end_of}
 use Rattle.msg_core.specs.State.{capacity}

@@ -1,7 +1,6 @@
-use Rattle.std.proofs.Common.{ℕ, List, ap, arith}
+use Rattle.std.proofs.Common.{arith}
 use Rattle.std.specs.Prelude.{slice_index}
 use Rattle.msg_buckets.proofs.CapacityLemmas.{capacity_bounds}
-use Rattle.msg_cache.specs.Layout.{total}
 use Rattle.msg_cache.proofs.SweepingLemmas.{sizes, few_arrays}
 use Rattle.msg_cache.proofs.arena.Arena.arrays.Goals as goal
 
