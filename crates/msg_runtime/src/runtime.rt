@@ -2,7 +2,7 @@
 
 ghost use Rattle.std.specs.Prelude.{◌≡◌, ◌≢◌, ◌<◌, ◌≤◌, length, cond, not, is_some, IfOk, IfErr, IfSome, IsNone, OnErr, None, Some};
 ghost use Rattle.msg_names.specs.Number.{selector_number, imp_number};
-ghost use Rattle.msg_tables.specs.History.{BeginsWith, and_then, empty, lookup};
+ghost use Rattle.msg_tables.specs.History.{BeginsWith, and_then, empty, holder, lookup, superclass};
 ghost use Rattle.msg_tables.specs.Refusal.{refusal};
 ghost use Rattle.msg_tables.specs.declared.fault.ChangeFault.{ChangeFault};
 ghost use Rattle.msg_cache.specs.Plays.{given_out, taken_in, lent, is_lent};
@@ -107,6 +107,34 @@ impl Runtime {
         cache_found(&mut self.keeper, arena, class, sel, imp);
         self.keeper.renew(arena, prober);
         imp
+    }
+
+    /// The implementation that a lookup finds, from the tables alone: no cache is looked at or filled.
+    pub fn lookup(&self, class: ClassRef, sel: Selector) -> ImpRef
+        requires class { class.class < classes self.now.arena }
+        ensures found { imp_number result ≡ lookup self.now.keeper.history class (selector_number sel) }
+        ensures listed { imp_number result ≤ length self.now.arena.key.image.imps }
+    {
+        tables_are_of_their_image();
+        self.tables.lookup(class, sel)
+    }
+
+    /// The class reference at which that method stands.
+    pub fn holder(&self, class: ClassRef, sel: Selector) -> Option<ClassRef>
+        requires class { class.class < classes self.now.arena }
+        ensures { result ≡ holder self.now.keeper.history class (selector_number sel) }
+    {
+        tables_are_of_their_image();
+        self.tables.holder(class, sel)
+    }
+
+    /// The superclass of a class reference.
+    pub fn superclass(&self, class: ClassRef) -> Option<ClassRef>
+        requires class { class.class < classes self.now.arena }
+        ensures { result ≡ superclass self.now.keeper.history class }
+    {
+        tables_are_of_their_image();
+        self.tables.superclass(class)
     }
 
     /// Makes a change, flushes the caches that it reaches, and answers how many changes there are. After an error nothing was changed or flushed.
