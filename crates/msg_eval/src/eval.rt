@@ -404,5 +404,8 @@ fn enter<F: Finder>(
         home: imp.home,
         depth: message.depth - 1,
     };
-    eval_expr(finder, &frame, &imp.body, left)
+    match frame.leaf(&imp.body) {
+        Some(value) => Ok(value),
+        None => eval_expr(finder, &frame, &imp.body, left),
+    }
 }
