@@ -68,6 +68,7 @@ pub(crate) fn search<P: Pause>(
     let base = arena.base(array);
     let capacity = arena.capacity(array);
     let mut place = first_place(sel, capacity);
+    // Most probes end at the first word, so nothing that further words need is reckoned before it is looked at.
     pause.at(1);
     let mut word = load_bucket(shared, seat, array, base, place);
     let mut loads = 1;
@@ -203,6 +204,7 @@ impl Prober {
         requires arena { IsSenderOf arena.now self.old }
         ensures arena { IsSenderOf arena.now self.new }
         ensures number { self.new.sender.number ≡ self.old.sender.number }
+        ensures no_probe { (self.new.sender.count ≡ self.old.sender.count) × (self.new.sender.last ≡ self.old.sender.last) }
         ensures begins { BeginsWith self.new.sender.front self.old.sender.front }
         ensures accepted { IsAccepted self.new.sender.front }
         ensures length { result ≡ size self.new.sender.front }
