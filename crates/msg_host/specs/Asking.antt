@@ -1,0 +1,38 @@
+-- Which numbers mean something, and what changes in numbers do.
+use Rattle.std.specs.Prelude.{◌≡◌, ◌≢◌, ℕ, ◌==◌, nat_lt, if◌then◌else◌, List, map, Option, Some, None, option_map, ◌⊎◌, Contains}
+use Rattle.msg_image.specs.declared.change.Change.{Change}
+use Rattle.msg_tables.specs.FaultNumber.{change_fault_number}
+use Rattle.msg_tables.specs.History.{and_then}
+use Rattle.msg_tables.specs.Refusal.{refusal}
+use Rattle.msg_host.specs.View.{RuntimeView}
+use Rattle.msg_host.specs.declared.changing.MethodRow.{MethodRow}
+use Rattle.msg_host.specs.declared.fault.AskFault.{AskFault}
+use Rattle.msg_host.specs.declared.fault.AskFault.TheVariants.{NoClass, NoSelector}
+
+-- the numbers of the faults of questions
+abbrev pub ask_fault_number : AskFault → ℕ
+ask_fault_number NoClass = 66
+ask_fault_number NoSelector = 67
+
+-- why so many classes aren't asked for this class and selector
+abbrev pub ask_fault : ℕ → ℕ → ℕ → Option AskFault
+ask_fault classes class sel = if nat_lt class classes then (if sel == 0 then Some NoSelector else None) else Some NoClass
+
+-- the number that stands for want of memory among the faults of changes
+abbrev pub want_of_memory : ℕ
+want_of_memory = 7
+
+-- A change took a runtime from v to w with the answer n: 0 where it was made, and else its fault's number, and nothing has changed.
+pub record ChangesBy (v w : RuntimeView) (x : Change) (n : ℕ) : Type 0 where
+  pub arena : w.arena ≡ v.arena
+  pub made : n ≡ 0 → (refusal v.history x ≡ None) × (w.history ≡ and_then v.history x)
+  pub left : n ≢ 0 → w ≡ v
+  pub fault : n ≢ 0 → n ≢ want_of_memory → option_map change_fault_number (refusal v.history x) ≡ Some n
+
+-- the rows of a method list, as pairs of numbers
+abbrev pub pairs_of : List MethodRow → List (ℕ × ℕ)
+pairs_of rows = map (λ (r : MethodRow). (r.sel, r.imp)) rows
+
+-- why rows aren't taken as a method list: a selector has the number 0, or memory is wanted
+abbrev pub IsListFault : List MethodRow → ℕ → Type 0
+IsListFault rows n = (n ≡ want_of_memory) ⊎ ((n ≡ ask_fault_number NoSelector) × Contains (map (λ (r : MethodRow). r.sel) rows) 0)

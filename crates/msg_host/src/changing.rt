@@ -1,0 +1,149 @@
+//! Changes in numbers.
+
+ghost use Rattle.std.specs.Prelude.{◌≡◌, ◌≢◌, ◌<◌, ◌⊎◌, IfOk, IfErr};
+ghost use Rattle.msg_names.specs.Number.{imp_ref_of, selector_of};
+ghost use Rattle.msg_image.specs.declared.change.Change.{Change};
+ghost use Rattle.msg_host.specs.Asking.{ChangesBy, IsListFault, ask_fault_number, pairs_of};
+ghost use Rattle.msg_host.specs.declared.fault.AskFault.{AskFault};
+
+use crate::fault::{AskFault, selector};
+use crate::runtime::HostedRuntime;
+use msg_image::{Change, MethodList};
+use msg_names::{ClassRef, ImpRef};
+use msg_tables::ChangeFault;
+use std::alloc::Global;
+
+/// A method of a category that is attached.
+#[repr(C)]
+#[derive(Clone, Copy)]
+pub struct MethodRow {
+    pub sel: u32,
+    pub imp: u32,
+}
+
+// The method list of rows, or the number of the fault.
+fn method_list(alloc: Global, rows: &[MethodRow]) -> Result<MethodList, u32>
+    ensures ok { IfOk result (λ m. m ≡ pairs_of rows.now) }
+    ensures err { IfErr result (λ n. IsListFault rows.now n) }
+{
+    let mut pairs = Vec::new(alloc);
+    for row in rows {
+        let sel = match selector(row.sel) {
+            Ok(sel) => sel,
+            Err(fault) => return Err(fault.number()),
+        };
+        if pairs.push((sel, ImpRef::of(row.imp))).is_err() {
+            return Err(ChangeFault::Memory.number());
+        }
+    }
+    Ok(MethodList::new(pairs))
+}
+
+impl HostedRuntime {
+    // Makes a change. 0, or the number of the fault.
+    fn make(&mut self, change: &Change) -> u32
+        ensures { ChangesBy self.old self.new change.now result }
+    {
+        match self.change(change) {
+            Ok(_count) => 0,
+            Err(fault) => fault.number(),
+        }
+    }
+
+    /// `class_addMethod`. 0, or the number of the fault, after which nothing has changed.
+    pub fn add(&mut self, class: u32, meta: bool, sel: u32, imp: u32) -> u32
+        ensures no_selector { sel ≡ 0 → (result ≡ ask_fault_number AskFault.NoSelector) × (self.new ≡ self.old) }
+        ensures change { 0 < sel → ChangesBy self.old self.new (Change.Add (record { class = class; meta = meta }) (selector_of sel) (imp_ref_of imp)) result }
+    {
+        match selector(sel) {
+            Ok(sel) => self.make(&Change::Add {
+                class: ClassRef { class, meta },
+                sel,
+                imp: ImpRef::of(imp),
+            }),
+            Err(fault) => fault.number(),
+        }
+    }
+
+    /// `class_replaceMethod`, alike.
+    pub fn replace(&mut self, class: u32, meta: bool, sel: u32, imp: u32) -> u32
+        ensures no_selector { sel ≡ 0 → (result ≡ ask_fault_number AskFault.NoSelector) × (self.new ≡ self.old) }
+        ensures change { 0 < sel → ChangesBy self.old self.new (Change.Replace (record { class = class; meta = meta }) (selector_of sel) (imp_ref_of imp)) result }
+    {
+        match selector(sel) {
+            Ok(sel) => self.make(&Change::Replace {
+                class: ClassRef { class, meta },
+                sel,
+                imp: ImpRef::of(imp),
+            }),
+            Err(fault) => fault.number(),
+        }
+    }
+
+    /// `method_setImplementation` of the method that `class_getInstanceMethod` finds, alike.
+    pub fn set(&mut self, class: u32, meta: bool, sel: u32, imp: u32) -> u32
+        ensures no_selector { sel ≡ 0 → (result ≡ ask_fault_number AskFault.NoSelector) × (self.new ≡ self.old) }
+        ensures change { 0 < sel → ChangesBy self.old self.new (Change.SetImp (record { class = class; meta = meta }) (selector_of sel) (imp_ref_of imp)) result }
+    {
+        match selector(sel) {
+            Ok(sel) => self.make(&Change::SetImp {
+                class: ClassRef { class, meta },
+                sel,
+                imp: ImpRef::of(imp),
+            }),
+            Err(fault) => fault.number(),
+        }
+    }
+
+    /// `method_exchangeImplementations` of two methods that `class_getInstanceMethod` finds, alike.
+    pub fn exchange(&mut self, class: ClassRef, sel: u32, other: ClassRef, other_sel: u32) -> u32
+        ensures no_selector { sel ≡ 0 → (result ≡ ask_fault_number AskFault.NoSelector) × (self.new ≡ self.old) }
+        ensures no_other { other_sel ≡ 0 → (result ≡ ask_fault_number AskFault.NoSelector) × (self.new ≡ self.old) }
+        ensures change { 0 < sel → 0 < other_sel → ChangesBy self.old self.new (Change.Exchange class (selector_of sel) other (selector_of other_sel)) result }
+    {
+        match (selector(sel), selector(other_sel)) {
+            (Ok(sel), Ok(other_sel)) => self.make(&Change::Exchange {
+                class,
+                sel,
+                other,
+                other_sel,
+            }),
+            _ => AskFault::NoSelector.number(),
+        }
+    }
+
+    /// Attaches a category, as `attachCategories` does: methods for the class, and others for its metaclass. Alike.
+    pub fn attach(
+        &mut self,
+        alloc: Global,
+        class: u32,
+        methods: &[MethodRow],
+        class_methods: &[MethodRow],
+    ) -> u32
+        ensures arena { self.new.arena ≡ self.old.arena }
+        ensures made { result ≡ 0 → ChangesBy self.old self.new (Change.Attach class (pairs_of methods.now) (pairs_of class_methods.now)) 0 }
+        ensures left { result ≢ 0 → self.new ≡ self.old }
+        ensures fault { result ≢ 0 → IsListFault methods.now result ⊎ IsListFault class_methods.now result ⊎ ChangesBy self.old self.old (Change.Attach class (pairs_of methods.now) (pairs_of class_methods.now)) result }
+    {
+        let methods = match method_list(alloc, methods) {
+            Ok(methods) => methods,
+            Err(fault) => return fault,
+        };
+        let class_methods = match method_list(alloc, class_methods) {
+            Ok(class_methods) => class_methods,
+            Err(fault) => return fault,
+        };
+        self.make(&Change::Attach {
+            class,
+            methods,
+            class_methods,
+        })
+    }
+
+    /// `objc_allocateClassPair` with `objc_registerClassPair`, alike: makes a class, without methods, under a superclass or as a root class.
+    pub fn make_class(&mut self, class: u32, superclass: Option<u32>) -> u32
+        ensures { ChangesBy self.old self.new (Change.AddClass class superclass) result }
+    {
+        self.make(&Change::AddClass { class, superclass })
+    }
+}

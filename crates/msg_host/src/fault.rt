@@ -1,0 +1,67 @@
+//! Numbers that mean nothing.
+
+ghost use Rattle.std.specs.Prelude.{◌≡◌, ◌<◌, ◌≤◌, None, Some, IfOk, IfErr, OnOk};
+ghost use Rattle.msg_names.specs.Number.{selector_of};
+ghost use Rattle.msg_host.specs.Asking.{ask_fault, ask_fault_number};
+
+use msg_names::{ClassRef, Selector};
+
+/// Why a question in numbers isn't asked. Where both hold, the first is answered.
+#[derive(Clone, Copy, Debug, PartialEq, Eq)]
+pub enum AskFault {
+    /// No class has the number.
+    NoClass,
+    /// The number is 0, which is no selector's.
+    NoSelector,
+}
+
+impl AskFault {
+    /// The number of the fault, which is no document's or change's.
+    pub fn number(self) -> u32
+        ensures { result ≡ ask_fault_number self }
+    {
+        match self {
+            AskFault::NoClass => 66,
+            AskFault::NoSelector => 67,
+        }
+    }
+}
+
+// The selector of a number.
+pub(crate) fn selector(number: u32) -> Result<Selector, AskFault>
+    ensures ok { IfOk result (λ s. (0 < number) × (s ≡ selector_of number)) }
+    ensures err { IfErr result (λ f. (number ≡ 0) × (f ≡ AskFault.NoSelector)) }
+{
+    match Selector::of(number) {
+        Some(selector) => Ok(selector),
+        None => Err(AskFault::NoSelector),
+    }
+}
+
+// The class of a number, where there are so many.
+pub(crate) fn asked_class(classes: u32, class: u32, meta: bool) -> Result<ClassRef, AskFault>
+    ensures ok { IfOk result (λ c. (class < classes) × (c ≡ record { class = class; meta = meta })) }
+    ensures err { IfErr result (λ f. (classes ≤ class) × (f ≡ AskFault.NoClass)) }
+{
+    if class < classes {
+        Ok(ClassRef { class, meta })
+    } else {
+        Err(AskFault::NoClass)
+    }
+}
+
+// The class reference and the selector of the numbers, where there are so many classes.
+pub(crate) fn asked(
+    classes: u32,
+    class: u32,
+    meta: bool,
+    sel: u32,
+) -> Result<(ClassRef, Selector), AskFault>
+    ensures ok { IfOk result (λ a. (class < classes) × (a.0 ≡ record { class = class; meta = meta }) × (a.1 ≡ selector_of sel)) }
+    ensures none { OnOk result (ask_fault classes class sel ≡ None) }
+    ensures some { IfErr result (λ f. ask_fault classes class sel ≡ Some f) }
+{
+    let class = asked_class(classes, class, meta)?;
+    let sel = selector(sel)?;
+    Ok((class, sel))
+}

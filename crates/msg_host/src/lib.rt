@@ -1,0 +1,18 @@
+//! What a host program's handles hold: a runtime behind the host's own lock, and senders that share its arena.
+//!
+//! The calls of `asking`, `changing` and `sending` take and give numbers, as a host in C has them, and refuse the numbers that mean nothing.
+#![tactic(auto)]
+
+mod asking;
+mod changing;
+mod fault;
+mod named;
+mod opening;
+mod runtime;
+mod sender;
+mod sending;
+
+pub use changing::MethodRow;
+pub use fault::AskFault;
+pub use runtime::HostedRuntime;
+pub use sender::HostedSender;

@@ -1,0 +1,54 @@
+//! Sends in numbers.
+
+ghost use Rattle.std.specs.Prelude.{◌≡◌, ◌≤◌, length, None, Some, IfOk, IfErr, OnOk, IfSome, OnErr};
+ghost use Rattle.msg_tables.specs.History.{BeginsWith, lookup};
+ghost use Rattle.msg_cache.specs.Views.{classes};
+ghost use Rattle.msg_host.specs.Asking.{ask_fault};
+
+use crate::fault::{AskFault, asked};
+use crate::runtime::HostedRuntime;
+use crate::sender::HostedSender;
+
+impl HostedSender {
+    /// As `probe`: the implementation's number, or none where the cache has none.
+    pub fn probe_by(&mut self, class: u32, meta: bool, sel: u32) -> Result<Option<u32>, AskFault>
+        ensures arena { self.new.arena ≡ self.old.arena }
+        ensures begins { BeginsWith self.new.seen.front self.old.seen.front }
+        ensures found { IfOk result (λ found. IfSome found (λ i. i ≡ lookup self.new.seen.front (record { class = class; meta = meta }) sel)) }
+        ensures listed { IfOk result (λ found. IfSome found (λ i. i ≤ length self.old.arena.key.image.imps)) }
+        ensures ok { OnOk result (ask_fault (classes self.old.arena) class sel ≡ None) }
+        ensures err { IfErr result (λ f. ask_fault (classes self.old.arena) class sel ≡ Some f) }
+        ensures left { OnErr result (self.new ≡ self.old) }
+    {
+        let (class, sel) = asked(self.class_count(), class, meta, sel)?;
+        match self.probe(class, sel) {
+            Some(imp) => Ok(Some(imp.number())),
+            None => Ok(None),
+        }
+    }
+}
+
+impl HostedRuntime {
+    /// As `answer`: the implementation's number.
+    pub fn answer_by(
+        &mut self,
+        sender: &mut HostedSender,
+        class: u32,
+        meta: bool,
+        sel: u32,
+    ) -> Result<u32, AskFault>
+        requires sender { sender.old.arena ≡ self.old.arena }
+        ensures same { self.new ≡ self.old }
+        ensures arena { sender.new.arena ≡ sender.old.arena }
+        ensures begins { OnOk result (BeginsWith self.old.history sender.old.seen.front) }
+        ensures front { OnOk result (sender.new.seen.front ≡ self.old.history) }
+        ensures found { IfOk result (λ i. i ≡ lookup self.old.history (record { class = class; meta = meta }) sel) }
+        ensures listed { IfOk result (λ i. i ≤ length self.old.history.image.imps) }
+        ensures ok { OnOk result (ask_fault (classes self.old.arena) class sel ≡ None) }
+        ensures err { IfErr result (λ f. ask_fault (classes self.old.arena) class sel ≡ Some f) }
+        ensures left { OnErr result (sender.new ≡ sender.old) }
+    {
+        let (class, sel) = asked(self.class_count(), class, meta, sel)?;
+        Ok(self.answer(sender, class, sel).number())
+    }
+}
