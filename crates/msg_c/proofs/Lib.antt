@@ -1,0 +1,2 @@
+pub mod RuntimeAsBox
+pub mod SenderAsBox

@@ -1,0 +1,4 @@
+pub mod Answers
+pub mod Nothing
+pub mod RuntimeOwned
+pub mod SenderOwned

@@ -1,0 +1,225 @@
+//! Questions to a runtime.
+
+ghost use Rattle.std.specs.Prelude.{◌≡◌, ◌≢◌, ◌<◌, ◌≤◌, ℕ, length, slice_get, IsUtf8, Some, None};
+ghost use Rattle.msg_names.specs.declared.value.ClassRef.{ClassRef};
+ghost use Rattle.msg_names.specs.Numbering.{number_of};
+ghost use Rattle.msg_image.specs.Parts.{class_names};
+ghost use Rattle.msg_tables.specs.History.{holder, lookup, superclass};
+ghost use Rattle.msg_cache.specs.Views.{classes};
+ghost use Rattle.msg_host.specs.Asking.{ask_fault};
+ghost use Rattle.msg_host.specs.View.{RuntimeView};
+ghost use Rattle.msg_c.specs.Answers.{number_of_fault};
+
+use crate::answer::{CLOSED, DONE, NONE};
+use crate::runtime_handle::RuntimeHandle;
+use msg_names::ClassRef;
+use std::alloc::Global;
+
+/// `Class` of C: a class, or its metaclass.
+#[repr(C)]
+#[derive(Clone, Copy)]
+pub struct MsgClass {
+    pub class: u32,
+    pub meta: bool,
+}
+
+/// How many classes have numbers: the listed ones, and after them those that may be made. `objc_getClassList` counts those that are made.
+#[unsafe(no_mangle)]
+pub extern "C" fn msg_class_count(
+    alloc: Global,
+    runtime: &mut RuntimeHandle,
+    count: &mut u32,
+) -> u32
+    ensures kept { runtime.new.held.state ≡ runtime.old.held.state }
+    ensures closed { runtime.old.held.state ≡ None → result ≡ CLOSED }
+    ensures left { result ≢ 0 → count.new ≡ count.old }
+    ensures done { (v : RuntimeView) → runtime.old.held.state ≡ Some v → (result ≡ 0) × (count.new ≡ classes v.arena) }
+{
+    let Some(held) = runtime.take(alloc) else {
+        return CLOSED;
+    };
+    *count = held.class_count();
+    *runtime = RuntimeHandle::of(held);
+    DONE
+}
+
+/// How many changes were made.
+#[unsafe(no_mangle)]
+pub extern "C" fn msg_change_count(
+    alloc: Global,
+    runtime: &mut RuntimeHandle,
+    count: &mut u64,
+) -> u32
+    ensures kept { runtime.new.held.state ≡ runtime.old.held.state }
+    ensures closed { runtime.old.held.state ≡ None → result ≡ CLOSED }
+    ensures left { result ≢ 0 → count.new ≡ count.old }
+    ensures done { (v : RuntimeView) → runtime.old.held.state ≡ Some v → (result ≡ 0) × (count.new ≡ length v.history.changes) }
+{
+    let Some(held) = runtime.take(alloc) else {
+        return CLOSED;
+    };
+    *count = held.count();
+    *runtime = RuntimeHandle::of(held);
+    DONE
+}
+
+/// `objc_lookUpClass`: the number of the class of a name, made or not. The names are looked at one by one.
+#[unsafe(no_mangle)]
+pub extern "C" fn msg_find_class(
+    alloc: Global,
+    runtime: &mut RuntimeHandle,
+    name: &[u8],
+    class: &mut u32,
+) -> u32
+    ensures kept { runtime.new.held.state ≡ runtime.old.held.state }
+    ensures closed { runtime.old.held.state ≡ None → result ≡ CLOSED }
+    ensures left { result ≢ 0 → class.new ≡ class.old }
+    ensures done { (v : RuntimeView) → runtime.old.held.state ≡ Some v → result ≡ 0 → slice_get (class_names v.history.image) class.new ≡ Some name.now }
+    ensures none { (v : RuntimeView) → runtime.old.held.state ≡ Some v → result ≢ 0 → result ≡ NONE }
+    ensures unnamed { (v : RuntimeView) → runtime.old.held.state ≡ Some v → result ≢ 0 → IsUtf8 name.now → (k : ℕ) → k < classes v.arena → slice_get (class_names v.history.image) k ≢ Some name.now }
+{
+    let Some(held) = runtime.take(alloc) else {
+        return CLOSED;
+    };
+    let found = held.class_by(name);
+    *runtime = RuntimeHandle::of(held);
+    match found {
+        Some(found) => {
+            *class = found;
+            DONE
+        }
+        None => NONE,
+    }
+}
+
+/// `sel_getUid`, of the image's selectors alone. It hashes the name once.
+#[unsafe(no_mangle)]
+pub extern "C" fn msg_find_selector(
+    alloc: Global,
+    runtime: &mut RuntimeHandle,
+    name: &[u8],
+    sel: &mut u32,
+) -> u32
+    ensures kept { runtime.new.held.state ≡ runtime.old.held.state }
+    ensures closed { runtime.old.held.state ≡ None → result ≡ CLOSED }
+    ensures left { result ≢ 0 → sel.new ≡ sel.old }
+    ensures done { (v : RuntimeView) → runtime.old.held.state ≡ Some v → result ≡ 0 → number_of v.history.image.names name.now ≡ Some sel.new }
+    ensures none { (v : RuntimeView) → runtime.old.held.state ≡ Some v → result ≢ 0 → result ≡ NONE }
+    ensures unnamed { (v : RuntimeView) → runtime.old.held.state ≡ Some v → result ≢ 0 → IsUtf8 name.now → number_of v.history.image.names name.now ≡ None }
+{
+    let Some(held) = runtime.take(alloc) else {
+        return CLOSED;
+    };
+    let found = held.selector_by(name);
+    *runtime = RuntimeHandle::of(held);
+    match found {
+        Some(found) => {
+            *sel = found;
+            DONE
+        }
+        None => NONE,
+    }
+}
+
+/// `class_getMethodImplementation`: the implementation's number, 0 for forwarding. No cache is looked at or filled.
+#[unsafe(no_mangle)]
+pub extern "C" fn msg_lookup(
+    alloc: Global,
+    runtime: &mut RuntimeHandle,
+    class: u32,
+    meta: bool,
+    sel: u32,
+    imp: &mut u32,
+) -> u32
+    ensures kept { runtime.new.held.state ≡ runtime.old.held.state }
+    ensures closed { runtime.old.held.state ≡ None → result ≡ CLOSED }
+    ensures left { result ≢ 0 → imp.new ≡ imp.old }
+    ensures fault { (v : RuntimeView) → runtime.old.held.state ≡ Some v → result ≡ number_of_fault (ask_fault (classes v.arena) class sel) }
+    ensures done { (v : RuntimeView) → runtime.old.held.state ≡ Some v → result ≡ 0 → imp.new ≡ lookup v.history (record { class = class; meta = meta }) sel }
+    ensures listed { (v : RuntimeView) → runtime.old.held.state ≡ Some v → result ≡ 0 → imp.new ≤ length v.history.image.imps }
+{
+    let Some(held) = runtime.take(alloc) else {
+        return CLOSED;
+    };
+    let found = held.lookup_by(class, meta, sel);
+    *runtime = RuntimeHandle::of(held);
+    match found {
+        Ok(found) => {
+            *imp = found;
+            DONE
+        }
+        Err(fault) => fault.number(),
+    }
+}
+
+// Writes a class reference out, where there is one.
+fn put(found: Option<ClassRef>, out: &mut MsgClass) -> u32
+    ensures done { (c : ClassRef) → found ≡ Some c → (result ≡ 0) × (out.new.class ≡ c.class) × (out.new.meta ≡ c.meta) }
+    ensures none { found ≡ None → (result ≡ NONE) × (out.new ≡ out.old) }
+{
+    match found {
+        Some(found) => {
+            *out = MsgClass {
+                class: found.class,
+                meta: found.meta,
+            };
+            DONE
+        }
+        None => NONE,
+    }
+}
+
+/// `class_getSuperclass`: of a metaclass the superclass's metaclass, and of a root metaclass the root class itself.
+#[unsafe(no_mangle)]
+pub extern "C" fn msg_superclass(
+    alloc: Global,
+    runtime: &mut RuntimeHandle,
+    class: u32,
+    meta: bool,
+    above: &mut MsgClass,
+) -> u32
+    ensures kept { runtime.new.held.state ≡ runtime.old.held.state }
+    ensures closed { runtime.old.held.state ≡ None → result ≡ CLOSED }
+    ensures left { result ≢ 0 → above.new ≡ above.old }
+    ensures done { (v : RuntimeView) → runtime.old.held.state ≡ Some v → result ≡ 0 → superclass v.history (record { class = class; meta = meta }) ≡ Some (record { class = above.new.class; meta = above.new.meta }) }
+    ensures none { (v : RuntimeView) → runtime.old.held.state ≡ Some v → result ≡ NONE → superclass v.history (record { class = class; meta = meta }) ≡ None }
+    ensures fault { (v : RuntimeView) → runtime.old.held.state ≡ Some v → result ≢ 0 → result ≢ NONE → result ≡ number_of_fault (ask_fault (classes v.arena) class 1) }
+{
+    let Some(held) = runtime.take(alloc) else {
+        return CLOSED;
+    };
+    let found = held.superclass_by(class, meta);
+    *runtime = RuntimeHandle::of(held);
+    match found {
+        Ok(found) => put(found, above),
+        Err(fault) => fault.number(),
+    }
+}
+
+/// The class of the method that `class_getInstanceMethod` finds: the class reference at which it stands.
+#[unsafe(no_mangle)]
+pub extern "C" fn msg_holder(
+    alloc: Global,
+    runtime: &mut RuntimeHandle,
+    class: u32,
+    meta: bool,
+    sel: u32,
+    at: &mut MsgClass,
+) -> u32
+    ensures kept { runtime.new.held.state ≡ runtime.old.held.state }
+    ensures closed { runtime.old.held.state ≡ None → result ≡ CLOSED }
+    ensures left { result ≢ 0 → at.new ≡ at.old }
+    ensures done { (v : RuntimeView) → runtime.old.held.state ≡ Some v → result ≡ 0 → holder v.history (record { class = class; meta = meta }) sel ≡ Some (record { class = at.new.class; meta = at.new.meta }) }
+    ensures none { (v : RuntimeView) → runtime.old.held.state ≡ Some v → result ≡ NONE → holder v.history (record { class = class; meta = meta }) sel ≡ None }
+    ensures fault { (v : RuntimeView) → runtime.old.held.state ≡ Some v → result ≢ 0 → result ≢ NONE → result ≡ number_of_fault (ask_fault (classes v.arena) class sel) }
+{
+    let Some(held) = runtime.take(alloc) else {
+        return CLOSED;
+    };
+    let found = held.holder_by(class, meta, sel);
+    *runtime = RuntimeHandle::of(held);
+    match found {
+        Ok(found) => put(found, at),
+        Err(fault) => fault.number(),
+    }
+}

@@ -1,0 +1,16 @@
+//! The runtime's calls for C, after the functions of the Objective-C Runtime Reference that are named at each. `include/msg_runtime.h` declares them.
+//!
+//! A call answers 0, or the number of a fault, after which nothing has changed. A handle that isn't open is such a fault. Every call but those of a sender alone
+//! is made under the host's lock.
+#![tactic(auto)]
+
+mod answer;
+mod asking;
+mod changing;
+mod opening;
+mod parts;
+mod runtime_handle;
+mod sender_handle;
+mod sending;
+#[cfg(test)]
+mod tests;

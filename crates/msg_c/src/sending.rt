@@ -1,0 +1,202 @@
+//! Senders.
+
+ghost use Rattle.std.specs.Prelude.{◌≡◌, ◌≢◌, ◌≤◌, length, Some, None, is_some, true};
+ghost use Rattle.msg_tables.specs.History.{History, lookup};
+ghost use Rattle.msg_cache.specs.Views.{ArenaView, classes};
+ghost use Rattle.msg_host.specs.Asking.{ask_fault};
+ghost use Rattle.msg_c.specs.Answers.{AreOfOneArena, SeesOn, number_of_fault, runtime_arena, runtime_history, sender_arena, sender_front};
+
+use crate::answer::{ALREADY_OPEN, CLOSED, DONE, MISSED, NO_MEMORY, NO_SENDER};
+use crate::runtime_handle::RuntimeHandle;
+use crate::sender_handle::SenderHandle;
+use std::alloc::Global;
+
+/// A sender of the runtime, which has seen all changes that were made. 64 may be out at a time.
+#[unsafe(no_mangle)]
+pub extern "C" fn msg_sender_open(
+    alloc: Global,
+    runtime: &mut RuntimeHandle,
+    sender: &mut SenderHandle,
+) -> u32
+    ensures kept { runtime.new.held.state ≡ runtime.old.held.state }
+    ensures closed { runtime.old.held.state ≡ None → result ≢ 0 }
+    ensures already { is_some sender.old.held.state ≡ true → result ≡ ALREADY_OPEN }
+    ensures left { result ≢ 0 → sender.new.held.state ≡ sender.old.held.state }
+    ensures open { result ≡ 0 → is_some sender.new.held.state ≡ true }
+    ensures done { result ≡ 0 → (sender_arena sender.new.held.state ≡ runtime_arena runtime.old.held.state) × (sender_front sender.new.held.state ≡ runtime_history runtime.old.held.state) }
+{
+    if sender.is_open() {
+        return ALREADY_OPEN;
+    }
+    let Some(mut held) = runtime.take(alloc) else {
+        return CLOSED;
+    };
+    let answer = match held.sender() {
+        Some(made) => match Box::new(alloc, made) {
+            Ok(made) => {
+                *sender = SenderHandle::of(made);
+                DONE
+            }
+            Err(refused) => {
+                held.finish(refused.value);
+                NO_MEMORY
+            }
+        },
+        None => NO_SENDER,
+    };
+    *runtime = RuntimeHandle::of(held);
+    answer
+}
+
+/// Gives the sender's number back.
+#[unsafe(no_mangle)]
+pub extern "C" fn msg_sender_close(
+    alloc: Global,
+    runtime: &mut RuntimeHandle,
+    sender: &mut SenderHandle,
+) -> u32
+    requires together { AreOfOneArena runtime.old.held.state sender.old.held.state }
+    ensures kept { runtime.new.held.state ≡ runtime.old.held.state }
+    ensures left { result ≢ 0 → sender.new.held.state ≡ sender.old.held.state }
+    ensures done { result ≡ 0 → sender.new.held.state ≡ None }
+    ensures closed { runtime.old.held.state ≡ None → result ≡ CLOSED }
+    ensures no_sender { sender.old.held.state ≡ None → result ≡ CLOSED }
+    ensures was_open { is_some runtime.old.held.state ≡ true → is_some sender.old.held.state ≡ true → result ≡ 0 }
+{
+    let Some(mut held) = runtime.take(alloc) else {
+        return CLOSED;
+    };
+    let answer = match sender.take(alloc) {
+        Some(taken) => {
+            held.finish(Box::into_inner(taken));
+            DONE
+        }
+        None => CLOSED,
+    };
+    *runtime = RuntimeHandle::of(held);
+    answer
+}
+
+/// `cache_getImp`: the implementation's number that the class reference's cache has for the selector, or 71 where it has none. No lock is wanted. A hit is the
+/// lookup at a point of the history not before the one that the sender had seen.
+#[unsafe(no_mangle)]
+pub extern "C" fn msg_probe(
+    alloc: Global,
+    sender: &mut SenderHandle,
+    class: u32,
+    meta: bool,
+    sel: u32,
+    imp: &mut u32,
+) -> u32
+    ensures arena { sender_arena sender.new.held.state ≡ sender_arena sender.old.held.state }
+    ensures closed { sender.old.held.state ≡ None → result ≡ CLOSED }
+    ensures left { result ≢ 0 → imp.new ≡ imp.old }
+    ensures begins { SeesOn (sender_front sender.old.held.state) (sender_front sender.new.held.state) }
+    ensures hit { result ≡ 0 → (h : History) → sender_front sender.new.held.state ≡ Some h → imp.new ≡ lookup h (record { class = class; meta = meta }) sel }
+    ensures listed { result ≡ 0 → (a : ArenaView) → sender_arena sender.old.held.state ≡ Some a → imp.new ≤ length a.key.image.imps }
+    ensures fault { (a : ArenaView) → sender_arena sender.old.held.state ≡ Some a → result ≢ 0 → result ≢ MISSED → result ≡ number_of_fault (ask_fault (classes a) class sel) }
+    ensures miss { (a : ArenaView) → sender_arena sender.old.held.state ≡ Some a → result ≡ MISSED → ask_fault (classes a) class sel ≡ None }
+{
+    let Some(mut held) = sender.take(alloc) else {
+        return CLOSED;
+    };
+    let found = held.probe_by(class, meta, sel);
+    *sender = SenderHandle::of(held);
+    match found {
+        Ok(Some(found)) => {
+            *imp = found;
+            DONE
+        }
+        Ok(None) => MISSED,
+        Err(fault) => fault.number(),
+    }
+}
+
+/// `lookUpImpOrForward`: looks up what a probe missed, and caches it. The sender has then seen all changes that were made.
+#[unsafe(no_mangle)]
+pub extern "C" fn msg_fill(
+    alloc: Global,
+    runtime: &mut RuntimeHandle,
+    sender: &mut SenderHandle,
+    class: u32,
+    meta: bool,
+    sel: u32,
+    imp: &mut u32,
+) -> u32
+    requires together { AreOfOneArena runtime.old.held.state sender.old.held.state }
+    ensures kept { runtime.new.held.state ≡ runtime.old.held.state }
+    ensures arena { sender_arena sender.new.held.state ≡ sender_arena sender.old.held.state }
+    ensures closed { runtime.old.held.state ≡ None → result ≡ CLOSED }
+    ensures no_sender { sender.old.held.state ≡ None → result ≡ CLOSED }
+    ensures left { result ≢ 0 → (imp.new ≡ imp.old) × (sender.new.held.state ≡ sender.old.held.state) }
+    ensures done { result ≡ 0 → (h : History) → runtime_history runtime.old.held.state ≡ Some h → imp.new ≡ lookup h (record { class = class; meta = meta }) sel }
+    ensures listed { result ≡ 0 → (h : History) → runtime_history runtime.old.held.state ≡ Some h → imp.new ≤ length h.image.imps }
+    ensures front { result ≡ 0 → sender_front sender.new.held.state ≡ runtime_history runtime.old.held.state }
+    ensures begins { result ≡ 0 → SeesOn (sender_front sender.old.held.state) (sender_front sender.new.held.state) }
+    ensures fault { (a : ArenaView) → runtime_arena runtime.old.held.state ≡ Some a → is_some sender.old.held.state ≡ true → result ≡ number_of_fault (ask_fault (classes a) class sel) }
+{
+    let Some(mut held) = runtime.take(alloc) else {
+        return CLOSED;
+    };
+    let Some(mut asker) = sender.take(alloc) else {
+        *runtime = RuntimeHandle::of(held);
+        return CLOSED;
+    };
+    let found = held.answer_by(&mut asker, class, meta, sel);
+    *runtime = RuntimeHandle::of(held);
+    *sender = SenderHandle::of(asker);
+    match found {
+        Ok(found) => {
+            *imp = found;
+            DONE
+        }
+        Err(fault) => fault.number(),
+    }
+}
+
+/// The sender has then seen all changes that were made: what it finds from then on is not older.
+#[unsafe(no_mangle)]
+pub extern "C" fn msg_meet(
+    alloc: Global,
+    runtime: &mut RuntimeHandle,
+    sender: &mut SenderHandle,
+) -> u32
+    requires together { AreOfOneArena runtime.old.held.state sender.old.held.state }
+    ensures kept { runtime.new.held.state ≡ runtime.old.held.state }
+    ensures arena { sender_arena sender.new.held.state ≡ sender_arena sender.old.held.state }
+    ensures closed { runtime.old.held.state ≡ None → result ≡ CLOSED }
+    ensures no_sender { sender.old.held.state ≡ None → result ≡ CLOSED }
+    ensures left { result ≢ 0 → sender.new.held.state ≡ sender.old.held.state }
+    ensures was_open { is_some runtime.old.held.state ≡ true → is_some sender.old.held.state ≡ true → result ≡ 0 }
+    ensures front { result ≡ 0 → sender_front sender.new.held.state ≡ runtime_history runtime.old.held.state }
+{
+    let Some(mut held) = runtime.take(alloc) else {
+        return CLOSED;
+    };
+    let Some(mut asker) = sender.take(alloc) else {
+        *runtime = RuntimeHandle::of(held);
+        return CLOSED;
+    };
+    held.meet(&mut asker);
+    *runtime = RuntimeHandle::of(held);
+    *sender = SenderHandle::of(asker);
+    DONE
+}
+
+/// How many changes there are, which the sender has then seen. No lock is wanted: one shared word is loaded.
+#[unsafe(no_mangle)]
+pub extern "C" fn msg_refresh(alloc: Global, sender: &mut SenderHandle, count: &mut u64) -> u32
+    ensures arena { sender_arena sender.new.held.state ≡ sender_arena sender.old.held.state }
+    ensures closed { sender.old.held.state ≡ None → result ≡ CLOSED }
+    ensures was_open { is_some sender.old.held.state ≡ true → result ≡ 0 }
+    ensures left { result ≢ 0 → count.new ≡ count.old }
+    ensures begins { SeesOn (sender_front sender.old.held.state) (sender_front sender.new.held.state) }
+    ensures done { (h : History) → sender_front sender.new.held.state ≡ Some h → count.new ≡ length h.changes }
+{
+    let Some(mut held) = sender.take(alloc) else {
+        return CLOSED;
+    };
+    *count = held.refresh();
+    *sender = SenderHandle::of(held);
+    DONE
+}

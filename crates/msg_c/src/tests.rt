@@ -1,0 +1,326 @@
+//! Each call once on its happy path, and each fault once.
+
+ghost use Rattle.std.specs.Prelude.{◌≡◌, Some, None, IfOk, is_some, true};
+ghost use Rattle.msg_c.specs.Answers.{AreOfOneArena};
+
+use crate::answer::{ALREADY_OPEN, CLOSED, DONE, MISSED, NO_SENDER, NONE};
+use crate::asking::{
+    MsgClass, msg_change_count, msg_class_count, msg_find_class, msg_find_selector, msg_holder,
+    msg_lookup, msg_superclass,
+};
+use crate::changing::{
+    msg_add, msg_attach, msg_exchange, msg_make_class, msg_make_root_class, msg_replace,
+    msg_set_imp,
+};
+use crate::opening::{msg_close, msg_open};
+use crate::runtime_handle::RuntimeHandle;
+use crate::sender_handle::SenderHandle;
+use crate::sending::{
+    msg_fill, msg_meet, msg_probe, msg_refresh, msg_sender_close, msg_sender_open,
+};
+use msg_host::MethodRow;
+use std::alloc::Global;
+use std::process::Abort;
+use std::test::Fail;
+
+// Root (0), with `value` (selector 2) by implementation 1 and `name` (3) by 2, and the class method `new` (4) by 4; Child (1) below it, with `name` by 3.
+// `take:` (5) has no method. Made (2) and Other (3) may be made.
+const TEXT: &[u8] = br#"{"version":2,"classes":[
+{"name":"Root","super":null,"methods":[["value","r_value"],["name","r_name"]],"class_methods":[["new","r_new"]]},
+{"name":"Child","super":"Root","methods":[["name","c_name"]],"class_methods":[]}],"made":["Made","Other"],"categories":[],"objects":[],
+"imps":[{"name":"r_value","class":"Root","meta":false,"args":0,"body":7},
+{"name":"r_name","class":"Root","meta":false,"args":0,"body":1},
+{"name":"c_name","class":"Child","meta":false,"args":0,"body":11},
+{"name":"r_new","class":"Root","meta":true,"args":0,"body":["sel","take:"]}],"items":[]}"#;
+
+const ROOT: u32 = 0;
+
+const CHILD: u32 = 1;
+
+const MADE: u32 = 2;
+
+const VALUE: u32 = 2;
+
+const NAME: u32 = 3;
+
+const NEW: u32 = 4;
+
+const TAKE: u32 = 5;
+
+fn opened<R: Abort>(rt: &R, alloc: Global) -> RuntimeHandle {
+    let mut runtime = RuntimeHandle::closed(alloc);
+    assert_eq!(rt; msg_open(alloc, &mut runtime, TEXT), DONE);
+    runtime
+}
+
+fn found<R: Abort>(
+    rt: &R,
+    alloc: Global,
+    runtime: &mut RuntimeHandle,
+    class: u32,
+    meta: bool,
+    sel: u32,
+) -> u32 {
+    let mut imp = 99;
+    assert_eq!(rt;
+        msg_lookup(alloc, runtime, class, meta, sel, &mut imp),
+        DONE
+    );
+    imp
+}
+
+#[test]
+fn a_text_opens_once_and_closes_once(rt: HostRuntime) -> Result<(), Fail> {
+    let alloc = rt.alloc();
+    let mut runtime = RuntimeHandle::closed(alloc);
+    assert_eq!(rt; msg_open(alloc, &mut runtime, b"{"), 1);
+    assert_eq!(rt; msg_open(alloc, &mut runtime, br#"{"version":3}"#), 2);
+    assert_eq!(rt; msg_close(alloc, &mut runtime), CLOSED);
+    assert_eq!(rt; msg_open(alloc, &mut runtime, TEXT), DONE);
+    assert_eq!(rt; msg_open(alloc, &mut runtime, TEXT), ALREADY_OPEN);
+    assert_eq!(rt; msg_close(alloc, &mut runtime), DONE);
+    assert_eq!(rt; msg_close(alloc, &mut runtime), CLOSED);
+    Ok(())
+}
+
+#[test]
+fn names_are_found(rt: HostRuntime) -> Result<(), Fail> {
+    let alloc = rt.alloc();
+    let mut runtime = opened(&rt, alloc);
+    let (mut count, mut class, mut sel) = (0, 99, 99);
+    assert_eq!(rt; msg_class_count(alloc, &mut runtime, &mut count), DONE);
+    assert_eq!(rt; count, 4);
+    assert_eq!(rt;
+        msg_find_class(alloc, &mut runtime, b"Child", &mut class),
+        DONE
+    );
+    assert_eq!(rt; class, CHILD);
+    assert_eq!(rt;
+        msg_find_class(alloc, &mut runtime, b"Made", &mut class),
+        DONE
+    );
+    assert_eq!(rt; class, MADE);
+    assert_eq!(rt;
+        msg_find_class(alloc, &mut runtime, b"child", &mut class),
+        NONE
+    );
+    assert_eq!(rt; class, MADE);
+    assert_eq!(rt;
+        msg_find_selector(alloc, &mut runtime, b"take:", &mut sel),
+        DONE
+    );
+    assert_eq!(rt; sel, TAKE);
+    assert_eq!(rt;
+        msg_find_selector(alloc, &mut runtime, b"\xff", &mut sel),
+        NONE
+    );
+    assert_eq!(rt; sel, TAKE);
+    Ok(())
+}
+
+#[test]
+fn lookups_go_up(rt: HostRuntime) -> Result<(), Fail> {
+    let alloc = rt.alloc();
+    let mut runtime = opened(&rt, alloc);
+    assert_eq!(rt; found(&rt, alloc, &mut runtime, CHILD, false, VALUE), 1);
+    assert_eq!(rt; found(&rt, alloc, &mut runtime, CHILD, false, NAME), 3);
+    assert_eq!(rt; found(&rt, alloc, &mut runtime, CHILD, true, NEW), 4);
+    assert_eq!(rt; found(&rt, alloc, &mut runtime, CHILD, true, VALUE), 1);
+    assert_eq!(rt; found(&rt, alloc, &mut runtime, CHILD, false, TAKE), 0);
+    assert_eq!(rt; found(&rt, alloc, &mut runtime, MADE, false, VALUE), 0);
+    let mut imp = 99;
+    assert_eq!(rt;
+        msg_lookup(alloc, &mut runtime, 4, false, VALUE, &mut imp),
+        66
+    );
+    assert_eq!(rt;
+        msg_lookup(alloc, &mut runtime, CHILD, false, 0, &mut imp),
+        67
+    );
+    assert_eq!(rt; imp, 99);
+    Ok(())
+}
+
+#[test]
+fn superclasses_and_holders_are_told(rt: HostRuntime) -> Result<(), Fail> {
+    let alloc = rt.alloc();
+    let mut runtime = opened(&rt, alloc);
+    let mut at = MsgClass {
+        class: 99,
+        meta: false,
+    };
+    assert_eq!(rt;
+        msg_superclass(alloc, &mut runtime, ROOT, false, &mut at),
+        NONE
+    );
+    assert_eq!(rt; msg_superclass(alloc, &mut runtime, 4, false, &mut at), 66);
+    assert_eq!(rt;
+        msg_holder(alloc, &mut runtime, CHILD, false, TAKE, &mut at),
+        NONE
+    );
+    assert_eq!(rt;
+        msg_holder(alloc, &mut runtime, CHILD, false, 0, &mut at),
+        67
+    );
+    assert_eq!(rt; at.class, 99);
+    assert_eq!(rt;
+        msg_superclass(alloc, &mut runtime, CHILD, true, &mut at),
+        DONE
+    );
+    assert_eq!(rt; (at.class, at.meta), (ROOT, true));
+    assert_eq!(rt;
+        msg_superclass(alloc, &mut runtime, ROOT, true, &mut at),
+        DONE
+    );
+    assert_eq!(rt; (at.class, at.meta), (ROOT, false));
+    assert_eq!(rt;
+        msg_holder(alloc, &mut runtime, CHILD, true, NEW, &mut at),
+        DONE
+    );
+    assert_eq!(rt; (at.class, at.meta), (ROOT, true));
+    Ok(())
+}
+
+#[test]
+fn methods_are_changed(rt: HostRuntime) -> Result<(), Fail> {
+    let alloc = rt.alloc();
+    let mut runtime = opened(&rt, alloc);
+    assert_eq!(rt; msg_add(alloc, &mut runtime, CHILD, false, VALUE, 2), DONE);
+    assert_eq!(rt; found(&rt, alloc, &mut runtime, CHILD, false, VALUE), 2);
+    assert_eq!(rt; msg_add(alloc, &mut runtime, CHILD, false, VALUE, 1), 4);
+    assert_eq!(rt;
+        msg_replace(alloc, &mut runtime, CHILD, false, VALUE, 3),
+        DONE
+    );
+    assert_eq!(rt; found(&rt, alloc, &mut runtime, CHILD, false, VALUE), 3);
+    assert_eq!(rt; msg_set_imp(alloc, &mut runtime, CHILD, true, NEW, 1), DONE);
+    assert_eq!(rt; found(&rt, alloc, &mut runtime, ROOT, true, NEW), 1);
+    assert_eq!(rt;
+        msg_exchange(alloc, &mut runtime, CHILD, false, VALUE, ROOT, false, NAME),
+        DONE
+    );
+    assert_eq!(rt; found(&rt, alloc, &mut runtime, CHILD, false, VALUE), 2);
+    assert_eq!(rt; found(&rt, alloc, &mut runtime, ROOT, false, NAME), 3);
+    let mut count = 0;
+    assert_eq!(rt; msg_change_count(alloc, &mut runtime, &mut count), DONE);
+    assert_eq!(rt; count, 4);
+    Ok(())
+}
+
+#[test]
+fn a_refused_change_changes_nothing(rt: HostRuntime) -> Result<(), Fail> {
+    let alloc = rt.alloc();
+    let mut runtime = opened(&rt, alloc);
+    assert_eq!(rt; msg_replace(alloc, &mut runtime, 4, false, VALUE, 1), 1);
+    assert_eq!(rt; msg_replace(alloc, &mut runtime, MADE, false, VALUE, 1), 1);
+    assert_eq!(rt; msg_replace(alloc, &mut runtime, CHILD, false, VALUE, 0), 2);
+    assert_eq!(rt; msg_replace(alloc, &mut runtime, CHILD, false, VALUE, 5), 2);
+    assert_eq!(rt; msg_replace(alloc, &mut runtime, CHILD, false, TAKE, 1), 3);
+    assert_eq!(rt; msg_replace(alloc, &mut runtime, CHILD, false, 0, 1), 67);
+    assert_eq!(rt; msg_set_imp(alloc, &mut runtime, ROOT, false, NEW, 1), 5);
+    assert_eq!(rt;
+        msg_exchange(alloc, &mut runtime, ROOT, false, VALUE, ROOT, false, 0),
+        67
+    );
+    let mut count = 99;
+    assert_eq!(rt; msg_change_count(alloc, &mut runtime, &mut count), DONE);
+    assert_eq!(rt; count, 0);
+    assert_eq!(rt; found(&rt, alloc, &mut runtime, CHILD, false, VALUE), 1);
+    Ok(())
+}
+
+#[test]
+fn categories_are_attached(rt: HostRuntime) -> Result<(), Fail> {
+    let alloc = rt.alloc();
+    let mut runtime = opened(&rt, alloc);
+    let methods = [
+        MethodRow { sel: VALUE, imp: 3 },
+        MethodRow { sel: VALUE, imp: 2 },
+    ];
+    let class_methods = [MethodRow { sel: NEW, imp: 2 }];
+    assert_eq!(rt;
+        msg_attach(alloc, &mut runtime, CHILD, &methods, &class_methods),
+        DONE
+    );
+    assert_eq!(rt; found(&rt, alloc, &mut runtime, CHILD, false, VALUE), 3);
+    assert_eq!(rt; found(&rt, alloc, &mut runtime, CHILD, true, NEW), 2);
+    let unnamed = [MethodRow { sel: 0, imp: 2 }];
+    assert_eq!(rt;
+        msg_attach(alloc, &mut runtime, CHILD, &methods, &unnamed),
+        67
+    );
+    assert_eq!(rt;
+        msg_attach(alloc, &mut runtime, MADE, &methods, &class_methods),
+        1
+    );
+    Ok(())
+}
+
+#[test]
+fn classes_are_made(rt: HostRuntime) -> Result<(), Fail> {
+    let alloc = rt.alloc();
+    let mut runtime = opened(&rt, alloc);
+    assert_eq!(rt; msg_make_class(alloc, &mut runtime, MADE, 3), 1);
+    assert_eq!(rt; msg_make_class(alloc, &mut runtime, MADE, CHILD), DONE);
+    assert_eq!(rt; msg_make_class(alloc, &mut runtime, MADE, CHILD), 8);
+    assert_eq!(rt; found(&rt, alloc, &mut runtime, MADE, false, NAME), 3);
+    assert_eq!(rt; msg_make_root_class(alloc, &mut runtime, 3), DONE);
+    assert_eq!(rt; found(&rt, alloc, &mut runtime, 3, false, NAME), 0);
+    Ok(())
+}
+
+#[test]
+fn a_closed_runtime_answers_nothing(rt: HostRuntime) -> Result<(), Fail> {
+    let alloc = rt.alloc();
+    let mut runtime = RuntimeHandle::closed(alloc);
+    let mut sender = SenderHandle::closed(alloc);
+    let (mut number, mut count) = (99, 99);
+    let mut at = MsgClass {
+        class: 99,
+        meta: false,
+    };
+    assert_eq!(rt; msg_class_count(alloc, &mut runtime, &mut number), CLOSED);
+    assert_eq!(rt; msg_change_count(alloc, &mut runtime, &mut count), CLOSED);
+    assert_eq!(rt;
+        msg_find_class(alloc, &mut runtime, b"Root", &mut number),
+        CLOSED
+    );
+    assert_eq!(rt;
+        msg_find_selector(alloc, &mut runtime, b"value", &mut number),
+        CLOSED
+    );
+    assert_eq!(rt;
+        msg_lookup(alloc, &mut runtime, ROOT, false, VALUE, &mut number),
+        CLOSED
+    );
+    assert_eq!(rt;
+        msg_superclass(alloc, &mut runtime, CHILD, false, &mut at),
+        CLOSED
+    );
+    assert_eq!(rt;
+        msg_holder(alloc, &mut runtime, CHILD, false, VALUE, &mut at),
+        CLOSED
+    );
+    assert_eq!(rt;
+        msg_add(alloc, &mut runtime, CHILD, false, VALUE, 2),
+        CLOSED
+    );
+    assert_eq!(rt;
+        msg_replace(alloc, &mut runtime, CHILD, false, VALUE, 2),
+        CLOSED
+    );
+    assert_eq!(rt;
+        msg_set_imp(alloc, &mut runtime, CHILD, false, VALUE, 2),
+        CLOSED
+    );
+    assert_eq!(rt;
+        msg_exchange(alloc, &mut runtime, ROOT, false, VALUE, ROOT, false, NAME),
+        CLOSED
+    );
+    assert_eq!(rt; msg_attach(alloc, &mut runtime, ROOT, &[], &[]), CLOSED);
+    assert_eq!(rt; msg_make_class(alloc, &mut runtime, MADE, ROOT), CLOSED);
+    assert_eq!(rt; msg_make_root_class(alloc, &mut runtime, MADE), CLOSED);
+    assert_eq!(rt; msg_sender_open(alloc, &mut runtime, &mut sender), CLOSED);
+    assert_eq!(rt; number, 99);
+    Ok(())
+}

@@ -1,0 +1,144 @@
+/* The proved message dispatch runtime, for hosts in C. docs/EMBEDDING.md takes you to a first send; this page is the reference.
+ *
+ * What a call answers is proved of the Rattle code in crates/msg_c, clause by clause. Nothing checks a C program, so a host is TRUSTED with this:
+ *
+ *   - this header says what crates/msg_c exports;
+ *   - pointers are not NULL, also of a slice of length 0, and point to as much as is said; a bool is 0 or 1;
+ *   - a handle starts as MSG_RUNTIME_INIT or MSG_SENDER_INIT (zero bytes), its bytes are then left alone, and it is not copied: it is moved at most;
+ *   - a handle is in one call at a time. Calls that take a msg_runtime are made under one lock of the host's, its runtime lock (a pthread mutex, a GIL).
+ *     Calls that take a msg_sender alone want no lock: any number of senders may be in them at once, beside one that has the lock;
+ *   - a handle goes to another thread by something that orders memory: a lock, a thread's start or join;
+ *   - a sender is given only to calls on the runtime that it was opened from (the one `requires` that is left; no call can test it);
+ *   - malloc, realloc and free are the C library's; there is enough stack; no call is made in a signal handler.
+ *
+ * Not trusted, since it is refused by a number: a handle that is closed, or opened twice; numbers of classes, selectors and implementations that are nobody's.
+ *
+ * Every call answers MSG_DONE or the number of a fault. After a fault nothing has changed and nothing was written to what a pointer points to.
+ * No call blocks, panics or aborts. Classes are numbered from 0, selectors and implementations from 1, all as the document lists them.
+ * An implementation's number is at most the document's count of implementations, so a host's array of so many pointers and one needs no test:
+ * number 0 is _objc_msgForward, which is the host's to write.
+ */
+#ifndef MSG_RUNTIME_H
+#define MSG_RUNTIME_H
+
+#include <stdbool.h>
+#include <stddef.h>
+#include <stdint.h>
+
+#ifdef __cplusplus
+extern "C" {
+#endif
+
+typedef struct { void *at; bool open; } msg_runtime;
+typedef struct { void *at; bool open; } msg_sender;
+#define MSG_RUNTIME_INIT {0, 0}
+#define MSG_SENDER_INIT {0, 0}
+
+/* A class, or its metaclass. */
+typedef struct { uint32_t number; bool meta; } msg_class;
+
+/* A method of a category. */
+typedef struct { uint32_t sel; uint32_t imp; } msg_method;
+
+enum {
+    MSG_DONE = 0,
+    /* msg_open answers 1 to 18, the least fault of the text by docs/FORMAT.md; 17 is want of memory. */
+    /* Changes answer these; the first that holds. */
+    MSG_NO_SUCH_CLASS = 1,      /* no class of the number, or it isn't made */
+    MSG_NO_SUCH_IMP = 2,        /* forwarding, or no implementation of the number */
+    MSG_ARGUMENT_COUNT = 3,     /* no selector of the number, or of another number of arguments than the implementation */
+    MSG_METHOD_PRESENT = 4,
+    MSG_NO_METHOD = 5,
+    MSG_LIMIT = 6,              /* 65,536 changes were made, or more than 16,384 methods would stand */
+    MSG_CHANGE_MEMORY = 7,
+    MSG_DUPLICATE_CLASS = 8,
+    /* Any call answers these. */
+    MSG_CLOSED = 64,            /* a handle isn't open */
+    MSG_ALREADY_OPEN = 65,
+    MSG_NO_CLASS = 66,          /* a class number of a question isn't below the count */
+    MSG_NO_SELECTOR = 67,       /* a selector's number is 0 */
+    MSG_NO_SENDER = 68,         /* 64 senders are out */
+    MSG_NO_MEMORY = 69,
+    MSG_NONE = 70,              /* there is none: no such name, no superclass, no method */
+    MSG_MISSED = 71             /* of msg_probe: not cached. Ask msg_fill under the lock */
+};
+
+/* ---- under the host's lock ---- */
+
+/* map_images: opens the image that the document's text spells, version 1 or 2. Its sends and changes are left aside. */
+uint32_t msg_open(msg_runtime *runtime, const uint8_t *text, size_t length);
+uint32_t msg_close(msg_runtime *runtime);
+
+uint32_t msg_class_count(msg_runtime *runtime, uint32_t *count);
+uint32_t msg_change_count(msg_runtime *runtime, uint64_t *count);
+/* objc_lookUpClass, sel_getUid: UTF-8, of the image's names alone. MSG_NONE where there is no such name. */
+uint32_t msg_find_class(msg_runtime *runtime, const uint8_t *name, size_t length, uint32_t *number);
+uint32_t msg_find_selector(msg_runtime *runtime, const uint8_t *name, size_t length, uint32_t *sel);
+/* class_getMethodImplementation: the lookup along the chain at the changes made so far; 0 is forwarding. It fills no cache. */
+uint32_t msg_lookup(msg_runtime *runtime, uint32_t number, bool meta, uint32_t sel, uint32_t *imp);
+/* class_getSuperclass. MSG_NONE for a root class, and for a class that isn't made. */
+uint32_t msg_superclass(msg_runtime *runtime, uint32_t number, bool meta, msg_class *above);
+/* Where the method stands that class_getInstanceMethod finds. MSG_NONE where it finds none. */
+uint32_t msg_holder(msg_runtime *runtime, uint32_t number, bool meta, uint32_t sel, msg_class *at);
+
+/* class_addMethod, class_replaceMethod, method_setImplementation, method_exchangeImplementations, attachCategories, objc_allocateClassPair with
+ * objc_registerClassPair. A change that is made has flushed every cache that it affects before the call returns. */
+uint32_t msg_add(msg_runtime *runtime, uint32_t number, bool meta, uint32_t sel, uint32_t imp);
+uint32_t msg_replace(msg_runtime *runtime, uint32_t number, bool meta, uint32_t sel, uint32_t imp);
+uint32_t msg_set_imp(msg_runtime *runtime, uint32_t number, bool meta, uint32_t sel, uint32_t imp);
+uint32_t msg_exchange(msg_runtime *runtime, uint32_t number, bool meta, uint32_t sel, uint32_t other, bool other_meta, uint32_t other_sel);
+uint32_t msg_attach(msg_runtime *runtime, uint32_t number, const msg_method *methods, size_t count, const msg_method *class_methods, size_t class_count);
+uint32_t msg_make_class(msg_runtime *runtime, uint32_t number, uint32_t superclass);
+uint32_t msg_make_root_class(msg_runtime *runtime, uint32_t number);
+
+/* A sender of the runtime, for one thread: it has seen all changes made so far. Close each before its runtime, or its number stays used. */
+uint32_t msg_sender_open(msg_runtime *runtime, msg_sender *sender);
+uint32_t msg_sender_close(msg_runtime *runtime, msg_sender *sender);
+/* lookUpImpOrForward: the lookup at all changes made so far, which the sender has then seen. It is cached, where there is room. */
+uint32_t msg_fill(msg_runtime *runtime, msg_sender *sender, uint32_t number, bool meta, uint32_t sel, uint32_t *imp);
+/* The sender has then seen all changes made so far. */
+uint32_t msg_meet(msg_runtime *runtime, msg_sender *sender);
+
+/* ---- without a lock ---- */
+
+/* cache_getImp: the lookup at the changes that the sender has then seen, which are no fewer than before; or MSG_MISSED. */
+uint32_t msg_probe(msg_sender *sender, uint32_t number, bool meta, uint32_t sel, uint32_t *imp);
+/* How many changes there are, which the sender has then seen: nothing older is found by it from then on. */
+uint32_t msg_refresh(msg_sender *sender, uint64_t *count);
+
+#ifdef __cplusplus
+}
+#endif
+
+/* ---- finding: a probe, and after a miss a fill under the lock ----
+ *
+ * The lock is a pthread mutex, or what MSG_LOCK, MSG_UNLOCK and MSG_LOCK_TYPE are defined as before this header is included.
+ * With MSG_CHECK defined what can be tested of the trusted list is tested, by assert. */
+#ifndef MSG_LOCK
+#include <pthread.h>
+#define MSG_LOCK_TYPE pthread_mutex_t
+#define MSG_LOCK(lock) pthread_mutex_lock(lock)
+#define MSG_UNLOCK(lock) pthread_mutex_unlock(lock)
+#endif
+
+#ifdef MSG_CHECK
+#include <assert.h>
+#define MSG_TEST(what) assert(what)
+#else
+#define MSG_TEST(what) ((void)0)
+#endif
+
+/* objc_msg_lookup: the implementation's number, which is what a lookup finds at a point not before what the sender had seen. Trusted: this code, and the lock. */
+static inline uint32_t msg_find(msg_runtime *runtime, MSG_LOCK_TYPE *lock, msg_sender *sender, uint32_t number, bool meta, uint32_t sel, uint32_t *imp)
+{
+    MSG_TEST(runtime && lock && sender && imp);
+    MSG_TEST(runtime->open == (runtime->at != 0) && sender->open == (sender->at != 0));
+    uint32_t answer = msg_probe(sender, number, meta, sel, imp);
+    if (answer != MSG_MISSED) return answer;
+    MSG_LOCK(lock);
+    answer = msg_fill(runtime, sender, number, meta, sel, imp);
+    MSG_UNLOCK(lock);
+    return answer;
+}
+
+#endif
