@@ -131,11 +131,11 @@ uint32_t msg_refresh(msg_sender *sender, uint64_t *count);
 /* objc_msg_lookup: the implementation's number, which is what a lookup finds at a point not before what the sender had seen. Trusted: this code, and the lock. */
 static inline uint32_t msg_find(msg_runtime *runtime, MSG_LOCK_TYPE *lock, msg_sender *sender, uint32_t number, bool meta, uint32_t sel, uint32_t *imp)
 {
-    MSG_TEST(runtime && lock && sender && imp);
-    MSG_TEST(runtime->open == (runtime->at != 0) && sender->open == (sender->at != 0));
+    MSG_TEST(runtime && lock && sender && imp && sender->open == (sender->at != 0));
     uint32_t answer = msg_probe(sender, number, meta, sel, imp);
     if (answer != MSG_MISSED) return answer;
     MSG_LOCK(lock);
+    MSG_TEST(runtime->open == (runtime->at != 0));
     answer = msg_fill(runtime, sender, number, meta, sel, imp);
     MSG_UNLOCK(lock);
     return answer;

@@ -6,7 +6,8 @@ ghost use Rattle.msg_names.specs.Numbering.{number_of};
 ghost use Rattle.msg_image.specs.Parts.{class_names};
 ghost use Rattle.msg_tables.specs.History.{holder, lookup, superclass};
 ghost use Rattle.msg_cache.specs.Views.{classes};
-ghost use Rattle.msg_host.specs.Asking.{ask_fault};
+ghost use Rattle.msg_host.specs.Asking.{ask_fault, ask_fault_number};
+ghost use Rattle.msg_host.specs.declared.fault.AskFault.{AskFault};
 ghost use Rattle.msg_host.specs.View.{RuntimeView};
 ghost use Rattle.msg_c.specs.Answers.{number_of_fault};
 
@@ -181,9 +182,10 @@ pub extern "C" fn msg_superclass(
     ensures kept { runtime.new.held.state ≡ runtime.old.held.state }
     ensures closed { runtime.old.held.state ≡ None → result ≡ CLOSED }
     ensures left { result ≢ 0 → above.new ≡ above.old }
-    ensures done { (v : RuntimeView) → runtime.old.held.state ≡ Some v → result ≡ 0 → superclass v.history (record { class = class; meta = meta }) ≡ Some (record { class = above.new.class; meta = above.new.meta }) }
-    ensures none { (v : RuntimeView) → runtime.old.held.state ≡ Some v → result ≡ NONE → superclass v.history (record { class = class; meta = meta }) ≡ None }
-    ensures fault { (v : RuntimeView) → runtime.old.held.state ≡ Some v → result ≢ 0 → result ≢ NONE → result ≡ number_of_fault (ask_fault (classes v.arena) class 1) }
+    ensures fault { (v : RuntimeView) (f : AskFault) → runtime.old.held.state ≡ Some v → ask_fault (classes v.arena) class 1 ≡ Some f → result ≡ ask_fault_number f }
+    ensures none { (v : RuntimeView) → runtime.old.held.state ≡ Some v → ask_fault (classes v.arena) class 1 ≡ None → superclass v.history (record { class = class; meta = meta }) ≡ None → result ≡ NONE }
+    ensures done { (v : RuntimeView) (c : ClassRef) → runtime.old.held.state ≡ Some v → ask_fault (classes v.arena) class 1 ≡ None → superclass v.history (record { class = class; meta = meta }) ≡ Some c
+        → (result ≡ 0) × (above.new.class ≡ c.class) × (above.new.meta ≡ c.meta) }
 {
     let Some(held) = runtime.take(alloc) else {
         return CLOSED;
@@ -209,9 +211,10 @@ pub extern "C" fn msg_holder(
     ensures kept { runtime.new.held.state ≡ runtime.old.held.state }
     ensures closed { runtime.old.held.state ≡ None → result ≡ CLOSED }
     ensures left { result ≢ 0 → at.new ≡ at.old }
-    ensures done { (v : RuntimeView) → runtime.old.held.state ≡ Some v → result ≡ 0 → holder v.history (record { class = class; meta = meta }) sel ≡ Some (record { class = at.new.class; meta = at.new.meta }) }
-    ensures none { (v : RuntimeView) → runtime.old.held.state ≡ Some v → result ≡ NONE → holder v.history (record { class = class; meta = meta }) sel ≡ None }
-    ensures fault { (v : RuntimeView) → runtime.old.held.state ≡ Some v → result ≢ 0 → result ≢ NONE → result ≡ number_of_fault (ask_fault (classes v.arena) class sel) }
+    ensures fault { (v : RuntimeView) (f : AskFault) → runtime.old.held.state ≡ Some v → ask_fault (classes v.arena) class sel ≡ Some f → result ≡ ask_fault_number f }
+    ensures none { (v : RuntimeView) → runtime.old.held.state ≡ Some v → ask_fault (classes v.arena) class sel ≡ None → holder v.history (record { class = class; meta = meta }) sel ≡ None → result ≡ NONE }
+    ensures done { (v : RuntimeView) (c : ClassRef) → runtime.old.held.state ≡ Some v → ask_fault (classes v.arena) class sel ≡ None → holder v.history (record { class = class; meta = meta }) sel ≡ Some c
+        → (result ≡ 0) × (at.new.class ≡ c.class) × (at.new.meta ≡ c.meta) }
 {
     let Some(held) = runtime.take(alloc) else {
         return CLOSED;

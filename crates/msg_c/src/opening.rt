@@ -33,7 +33,7 @@ pub extern "C" fn msg_open(alloc: Global, runtime: &mut RuntimeHandle, text: &[u
     ensures left { result ≢ 0 → runtime.new.held.state ≡ runtime.old.held.state }
     ensures open { result ≡ 0 → is_some runtime.new.held.state ≡ true }
     ensures done { result ≡ 0 → IfSome runtime.new.held.state (λ v. OpensAs text.now v.history) }
-    ensures fault { (f : DocumentFault) → runtime.old.held.state ≡ None → result ≡ document_fault_number f → f ≢ DocumentFault.Memory → IsAnswer text.now (Err f) }
+    ensures fault { runtime.old.held.state ≡ None → result ≢ 0 → (f : DocumentFault) × (result ≡ document_fault_number f) × (f ≢ DocumentFault.Memory → IsAnswer text.now (Err f)) }
 {
     if runtime.is_open() {
         return ALREADY_OPEN;

@@ -1,6 +1,6 @@
 //! Senders.
 
-ghost use Rattle.std.specs.Prelude.{◌≡◌, ◌≢◌, ◌≤◌, length, Some, None, is_some, true};
+ghost use Rattle.std.specs.Prelude.{◌≡◌, ◌≢◌, ◌≤◌, ◌⊎◌, length, Some, None, is_some, true};
 ghost use Rattle.msg_tables.specs.History.{History, lookup};
 ghost use Rattle.msg_cache.specs.Views.{ArenaView, classes};
 ghost use Rattle.msg_host.specs.Asking.{ask_fault};
@@ -19,7 +19,8 @@ pub extern "C" fn msg_sender_open(
     sender: &mut SenderHandle,
 ) -> u32
     ensures kept { runtime.new.held.state ≡ runtime.old.held.state }
-    ensures closed { runtime.old.held.state ≡ None → result ≢ 0 }
+    ensures closed { runtime.old.held.state ≡ None → sender.old.held.state ≡ None → result ≡ CLOSED }
+    ensures refused { is_some runtime.old.held.state ≡ true → sender.old.held.state ≡ None → result ≢ 0 → (result ≡ NO_SENDER) ⊎ (result ≡ NO_MEMORY) }
     ensures already { is_some sender.old.held.state ≡ true → result ≡ ALREADY_OPEN }
     ensures left { result ≢ 0 → sender.new.held.state ≡ sender.old.held.state }
     ensures open { result ≡ 0 → is_some sender.new.held.state ≡ true }
@@ -91,6 +92,7 @@ pub extern "C" fn msg_probe(
     ensures arena { sender_arena sender.new.held.state ≡ sender_arena sender.old.held.state }
     ensures closed { sender.old.held.state ≡ None → result ≡ CLOSED }
     ensures left { result ≢ 0 → imp.new ≡ imp.old }
+    ensures still { result ≢ 0 → result ≢ MISSED → sender.new.held.state ≡ sender.old.held.state }
     ensures begins { SeesOn (sender_front sender.old.held.state) (sender_front sender.new.held.state) }
     ensures hit { result ≡ 0 → (h : History) → sender_front sender.new.held.state ≡ Some h → imp.new ≡ lookup h (record { class = class; meta = meta }) sel }
     ensures listed { result ≡ 0 → (a : ArenaView) → sender_arena sender.old.held.state ≡ Some a → imp.new ≤ length a.key.image.imps }

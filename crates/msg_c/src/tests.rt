@@ -324,3 +324,172 @@ fn a_closed_runtime_answers_nothing(rt: HostRuntime) -> Result<(), Fail> {
     assert_eq!(rt; number, 99);
     Ok(())
 }
+
+// A sender of a runtime.
+fn sending<R: Abort>(rt: &R, alloc: Global, runtime: &mut RuntimeHandle) -> SenderHandle
+    ensures kept { runtime.new.held.state ≡ runtime.old.held.state }
+    ensures together { AreOfOneArena runtime.new.held.state result.held.state }
+{
+    let mut sender = SenderHandle::closed(alloc);
+    assert_eq!(rt; msg_sender_open(alloc, runtime, &mut sender), DONE);
+    sender
+}
+
+#[test]
+fn what_is_filled_is_hit(rt: HostRuntime) -> Result<(), Fail> {
+    let alloc = rt.alloc();
+    let mut runtime = opened(&rt, alloc);
+    let mut sender = sending(&rt, alloc, &mut runtime);
+    let mut imp = 99;
+    assert_eq!(rt;
+        msg_probe(alloc, &mut sender, CHILD, true, NEW, &mut imp),
+        MISSED
+    );
+    assert_eq!(rt; imp, 99);
+    assert_eq!(rt;
+        msg_fill(alloc, &mut runtime, &mut sender, CHILD, true, NEW, &mut imp),
+        DONE
+    );
+    assert_eq!(rt; imp, 4);
+    imp = 99;
+    assert_eq!(rt;
+        msg_probe(alloc, &mut sender, CHILD, true, NEW, &mut imp),
+        DONE
+    );
+    assert_eq!(rt; imp, 4);
+    Ok(())
+}
+
+#[test]
+fn a_change_flushes_and_is_seen(rt: HostRuntime) -> Result<(), Fail> {
+    let alloc = rt.alloc();
+    let mut runtime = opened(&rt, alloc);
+    let mut sender = sending(&rt, alloc, &mut runtime);
+    let (mut imp, mut count) = (99, 99);
+    assert_eq!(rt;
+        msg_fill(
+            alloc,
+            &mut runtime,
+            &mut sender,
+            CHILD,
+            false,
+            VALUE,
+            &mut imp
+        ),
+        DONE
+    );
+    assert_eq!(rt; imp, 1);
+    assert_eq!(rt;
+        msg_set_imp(alloc, &mut runtime, ROOT, false, VALUE, 2),
+        DONE
+    );
+    assert_eq!(rt; msg_refresh(alloc, &mut sender, &mut count), DONE);
+    assert_eq!(rt; count, 1);
+    assert_eq!(rt;
+        msg_probe(alloc, &mut sender, CHILD, false, VALUE, &mut imp),
+        MISSED
+    );
+    assert_eq!(rt;
+        msg_fill(
+            alloc,
+            &mut runtime,
+            &mut sender,
+            CHILD,
+            false,
+            VALUE,
+            &mut imp
+        ),
+        DONE
+    );
+    assert_eq!(rt; imp, 2);
+    Ok(())
+}
+
+#[test]
+fn senders_meet_and_close(rt: HostRuntime) -> Result<(), Fail> {
+    let alloc = rt.alloc();
+    let mut runtime = opened(&rt, alloc);
+    let mut sender = sending(&rt, alloc, &mut runtime);
+    assert_eq!(rt;
+        msg_sender_open(alloc, &mut runtime, &mut sender),
+        ALREADY_OPEN
+    );
+    assert_eq!(rt; msg_meet(alloc, &mut runtime, &mut sender), DONE);
+    assert_eq!(rt; msg_sender_close(alloc, &mut runtime, &mut sender), DONE);
+    assert_eq!(rt; msg_sender_close(alloc, &mut runtime, &mut sender), CLOSED);
+    Ok(())
+}
+
+#[test]
+fn a_sender_refuses_what_is_nobodys(rt: HostRuntime) -> Result<(), Fail> {
+    let alloc = rt.alloc();
+    let mut runtime = opened(&rt, alloc);
+    let mut sender = sending(&rt, alloc, &mut runtime);
+    let mut imp = 99;
+    assert_eq!(rt;
+        msg_probe(alloc, &mut sender, 4, false, VALUE, &mut imp),
+        66
+    );
+    assert_eq!(rt;
+        msg_probe(alloc, &mut sender, CHILD, false, 0, &mut imp),
+        67
+    );
+    assert_eq!(rt;
+        msg_fill(alloc, &mut runtime, &mut sender, 4, false, VALUE, &mut imp),
+        66
+    );
+    assert_eq!(rt;
+        msg_fill(alloc, &mut runtime, &mut sender, CHILD, false, 0, &mut imp),
+        67
+    );
+    assert_eq!(rt; imp, 99);
+    Ok(())
+}
+
+#[test]
+fn a_closed_sender_answers_nothing(rt: HostRuntime) -> Result<(), Fail> {
+    let alloc = rt.alloc();
+    let mut runtime = opened(&rt, alloc);
+    let mut sender = SenderHandle::closed(alloc);
+    let (mut imp, mut count) = (99, 99);
+    assert_eq!(rt;
+        msg_probe(alloc, &mut sender, CHILD, false, VALUE, &mut imp),
+        CLOSED
+    );
+    assert_eq!(rt;
+        msg_fill(
+            alloc,
+            &mut runtime,
+            &mut sender,
+            CHILD,
+            false,
+            VALUE,
+            &mut imp
+        ),
+        CLOSED
+    );
+    assert_eq!(rt; msg_meet(alloc, &mut runtime, &mut sender), CLOSED);
+    assert_eq!(rt; msg_refresh(alloc, &mut sender, &mut count), CLOSED);
+    assert_eq!(rt; (imp, count), (99, 99));
+    Ok(())
+}
+
+#[test]
+fn sixty_four_senders_are_out_at_most(rt: HostRuntime) -> Result<(), Fail> {
+    let alloc = rt.alloc();
+    let mut runtime = opened(&rt, alloc);
+    let mut first = sending(&rt, alloc, &mut runtime);
+    for _ in 1..64 {
+        let mut another = SenderHandle::closed(alloc);
+        assert_eq!(rt; msg_sender_open(alloc, &mut runtime, &mut another), DONE);
+    }
+    let mut last = SenderHandle::closed(alloc);
+    assert_eq!(rt; msg_sender_open(alloc, &mut runtime, &mut last), NO_SENDER);
+    assert_eq!(rt; msg_close(alloc, &mut runtime), DONE);
+    let mut imp = 99;
+    assert_eq!(rt;
+        msg_probe(alloc, &mut first, CHILD, false, VALUE, &mut imp),
+        MISSED
+    );
+    Ok(())
+}
