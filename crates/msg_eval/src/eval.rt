@@ -404,8 +404,5 @@ fn enter<F: Finder>(
         home: imp.home,
         depth: message.depth - 1,
     };
-    match frame.leaf(&imp.body) {
-        Some(value) => Ok(value),
-        None => eval_expr(finder, &frame, &imp.body, left),
-    }
+    eval_expr(finder, &frame, &imp.body, left)
 }

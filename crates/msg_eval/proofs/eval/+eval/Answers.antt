@@ -54,14 +54,10 @@ pub enter-returns-then-message-eq0-clause-meaning : goal.enter-returns-then-mess
 enter-returns-then-message-eq0-clause-meaning g t c = λ h st.
     record { point = h; there = st; follows = λ k q r x. rw (no_body c.args.message.now.image.now c.args.message.now.depth (imp_number c.args.imp) c.args.me c.args.message.now.args.now.items c.args.left.now k c.if-message-eq0.true) x }
 
-pub enter-returns-in-None-clause-meaning : goal.enter-returns-in-None-clause-meaning
-enter-returns-in-None-clause-meaning g t c = λ h st.
+pub enter-returns-clause-meaning : goal.enter-returns-clause-meaning
+enter-returns-clause-meaning g t c = λ h st.
     let x = c.eval_expr.ensures.meaning h st in
     record { point = x.point; there = x.there; follows = λ k q r y. rw (body_of c.args.message.now.image.now c.args.message.now.depth (c.args.message.now.depth - 1) (imp_number c.args.imp) c.args.me c.args.message.now.args.now.items c.args.left.now _ k (omega (arith, c.if-message-eq0.false)) c.imp-imp.ensures.imp) (x.follows k q r y) }
-
-pub enter-returns-in-Some-clause-meaning : goal.enter-returns-in-Some-clause-meaning
-enter-returns-in-Some-clause-meaning g t c = λ h st.
-    record { point = h; there = st; follows = λ k q r y. rw (body_of c.args.message.now.image.now c.args.message.now.depth (c.args.message.now.depth - 1) (imp_number c.args.imp) c.args.me c.args.message.now.args.now.items c.args.left.now _ k (omega (arith, c.if-message-eq0.false)) c.imp-imp.ensures.imp, c.in-Some.ensures.meaning c.args.left.now k) y }
 
 pub eval_expr-eval_send-requires : goal.eval_expr-eval_send-requires
 eval_expr-eval_send-requires g t c κs within =
