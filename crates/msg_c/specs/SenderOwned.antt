@@ -10,6 +10,7 @@ use Rattle.std.specs.declared.option.Option.TheVariants.{None, Some}
 use Rattle.std_heap.specs.contracts.GlobalAllocator.TheImpl.{ghosts}
 use Rattle.msg_host.specs.contracts.sender.HostedSender.{the_row}
 
+-- a box of the sender where there is one
 abbrev pub held_owns : Global → Ptr → Option the_row.Denot → Fml
 held_owns alloc at None = ftrue
 held_owns alloc at (Some x) = box_owns (ghosts.dealloc_token alloc) the_row at x
