@@ -1,0 +1,12 @@
+use Rattle.msg_dispatch_tests.proofs.remembering.notes_at_a_site.Goals as goal
+
+pub find_at-requires-clause-site : goal.find_at-requires-clause-site
+find_at-requires-clause-site g c = c.new-site.ensures c.in_ok-sender.sender.seen.front
+
+pub recall_at-requires-3 : goal.recall_at-requires-3
+recall_at-requires-3 g c = record {
+  site = c.a_site_is_one_of_a_later_history.ensures c.published.new.self.seen.front c.find_at.new.self.seen.front c.find_at.new.site c.published.ensures.begins c.find_at.ensures.site;
+}
+
+pub find_at-requires-2-clause-site : goal.find_at-requires-2-clause-site
+find_at-requires-2-clause-site g c = c.a_site_is_one_of_a_later_history.ensures c.published.new.self.seen.front c.find_at.new.self.seen.front c.find_at.new.site c.published.ensures.begins c.find_at.ensures.site
