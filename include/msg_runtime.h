@@ -91,7 +91,7 @@ uint32_t msg_attach(msg_runtime *runtime, uint32_t number, const msg_method *met
 uint32_t msg_make_class(msg_runtime *runtime, uint32_t number, uint32_t superclass);
 uint32_t msg_make_root_class(msg_runtime *runtime, uint32_t number);
 
-/* A sender of the runtime, for one thread: it has seen all changes made so far. Close each before its runtime, or its number stays used. */
+/* A sender of the runtime, for one thread: it has seen all changes made so far. It may be closed after its runtime was. */
 uint32_t msg_sender_open(msg_runtime *runtime, msg_sender *sender);
 uint32_t msg_sender_close(msg_runtime *runtime, msg_sender *sender);
 /* lookUpImpOrForward: the lookup at all changes made so far, which the sender has then seen. It is cached, where there is room. */
@@ -101,7 +101,8 @@ uint32_t msg_meet(msg_runtime *runtime, msg_sender *sender);
 
 /* ---- without a lock ---- */
 
-/* cache_getImp: the lookup at the changes that the sender has then seen, which are no fewer than before; or MSG_MISSED. */
+/* cache_getImp: from the sender's own memory, else from the shared cache: the lookup at the changes that the sender has then seen, which are no fewer than
+ * before; or MSG_MISSED. What it remembers it answers until it has seen another change: msg_refresh shows it all. */
 uint32_t msg_probe(msg_sender *sender, uint32_t number, bool meta, uint32_t sel, uint32_t *imp);
 /* How many changes there are, which the sender has then seen: nothing older is found by it from then on. */
 uint32_t msg_refresh(msg_sender *sender, uint64_t *count);

@@ -10,10 +10,11 @@ use Rattle.std.specs.declared.option.Option.TheVariants.{None, Some}
 use Rattle.std_heap.specs.contracts.GlobalAllocator.TheImpl.{ghosts}
 use Rattle.msg_host.specs.contracts.sender.HostedSender.{the_row}
 
--- a box of the sender where there is one
+-- nothing where nothing is held, else what a box of it owns
 abbrev pub held_owns : Global → Ptr → Option the_row.Denot → Fml
 held_owns alloc at None = ftrue
 held_owns alloc at (Some x) = box_owns (ghosts.dealloc_token alloc) the_row at x
 
+-- how what is held is stored in the logic
 abbrev pub state_coded : Coded (Option the_row.Denot)
 state_coded = coded_option the_row.coded

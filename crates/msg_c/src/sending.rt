@@ -9,6 +9,7 @@ ghost use Rattle.msg_c.specs.Answers.{AreOfOneArena, SeesOn, number_of_fault, ru
 use crate::answer::{ALREADY_OPEN, CLOSED, DONE, MISSED, NO_MEMORY, NO_SENDER};
 use crate::runtime_handle::RuntimeHandle;
 use crate::sender_handle::SenderHandle;
+use msg_host::SenderFault;
 use std::alloc::Global;
 
 /// A sender of the runtime, which has seen all changes that were made. 64 may be out at a time.
@@ -32,8 +33,8 @@ pub extern "C" fn msg_sender_open(
     let Some(mut held) = runtime.take(alloc) else {
         return CLOSED;
     };
-    let answer = match held.sender() {
-        Some(made) => match Box::new(alloc, made) {
+    let answer = match held.sender(alloc) {
+        Ok(made) => match Box::new(alloc, made) {
             Ok(made) => {
                 *sender = SenderHandle::of(made);
                 DONE
@@ -43,13 +44,14 @@ pub extern "C" fn msg_sender_open(
                 NO_MEMORY
             }
         },
-        None => NO_SENDER,
+        Err(SenderFault::NoneFree) => NO_SENDER,
+        Err(SenderFault::Memory) => NO_MEMORY,
     };
     *runtime = RuntimeHandle::of(held);
     answer
 }
 
-/// Gives the sender's number back.
+/// Closes the sender. Its number is given back, unless the runtime was closed before it.
 #[unsafe(no_mangle)]
 pub extern "C" fn msg_sender_close(
     alloc: Global,
@@ -58,28 +60,25 @@ pub extern "C" fn msg_sender_close(
 ) -> u32
     requires together { AreOfOneArena runtime.old.held.state sender.old.held.state }
     ensures kept { runtime.new.held.state ≡ runtime.old.held.state }
-    ensures left { result ≢ 0 → sender.new.held.state ≡ sender.old.held.state }
-    ensures done { result ≡ 0 → sender.new.held.state ≡ None }
-    ensures closed { runtime.old.held.state ≡ None → result ≡ CLOSED }
-    ensures no_sender { sender.old.held.state ≡ None → result ≡ CLOSED }
-    ensures was_open { is_some runtime.old.held.state ≡ true → is_some sender.old.held.state ≡ true → result ≡ 0 }
+    ensures closed { sender.new.held.state ≡ None }
+    ensures was_closed { sender.old.held.state ≡ None → result ≡ CLOSED }
+    ensures was_open { is_some sender.old.held.state ≡ true → result ≡ 0 }
 {
-    let Some(mut held) = runtime.take(alloc) else {
+    let Some(taken) = sender.take(alloc) else {
         return CLOSED;
     };
-    let answer = match sender.take(alloc) {
-        Some(taken) => {
+    match runtime.take(alloc) {
+        Some(mut held) => {
             held.finish(Box::into_inner(taken));
-            DONE
+            *runtime = RuntimeHandle::of(held);
         }
-        None => CLOSED,
-    };
-    *runtime = RuntimeHandle::of(held);
-    answer
+        None => drop(taken),
+    }
+    DONE
 }
 
-/// `cache_getImp`: the implementation's number that the class reference's cache has for the selector, or 71 where it has none. No lock is wanted. A hit is the
-/// lookup at a point of the history not before the one that the sender had seen.
+/// `cache_getImp`: the implementation's number that the sender remembers, or that the class reference's cache has for the selector; or 71 where neither has it. No
+/// lock is wanted. A hit is the lookup at a point of the history not before the one that the sender had seen.
 #[unsafe(no_mangle)]
 pub extern "C" fn msg_probe(
     alloc: Global,
@@ -102,7 +101,7 @@ pub extern "C" fn msg_probe(
     let Some(mut held) = sender.take(alloc) else {
         return CLOSED;
     };
-    let found = held.probe_by(class, meta, sel);
+    let found = held.find_by(class, meta, sel);
     *sender = SenderHandle::of(held);
     match found {
         Ok(Some(found)) => {

@@ -493,3 +493,50 @@ fn sixty_four_senders_are_out_at_most(rt: HostRuntime) -> Result<(), Fail> {
     );
     Ok(())
 }
+
+#[test]
+fn a_sender_remembers_until_it_sees_a_change(rt: HostRuntime) -> Result<(), Fail> {
+    let alloc = rt.alloc();
+    let mut runtime = opened(&rt, alloc);
+    let mut sender = sending(&rt, alloc, &mut runtime);
+    let (mut imp, mut count) = (99, 99);
+    assert_eq!(rt;
+        msg_fill(
+            alloc,
+            &mut runtime,
+            &mut sender,
+            CHILD,
+            false,
+            VALUE,
+            &mut imp
+        ),
+        DONE
+    );
+    assert_eq!(rt;
+        msg_replace(alloc, &mut runtime, CHILD, false, VALUE, 2),
+        DONE
+    );
+    imp = 99;
+    assert_eq!(rt;
+        msg_probe(alloc, &mut sender, CHILD, false, VALUE, &mut imp),
+        DONE
+    );
+    assert_eq!(rt; imp, 1);
+    assert_eq!(rt; msg_refresh(alloc, &mut sender, &mut count), DONE);
+    assert_eq!(rt;
+        msg_probe(alloc, &mut sender, CHILD, false, VALUE, &mut imp),
+        MISSED
+    );
+    Ok(())
+}
+
+#[test]
+fn a_sender_is_closed_after_its_runtime(rt: HostRuntime) -> Result<(), Fail> {
+    let alloc = rt.alloc();
+    let mut runtime = opened(&rt, alloc);
+    let mut sender = sending(&rt, alloc, &mut runtime);
+    assert_eq!(rt; msg_close(alloc, &mut runtime), DONE);
+    assert_eq!(rt; msg_sender_close(alloc, &mut runtime, &mut sender), DONE);
+    assert_eq!(rt; msg_sender_close(alloc, &mut runtime, &mut sender), CLOSED);
+    Ok(())
+}

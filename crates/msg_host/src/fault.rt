@@ -3,8 +3,10 @@
 ghost use Rattle.std.specs.Prelude.{◌≡◌, ◌<◌, ◌≤◌, None, Some, IfOk, IfErr, OnOk};
 ghost use Rattle.msg_names.specs.Number.{selector_of};
 ghost use Rattle.msg_host.specs.Asking.{ask_fault, ask_fault_number};
+ghost use Rattle.msg_host.specs.declared.fault.SenderFault.TheVariants.{Memory};
 
 use msg_names::{ClassRef, Selector};
+use std::alloc::AllocError;
 
 /// Why a question in numbers isn't asked. Where both hold, the first is answered.
 #[derive(Clone, Copy, Debug, PartialEq, Eq)]
@@ -24,6 +26,22 @@ impl AskFault {
             AskFault::NoClass => 66,
             AskFault::NoSelector => 67,
         }
+    }
+}
+
+/// Why no sender is given.
+#[derive(Clone, Copy, Debug, PartialEq, Eq)]
+pub enum SenderFault {
+    /// All sender numbers are out.
+    NoneFree,
+    Memory,
+}
+
+impl From<AllocError> for SenderFault {
+    ghost from_gives = { λ _ e. e ≡ Memory };
+
+    fn from(_refused: AllocError) -> SenderFault {
+        SenderFault::Memory
     }
 }
 

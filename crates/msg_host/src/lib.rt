@@ -13,6 +13,6 @@ mod sender;
 mod sending;
 
 pub use changing::MethodRow;
-pub use fault::AskFault;
+pub use fault::{AskFault, SenderFault};
 pub use runtime::HostedRuntime;
 pub use sender::HostedSender;

@@ -6,19 +6,23 @@ ghost use Rattle.msg_names.specs.Numbering.{number_of};
 ghost use Rattle.msg_form.specs.declared.faults.DocumentFault.{DocumentFault};
 ghost use Rattle.msg_image.specs.Answer.{IsAnswer};
 ghost use Rattle.msg_image.specs.Parts.{class_names};
-ghost use Rattle.msg_tables.specs.History.{BeginsWith, and_then, empty, holder, lookup, superclass};
+ghost use Rattle.msg_tables.specs.History.{History, BeginsWith, and_then, empty, holder, lookup, superclass};
 ghost use Rattle.msg_tables.specs.Refusal.{refusal};
 ghost use Rattle.msg_tables.specs.declared.fault.ChangeFault.{ChangeFault};
 ghost use Rattle.msg_cache.specs.Views.{classes};
 ghost use Rattle.std.specs.Arc.{arc_value};
+ghost use Rattle.msg_memory.specs.Remembered.{IsMemoryOf};
 ghost use Rattle.msg_host.specs.Opening.{OpensAs};
 
+use crate::fault::SenderFault;
 use crate::named::class_named;
 use crate::opening::arena_of;
 use crate::sender::HostedSender;
 use msg_cache::{Arena, Report, Turn};
 use msg_form::DocumentFault;
 use msg_image::{Change, Image, read_document};
+use msg_memory::Memory;
+use msg_memory::laws::a_longer_history_has_what_is_remembered;
 use msg_names::{ClassRef, ImpRef, Selector};
 use msg_runtime::Runtime;
 use msg_tables::ChangeFault;
@@ -62,6 +66,12 @@ fn shared(alloc: Global, arena: Arena) -> Result<Arc<Arena, Global>, AllocError>
         Ok(shared) => Ok(shared),
         Err(_) => Err(AllocError),
     }
+}
+
+fn blank_memory(alloc: Global) -> Result<Box<Memory>, AllocError>
+    ensures { IfOk result (λ memory. (h : History) → IsMemoryOf h memory.value) }
+{
+    Ok(Box::new(alloc, Memory::new())?)
 }
 
 // The runtime of an image.
@@ -157,19 +167,23 @@ impl HostedRuntime {
         self.runtime.count()
     }
 
-    /// A sender, which has seen the whole history. There is none where 64 are out.
-    pub fn sender(&mut self) -> Option<HostedSender>
+    /// A sender, which has seen the whole history and remembers nothing yet. There is none where 64 are out. A memory takes 20 KiB.
+    pub fn sender(&mut self, alloc: Global) -> Result<HostedSender, SenderFault>
         ensures same { self.new ≡ self.old }
-        ensures arena { IfSome result (λ s. s.arena ≡ self.old.arena) }
-        ensures front { IfSome result (λ s. s.seen.front ≡ self.old.history) }
+        ensures arena { IfOk result (λ s. s.arena ≡ self.old.arena) }
+        ensures front { IfOk result (λ s. s.seen.front ≡ self.old.history) }
     {
-        let arena = Arc::try_clone(&self.arena).ok()?;
-        let prober = self.runtime.sender(&self.arena)?;
-        let classes = self.image.class_count();
-        Some(HostedSender {
+        let arena = Arc::try_clone(&self.arena)?;
+        let memory = blank_memory(alloc)?;
+        let Some(prober) = self.runtime.sender(&self.arena) else {
+            return Err(SenderFault::NoneFree);
+        };
+        Ok(HostedSender {
             arena,
             prober,
-            classes,
+            classes: self.image.class_count(),
+            memory,
+            count: None,
         })
     }
 
@@ -184,8 +198,13 @@ impl HostedRuntime {
         ensures found { imp_number result ≡ lookup self.old.history class (selector_number sel) }
         ensures listed { imp_number result ≤ length self.old.history.image.imps }
     {
-        self.runtime
-            .answer(&self.arena, &mut sender.prober, class, sel)
+        a_longer_history_has_what_is_remembered();
+        sender.count = None;
+        let imp = self
+            .runtime
+            .answer(&self.arena, &mut sender.prober, class, sel);
+        sender.note(self.runtime.count(), class, sel, imp);
+        imp
     }
 
     /// A sender has then seen the whole history, which begins with what it had seen.
@@ -196,8 +215,11 @@ impl HostedRuntime {
         ensures begins { BeginsWith self.old.history sender.old.seen.front }
         ensures front { sender.new.seen.front ≡ self.old.history }
     {
+        a_longer_history_has_what_is_remembered();
+        sender.count = None;
         self.runtime
             .meet(&self.arena, &mut self.turn, &mut sender.prober);
+        sender.count = Some(self.runtime.count());
     }
 
     /// Takes a sender back. The number of one that is dropped stays used.

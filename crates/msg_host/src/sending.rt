@@ -10,8 +10,8 @@ use crate::runtime::HostedRuntime;
 use crate::sender::HostedSender;
 
 impl HostedSender {
-    /// As `probe`: the implementation's number, or none where the cache has none.
-    pub fn probe_by(&mut self, class: u32, meta: bool, sel: u32) -> Result<Option<u32>, AskFault>
+    /// As `find`: the implementation's number, or none where it is neither remembered nor cached.
+    pub fn find_by(&mut self, class: u32, meta: bool, sel: u32) -> Result<Option<u32>, AskFault>
         ensures arena { self.new.arena ≡ self.old.arena }
         ensures begins { BeginsWith self.new.seen.front self.old.seen.front }
         ensures found { IfOk result (λ found. IfSome found (λ i. i ≡ lookup self.new.seen.front (record { class = class; meta = meta }) sel)) }
@@ -21,7 +21,7 @@ impl HostedSender {
         ensures left { OnErr result (self.new ≡ self.old) }
     {
         let (class, sel) = asked(self.class_count(), class, meta, sel)?;
-        match self.probe(class, sel) {
+        match self.find(class, sel) {
             Some(imp) => Ok(Some(imp.number())),
             None => Ok(None),
         }

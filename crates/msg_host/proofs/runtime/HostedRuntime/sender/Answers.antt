@@ -1,0 +1,11 @@
+use Rattle.std.proofs.Common.{rules}
+use Rattle.msg_host.proofs.runtime.HostedRuntime.sender.Goals as goal
+
+pub invariant_of-result : goal.invariant_of-result
+invariant_of-result c = record {
+  prober = search rules;
+  image = search rules;
+  classes = search rules;
+  memory = c.in_ok-memory.ensures c.in-Some.prober.sender.front;
+  count = tt;
+}
