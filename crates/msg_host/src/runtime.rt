@@ -18,7 +18,7 @@ use crate::fault::SenderFault;
 use crate::named::class_named;
 use crate::opening::arena_of;
 use crate::sender::HostedSender;
-use msg_cache::{Arena, Report, Turn};
+use msg_cache::{Arena, Turn};
 use msg_form::DocumentFault;
 use msg_image::{Change, Image, read_document};
 use msg_memory::Memory;
@@ -229,10 +229,5 @@ impl HostedRuntime {
     {
         let HostedSender { prober, .. } = sender;
         self.runtime.finish(&self.arena, prober);
-    }
-
-    /// What was done to caches so far.
-    pub fn report(&self) -> Report {
-        self.runtime.report()
     }
 }
