@@ -49,14 +49,15 @@ uint32_t shim_imp(IMP imp)
 
 IMP shim_function(uint32_t imp) { return atomic_load(&functions[imp]); }
 
+/* One selector without types for each name. */
 SEL sel_registerName(const char *name)
 {
-    SEL sel = calloc(1, sizeof *sel);
-    if (!sel) shim_stop("no memory", name);
+    static struct selector registered[MOST_SELECTORS + 1];
     pthread_mutex_lock(&shim_lock);
-    sel->name.number = shim_selector(name);
+    uint32_t number = shim_selector(name);
+    registered[number].name.number = number;
     pthread_mutex_unlock(&shim_lock);
-    return sel;
+    return &registered[number];
 }
 
 const char *sel_getName(SEL sel) { return sel ? names[sel->name.number] : "<null selector>"; }
