@@ -1,0 +1,187 @@
+/* A life of the proved runtime: its document is written from the rows; when it can't hold more, the next is opened with the tables as they are. */
+#include "shim.h"
+#include "msg_runtime.h"
+#include <stdarg.h>
+#include <stdio.h>
+#include <stdlib.h>
+
+/* `users`: the senders of it that are out, and one while it is the current. */
+struct life { msg_runtime runtime; uint32_t selectors, imps, users; };
+
+struct seat { struct life *life; msg_sender sender; };
+
+pthread_mutex_t shim_lock = PTHREAD_MUTEX_INITIALIZER;
+static _Atomic(struct life *) current;
+static pthread_key_t seats;
+static pthread_once_t once = PTHREAD_ONCE_INIT;
+
+static struct { char *text; size_t length, room; } document;
+
+static void put(const char *form, ...)
+{
+    for (;;) {
+        va_list words;
+        va_start(words, form);
+        size_t room = document.room - document.length;
+        int wanted = vsnprintf(document.text ? document.text + document.length : NULL, room, form, words);
+        va_end(words);
+        if (wanted >= 0 && (size_t)wanted < room) { document.length += (size_t)wanted; return; }
+        document.room = document.room * 2 + 65536;
+        document.text = realloc(document.text, document.room);
+        if (!document.text) shim_stop("no memory", "document");
+    }
+}
+
+static void put_rows(struct record *record)
+{
+    for (uint32_t i = 0; i < record->count; i++) put("%s[\"s%u\",\"i%u\"]", i ? "," : "", record->rows[i].sel, record->rows[i].imp);
+}
+
+static void put_class(Class class_)
+{
+    Class above = class_->superclass.class_;
+    put(",{\"name\":\"c%u\",\"super\":", class_->record->number);
+    if (above) put("\"c%u\"", above->record->number); else put("null");
+    put(",\"methods\":[");
+    put_rows(class_->record);
+    put("],\"class_methods\":[");
+    put_rows(class_->isa->record);
+    put("]}");
+}
+
+/* Selector 1 is forwardingTargetForSelector:, which every image has; the first class lists the others, which fixes their numbers. */
+static void write_document(struct life *life)
+{
+    document.length = 0;
+    put("{\"version\":1,\"classes\":[{\"name\":\"c0\",\"super\":null,\"methods\":[");
+    for (uint32_t sel = 2; sel <= life->selectors; sel++) put("%s[\"s%u\",\"i1\"]", sel > 2 ? "," : "", sel);
+    put("],\"class_methods\":[]}");
+    for (uint32_t i = 1; i <= shim_class_count; i++) put_class(shim_classes[i]);
+    put("],\"categories\":[],\"objects\":[],\"imps\":[");
+    for (uint32_t imp = 1; imp <= life->imps; imp++) put("%s{\"name\":\"i%u\",\"class\":\"c0\",\"meta\":false,\"args\":0,\"body\":0}", imp > 1 ? "," : "", imp);
+    put("],\"items\":[]}");
+}
+
+static uint32_t with_spare(uint32_t count, uint32_t most) { return count + SPARE < most ? count + SPARE : most; }
+
+static void check_numbers(struct life *life)
+{
+    char name[16];
+    uint32_t sel = 0;
+    int length = snprintf(name, sizeof name, "s%u", life->selectors);
+    if (msg_find_selector(&life->runtime, (const uint8_t *)name, (size_t)length, &sel) || sel != life->selectors) shim_stop("selectors are numbered otherwise", name);
+}
+
+static void leave(struct life *life) { if (!--life->users) free(life); }
+
+void shim_outdate(void)
+{
+    struct life *life = atomic_load(&current);
+    if (!life) return;
+    atomic_store(&current, NULL);
+    msg_close(&life->runtime);
+    leave(life);
+}
+
+static struct life *open_life(void)
+{
+    struct life *life = atomic_load(&current);
+    if (life) return life;
+    life = calloc(1, sizeof *life);
+    if (!life) shim_stop("no memory", "life");
+    life->users = 1;
+    life->selectors = with_spare(shim_selector_count, MOST_SELECTORS);
+    life->imps = with_spare(shim_imp_count, MOST_IMPS);
+    write_document(life);
+    uint32_t fault = msg_open(&life->runtime, (const uint8_t *)document.text, document.length);
+    if (fault) {
+        char number[16];
+        snprintf(number, sizeof number, "%u", fault);
+        shim_stop("the tables were refused", number);
+    }
+    check_numbers(life);
+    atomic_store(&current, life);
+    return life;
+}
+
+static void give_back(struct seat *seat)
+{
+    if (!seat->life) return;
+    msg_sender_close(&seat->life->runtime, &seat->sender);
+    leave(seat->life);
+    seat->life = NULL;
+}
+
+static void at_thread_end(void *taken)
+{
+    pthread_mutex_lock(&shim_lock);
+    give_back(taken);
+    pthread_mutex_unlock(&shim_lock);
+    free(taken);
+}
+
+static void make_key(void) { if (pthread_key_create(&seats, at_thread_end)) shim_stop("no key", "pthread"); }
+
+static struct seat *own_seat(void)
+{
+    pthread_once(&once, make_key);
+    struct seat *seat = pthread_getspecific(seats);
+    if (seat) return seat;
+    seat = calloc(1, sizeof *seat);
+    if (!seat || pthread_setspecific(seats, seat)) shim_stop("no memory", "seat");
+    return seat;
+}
+
+/* The seat then is of the current life. */
+static struct life *sit_down(struct seat *seat)
+{
+    pthread_mutex_lock(&shim_lock);
+    struct life *life = open_life();
+    if (seat->life != life) {
+        give_back(seat);
+        if (!msg_sender_open(&life->runtime, &seat->sender)) { seat->life = life; life->users++; }
+    }
+    pthread_mutex_unlock(&shim_lock);
+    return life;
+}
+
+/* Where all 64 senders are out: the tables themselves, under the lock. */
+static uint32_t find_seatless(struct record *record, uint32_t sel)
+{
+    uint32_t imp = 0;
+    pthread_mutex_lock(&shim_lock);
+    struct life *life = open_life();
+    if (sel <= life->selectors && msg_lookup(&life->runtime, record->number, record->meta, sel, &imp)) shim_stop("no lookup", "seatless");
+    pthread_mutex_unlock(&shim_lock);
+    return imp;
+}
+
+uint32_t shim_find(struct record *record, uint32_t sel)
+{
+    struct seat *seat = own_seat();
+    for (;;) {
+        uint32_t imp;
+        uint64_t seen;
+        struct life *life = atomic_load(&current);
+        if (!life || seat->life != life) life = sit_down(seat);
+        if (seat->life != life) return find_seatless(record, sel);
+        if (sel > life->selectors) return 0; /* no method of the name stands anywhere */
+        if (msg_refresh(&seat->sender, &seen)) shim_stop("no refresh", "sender");
+        uint32_t answer = msg_find(&life->runtime, &shim_lock, &seat->sender, record->number, record->meta, sel, &imp);
+        if (answer == MSG_DONE) return imp;
+        if (answer != MSG_CLOSED) shim_stop("no answer", "find"); /* closed: it was opened anew meanwhile */
+    }
+}
+
+void shim_replace(struct record *record, uint32_t sel, uint32_t imp)
+{
+    struct life *life = atomic_load(&current);
+    if (!life) return;
+    if (sel > life->selectors || imp > life->imps || msg_replace(&life->runtime, record->number, record->meta, sel, imp)) shim_outdate();
+}
+
+void shim_exchange(struct record *one, uint32_t sel, struct record *other, uint32_t other_sel)
+{
+    struct life *life = atomic_load(&current);
+    if (life && msg_exchange(&life->runtime, one->number, one->meta, sel, other->number, other->meta, other_sel)) shim_outdate();
+}
