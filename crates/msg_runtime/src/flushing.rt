@@ -9,18 +9,19 @@ ghost use Rattle.msg_tables.specs.Marking.{is_marked};
 ghost use Rattle.msg_tables.specs.Refusal.{refusal};
 ghost use Rattle.msg_tables.specs.Stands.{StandsAt};
 ghost use Rattle.msg_runtime.specs.Parts.{IsKeeperOf, keeper_history, HasNoArray};
-ghost use Rattle.msg_runtime.specs.Reach.{is_below, is_flushed, is_reached};
+ghost use Rattle.msg_runtime.specs.Reach.{IsOneOf, is_below, is_flushed, is_reached};
 
 use msg_cache::{Arena, Keeper};
 use msg_image::{Change, MethodList};
 use msg_names::ClassRef;
 use msg_tables::{Marks, Tables};
 
-// The caches that a change flushes: all, or those of the class references that are marked.
+// The caches that a change flushes: all, those of the class references that are marked, or those of a class that was just made and its metaclass.
 #[derive(Clone, Copy)]
 pub(crate) enum Reach {
     All,
     Marked,
+    Made(u32),
 }
 
 // Marks a class reference and all below it, where a list of its methods isn't empty.
@@ -38,17 +39,18 @@ fn mark_methods(tables: &Tables, class: ClassRef, methods: &MethodList, marks: &
 
 // Marks the class references whose caches are flushed by a change that was just made, or answers that all are.
 //
-// A method that is added or replaced is seen by the class and those below, and so is each list of an attached category. Nothing is below a class that was just
-// made but its metaclass, if it is a root class.
+// A method that is added or replaced is seen by the class and those below, and so is each list of an attached category. No lookup finds anything in a class
+// before it is made, and nothing is below it then but its metaclass: making one looks at no other class.
 pub(crate) fn mark_reach(tables: &Tables, change: &Change, marks: &mut Marks) -> Reach
     requires made { (h : History) × StandsAt tables.now (and_then h change.now) × (refusal h change.now ≡ None) }
     requires room { length marks.old ≡ 2 * length tables.now.supers }
     ensures room { length marks.new ≡ length marks.old }
+    ensures made { IsOneOf (length tables.now.supers) result }
     ensures reach { (h : History) → StandsAt tables.now h → (c : ClassRef) → c.class < length tables.now.supers → is_reached result marks.new c ≡ is_flushed h change.now c }
 {
-    marks.clear();
     match change {
         Change::Add { class, .. } | Change::Replace { class, .. } => {
+            marks.clear();
             tables.descendants(*class, marks);
             Reach::Marked
         }
@@ -59,16 +61,12 @@ pub(crate) fn mark_reach(tables: &Tables, change: &Change, marks: &mut Marks) ->
             class_methods,
         } => {
             let class = *class;
+            marks.clear();
             mark_methods(tables, ClassRef { class, meta: false }, methods, marks);
             mark_methods(tables, ClassRef { class, meta: true }, class_methods, marks);
             Reach::Marked
         }
-        Change::AddClass { class, .. } => {
-            let class = *class;
-            tables.descendants(ClassRef { class, meta: false }, marks);
-            tables.descendants(ClassRef { class, meta: true }, marks);
-            Reach::Marked
-        }
+        Change::AddClass { class, .. } => Reach::Made(*class),
     }
 }
 
@@ -85,13 +83,28 @@ fn flush_reached(keeper: &mut Keeper, arena: &Arena, class: ClassRef, reach: Rea
     let reached = match reach {
         Reach::All => true,
         Reach::Marked => marks.has(class),
+        Reach::Made(made) => class.class == made,
     };
     if reached {
         let _had_array = keeper.flush(arena, class);
     }
 }
 
-// Flushes all caches that a change reaches.
+// Flushes the caches of a class and of its metaclass, where a change reaches them.
+fn flush_both_reached(keeper: &mut Keeper, arena: &Arena, class: u32, reach: Reach, marks: &Marks)
+    requires arena { IsKeeperOf arena.now keeper.old }
+    requires class { class < class_total (keeper_history keeper.old).image }
+    requires room { length marks.now ≡ 2 * class_total (keeper_history keeper.old).image }
+    ensures arena { IsKeeperOf arena.now keeper.new }
+    ensures history { keeper_history keeper.new ≡ keeper_history keeper.old }
+    ensures flushed { (c : ClassRef) → c.class ≡ class → is_reached reach marks.now c ≡ true → HasNoArray arena.now keeper.new c }
+    ensures others { (c : ClassRef) → HasNoArray arena.now keeper.old c → HasNoArray arena.now keeper.new c }
+{
+    flush_reached(keeper, arena, ClassRef { class, meta: false }, reach, marks);
+    flush_reached(keeper, arena, ClassRef { class, meta: true }, reach, marks);
+}
+
+// Flushes all caches that a change reaches. Where a class was made these are two, however many there are.
 pub(crate) fn flush_all_reached(
     keeper: &mut Keeper,
     arena: &Arena,
@@ -102,12 +115,16 @@ pub(crate) fn flush_all_reached(
     requires arena { IsKeeperOf arena.now keeper.old }
     requires classes { classes ≡ class_total (keeper_history keeper.old).image }
     requires room { length marks.now ≡ 2 * classes }
+    requires made { IsOneOf classes reach }
     ensures arena { IsKeeperOf arena.now keeper.new }
     ensures history { keeper_history keeper.new ≡ keeper_history keeper.old }
     ensures flushed { (c : ClassRef) → c.class < classes → is_reached reach marks.now c ≡ true → HasNoArray arena.now keeper.new c }
 {
+    if let Reach::Made(made) = reach {
+        flush_both_reached(keeper, arena, made, reach, marks);
+        return;
+    }
     for class in 0..classes {
-        flush_reached(keeper, arena, ClassRef { class, meta: false }, reach, marks);
-        flush_reached(keeper, arena, ClassRef { class, meta: true }, reach, marks);
+        flush_both_reached(keeper, arena, class, reach, marks);
     }
 }

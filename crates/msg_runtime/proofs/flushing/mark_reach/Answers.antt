@@ -21,22 +21,15 @@ mark_methods-requires-in-Attach-clause-class c =
     let count = class_count c.args.tables.now (and_then h c.args.change.now) stands in
     omega (arith, inside, count)
 
+pub returns-in-AddClass-clause-made : goal.returns-in-AddClass-clause-made
+returns-in-AddClass-clause-made c =
+    let (h, stands, accepted) = c.requires.made in
+    let inside = of_image-make h _ _ (ap (refusal h) (sym c.in-AddClass.is) ∙ accepted) in
+    let count = class_count c.args.tables.now (and_then h c.args.change.now) stands in
+    omega (arith, inside, count)
+
 pub descendants-requires-clause-class : goal.descendants-requires-clause-class
 descendants-requires-clause-class c =
-    let (h, stands, accepted) = c.requires.made in
-    let inside = of_image-make h _ _ (ap (refusal h) (sym c.in-AddClass.is) ∙ accepted) in
-    let count = class_count c.args.tables.now (and_then h c.args.change.now) stands in
-    omega (arith, inside, count)
-
-pub descendants-requires-in-AddClass-clause-class : goal.descendants-requires-in-AddClass-clause-class
-descendants-requires-in-AddClass-clause-class c =
-    let (h, stands, accepted) = c.requires.made in
-    let inside = of_image-make h _ _ (ap (refusal h) (sym c.in-AddClass.is) ∙ accepted) in
-    let count = class_count c.args.tables.now (and_then h c.args.change.now) stands in
-    omega (arith, inside, count)
-
-pub descendants-requires-in-Add-clause-class : goal.descendants-requires-in-Add-clause-class
-descendants-requires-in-Add-clause-class c =
     let (h, stands, accepted) = c.requires.made in
     let inside : c.in-Add.class.class < class_total h.image = ⊎_elim
     (λ (s, i, is). of_image-add h c.in-Add.class s i (ap (refusal h) (sym is) ∙ accepted))
