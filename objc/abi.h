@@ -6,67 +6,72 @@
 #include <stddef.h>
 #include <stdint.h>
 
-typedef struct object *id;
-typedef struct class_ *Class;
-typedef struct selector *SEL;
-typedef id (*IMP)(id, SEL, ...);
-typedef struct method *Method;
-typedef unsigned char BOOL;
+/* These three names are known to the compiler. */
+typedef struct objc_object { struct objc_class *isa; } *id;
+typedef struct objc_class *Class;
+typedef const struct objc_selector *SEL;
 
-struct object { Class isa; };
+typedef id (*IMP)(id, SEL, ...);
+typedef unsigned char BOOL;
+typedef struct objc_method *Method;
+typedef struct objc_ivar *Ivar;
+typedef struct objc_property *Property;
+
+#ifdef __OBJC__
+@class Protocol;
+#else
+typedef struct protocol Protocol;
+#endif
 
 /* As emitted, `name` is a text; after its module was taken, the selector's number. */
-struct selector { union { const char *text; uintptr_t number; } name; const char *types; };
+struct objc_selector { union { const char *text; uintptr_t number; } name; const char *types; };
 
-struct method { union { const char *text; SEL sel; } name; const char *types; IMP imp; };
+struct objc_method { union { const char *text; SEL sel; } name; const char *types; IMP imp; };
 
-struct method_list { struct method_list *next; int32_t count; struct method rows[]; };
+struct method_list { struct method_list *next; int32_t count; struct objc_method rows[]; };
 
-/* As emitted, `superclass` is a name. `record` is empty and the runtime's to fill. */
-struct class_ {
+struct objc_ivar { const char *name, *type; int32_t offset; };
+
+struct ivar_list { int32_t count; struct objc_ivar rows[]; };
+
+/* What a protocol says of a method. As emitted, `name` is a text. */
+struct description { union { const char *text; SEL sel; } name; const char *types; };
+
+struct description_list { int32_t count; struct description rows[]; };
+
+/* As emitted, `isa` is the number 2. */
+struct protocol { Class isa; const char *name; struct protocol_list *adopted; struct description_list *methods, *class_methods; };
+
+struct protocol_list { struct protocol_list *next; size_t count; struct protocol *rows[]; };
+
+enum { CLASS_PLAIN = 1, CLASS_META = 2 };
+
+/* As emitted, `superclass` is a name, as is the metaclass's `isa`. `record` is empty and the runtime's to fill. */
+struct objc_class {
     Class isa;
     union { const char *text; Class class_; } superclass;
     const char *name;
     long version;
     unsigned long info;
     long instance_size;
-    void *ivars;
+    struct ivar_list *ivars;
     struct method_list *methods;
     struct record *record;
-    void *subclasses, *siblings, *protocols, *extra;
+    void *subclasses, *siblings;
+    struct protocol_list *protocols;
+    void *extra;
 };
 
-struct category { const char *name, *class_name; struct method_list *methods, *class_methods; void *protocols; };
+struct objc_category { const char *name, *class_name; struct method_list *methods, *class_methods; struct protocol_list *protocols; };
 
-/* `defs`: classes, categories, and then a list of constant objects. */
-struct symbols { unsigned long ref_count; struct selector *refs; uint16_t class_count, category_count; void *defs[]; };
+/* Constant objects of one class, ended by an empty one. */
+struct constants { const char *class_name; id rows[]; };
+
+/* `defs`: classes, categories, and then one list of `constants`, or nothing. */
+struct symbols { unsigned long ref_count; struct objc_selector *refs; uint16_t class_count, category_count; void *defs[]; };
 
 struct module { unsigned long version, size; const char *name; struct symbols *symbols; };
 
-struct super_ { id self; Class class_; };
-
-void __objc_exec_class(struct module *module);
-IMP objc_msg_lookup(id receiver, SEL sel);
-IMP objc_msg_lookup_super(struct super_ *super_, SEL sel);
-Class objc_get_class(const char *name);
-Class objc_getClass(const char *name);
-Class objc_lookup_class(const char *name);
-Class objc_lookUpClass(const char *name);
-SEL sel_registerName(const char *name);
-const char *sel_getName(SEL sel);
-BOOL sel_isEqual(SEL one, SEL other);
-id class_createInstance(Class class_, size_t extra);
-id object_dispose(id object);
-const char *class_getName(Class class_);
-Class class_getSuperclass(Class class_);
-Method class_getInstanceMethod(Class class_, SEL sel);
-Method class_getClassMethod(Class class_, SEL sel);
-IMP class_getMethodImplementation(Class class_, SEL sel);
-BOOL class_respondsToSelector(Class class_, SEL sel);
-IMP method_getImplementation(Method method);
-BOOL class_addMethod(Class class_, SEL sel, IMP imp, const char *types);
-IMP class_replaceMethod(Class class_, SEL sel, IMP imp, const char *types);
-IMP method_setImplementation(Method method, IMP imp);
-void method_exchangeImplementations(Method one, Method other);
+struct objc_super { id self; Class class_; };
 
 #endif

@@ -1,6 +1,7 @@
 /* Methods that stand in classes, and changes of them: of the rows, and by the proved calls of the tables, under one lock. */
 #include "shim.h"
 #include <stdlib.h>
+#include <string.h>
 
 struct row *shim_row(struct record *record, uint32_t sel)
 {
@@ -23,14 +24,15 @@ void shim_put_row(struct record *record, Method method, uint32_t sel, uint32_t i
     *row = (struct row){sel, imp, method};
 }
 
-static void put_new(Class class_, SEL sel, IMP imp, const char *types)
+static void put_new(struct record *record, SEL sel, IMP imp, const char *types)
 {
-    Method method = calloc(1, sizeof *method);
-    if (!method) shim_stop("no memory", "method");
-    *method = (struct method){.name.sel = sel, .types = types, .imp = imp};
+    Method method = shim_memory(sizeof *method);
+    method->name.sel = shim_typed_selector(sel_getName(sel), types);
+    method->types = method->name.sel->types;
+    method->imp = imp;
     uint32_t number = shim_imp(imp);
-    shim_put_row(class_->record, method, (uint32_t)sel->name.number, number);
-    shim_replace(class_->record, (uint32_t)sel->name.number, number);
+    shim_put_row(record, method, (uint32_t)sel->name.number, number);
+    shim_replace(record, (uint32_t)sel->name.number, number);
 }
 
 static IMP set(struct record *record, struct row *row, IMP imp)
@@ -44,25 +46,24 @@ static IMP set(struct record *record, struct row *row, IMP imp)
 
 BOOL class_addMethod(Class class_, SEL sel, IMP imp, const char *types)
 {
-    pthread_mutex_lock(&shim_lock);
-    bool absent = !shim_row(class_->record, (uint32_t)sel->name.number);
-    if (absent) put_new(class_, sel, imp, types);
-    pthread_mutex_unlock(&shim_lock);
-    return absent;
+    if (!class_ || !class_->record || !sel || !imp || !types) return false;
+    HOLDING(&shim_lock);
+    if (shim_row(class_->record, (uint32_t)sel->name.number)) return false;
+    put_new(class_->record, sel, imp, types);
+    return true;
 }
 
 IMP class_replaceMethod(Class class_, SEL sel, IMP imp, const char *types)
 {
-    IMP before = NULL;
-    pthread_mutex_lock(&shim_lock);
+    if (!class_ || !class_->record || !sel || !imp || !types) return NULL;
+    HOLDING(&shim_lock);
     struct row *row = shim_row(class_->record, (uint32_t)sel->name.number);
-    if (row) before = set(class_->record, row, imp);
-    else put_new(class_, sel, imp, types);
-    pthread_mutex_unlock(&shim_lock);
-    return before;
+    if (row) return set(class_->record, row, imp);
+    put_new(class_->record, sel, imp, types);
+    return NULL;
 }
 
-/* Where a method stands: the record and its row, or none. */
+/* Where a method stands: the record and its row, or none, as of a class in construction. */
 static struct row *home_of(Method method, struct record **record)
 {
     for (uint32_t i = 1; i <= shim_class_count; i++) {
@@ -78,12 +79,12 @@ static struct row *home_of(Method method, struct record **record)
 IMP method_setImplementation(Method method, IMP imp)
 {
     if (!method || !imp) return NULL;
-    IMP before = NULL;
     struct record *record;
-    pthread_mutex_lock(&shim_lock);
+    HOLDING(&shim_lock);
     struct row *row = home_of(method, &record);
-    if (row) before = set(record, row, imp);
-    pthread_mutex_unlock(&shim_lock);
+    if (row) return set(record, row, imp);
+    IMP before = method->imp;
+    method->imp = imp;
     return before;
 }
 
@@ -91,31 +92,50 @@ void method_exchangeImplementations(Method one, Method other)
 {
     if (!one || !other) return;
     struct record *here, *there;
-    pthread_mutex_lock(&shim_lock);
+    HOLDING(&shim_lock);
     struct row *row = home_of(one, &here), *other_row = home_of(other, &there);
-    if (row && other_row) {
-        struct row kept = *row;
-        IMP imp = one->imp;
-        row->imp = other_row->imp;
-        other_row->imp = kept.imp;
-        one->imp = other->imp;
-        other->imp = imp;
-        shim_exchange(here, row->sel, there, other_row->sel);
+    IMP imp = one->imp;
+    one->imp = other->imp;
+    other->imp = imp;
+    if (row) row->imp = shim_imp(one->imp);
+    if (other_row) other_row->imp = shim_imp(other->imp);
+    if (row && other_row) shim_exchange(here, row->sel, there, other_row->sel);
+    else if (row || other_row) shim_outdate();
+}
+
+/* A class in construction has no place in the tables: its own methods, and then its superclass's. */
+static Method instance_method(Class class_, uint32_t sel)
+{
+    if (shim_in_construction(class_)) {
+        struct row *row = shim_row(class_->record, sel);
+        if (row || !class_->superclass.class_) return row ? row->method : NULL;
+        return instance_method(class_->superclass.class_, sel);
     }
-    pthread_mutex_unlock(&shim_lock);
+    struct record *holder = shim_holder(class_->record, sel);
+    struct row *row = holder ? shim_row(holder, sel) : NULL;
+    return row ? row->method : NULL;
 }
 
 Method class_getInstanceMethod(Class class_, SEL sel)
 {
-    Method found = NULL;
-    pthread_mutex_lock(&shim_lock);
-    for (; class_ && sel && !found; class_ = class_->superclass.class_) {
-        struct row *row = shim_row(class_->record, (uint32_t)sel->name.number);
-        if (row) found = row->method;
+    if (!class_ || !class_->record || !sel) return NULL;
+    for (bool resolved = false;; resolved = true) {
+        pthread_mutex_lock(&shim_lock);
+        Method method = instance_method(class_, (uint32_t)sel->name.number);
+        pthread_mutex_unlock(&shim_lock);
+        if (method || resolved || !shim_resolve(class_, sel)) return method;
     }
-    pthread_mutex_unlock(&shim_lock);
-    return found;
 }
 
-Method class_getClassMethod(Class class_, SEL sel) { return class_ ? class_getInstanceMethod(class_->record->meta ? class_ : class_->isa, sel) : NULL; }
-IMP method_getImplementation(Method method) { return method ? method->imp : NULL; }
+Method class_getClassMethod(Class class_, SEL sel) { return class_ ? class_getInstanceMethod(class_isMetaClass(class_) ? class_ : class_->isa, sel) : NULL; }
+
+Method *class_copyMethodList(Class class_, unsigned int *count)
+{
+    HOLDING(&shim_lock);
+    unsigned int many = class_ && class_->record && !shim_in_construction(class_) ? class_->record->count : 0;
+    if (count) *count = many;
+    if (!many) return NULL;
+    Method *list = shim_memory((many + 1) * sizeof *list);
+    for (unsigned int i = 0; i < many; i++) list[i] = class_->record->rows[i].method;
+    return list;
+}

@@ -49,7 +49,7 @@ static void put_class(Class class_)
     put("]}");
 }
 
-/* Selector 1 is forwardingTargetForSelector:, which every image has; the first class lists the others, which fixes their numbers. */
+/* Selector 1 is forwardingTargetForSelector:, which every image has and no class of the document; the first class lists the others, which fixes their numbers. */
 static void write_document(struct life *life)
 {
     document.length = 0;
@@ -145,6 +145,15 @@ static struct life *sit_down(struct seat *seat)
     return life;
 }
 
+struct record *shim_holder(struct record *record, uint32_t sel)
+{
+    msg_class at;
+    struct life *life = open_life();
+    if (sel > life->selectors || msg_holder(&life->runtime, record->number, record->meta, sel, &at)) return NULL;
+    Class class_ = shim_classes[at.number];
+    return at.meta ? class_->isa->record : class_->record;
+}
+
 /* Where all 64 senders are out: the tables themselves, under the lock. */
 static uint32_t find_seatless(struct record *record, uint32_t sel)
 {
@@ -176,7 +185,7 @@ uint32_t shim_find(struct record *record, uint32_t sel)
 void shim_replace(struct record *record, uint32_t sel, uint32_t imp)
 {
     struct life *life = atomic_load(&current);
-    if (!life) return;
+    if (!life || !record->number) return;
     if (sel > life->selectors || imp > life->imps || msg_replace(&life->runtime, record->number, record->meta, sel, imp)) shim_outdate();
 }
 

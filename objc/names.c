@@ -6,8 +6,13 @@
 
 enum { PLACES = 16384 };
 
+/* The selectors of one name that differ in their types. */
+struct typed { SEL sel; struct typed *next; };
+
+/* Number 1 is every image's forwardingTargetForSelector:, to which no class of a program's answers. */
 uint32_t shim_selector_count = 1, shim_imp_count;
-static const char *names[MOST_SELECTORS + 1] = {NULL, "forwardingTargetForSelector:"};
+static const char *names[MOST_SELECTORS + 1];
+static struct typed *typed[MOST_SELECTORS + 1];
 static _Atomic(IMP) functions[MOST_IMPS + 1];
 static uint16_t name_at[PLACES], function_at[PLACES];
 
@@ -17,6 +22,15 @@ void shim_stop(const char *why, const char *what)
     abort();
 }
 
+void *shim_memory(size_t size)
+{
+    void *memory = calloc(1, size ? size : 1);
+    if (!memory) shim_stop("no memory", "runtime");
+    return memory;
+}
+
+void shim_unlock(pthread_mutex_t **lock) { pthread_mutex_unlock(*lock); }
+
 static uint32_t place_of(const char *name)
 {
     uint32_t mixed = 5381;
@@ -24,17 +38,23 @@ static uint32_t place_of(const char *name)
     return mixed % PLACES;
 }
 
+/* Where a name's number stands, or would. */
+static uint16_t *name_place(const char *name)
+{
+    uint32_t at = place_of(name);
+    while (name_at[at] && strcmp(names[name_at[at]], name)) at = (at + 1) % PLACES;
+    return &name_at[at];
+}
+
 uint32_t shim_selector(const char *name)
 {
-    if (!strcmp(name, names[1])) return 1;
-    uint32_t at = place_of(name);
-    for (; name_at[at]; at = (at + 1) % PLACES)
-        if (!strcmp(names[name_at[at]], name)) return name_at[at];
+    uint16_t *place = name_place(name);
+    if (*place) return *place;
     if (shim_selector_count == MOST_SELECTORS) shim_stop("too many selectors", name);
     char *copy = strdup(name);
     if (!copy) shim_stop("no memory", name);
     names[++shim_selector_count] = copy;
-    return name_at[at] = (uint16_t)shim_selector_count;
+    return *place = (uint16_t)shim_selector_count;
 }
 
 uint32_t shim_imp(IMP imp)
@@ -47,19 +67,98 @@ uint32_t shim_imp(IMP imp)
     return function_at[at] = (uint16_t)shim_imp_count;
 }
 
-IMP shim_function(uint32_t imp) { return atomic_load(&functions[imp]); }
+IMP shim_function(uint32_t imp) { return atomic_load_explicit(&functions[imp], memory_order_acquire); }
 
-/* One selector without types for each name. */
-SEL sel_registerName(const char *name)
+static bool same_types(const char *one, const char *other) { return one && other ? !strcmp(one, other) : one == other; }
+
+static SEL selector_of(uint32_t number, const char *types)
 {
-    static struct selector registered[MOST_SELECTORS + 1];
-    pthread_mutex_lock(&shim_lock);
+    for (struct typed *at = typed[number]; at; at = at->next)
+        if (same_types(at->sel->types, types)) return at->sel;
+    return NULL;
+}
+
+static void note_selector(SEL sel)
+{
+    struct typed *node = shim_memory(sizeof *node);
+    *node = (struct typed){sel, typed[sel->name.number]};
+    typed[sel->name.number] = node;
+}
+
+SEL shim_typed_selector(const char *name, const char *types)
+{
     uint32_t number = shim_selector(name);
-    registered[number].name.number = number;
+    SEL known = selector_of(number, types);
+    if (known) return known;
+    struct objc_selector *sel = shim_memory(sizeof *sel);
+    sel->name.number = number;
+    sel->types = types ? strdup(types) : NULL;
+    note_selector(sel);
+    return sel;
+}
+
+/* A selector of a module is its own: code compares it by its number. */
+void shim_take_selector(struct objc_selector *sel)
+{
+    sel->name.number = shim_selector(sel->name.text);
+    if (!selector_of((uint32_t)sel->name.number, sel->types)) note_selector(sel);
+}
+
+SEL sel_registerTypedName(const char *name, const char *types)
+{
+    if (!name) return NULL;
+    HOLDING(&shim_lock);
+    return shim_typed_selector(name, types);
+}
+
+SEL sel_registerName(const char *name) { return sel_registerTypedName(name, NULL); }
+SEL sel_getUid(const char *name) { return sel_registerName(name); }
+
+static const char *without_digits(const char *types)
+{
+    while (*types && ((*types >= '0' && *types <= '9') || *types == '+' || *types == '-')) types++;
+    return types;
+}
+
+/* The same but for the places of the arguments, which differ between machines. */
+static bool same_but_places(const char *one, const char *other)
+{
+    for (;; one++, other++) {
+        one = without_digits(one);
+        other = without_digits(other);
+        if (*one != *other) return false;
+        if (!*one) return true;
+    }
+}
+
+SEL sel_getTypedSelector(const char *name)
+{
+    if (!name) return NULL;
+    HOLDING(&shim_lock);
+    SEL found = NULL;
+    for (struct typed *at = typed[*name_place(name)]; at; at = at->next) {
+        if (!at->sel->types) continue;
+        if (found && !same_but_places(found->types, at->sel->types)) return NULL;
+        found = at->sel;
+    }
+    return found;
+}
+
+SEL *sel_copyTypedSelectorList(const char *name, unsigned int *count)
+{
+    unsigned int many = 0;
+    SEL *list = NULL;
+    pthread_mutex_lock(&shim_lock);
+    struct typed *first = name ? typed[*name_place(name)] : NULL;
+    for (struct typed *at = first; at; at = at->next) many++;
+    if (many) list = shim_memory((many + 1) * sizeof *list);
+    many = 0;
+    for (struct typed *at = first; at; at = at->next) list[many++] = at->sel;
     pthread_mutex_unlock(&shim_lock);
-    return &registered[number];
+    if (count) *count = many;
+    return list;
 }
 
 const char *sel_getName(SEL sel) { return sel ? names[sel->name.number] : "<null selector>"; }
-
+const char *sel_getTypeEncoding(SEL sel) { return sel ? sel->types : NULL; }
 BOOL sel_isEqual(SEL one, SEL other) { return one && other ? one->name.number == other->name.number : one == other; }

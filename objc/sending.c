@@ -1,10 +1,8 @@
 /* Sends: +initialize before a class's first, and then what the proved dispatcher finds. */
 #include "shim.h"
-#include <stdlib.h>
 
 static pthread_mutex_t initializing;
 static pthread_once_t once = PTHREAD_ONCE_INIT;
-enum { NOT_YET, RUNNING, DONE };
 
 static void make_lock(void)
 {
@@ -14,66 +12,81 @@ static void make_lock(void)
     pthread_mutex_init(&initializing, &kind);
 }
 
-static id answer_nil(id self, SEL sel, ...) { (void)self; (void)sel; return NULL; }
+static id answer_nil(id self, SEL sel, ...) { (void)sel; return self; }
 
-static id unrecognized(id self, SEL sel, ...)
+IMP shim_look(Class class_, SEL sel)
 {
-    (void)self;
-    shim_stop("unrecognized selector", sel_getName(sel));
-}
-
-static IMP look(Class class_, SEL sel)
-{
+    if (!class_->record) shim_stop("a class is used before its superclass is there", class_->name);
+    if (shim_in_construction(class_)) shim_stop("a class in construction is sent a message", class_->name);
     uint32_t imp = shim_find(class_->record, (uint32_t)sel->name.number);
     return imp ? shim_function(imp) : NULL;
+}
+
+static SEL named(struct objc_selector *kept, const char *name)
+{
+    pthread_mutex_lock(&shim_lock);
+    kept->name.number = shim_selector(name);
+    pthread_mutex_unlock(&shim_lock);
+    return kept;
 }
 
 /* The thread that sends +initialize may send to the class meanwhile; others wait for it. */
 static void initialize(Class class_)
 {
-    static struct selector name;
+    static struct objc_selector kept;
     pthread_once(&once, make_lock);
-    pthread_mutex_lock(&initializing);
-    if (class_->superclass.class_ && atomic_load(&class_->superclass.class_->record->initialized) == NOT_YET) initialize(class_->superclass.class_);
-    if (atomic_load(&class_->record->initialized) == NOT_YET) {
-        atomic_store(&class_->record->initialized, RUNNING);
-        pthread_mutex_lock(&shim_lock);
-        name.name.number = shim_selector("initialize");
-        pthread_mutex_unlock(&shim_lock);
-        IMP imp = look(class_->isa, &name);
-        if (imp) imp((id)class_, &name);
-        atomic_store(&class_->record->initialized, DONE);
+    HOLDING(&initializing);
+    Class above = class_->superclass.class_;
+    if (above && atomic_load(&above->record->initialized) == NOT_YET) initialize(above);
+    if (atomic_load(&class_->record->initialized) != NOT_YET) return;
+    atomic_store(&class_->record->initialized, RUNNING);
+    SEL sel = named(&kept, "initialize");
+    IMP imp = shim_look(class_->isa, sel);
+    if (imp) imp((id)class_, sel);
+    atomic_store(&class_->record->initialized, DONE);
+    atomic_store(&class_->isa->record->initialized, DONE);
+}
+
+static Class plain_class(Class class_) { return class_->record->meta ? shim_classes[class_->record->number] : class_; }
+
+/* Asks the class to add a method that it lacks: whether it says that it has. */
+bool shim_resolve(Class class_, SEL sel)
+{
+    static struct objc_selector kept[2];
+    if (shim_in_construction(class_)) return false;
+    bool meta = class_->record->meta;
+    Class plain = plain_class(class_);
+    SEL asked = named(&kept[meta], meta ? "resolveClassMethod:" : "resolveInstanceMethod:");
+    IMP imp = shim_look(plain->isa, asked);
+    return imp && ((BOOL (*)(id, SEL, SEL))(void (*)(void))imp)((id)plain, asked, sel);
+}
+
+static IMP find_slowly(id receiver, Class class_, SEL sel)
+{
+    if (!class_) shim_stop("an object without a class is sent", sel_getName(sel));
+    if (!class_->record) shim_stop("a class is used before its superclass is there", class_->name);
+    if (atomic_load(&class_->record->plain->initialized) != DONE && !shim_in_construction(class_)) initialize(plain_class(class_));
+    IMP imp = shim_look(class_, sel);
+    if (!imp && shim_resolve(class_, sel)) imp = shim_look(class_, sel);
+    return imp ? imp : shim_forward(receiver, sel);
+}
+
+static inline IMP find(id receiver, Class class_, SEL sel)
+{
+    struct record *record = class_ ? class_->record : NULL;
+    if (record && atomic_load_explicit(&record->initialized, memory_order_acquire) == DONE) {
+        uint32_t imp = shim_find(record, (uint32_t)sel->name.number);
+        if (imp) return shim_function(imp);
     }
-    pthread_mutex_unlock(&initializing);
+    return find_slowly(receiver, class_, sel);
 }
 
-static Class without_meta(Class class_) { return class_->record->meta ? shim_classes[class_->record->number] : class_; }
+IMP objc_msg_lookup(id receiver, SEL sel) { return receiver ? find(receiver, receiver->isa, sel) : answer_nil; }
+IMP objc_msg_lookup_super(struct objc_super *super_, SEL sel) { return super_->self ? find(super_->self, super_->class_, sel) : answer_nil; }
+IMP class_getMethodImplementation(Class class_, SEL sel) { return class_ && sel ? find(NULL, class_, sel) : NULL; }
 
-static IMP find(Class class_, SEL sel)
+BOOL class_respondsToSelector(Class class_, SEL sel)
 {
-    Class plain = without_meta(class_);
-    if (atomic_load(&plain->record->initialized) != DONE) initialize(plain);
-    IMP imp = look(class_, sel);
-    return imp ? imp : unrecognized;
-}
-
-IMP objc_msg_lookup(id receiver, SEL sel) { return receiver ? find(receiver->isa, sel) : answer_nil; }
-IMP objc_msg_lookup_super(struct super_ *super_, SEL sel) { return super_->self ? find(super_->class_, sel) : answer_nil; }
-IMP class_getMethodImplementation(Class class_, SEL sel) { return class_ && sel ? find(class_, sel) : NULL; }
-BOOL class_respondsToSelector(Class class_, SEL sel) { return class_ && sel && look(class_, sel); }
-
-const char *class_getName(Class class_) { return class_ ? class_->name : "Nil"; }
-Class class_getSuperclass(Class class_) { return class_ ? class_->superclass.class_ : NULL; }
-
-id class_createInstance(Class class_, size_t extra)
-{
-    id object = class_ ? calloc(1, (size_t)class_->instance_size + extra) : NULL;
-    if (object) object->isa = class_;
-    return object;
-}
-
-id object_dispose(id object)
-{
-    free(object);
-    return NULL;
+    if (!class_ || !class_->record || !sel || shim_in_construction(class_)) return false;
+    return shim_look(class_, sel) || (shim_resolve(class_, sel) && shim_look(class_, sel));
 }

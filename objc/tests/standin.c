@@ -68,6 +68,21 @@ uint32_t msg_lookup(msg_runtime *runtime, uint32_t number, bool meta, uint32_t s
     return MSG_DONE;
 }
 
+uint32_t msg_holder(msg_runtime *runtime, uint32_t number, bool meta, uint32_t sel, msg_class *at)
+{
+    if (!runtime->open) return MSG_CLOSED;
+    struct tables *tables = runtime->at;
+    for (int here = (int)number;;) {
+        if (tables->imps[here][meta][sel]) {
+            *at = (msg_class){(uint32_t)here, meta};
+            return MSG_DONE;
+        }
+        if (tables->above[here] >= 0) here = tables->above[here];
+        else if (meta) meta = false;
+        else return MSG_NONE;
+    }
+}
+
 uint32_t msg_replace(msg_runtime *runtime, uint32_t number, bool meta, uint32_t sel, uint32_t imp)
 {
     struct tables *tables = runtime->at;

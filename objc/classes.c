@@ -1,0 +1,174 @@
+/* Classes by name and by number, and classes that are made at run time. */
+#include "shim.h"
+#include <stdlib.h>
+#include <string.h>
+
+enum { PLACES = 4096 };
+
+Class shim_classes[MOST_CLASSES + 1];
+uint32_t shim_class_count;
+static _Atomic(Class) by_name[PLACES];
+static objc_get_unknown_class_handler unknown_class;
+
+static uint32_t place_of(const char *name)
+{
+    uint32_t mixed = 5381;
+    while (*name) mixed = mixed * 33 + (unsigned char)*name++;
+    return mixed % PLACES;
+}
+
+/* No class leaves the table, so it is read without the lock. */
+Class shim_class_named(const char *name)
+{
+    for (uint32_t at = place_of(name);; at = (at + 1) % PLACES) {
+        Class class_ = atomic_load_explicit(&by_name[at], memory_order_acquire);
+        if (!class_ || !strcmp(class_->name, name)) return class_;
+    }
+}
+
+struct record *shim_new_record(Class class_, bool meta)
+{
+    struct record *record = shim_memory(sizeof *record);
+    record->meta = meta;
+    record->plain = record;
+    return class_->record = record;
+}
+
+/* The class and its metaclass have records; the tables have them from now on. */
+void shim_number_class(Class class_)
+{
+    if (shim_class_count == MOST_CLASSES) shim_stop("too many classes", class_->name);
+    shim_classes[++shim_class_count] = class_;
+    class_->record->number = shim_class_count;
+    class_->isa->record->number = shim_class_count;
+    class_->isa->record->plain = class_->record;
+    uint32_t at = place_of(class_->name);
+    while (atomic_load(&by_name[at])) at = (at + 1) % PLACES;
+    atomic_store(&by_name[at], class_);
+}
+
+bool shim_in_construction(Class class_) { return class_->record && !class_->record->number; }
+
+Class objc_lookUpClass(const char *name) { return name ? shim_class_named(name) : NULL; }
+
+Class objc_getClass(const char *name)
+{
+    Class class_ = objc_lookUpClass(name);
+    return class_ || !name || !unknown_class ? class_ : unknown_class(name);
+}
+
+Class objc_getRequiredClass(const char *name)
+{
+    Class class_ = objc_getClass(name);
+    if (!class_) shim_stop("no such class", name ? name : "NULL");
+    return class_;
+}
+
+Class objc_getMetaClass(const char *name)
+{
+    Class class_ = objc_getClass(name);
+    return class_ ? class_->isa : NULL;
+}
+
+Class objc_get_class(const char *name) { return objc_getRequiredClass(name); }
+Class objc_get_meta_class(const char *name) { return objc_getRequiredClass(name)->isa; }
+
+objc_get_unknown_class_handler objc_setGetUnknownClassHandler(objc_get_unknown_class_handler handler)
+{
+    objc_get_unknown_class_handler before = unknown_class;
+    unknown_class = handler;
+    return before;
+}
+
+int objc_getClassList(Class *into, int most)
+{
+    HOLDING(&shim_lock);
+    int count = (int)shim_class_count;
+    if (!into) return count;
+    if (count > most) count = most;
+    for (int i = 0; i < count; i++) into[i] = shim_classes[i + 1];
+    return count;
+}
+
+const char *class_getName(Class class_) { return class_ ? class_->name : "Nil"; }
+BOOL class_isMetaClass(Class class_) { return class_ && class_->info & CLASS_META; }
+int class_getVersion(Class class_) { return class_ ? (int)class_->version : 0; }
+void class_setVersion(Class class_, int version) { if (class_) class_->version = version; }
+size_t class_getInstanceSize(Class class_) { return class_ ? (size_t)class_->instance_size : 0; }
+
+/* Of a class whose superclass isn't there yet only the name is known. */
+Class class_getSuperclass(Class class_)
+{
+    if (!class_) return NULL;
+    if (class_->record) return class_->superclass.class_;
+    return objc_lookUpClass(class_->superclass.text);
+}
+
+static Class new_class(Class above, const char *name, size_t extra, unsigned long info)
+{
+    Class class_ = shim_memory(sizeof *class_ + extra);
+    class_->name = name;
+    class_->info = info;
+    class_->superclass.class_ = above;
+    class_->instance_size = above ? above->instance_size : (long)sizeof(struct objc_object);
+    shim_new_record(class_, info == CLASS_META);
+    return class_;
+}
+
+Class objc_allocateClassPair(Class superclass, const char *name, size_t extra)
+{
+    if (!name || objc_lookUpClass(name) || (superclass && (!superclass->record || shim_in_construction(superclass)))) return NULL;
+    char *copy = strdup(name);
+    if (!copy) shim_stop("no memory", name);
+    Class class_ = new_class(superclass, copy, extra, CLASS_PLAIN);
+    Class meta = new_class(superclass ? superclass->isa : class_, copy, extra, CLASS_META);
+    if (!superclass) meta->instance_size = sizeof(struct objc_class);
+    class_->isa = meta;
+    meta->isa = superclass ? superclass->isa->isa : meta;
+    return class_;
+}
+
+void objc_registerClassPair(Class class_)
+{
+    if (!class_ || class_isMetaClass(class_)) return;
+    HOLDING(&shim_lock);
+    if (!shim_in_construction(class_) || shim_class_named(class_->name)) return;
+    shim_number_class(class_);
+    shim_outdate();
+}
+
+static void free_methods(struct record *record)
+{
+    for (uint32_t i = 0; i < record->count; i++) free(record->rows[i].method);
+    free(record->rows);
+    free(record);
+}
+
+static void free_protocols(struct protocol_list *list)
+{
+    if (!list) return;
+    free_protocols(list->next);
+    free(list);
+}
+
+static void free_class(Class class_)
+{
+    for (int32_t i = 0; class_->ivars && i < class_->ivars->count; i++) {
+        free((char *)class_->ivars->rows[i].name);
+        free((char *)class_->ivars->rows[i].type);
+    }
+    free(class_->ivars);
+    free_protocols(class_->protocols);
+    free_methods(class_->record);
+    free(class_);
+}
+
+void objc_disposeClassPair(Class class_)
+{
+    if (!class_ || class_isMetaClass(class_)) return;
+    HOLDING(&shim_lock);
+    if (!shim_in_construction(class_)) return;
+    free((char *)class_->name);
+    free_class(class_->isa);
+    free_class(class_);
+}

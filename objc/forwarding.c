@@ -1,0 +1,69 @@
+/* What is called where no method is found: a program's hook, the receiver's forward::, its doesNotRecognize:, or the end.
+ * forward:: is given the arguments' registers and memory as __builtin_apply_args makes them, and answers a result as __builtin_apply does (GCC's manual, Constructing Calls). */
+#include "shim.h"
+
+enum { MOST_IN_REGISTERS = 16 };
+
+/* Its result is returned in memory, so the receiver stands where that of such a method does. */
+struct large { char bytes[MOST_IN_REGISTERS + 1]; };
+
+typedef void *(*forwarder)(id, SEL, SEL, void *);
+
+IMP (*__objc_msg_forward)(SEL);
+IMP (*__objc_msg_forward2)(id, SEL);
+
+static SEL forward_name(void) { return sel_registerTypedName("forward::", "^v32@0:8:16^v24"); }
+
+static void *forward(id self, SEL sel, void *frame)
+{
+    SEL name = forward_name();
+    IMP imp = self ? shim_look(self->isa, name) : NULL;
+    if (imp) return ((forwarder)(void (*)(void))imp)(self, name, sel, frame);
+    name = sel_registerName("doesNotRecognize:");
+    imp = self ? shim_look(self->isa, name) : NULL;
+    if (imp) return ((forwarder)(void (*)(void))imp)(self, name, sel, NULL);
+    shim_stop("unrecognized selector", sel_getName(sel));
+}
+
+#if defined(__clang__)
+static id forward_word(id self, SEL sel, ...) { return forward(self, sel, NULL); }
+static struct large forward_large(id self, SEL sel, ...) { forward(self, sel, NULL); return (struct large){{0}}; }
+static double forward_double(id self, SEL sel, ...) { forward(self, sel, NULL); return 0; }
+#else
+static id forward_word(id self, SEL sel, ...)
+{
+    void *result = forward(self, sel, __builtin_apply_args());
+    if (result) __builtin_return(result);
+    return NULL;
+}
+
+static struct large forward_large(id self, SEL sel, ...)
+{
+    void *result = forward(self, sel, __builtin_apply_args());
+    if (result) __builtin_return(result);
+    return (struct large){{0}};
+}
+
+static double forward_double(id self, SEL sel, ...)
+{
+    void *result = forward(self, sel, __builtin_apply_args());
+    if (result) __builtin_return(result);
+    return 0;
+}
+#endif
+
+static IMP by_types(const char *types)
+{
+    types = types ? objc_skip_type_qualifiers(types) : "";
+    if ((*types == '{' || *types == '(' || *types == '[') && objc_sizeof_type(types) > MOST_IN_REGISTERS) return (IMP)(void (*)(void))forward_large;
+    if (*types == 'f' || *types == 'd') return (IMP)(void (*)(void))forward_double;
+    return forward_word;
+}
+
+IMP shim_forward(id receiver, SEL sel)
+{
+    IMP imp = NULL;
+    if (__objc_msg_forward2) imp = __objc_msg_forward2(receiver, sel);
+    if (!imp && __objc_msg_forward) imp = __objc_msg_forward(sel);
+    return imp ? imp : by_types(sel->types);
+}
