@@ -28,7 +28,7 @@ static void put_new(struct record *record, SEL sel, IMP imp, const char *types)
 {
     Method method = shim_memory(sizeof *method);
     method->name.sel = shim_typed_selector(sel_getName(sel), types);
-    method->types = method->name.sel->types;
+    method->types = strdup(types);
     method->imp = imp;
     uint32_t number = shim_imp(imp);
     shim_put_row(record, method, (uint32_t)sel->name.number, number);

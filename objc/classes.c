@@ -139,7 +139,10 @@ void objc_registerClassPair(Class class_)
 
 static void free_methods(struct record *record)
 {
-    for (uint32_t i = 0; i < record->count; i++) free(record->rows[i].method);
+    for (uint32_t i = 0; i < record->count; i++) {
+        free((char *)record->rows[i].method->types);
+        free(record->rows[i].method);
+    }
     free(record->rows);
     free(record);
 }

@@ -21,8 +21,9 @@ static void *forward(id self, SEL sel, void *frame)
     if (imp) return ((forwarder)(void (*)(void))imp)(self, name, sel, frame);
     name = sel_registerName("doesNotRecognize:");
     imp = self ? shim_look(self->isa, name) : NULL;
-    if (imp) return ((forwarder)(void (*)(void))imp)(self, name, sel, NULL);
-    shim_stop("unrecognized selector", sel_getName(sel));
+    if (!imp) shim_stop("unrecognized selector", sel_getName(sel));
+    ((void (*)(id, SEL, SEL))(void (*)(void))imp)(self, name, sel);
+    return NULL;
 }
 
 #if defined(__clang__)

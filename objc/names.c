@@ -69,7 +69,18 @@ uint32_t shim_imp(IMP imp)
 
 IMP shim_function(uint32_t imp) { return atomic_load_explicit(&functions[imp], memory_order_acquire); }
 
-static bool same_types(const char *one, const char *other) { return one && other ? !strcmp(one, other) : one == other; }
+/* The same but for the places of the arguments, which programs write by hand without knowing them. */
+static bool same_types(const char *one, const char *other)
+{
+    if (!one || !other) return one == other;
+    while (*one && *other) {
+        size_t length = (size_t)(objc_skip_typespec(one) - one);
+        if (strncmp(one, other, length) || objc_skip_typespec(other) != other + length) return false;
+        one = objc_skip_argspec(one);
+        other = objc_skip_argspec(other);
+    }
+    return *one == *other;
+}
 
 static SEL selector_of(uint32_t number, const char *types)
 {
@@ -114,23 +125,6 @@ SEL sel_registerTypedName(const char *name, const char *types)
 SEL sel_registerName(const char *name) { return sel_registerTypedName(name, NULL); }
 SEL sel_getUid(const char *name) { return sel_registerName(name); }
 
-static const char *without_digits(const char *types)
-{
-    while (*types && ((*types >= '0' && *types <= '9') || *types == '+' || *types == '-')) types++;
-    return types;
-}
-
-/* The same but for the places of the arguments, which differ between machines. */
-static bool same_but_places(const char *one, const char *other)
-{
-    for (;; one++, other++) {
-        one = without_digits(one);
-        other = without_digits(other);
-        if (*one != *other) return false;
-        if (!*one) return true;
-    }
-}
-
 SEL sel_getTypedSelector(const char *name)
 {
     if (!name) return NULL;
@@ -138,7 +132,7 @@ SEL sel_getTypedSelector(const char *name)
     SEL found = NULL;
     for (struct typed *at = typed[*name_place(name)]; at; at = at->next) {
         if (!at->sel->types) continue;
-        if (found && !same_but_places(found->types, at->sel->types)) return NULL;
+        if (found && !same_types(found->types, at->sel->types)) return NULL;
         found = at->sel;
     }
     return found;

@@ -1,0 +1,76 @@
+/* @try, @catch by class, @finally, thrown again, through frames and out of +initialize, a matcher of the program's, and one that nobody catches. */
+#include "../roots.h"
+#include <stdio.h>
+#include <stdlib.h>
+
+@interface Trouble : Object
+@end
+@implementation Trouble
+@end
+@interface Deep : Trouble
+@end
+@implementation Deep
+@end
+@interface Other : Object
+@end
+@implementation Other
+@end
+@interface Late : Object
++ (int)value;
+@end
+@implementation Late
++ (void)initialize { @throw class_createInstance(objc_getClass("Other"), 0); }
++ (int)value { return 7; }
+@end
+
+static id new(const char *name) { return class_createInstance(objc_getClass(name), 0); }
+
+static void throw_deep(int depth)
+{
+    @try {
+        if (depth) throw_deep(depth - 1);
+        else @throw new("Deep");
+    } @finally {
+        printf("left %d\n", depth);
+    }
+}
+
+static const char *caught_by(id object)
+{
+    const char *by = "nobody";
+    @try {
+        @try { @throw object; }
+        @catch (Deep *deep) { by = "Deep"; object_dispose(deep); }
+        @catch (Trouble *trouble) { by = "Trouble"; @throw; }
+        @finally { printf("finally, "); }
+    }
+    @catch (Trouble *again) { by = "Trouble again"; object_dispose(again); }
+    @catch (id any) { by = "any"; object_dispose(any); }
+    return by;
+}
+
+static int matches_all(Class class_, id object) { return 1; }
+
+static void at_end(id object)
+{
+    printf("uncaught %s\n", object_getClassName(object));
+    fflush(stdout);
+    exit(0);
+}
+
+int main(void)
+{
+    @try { throw_deep(2); }
+    @catch (Trouble *trouble) { printf("caught a %s\n", object_getClassName(trouble)); object_dispose(trouble); }
+    printf("%s\n", caught_by(new("Deep")));
+    printf("%s\n", caught_by(new("Trouble")));
+    printf("%s\n", caught_by(new("Other")));
+    printf("%s\n", caught_by(nil));
+    @try { [Late value]; }
+    @catch (Other *other) { printf("out of +initialize, then %d\n", [Late value]); object_dispose(other); }
+    objc_exception_matcher before = objc_setExceptionMatcher(matches_all);
+    printf("%s, by the program's matcher\n", caught_by(new("Other")));
+    objc_setExceptionMatcher(before);
+    objc_setUncaughtExceptionHandler(at_end);
+    @throw new("Deep");
+}

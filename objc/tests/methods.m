@@ -1,0 +1,64 @@
+/* Methods: what they say of themselves, added, replaced, set, exchanged, listed; of classes and metaclasses. */
+#include "../roots.h"
+#include <stdio.h>
+#include <stdlib.h>
+#include <string.h>
+
+@interface Lamp : Object
+- (int)light:(int)much with:(const char *)what;
+- (int)one;
+- (int)two;
++ (int)lamps;
+@end
+@implementation Lamp
+- (int)light:(int)much with:(const char *)what { return much; }
+- (int)one { return 1; }
+- (int)two { return 2; }
++ (int)lamps { return 3; }
+@end
+@interface Torch : Lamp
+@end
+@implementation Torch
+@end
+
+static int ten(id self, SEL sel) { return 10; }
+static int eleven(id self, SEL sel) { return 11; }
+
+static void show(Method method)
+{
+    char *result = method_copyReturnType(method), *last = method_copyArgumentType(method, method_getNumberOfArguments(method) - 1), cut[4];
+    method_getArgumentType(method, 2, cut, sizeof cut);
+    printf("%s %s: %u arguments, %s, %s, %s\n", sel_getName(method_getName(method)), method_getTypeEncoding(method), method_getNumberOfArguments(method), result, last, cut);
+    printf("described alike: %d\n", method_getDescription(method)->types == method_getTypeEncoding(method));
+    free(result);
+    free(last);
+}
+
+int main(void)
+{
+    Class lamp = objc_getClass("Lamp"), torch = objc_getClass("Torch");
+    Torch *object = (Torch *)class_createInstance(torch, 0);
+    unsigned int count;
+    show(class_getInstanceMethod(torch, @selector(light:with:)));
+    free(class_copyMethodList(lamp, &count));
+    printf("Lamp has %u, ", count);
+    free(class_copyMethodList(((id)lamp)->isa, &count));
+    printf("its metaclass %u, ", count);
+    printf("Torch none %d\n", class_copyMethodList(torch, &count) == NULL && count == 0);
+    bool done = class_addMethod(torch, @selector(one), (IMP)ten, "i16@0:8");
+    printf("added %d, %d; again %d\n", done, [object one], class_addMethod(torch, @selector(one), (IMP)eleven, "i16@0:8"));
+    done = class_replaceMethod(torch, @selector(one), (IMP)eleven, "i16@0:8") == (IMP)ten;
+    printf("replaced %d, %d; ", done, [object one]);
+    done = !class_replaceMethod(torch, @selector(two), (IMP)ten, "i16@0:8");
+    printf("anew %d, %d\n", done, [object two]);
+    done = method_setImplementation(class_getInstanceMethod(lamp, @selector(two)), (IMP)eleven) != NULL;
+    printf("set %d, %d\n", done, [object two]);
+    method_exchangeImplementations(class_getInstanceMethod(torch, @selector(one)), class_getInstanceMethod(torch, @selector(two)));
+    printf("exchanged %d %d\n", [object one], [object two]);
+    class_replaceMethod(((id)torch)->isa, @selector(lamps), (IMP)ten, "i16@0:8");
+    printf("of classes %d %d, found %d\n", [Torch lamps], [Lamp lamps], class_getClassMethod(torch, @selector(lamps)) != class_getClassMethod(lamp, @selector(lamps)));
+    printf("answers %d, %d, %d\n", class_respondsToSelector(torch, @selector(two)), class_respondsToSelector(torch, @selector(lamps)), class_getMethodImplementation(torch, @selector(two)) == method_getImplementation(class_getInstanceMethod(torch, @selector(two))));
+    printf("of nothing: %d %d %d\n", class_getInstanceMethod(NULL, @selector(one)) == NULL, method_getName(NULL) == NULL, class_addMethod(torch, NULL, (IMP)ten, "i16@0:8"));
+    object_dispose(object);
+    return 0;
+}
