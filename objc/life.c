@@ -14,6 +14,7 @@ pthread_mutex_t shim_lock = PTHREAD_MUTEX_INITIALIZER;
 static _Atomic(struct life *) current;
 static pthread_key_t seats;
 static pthread_once_t once = PTHREAD_ONCE_INIT;
+static _Thread_local struct seat own_seat;
 
 static struct { char *text; size_t length, room; } document;
 
@@ -114,34 +115,23 @@ static void give_back(struct seat *seat)
 
 static void at_thread_end(void *taken)
 {
-    pthread_mutex_lock(&shim_lock);
+    HOLDING(&shim_lock);
     give_back(taken);
-    pthread_mutex_unlock(&shim_lock);
-    free(taken);
 }
 
 static void make_key(void) { if (pthread_key_create(&seats, at_thread_end)) shim_stop("no key", "pthread"); }
 
-static struct seat *own_seat(void)
-{
-    pthread_once(&once, make_key);
-    struct seat *seat = pthread_getspecific(seats);
-    if (seat) return seat;
-    seat = calloc(1, sizeof *seat);
-    if (!seat || pthread_setspecific(seats, seat)) shim_stop("no memory", "seat");
-    return seat;
-}
-
-/* The seat then is of the current life. */
+/* The thread's seat then is of the current life, unless all senders are out. */
 static struct life *sit_down(struct seat *seat)
 {
-    pthread_mutex_lock(&shim_lock);
+    pthread_once(&once, make_key);
+    HOLDING(&shim_lock);
     struct life *life = open_life();
-    if (seat->life != life) {
-        give_back(seat);
-        if (!msg_sender_open(&life->runtime, &seat->sender)) { seat->life = life; life->users++; }
-    }
-    pthread_mutex_unlock(&shim_lock);
+    if (seat->life == life) return life;
+    give_back(seat);
+    if (pthread_setspecific(seats, seat) || msg_sender_open(&life->runtime, &seat->sender)) return life;
+    seat->life = life;
+    life->users++;
     return life;
 }
 
@@ -167,11 +157,11 @@ static uint32_t find_seatless(struct record *record, uint32_t sel)
 
 uint32_t shim_find(struct record *record, uint32_t sel)
 {
-    struct seat *seat = own_seat();
+    struct seat *seat = &own_seat;
     for (;;) {
         uint32_t imp;
         uint64_t seen;
-        struct life *life = atomic_load(&current);
+        struct life *life = atomic_load_explicit(&current, memory_order_acquire);
         if (!life || seat->life != life) life = sit_down(seat);
         if (seat->life != life) return find_seatless(record, sel);
         if (sel > life->selectors) return 0; /* no method of the name stands anywhere */
