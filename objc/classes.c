@@ -71,6 +71,8 @@ Class objc_getMetaClass(const char *name)
 }
 
 Class objc_get_class(const char *name) { return objc_getRequiredClass(name); }
+/* As clang asks. */
+Class objc_lookup_class(const char *name) { return objc_getClass(name); }
 Class objc_get_meta_class(const char *name) { return objc_getRequiredClass(name)->isa; }
 
 objc_get_unknown_class_handler objc_setGetUnknownClassHandler(objc_get_unknown_class_handler handler)

@@ -26,7 +26,7 @@ _Noreturn void shim_stop(const char *why, const char *what);
 void *shim_memory(size_t size);
 void shim_unlock(pthread_mutex_t **lock);
 /* Held to the end of the block, also where an exception leaves it. */
-#define HOLDING(lock) pthread_mutex_t *held __attribute__((cleanup(shim_unlock))) = (pthread_mutex_lock(lock), (lock))
+#define HOLDING(lock) pthread_mutex_t *held __attribute__((cleanup(shim_unlock), unused)) = (pthread_mutex_lock(lock), (lock))
 
 /* names.c */
 uint32_t shim_selector(const char *name);
