@@ -10,7 +10,7 @@ struct row *shim_row(struct record *record, uint32_t sel)
     return NULL;
 }
 
-void shim_put_row(struct record *record, Method method, uint32_t sel, uint32_t imp)
+void shim_put_row(struct record *record, Method method, uint32_t sel)
 {
     struct row *row = shim_row(record, sel);
     if (!row) {
@@ -21,7 +21,7 @@ void shim_put_row(struct record *record, Method method, uint32_t sel, uint32_t i
         }
         row = &record->rows[record->count++];
     }
-    *row = (struct row){sel, imp, method};
+    *row = (struct row){sel, method};
 }
 
 static void put_new(struct record *record, SEL sel, IMP imp, const char *types)
@@ -30,17 +30,15 @@ static void put_new(struct record *record, SEL sel, IMP imp, const char *types)
     method->name.sel = shim_typed_selector(sel_getName(sel), types);
     method->types = strdup(types);
     method->imp = imp;
-    uint32_t number = shim_imp(imp);
-    shim_put_row(record, method, (uint32_t)sel->name.number, number);
-    shim_replace(record, (uint32_t)sel->name.number, number);
+    shim_put_row(record, method, (uint32_t)sel->name.number);
+    shim_replace(record, (uint32_t)sel->name.number, imp);
 }
 
 static IMP set(struct record *record, struct row *row, IMP imp)
 {
     IMP before = row->method->imp;
     row->method->imp = imp;
-    row->imp = shim_imp(imp);
-    shim_replace(record, row->sel, row->imp);
+    shim_replace(record, row->sel, imp);
     return before;
 }
 
@@ -97,8 +95,6 @@ void method_exchangeImplementations(Method one, Method other)
     IMP imp = one->imp;
     one->imp = other->imp;
     other->imp = imp;
-    if (row) row->imp = shim_imp(one->imp);
-    if (other_row) other_row->imp = shim_imp(other->imp);
     if (row && other_row) shim_exchange(here, row->sel, there, other_row->sel);
     else if (row || other_row) shim_outdate();
 }

@@ -5,8 +5,16 @@
 #include <stdio.h>
 #include <stdlib.h>
 
-/* `users`: the senders of it that are out, and one while it is the current. */
-struct life { msg_runtime runtime; uint32_t selectors, imps, users; };
+enum { MOST_IMPS = 4095, SPARE = 128, PLACES = 16384 };
+
+/* `selectors` and `imps` are how many its document has; `functions` are numbered as it needs them.
+ * `users`: the senders of it that are out, and one while it is the current. */
+struct life {
+    msg_runtime runtime;
+    uint32_t selectors, imps, imp_count, users;
+    _Atomic(IMP) functions[MOST_IMPS + 1];
+    uint16_t function_at[PLACES];
+};
 
 struct seat { struct life *life; msg_sender sender; };
 
@@ -17,6 +25,23 @@ static pthread_once_t once = PTHREAD_ONCE_INIT;
 static _Thread_local struct seat own_seat;
 
 static struct { char *text; size_t length, room; } document;
+
+/* The number of a function in this life, or 0 where there is no more room. */
+static uint32_t number_of(struct life *life, IMP imp)
+{
+    uint32_t at = (uint32_t)(((uintptr_t)imp >> 2) % PLACES);
+    for (; life->function_at[at]; at = (at + 1) % PLACES)
+        if (atomic_load_explicit(&life->functions[life->function_at[at]], memory_order_relaxed) == imp) return life->function_at[at];
+    if (life->imp_count == life->imps) return 0;
+    atomic_store(&life->functions[++life->imp_count], imp);
+    return life->function_at[at] = (uint16_t)life->imp_count;
+}
+
+static void number_functions(struct life *life, struct record *record)
+{
+    for (uint32_t i = 0; i < record->count; i++)
+        if (!number_of(life, record->rows[i].method->imp)) shim_stop("too many implementations", sel_getName(record->rows[i].method->name.sel));
+}
 
 static void put(const char *form, ...)
 {
@@ -33,20 +58,20 @@ static void put(const char *form, ...)
     }
 }
 
-static void put_rows(struct record *record)
+static void put_rows(struct life *life, struct record *record)
 {
-    for (uint32_t i = 0; i < record->count; i++) put("%s[\"s%u\",\"i%u\"]", i ? "," : "", record->rows[i].sel, record->rows[i].imp);
+    for (uint32_t i = 0; i < record->count; i++) put("%s[\"s%u\",\"i%u\"]", i ? "," : "", record->rows[i].sel, number_of(life, record->rows[i].method->imp));
 }
 
-static void put_class(Class class_)
+static void put_class(struct life *life, Class class_)
 {
     Class above = class_->superclass.class_;
     put(",{\"name\":\"c%u\",\"super\":", class_->record->number);
     if (above) put("\"c%u\"", above->record->number); else put("null");
     put(",\"methods\":[");
-    put_rows(class_->record);
+    put_rows(life, class_->record);
     put("],\"class_methods\":[");
-    put_rows(class_->isa->record);
+    put_rows(life, class_->isa->record);
     put("]}");
 }
 
@@ -57,7 +82,7 @@ static void write_document(struct life *life)
     put("{\"version\":1,\"classes\":[{\"name\":\"c0\",\"super\":null,\"methods\":[");
     for (uint32_t sel = 2; sel <= life->selectors; sel++) put("%s[\"s%u\",\"i1\"]", sel > 2 ? "," : "", sel);
     put("],\"class_methods\":[]}");
-    for (uint32_t i = 1; i <= shim_class_count; i++) put_class(shim_classes[i]);
+    for (uint32_t i = 1; i <= shim_class_count; i++) put_class(life, shim_classes[i]);
     put("],\"categories\":[],\"objects\":[],\"imps\":[");
     for (uint32_t imp = 1; imp <= life->imps; imp++) put("%s{\"name\":\"i%u\",\"class\":\"c0\",\"meta\":false,\"args\":0,\"body\":0}", imp > 1 ? "," : "", imp);
     put("],\"items\":[]}");
@@ -88,11 +113,15 @@ static struct life *open_life(void)
 {
     struct life *life = atomic_load(&current);
     if (life) return life;
-    life = calloc(1, sizeof *life);
-    if (!life) shim_stop("no memory", "life");
+    life = shim_memory(sizeof *life);
     life->users = 1;
     life->selectors = with_spare(shim_selector_count, MOST_SELECTORS);
-    life->imps = with_spare(shim_imp_count, MOST_IMPS);
+    life->imps = MOST_IMPS;
+    for (uint32_t i = 1; i <= shim_class_count; i++) {
+        number_functions(life, shim_classes[i]->record);
+        number_functions(life, shim_classes[i]->isa->record);
+    }
+    life->imps = with_spare(life->imp_count, MOST_IMPS);
     write_document(life);
     uint32_t fault = msg_open(&life->runtime, (const uint8_t *)document.text, document.length);
     if (fault) {
@@ -144,18 +173,19 @@ struct record *shim_holder(struct record *record, uint32_t sel)
     return at.meta ? class_->isa->record : class_->record;
 }
 
+static IMP function(struct life *life, uint32_t imp) { return atomic_load_explicit(&life->functions[imp], memory_order_acquire); }
+
 /* Where all 64 senders are out: the tables themselves, under the lock. */
-static uint32_t find_seatless(struct record *record, uint32_t sel)
+static IMP find_seatless(struct record *record, uint32_t sel)
 {
     uint32_t imp = 0;
-    pthread_mutex_lock(&shim_lock);
+    HOLDING(&shim_lock);
     struct life *life = open_life();
     if (sel <= life->selectors && msg_lookup(&life->runtime, record->number, record->meta, sel, &imp)) shim_stop("no lookup", "seatless");
-    pthread_mutex_unlock(&shim_lock);
-    return imp;
+    return function(life, imp);
 }
 
-uint32_t shim_find(struct record *record, uint32_t sel)
+IMP shim_find(struct record *record, uint32_t sel)
 {
     struct seat *seat = &own_seat;
     for (;;) {
@@ -164,19 +194,20 @@ uint32_t shim_find(struct record *record, uint32_t sel)
         struct life *life = atomic_load_explicit(&current, memory_order_acquire);
         if (!life || seat->life != life) life = sit_down(seat);
         if (seat->life != life) return find_seatless(record, sel);
-        if (sel > life->selectors) return 0; /* no method of the name stands anywhere */
+        if (sel > life->selectors) return NULL; /* no method of the name stands anywhere */
         if (msg_refresh(&seat->sender, &seen)) shim_stop("no refresh", "sender");
         uint32_t answer = msg_find(&life->runtime, &shim_lock, &seat->sender, record->number, record->meta, sel, &imp);
-        if (answer == MSG_DONE) return imp;
+        if (answer == MSG_DONE) return function(life, imp);
         if (answer != MSG_CLOSED) shim_stop("no answer", "find"); /* closed: it was opened anew meanwhile */
     }
 }
 
-void shim_replace(struct record *record, uint32_t sel, uint32_t imp)
+void shim_replace(struct record *record, uint32_t sel, IMP imp)
 {
     struct life *life = atomic_load(&current);
     if (!life || !record->number) return;
-    if (sel > life->selectors || imp > life->imps || msg_replace(&life->runtime, record->number, record->meta, sel, imp)) shim_outdate();
+    uint32_t number = sel > life->selectors ? 0 : number_of(life, imp);
+    if (!number || msg_replace(&life->runtime, record->number, record->meta, sel, number)) shim_outdate();
 }
 
 void shim_exchange(struct record *one, uint32_t sel, struct record *other, uint32_t other_sel)

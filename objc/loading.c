@@ -27,7 +27,7 @@ static void take_method(Class class_, struct record *record, Method method)
     const char *name = method->name.text;
     method->name.sel = shim_typed_selector(name, method->types);
     if (record->meta && !strcmp(name, "load")) note_load(class_, NULL, method->imp, method->name.sel);
-    shim_put_row(record, method, (uint32_t)method->name.sel->name.number, shim_imp(method->imp));
+    shim_put_row(record, method, (uint32_t)method->name.sel->name.number);
 }
 
 static void take_lists(Class class_, struct record *record, struct method_list *list)

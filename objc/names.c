@@ -1,4 +1,4 @@
-/* Numbers of selectors and implementations: equal names, equal numbers; equal pointers, equal numbers. They outlast every life of the runtime. */
+/* Numbers of selectors: equal names, equal numbers. They outlast every life of the runtime. */
 #include "shim.h"
 #include <stdio.h>
 #include <stdlib.h>
@@ -10,11 +10,10 @@ enum { PLACES = 16384 };
 struct typed { SEL sel; struct typed *next; };
 
 /* Number 1 is every image's forwardingTargetForSelector:, to which no class of a program's answers. */
-uint32_t shim_selector_count = 1, shim_imp_count;
+uint32_t shim_selector_count = 1;
 static const char *names[MOST_SELECTORS + 1];
 static struct typed *typed[MOST_SELECTORS + 1];
-static _Atomic(IMP) functions[MOST_IMPS + 1];
-static uint16_t name_at[PLACES], function_at[PLACES];
+static uint16_t name_at[PLACES];
 
 void shim_stop(const char *why, const char *what)
 {
@@ -56,18 +55,6 @@ uint32_t shim_selector(const char *name)
     names[++shim_selector_count] = copy;
     return *place = (uint16_t)shim_selector_count;
 }
-
-uint32_t shim_imp(IMP imp)
-{
-    uint32_t at = (uint32_t)(((uintptr_t)imp >> 2) % PLACES);
-    for (; function_at[at]; at = (at + 1) % PLACES)
-        if (shim_function(function_at[at]) == imp) return function_at[at];
-    if (shim_imp_count == MOST_IMPS) shim_stop("too many implementations", "");
-    atomic_store(&functions[++shim_imp_count], imp);
-    return function_at[at] = (uint16_t)shim_imp_count;
-}
-
-IMP shim_function(uint32_t imp) { return atomic_load_explicit(&functions[imp], memory_order_acquire); }
 
 /* The same but for the places of the arguments, which programs write by hand without knowing them. */
 static bool same_types(const char *one, const char *other)

@@ -18,8 +18,7 @@ IMP shim_look(Class class_, SEL sel)
 {
     if (!class_->record) shim_stop("a class is used before its superclass is there", class_->name);
     if (shim_in_construction(class_)) shim_stop("a class in construction is sent a message", class_->name);
-    uint32_t imp = shim_find(class_->record, (uint32_t)sel->name.number);
-    return imp ? shim_function(imp) : NULL;
+    return shim_find(class_->record, (uint32_t)sel->name.number);
 }
 
 static SEL named(struct objc_selector *kept, const char *name)
@@ -75,8 +74,8 @@ static inline IMP find(id receiver, Class class_, SEL sel)
 {
     struct record *record = class_ ? class_->record : NULL;
     if (record && atomic_load_explicit(&record->initialized, memory_order_acquire) == DONE) {
-        uint32_t imp = shim_find(record, (uint32_t)sel->name.number);
-        if (imp) return shim_function(imp);
+        IMP imp = shim_find(record, (uint32_t)sel->name.number);
+        if (imp) return imp;
     }
     return find_slowly(receiver, class_, sel);
 }

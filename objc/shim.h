@@ -7,10 +7,10 @@
 #include <pthread.h>
 #include <stdatomic.h>
 
-enum { MOST_SELECTORS = 4095, MOST_IMPS = 4095, MOST_CLASSES = 1023, SPARE = 128 };
+enum { MOST_SELECTORS = 4095, MOST_CLASSES = 1023 };
 
 /* A method that stands in a class: what the proved tables hold, kept beside them, so that they can be opened anew. */
-struct row { uint32_t sel, imp; Method method; };
+struct row { uint32_t sel; Method method; };
 
 enum { NOT_YET, RUNNING, DONE };
 
@@ -19,7 +19,7 @@ struct record { uint32_t number; bool meta; atomic_int initialized; struct recor
 
 extern pthread_mutex_t shim_lock;
 extern Class shim_classes[MOST_CLASSES + 1]; /* by number, from 1; class 0 of the tables lists the selectors */
-extern uint32_t shim_class_count, shim_selector_count, shim_imp_count;
+extern uint32_t shim_class_count, shim_selector_count;
 
 /* Without the lock. */
 _Noreturn void shim_stop(const char *why, const char *what);
@@ -32,8 +32,6 @@ void shim_unlock(pthread_mutex_t **lock);
 uint32_t shim_selector(const char *name);
 SEL shim_typed_selector(const char *name, const char *types);
 void shim_take_selector(struct objc_selector *sel);
-uint32_t shim_imp(IMP imp);
-IMP shim_function(uint32_t imp); /* without the lock */
 
 /* classes.c */
 Class shim_class_named(const char *name); /* without the lock */
@@ -50,7 +48,7 @@ void shim_take_protocols(struct protocol_list *list, Class class_);
 
 /* changing.c */
 struct row *shim_row(struct record *record, uint32_t sel);
-void shim_put_row(struct record *record, Method method, uint32_t sel, uint32_t imp);
+void shim_put_row(struct record *record, Method method, uint32_t sel);
 
 /* sending.c: without the lock, and without +initialize. */
 IMP shim_look(Class class_, SEL sel);
@@ -63,11 +61,11 @@ IMP shim_forward(id receiver, SEL sel);
 /* The tables no longer hold what the rows say: the next look opens them anew. */
 void shim_outdate(void);
 /* One change of the tables, beside the rows; where this life can't hold it, they are outdated. */
-void shim_replace(struct record *record, uint32_t sel, uint32_t imp);
+void shim_replace(struct record *record, uint32_t sel, IMP imp);
 void shim_exchange(struct record *one, uint32_t sel, struct record *other, uint32_t other_sel);
 /* Where the method stands that the tables find, or NULL. */
 struct record *shim_holder(struct record *record, uint32_t sel);
-/* Without the lock: what the calling thread's sender finds, by all changes that returned before. 0 is forwarding. */
-uint32_t shim_find(struct record *record, uint32_t sel);
+/* Without the lock: what the calling thread's sender finds, by all changes that returned before; NULL is forwarding. */
+IMP shim_find(struct record *record, uint32_t sel);
 
 #endif
