@@ -136,7 +136,7 @@ void objc_registerClassPair(Class class_)
     HOLDING(&shim_lock);
     if (!shim_in_construction(class_) || shim_class_named(class_->name)) return;
     shim_number_class(class_);
-    shim_outdate();
+    shim_make(class_);
 }
 
 static void free_methods(struct record *record)

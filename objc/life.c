@@ -5,13 +5,13 @@
 #include <stdio.h>
 #include <stdlib.h>
 
-enum { MOST_IMPS = 4095, SPARE = 128, PLACES = 16384 };
+enum { MOST_IMPS = 4095, SPARE = 128, SPARE_CLASSES = 16, PLACES = 16384 };
 
-/* `selectors` and `imps` are how many its document has; `functions` are numbered as it needs them.
+/* `classes`, `selectors` and `imps` are how many its document has, with those to spare; `functions` are numbered as it needs them.
  * `users`: the senders of it that are out, and one while it is the current. */
 struct life {
     msg_runtime runtime;
-    uint32_t selectors, imps, imp_count, users;
+    uint32_t classes, selectors, imps, imp_count, users;
     _Atomic(IMP) functions[MOST_IMPS + 1];
     uint16_t function_at[PLACES];
 };
@@ -79,16 +79,18 @@ static void put_class(struct life *life, Class class_)
 static void write_document(struct life *life)
 {
     document.length = 0;
-    put("{\"version\":1,\"classes\":[{\"name\":\"c0\",\"super\":null,\"methods\":[");
+    put("{\"version\":2,\"classes\":[{\"name\":\"c0\",\"super\":null,\"methods\":[");
     for (uint32_t sel = 2; sel <= life->selectors; sel++) put("%s[\"s%u\",\"i1\"]", sel > 2 ? "," : "", sel);
     put("],\"class_methods\":[]}");
     for (uint32_t i = 1; i <= shim_class_count; i++) put_class(life, shim_classes[i]);
+    put("],\"made\":[");
+    for (uint32_t i = shim_class_count + 1; i <= life->classes; i++) put("%s\"c%u\"", i > shim_class_count + 1 ? "," : "", i);
     put("],\"categories\":[],\"objects\":[],\"imps\":[");
     for (uint32_t imp = 1; imp <= life->imps; imp++) put("%s{\"name\":\"i%u\",\"class\":\"c0\",\"meta\":false,\"args\":0,\"body\":0}", imp > 1 ? "," : "", imp);
     put("],\"items\":[]}");
 }
 
-static uint32_t with_spare(uint32_t count, uint32_t most) { return count + SPARE < most ? count + SPARE : most; }
+static uint32_t with_spare(uint32_t count, uint32_t spare, uint32_t most) { return count + spare < most ? count + spare : most; }
 
 static void check_numbers(struct life *life)
 {
@@ -115,13 +117,14 @@ static struct life *open_life(void)
     if (life) return life;
     life = shim_memory(sizeof *life);
     life->users = 1;
-    life->selectors = with_spare(shim_selector_count, MOST_SELECTORS);
+    life->classes = with_spare(shim_class_count, SPARE_CLASSES, MOST_CLASSES);
+    life->selectors = with_spare(shim_selector_count, SPARE, MOST_SELECTORS);
     life->imps = MOST_IMPS;
     for (uint32_t i = 1; i <= shim_class_count; i++) {
         number_functions(life, shim_classes[i]->record);
         number_functions(life, shim_classes[i]->isa->record);
     }
-    life->imps = with_spare(life->imp_count, MOST_IMPS);
+    life->imps = with_spare(life->imp_count, SPARE, MOST_IMPS);
     write_document(life);
     uint32_t fault = msg_open(&life->runtime, (const uint8_t *)document.text, document.length);
     if (fault) {
@@ -214,4 +217,25 @@ void shim_exchange(struct record *one, uint32_t sel, struct record *other, uint3
 {
     struct life *life = atomic_load(&current);
     if (life && msg_exchange(&life->runtime, one->number, one->meta, sel, other->number, other->meta, other_sel)) shim_outdate();
+}
+
+static void replace_rows(struct record *record)
+{
+    for (uint32_t i = 0; i < record->count; i++) shim_replace(record, record->rows[i].sel, record->rows[i].method->imp);
+}
+
+void shim_make(Class class_)
+{
+    struct life *life = atomic_load(&current);
+    if (!life) return;
+    uint32_t number = class_->record->number;
+    Class above = class_->superclass.class_;
+    uint32_t fault = MSG_LIMIT;
+    if (number <= life->classes) fault = above ? msg_make_class(&life->runtime, number, above->record->number) : msg_make_root_class(&life->runtime, number);
+    if (fault) {
+        shim_outdate();
+        return;
+    }
+    replace_rows(class_->record);
+    replace_rows(class_->isa->record);
 }

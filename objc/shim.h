@@ -62,6 +62,7 @@ IMP shim_forward(id receiver, SEL sel);
 void shim_outdate(void);
 /* One change of the tables, beside the rows; where this life can't hold it, they are outdated. */
 void shim_replace(struct record *record, uint32_t sel, IMP imp);
+void shim_make(Class class_);
 void shim_exchange(struct record *one, uint32_t sel, struct record *other, uint32_t other_sel);
 /* Where the method stands that the tables find, or NULL. */
 struct record *shim_holder(struct record *record, uint32_t sel);

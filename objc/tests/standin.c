@@ -28,7 +28,7 @@ uint32_t msg_open(msg_runtime *runtime, const uint8_t *text, size_t length)
     struct tables *tables = calloc(1, sizeof *tables);
     char *copy = calloc(1, length + 1);
     memcpy(copy, text, length);
-    const char *end = strstr(copy, "\"categories\""), *at = strstr(copy, "{\"name\":\"c");
+    const char *end = strstr(copy, "\"made\""), *at = strstr(copy, "{\"name\":\"c");
     while (at && at < end) {
         const char *next = strstr(at + 1, "{\"name\":\"c");
         read_class(tables, at, next && next < end ? next : end);
@@ -101,6 +101,22 @@ uint32_t msg_exchange(msg_runtime *runtime, uint32_t number, bool meta, uint32_t
     *one = *two;
     *two = kept;
     return MSG_DONE;
+}
+
+uint32_t msg_make_class(msg_runtime *runtime, uint32_t number, uint32_t superclass)
+{
+    struct tables *tables = runtime->at;
+    if (tables->changes == CHANGES) return MSG_LIMIT;
+    tables->changes++;
+    tables->above[number] = (int)superclass;
+    return MSG_DONE;
+}
+
+uint32_t msg_make_root_class(msg_runtime *runtime, uint32_t number)
+{
+    uint32_t fault = msg_make_class(runtime, number, 0);
+    if (!fault) ((struct tables *)runtime->at)->above[number] = -1;
+    return fault;
 }
 
 uint32_t msg_sender_open(msg_runtime *runtime, msg_sender *sender)
