@@ -1,36 +1,24 @@
 /* A life of the proved runtime: its document is written from the rows; when it can't hold more, the next is opened with the tables as they are. */
-#include "shim.h"
-#include "msg_runtime.h"
+#include "seat.h"
 #include <stdarg.h>
 #include <stdio.h>
 #include <stdlib.h>
 
-enum { MOST_IMPS = 4095, SPARE = 128, SPARE_CLASSES = 16, PLACES = 16384 };
-
-/* `classes`, `selectors` and `imps` are how many its document has, with those to spare; `functions` are numbered as it needs them.
- * `users`: the senders of it that are out, and one while it is the current. */
-struct life {
-    msg_runtime runtime;
-    uint32_t classes, selectors, imps, imp_count, users;
-    _Atomic(IMP) functions[MOST_IMPS + 1];
-    uint16_t function_at[PLACES];
-};
-
-struct seat { struct life *life; msg_sender sender; };
+enum { SPARE = 128, SPARE_CLASSES = 16 };
 
 pthread_mutex_t shim_lock = PTHREAD_MUTEX_INITIALIZER;
-static _Atomic(struct life *) current;
+struct now shim_now;
+_Thread_local struct seat shim_seat;
 static pthread_key_t seats;
 static pthread_once_t once = PTHREAD_ONCE_INIT;
-static _Thread_local struct seat own_seat;
 
 static struct { char *text; size_t length, room; } document;
 
 /* The number of a function in this life, or 0 where there is no more room. */
 static uint32_t number_of(struct life *life, IMP imp)
 {
-    uint32_t at = (uint32_t)(((uintptr_t)imp >> 2) % PLACES);
-    for (; life->function_at[at]; at = (at + 1) % PLACES)
+    uint32_t at = (uint32_t)(((uintptr_t)imp >> 2) % IMP_PLACES);
+    for (; life->function_at[at]; at = (at + 1) % IMP_PLACES)
         if (atomic_load_explicit(&life->functions[life->function_at[at]], memory_order_relaxed) == imp) return life->function_at[at];
     if (life->imp_count == life->imps) return 0;
     atomic_store(&life->functions[++life->imp_count], imp);
@@ -104,16 +92,16 @@ static void leave(struct life *life) { if (!--life->users) free(life); }
 
 void shim_outdate(void)
 {
-    struct life *life = atomic_load(&current);
+    struct life *life = atomic_load(&shim_now.life);
     if (!life) return;
-    atomic_store(&current, NULL);
+    atomic_store(&shim_now.life, NULL);
     msg_close(&life->runtime);
     leave(life);
 }
 
 static struct life *open_life(void)
 {
-    struct life *life = atomic_load(&current);
+    struct life *life = atomic_load(&shim_now.life);
     if (life) return life;
     life = shim_memory(sizeof *life);
     life->users = 1;
@@ -133,7 +121,7 @@ static struct life *open_life(void)
         shim_stop("the tables were refused", number);
     }
     check_numbers(life);
-    atomic_store(&current, life);
+    atomic_store(&shim_now.life, life);
     return life;
 }
 
@@ -176,8 +164,6 @@ struct record *shim_holder(struct record *record, uint32_t sel)
     return at.meta ? class_->isa->record : class_->record;
 }
 
-static IMP function(struct life *life, uint32_t imp) { return atomic_load_explicit(&life->functions[imp], memory_order_acquire); }
-
 /* Where all 64 senders are out: the tables themselves, under the lock. */
 static IMP find_seatless(struct record *record, uint32_t sel)
 {
@@ -185,38 +171,52 @@ static IMP find_seatless(struct record *record, uint32_t sel)
     HOLDING(&shim_lock);
     struct life *life = open_life();
     if (sel <= life->selectors && msg_lookup(&life->runtime, record->number, record->meta, sel, &imp)) shim_stop("no lookup", "seatless");
-    return function(life, imp);
+    return shim_function(life, imp);
 }
 
-IMP shim_find(struct record *record, uint32_t sel)
+/* How many changes there were is read before the sender looks, so that it has seen them. */
+static void see_changes(struct seat *seat)
 {
-    struct seat *seat = &own_seat;
+    uint64_t seen, changes = atomic_load_explicit(&shim_now.changes, memory_order_acquire);
+    if (msg_refresh(&seat->sender, &seen)) shim_stop("no refresh", "sender");
+    seat->changes = changes;
+}
+
+IMP shim_find_slowly(struct record *record, uint32_t sel)
+{
+    struct seat *seat = &shim_seat;
     for (;;) {
         uint32_t imp;
-        uint64_t seen;
-        struct life *life = atomic_load_explicit(&current, memory_order_acquire);
+        struct life *life = atomic_load_explicit(&shim_now.life, memory_order_acquire);
         if (!life || seat->life != life) life = sit_down(seat);
         if (seat->life != life) return find_seatless(record, sel);
         if (sel > life->selectors) return NULL; /* no method of the name stands anywhere */
-        if (msg_refresh(&seat->sender, &seen)) shim_stop("no refresh", "sender");
+        see_changes(seat);
         uint32_t answer = msg_find(&life->runtime, &shim_lock, &seat->sender, record->number, record->meta, sel, &imp);
-        if (answer == MSG_DONE) return function(life, imp);
+        if (answer == MSG_DONE) return shim_function(life, imp);
         if (answer != MSG_CLOSED) shim_stop("no answer", "find"); /* closed: it was opened anew meanwhile */
     }
 }
 
+/* After a change of the tables, before its call returns. */
+static void changed(uint32_t fault)
+{
+    if (fault) shim_outdate();
+    else atomic_fetch_add(&shim_now.changes, 1);
+}
+
 void shim_replace(struct record *record, uint32_t sel, IMP imp)
 {
-    struct life *life = atomic_load(&current);
+    struct life *life = atomic_load(&shim_now.life);
     if (!life || !record->number) return;
     uint32_t number = sel > life->selectors ? 0 : number_of(life, imp);
-    if (!number || msg_replace(&life->runtime, record->number, record->meta, sel, number)) shim_outdate();
+    changed(number ? msg_replace(&life->runtime, record->number, record->meta, sel, number) : MSG_LIMIT);
 }
 
 void shim_exchange(struct record *one, uint32_t sel, struct record *other, uint32_t other_sel)
 {
-    struct life *life = atomic_load(&current);
-    if (life && msg_exchange(&life->runtime, one->number, one->meta, sel, other->number, other->meta, other_sel)) shim_outdate();
+    struct life *life = atomic_load(&shim_now.life);
+    if (life) changed(msg_exchange(&life->runtime, one->number, one->meta, sel, other->number, other->meta, other_sel));
 }
 
 static void replace_rows(struct record *record)
@@ -226,16 +226,14 @@ static void replace_rows(struct record *record)
 
 void shim_make(Class class_)
 {
-    struct life *life = atomic_load(&current);
+    struct life *life = atomic_load(&shim_now.life);
     if (!life) return;
     uint32_t number = class_->record->number;
     Class above = class_->superclass.class_;
     uint32_t fault = MSG_LIMIT;
     if (number <= life->classes) fault = above ? msg_make_class(&life->runtime, number, above->record->number) : msg_make_root_class(&life->runtime, number);
-    if (fault) {
-        shim_outdate();
-        return;
-    }
+    changed(fault);
+    if (fault) return;
     replace_rows(class_->record);
     replace_rows(class_->isa->record);
 }

@@ -1,5 +1,5 @@
 /* Sends: +initialize before a class's first, and then what the proved dispatcher finds. */
-#include "shim.h"
+#include "seat.h"
 
 static pthread_mutex_t initializing;
 static pthread_once_t once = PTHREAD_ONCE_INIT;

@@ -66,7 +66,5 @@ void shim_make(Class class_);
 void shim_exchange(struct record *one, uint32_t sel, struct record *other, uint32_t other_sel);
 /* Where the method stands that the tables find, or NULL. */
 struct record *shim_holder(struct record *record, uint32_t sel);
-/* Without the lock: what the calling thread's sender finds, by all changes that returned before; NULL is forwarding. */
-IMP shim_find(struct record *record, uint32_t sel);
 
 #endif
