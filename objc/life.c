@@ -7,7 +7,8 @@
 enum { SPARE = 128, SPARE_CLASSES = 16 };
 
 pthread_mutex_t shim_lock = PTHREAD_MUTEX_INITIALIZER;
-struct now shim_now;
+_Atomic(uint64_t) shim_epoch = 1;
+static _Atomic(struct life *) current;
 _Thread_local struct seat shim_seat;
 static pthread_key_t seats;
 static pthread_once_t once = PTHREAD_ONCE_INIT;
@@ -92,16 +93,17 @@ static void leave(struct life *life) { if (!--life->users) free(life); }
 
 void shim_outdate(void)
 {
-    struct life *life = atomic_load(&shim_now.life);
+    struct life *life = atomic_load(&current);
     if (!life) return;
-    atomic_store(&shim_now.life, NULL);
+    atomic_store(&current, NULL);
+    atomic_fetch_add(&shim_epoch, 1);
     msg_close(&life->runtime);
     leave(life);
 }
 
 static struct life *open_life(void)
 {
-    struct life *life = atomic_load(&shim_now.life);
+    struct life *life = atomic_load(&current);
     if (life) return life;
     life = shim_memory(sizeof *life);
     life->users = 1;
@@ -121,7 +123,7 @@ static struct life *open_life(void)
         shim_stop("the tables were refused", number);
     }
     check_numbers(life);
-    atomic_store(&shim_now.life, life);
+    atomic_store(&current, life);
     return life;
 }
 
@@ -131,6 +133,7 @@ static void give_back(struct seat *seat)
     msg_sender_close(&seat->life->runtime, &seat->sender);
     leave(seat->life);
     seat->life = NULL;
+    seat->epoch = 0;
 }
 
 static void at_thread_end(void *taken)
@@ -174,24 +177,19 @@ static IMP find_seatless(struct record *record, uint32_t sel)
     return shim_function(life, imp);
 }
 
-/* How many changes there were is read before the sender looks, so that it has seen them. */
-static void see_changes(struct seat *seat)
-{
-    uint64_t seen, changes = atomic_load_explicit(&shim_now.changes, memory_order_acquire);
-    if (msg_refresh(&seat->sender, &seen)) shim_stop("no refresh", "sender");
-    seat->changes = changes;
-}
-
-IMP shim_find_slowly(struct record *record, uint32_t sel)
+/* The epoch is read before the life and before what the sender sees, so that what ends or changes them later makes it another. */
+IMP shim_find(struct record *record, uint32_t sel)
 {
     struct seat *seat = &shim_seat;
     for (;;) {
         uint32_t imp;
-        struct life *life = atomic_load_explicit(&shim_now.life, memory_order_acquire);
+        uint64_t seen, epoch = atomic_load_explicit(&shim_epoch, memory_order_acquire);
+        struct life *life = atomic_load_explicit(&current, memory_order_acquire);
         if (!life || seat->life != life) life = sit_down(seat);
         if (seat->life != life) return find_seatless(record, sel);
         if (sel > life->selectors) return NULL; /* no method of the name stands anywhere */
-        see_changes(seat);
+        if (msg_refresh(&seat->sender, &seen)) shim_stop("no refresh", "sender");
+        seat->epoch = epoch;
         uint32_t answer = msg_find(&life->runtime, &shim_lock, &seat->sender, record->number, record->meta, sel, &imp);
         if (answer == MSG_DONE) return shim_function(life, imp);
         if (answer != MSG_CLOSED) shim_stop("no answer", "find"); /* closed: it was opened anew meanwhile */
@@ -202,12 +200,12 @@ IMP shim_find_slowly(struct record *record, uint32_t sel)
 static void changed(uint32_t fault)
 {
     if (fault) shim_outdate();
-    else atomic_fetch_add(&shim_now.changes, 1);
+    else atomic_fetch_add(&shim_epoch, 1);
 }
 
 void shim_replace(struct record *record, uint32_t sel, IMP imp)
 {
-    struct life *life = atomic_load(&shim_now.life);
+    struct life *life = atomic_load(&current);
     if (!life || !record->number) return;
     uint32_t number = sel > life->selectors ? 0 : number_of(life, imp);
     changed(number ? msg_replace(&life->runtime, record->number, record->meta, sel, number) : MSG_LIMIT);
@@ -215,7 +213,7 @@ void shim_replace(struct record *record, uint32_t sel, IMP imp)
 
 void shim_exchange(struct record *one, uint32_t sel, struct record *other, uint32_t other_sel)
 {
-    struct life *life = atomic_load(&shim_now.life);
+    struct life *life = atomic_load(&current);
     if (life) changed(msg_exchange(&life->runtime, one->number, one->meta, sel, other->number, other->meta, other_sel));
 }
 
@@ -226,7 +224,7 @@ static void replace_rows(struct record *record)
 
 void shim_make(Class class_)
 {
-    struct life *life = atomic_load(&shim_now.life);
+    struct life *life = atomic_load(&current);
     if (!life) return;
     uint32_t number = class_->record->number;
     Class above = class_->superclass.class_;

@@ -16,28 +16,26 @@ struct life {
     uint16_t function_at[IMP_PLACES];
 };
 
-/* `changes`: its sender has seen all that had returned when there were so many. */
-struct seat { struct life *life; uint64_t changes; msg_sender sender; };
+/* `epoch`: 0, or the one at which its life was the current and its sender had seen all. */
+struct seat { uint64_t epoch; struct life *life; msg_sender sender; };
 
-/* `changes` grows before a change returns. */
-struct now { _Atomic(struct life *) life; _Atomic(uint64_t) changes; };
-
-extern struct now shim_now;
+/* It grows before a change returns, and with each life that ends. */
+extern _Atomic(uint64_t) shim_epoch;
 extern _Thread_local struct seat shim_seat;
 
-IMP shim_find_slowly(struct record *record, uint32_t sel);
+/* What the calling thread's sender finds, by all changes that returned before; NULL is forwarding. */
+IMP shim_find(struct record *record, uint32_t sel);
 
 static inline IMP shim_function(struct life *life, uint32_t imp) { return atomic_load_explicit(&life->functions[imp], memory_order_acquire); }
 
-/* What the calling thread's sender finds, by all changes that returned before; NULL is forwarding. */
-static inline IMP shim_find(struct record *record, uint32_t sel)
+/* The same where the thread's sender has it at hand, else NULL. */
+static inline IMP shim_probe(struct record *record, uint32_t sel)
 {
     uint32_t imp;
     struct seat *seat = &shim_seat;
-    struct life *life = atomic_load_explicit(&shim_now.life, memory_order_acquire);
-    if (seat->life != life || !life || seat->changes != atomic_load_explicit(&shim_now.changes, memory_order_acquire)) return shim_find_slowly(record, sel);
-    if (sel > life->selectors || msg_probe(&seat->sender, record->number, record->meta, sel, &imp)) return shim_find_slowly(record, sel);
-    return shim_function(life, imp);
+    if (seat->epoch != atomic_load_explicit(&shim_epoch, memory_order_acquire)) return NULL;
+    struct life *life = seat->life;
+    return msg_probe(&seat->sender, record->number, record->meta, sel, &imp) ? NULL : shim_function(life, imp);
 }
 
 #endif

@@ -73,11 +73,9 @@ static IMP find_slowly(id receiver, Class class_, SEL sel)
 static inline IMP find(id receiver, Class class_, SEL sel)
 {
     struct record *record = class_ ? class_->record : NULL;
-    if (record && atomic_load_explicit(&record->initialized, memory_order_acquire) == DONE) {
-        IMP imp = shim_find(record, (uint32_t)sel->name.number);
-        if (imp) return imp;
-    }
-    return find_slowly(receiver, class_, sel);
+    if (!record || atomic_load_explicit(&record->initialized, memory_order_acquire) != DONE) return find_slowly(receiver, class_, sel);
+    IMP imp = shim_probe(record, (uint32_t)sel->name.number);
+    return imp ? imp : find_slowly(receiver, class_, sel);
 }
 
 IMP objc_msg_lookup(id receiver, SEL sel) { return receiver ? find(receiver, receiver->isa, sel) : answer_nil; }
