@@ -32,10 +32,8 @@ static inline IMP shim_function(struct life *life, uint32_t imp) { return atomic
 static inline IMP shim_probe(struct record *record, uint32_t sel)
 {
     uint32_t imp;
-    struct seat *seat = &shim_seat;
-    if (seat->epoch != atomic_load_explicit(&shim_epoch, memory_order_acquire)) return NULL;
-    struct life *life = seat->life;
-    return msg_probe(&seat->sender, record->number, record->meta, sel, &imp) ? NULL : shim_function(life, imp);
+    if (shim_seat.epoch != atomic_load_explicit(&shim_epoch, memory_order_acquire)) return NULL;
+    return msg_probe(&shim_seat.sender, record->number, record->meta, sel, &imp) ? NULL : shim_function(shim_seat.life, imp);
 }
 
 #endif

@@ -62,7 +62,7 @@ bool shim_resolve(Class class_, SEL sel)
 
 static IMP find_slowly(id receiver, Class class_, SEL sel)
 {
-    if (!class_) shim_stop("an object without a class is sent", sel_getName(sel));
+    if (!class_) shim_stop("a root class has no super to be sent", sel_getName(sel));
     if (!class_->record) shim_stop("a class is used before its superclass is there", class_->name);
     if (atomic_load(&class_->record->plain->initialized) != DONE && !shim_in_construction(class_)) initialize(plain_class(class_));
     IMP imp = shim_look(class_, sel);
@@ -70,17 +70,34 @@ static IMP find_slowly(id receiver, Class class_, SEL sel)
     return imp ? imp : shim_forward(receiver, sel);
 }
 
-static inline IMP find(id receiver, Class class_, SEL sel)
+/* What the thread has at hand, of a class that was initialized; else NULL. */
+static inline IMP at_hand(Class class_, SEL sel)
 {
-    struct record *record = class_ ? class_->record : NULL;
-    if (!record || atomic_load_explicit(&record->initialized, memory_order_acquire) != DONE) return find_slowly(receiver, class_, sel);
-    IMP imp = shim_probe(record, (uint32_t)sel->name.number);
-    return imp ? imp : find_slowly(receiver, class_, sel);
+    struct record *record = class_->record;
+    if (!record || atomic_load_explicit(&record->initialized, memory_order_acquire) != DONE) return NULL;
+    return shim_probe(record, (uint32_t)sel->name.number);
 }
 
-IMP objc_msg_lookup(id receiver, SEL sel) { return receiver ? find(receiver, receiver->isa, sel) : answer_nil; }
-IMP objc_msg_lookup_super(struct objc_super *super_, SEL sel) { return super_->self ? find(super_->self, super_->class_, sel) : answer_nil; }
-IMP class_getMethodImplementation(Class class_, SEL sel) { return class_ && sel ? find(NULL, class_, sel) : NULL; }
+IMP objc_msg_lookup(id receiver, SEL sel)
+{
+    if (!receiver) return answer_nil;
+    IMP imp = at_hand(receiver->isa, sel);
+    return imp ? imp : find_slowly(receiver, receiver->isa, sel);
+}
+
+IMP objc_msg_lookup_super(struct objc_super *super_, SEL sel)
+{
+    if (!super_->self) return answer_nil;
+    IMP imp = super_->class_ ? at_hand(super_->class_, sel) : NULL;
+    return imp ? imp : find_slowly(super_->self, super_->class_, sel);
+}
+
+IMP class_getMethodImplementation(Class class_, SEL sel)
+{
+    if (!class_ || !sel) return NULL;
+    IMP imp = at_hand(class_, sel);
+    return imp ? imp : find_slowly(NULL, class_, sel);
+}
 
 BOOL class_respondsToSelector(Class class_, SEL sel)
 {
