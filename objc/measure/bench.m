@@ -1,4 +1,4 @@
-/* bench LOAD THREADS: nanoseconds of one step, the least of the windows, each that of its slowest thread.
+/* bench LOAD THREADS [WINDOWS]: nanoseconds of one step, the least of the windows, each that of its slowest thread.
  * LOAD: own, inherited, mixed (objc_msg_lookup); class (a send to a class by name); on one thread, class_replaceMethod with the next send: replace, in a
  * class without subclasses, and replace_above, in one that has two. */
 #include "../calls.h"
@@ -8,7 +8,7 @@
 #include <string.h>
 #include <time.h>
 
-enum { WINDOWS = 51, STEPS = 20000, REPLACEMENTS = 200, MOST_THREADS = 16, OBJECTS = 64, CLASSES = 8, ORDER = 1024 };
+enum { MOST_WINDOWS = 51, STEPS = 20000, REPLACEMENTS = 200, MOST_THREADS = 16, OBJECTS = 64, CLASSES = 8, ORDER = 1024 };
 
 __attribute__((objc_root_class)) @interface Level0 { Class isa; }
 + (void)initialize;
@@ -40,7 +40,8 @@ LEVEL(Level7, Level2, fourth)
 static id objects[OBJECTS];
 static SEL sels[4];
 static struct { id object; SEL sel; } order[ORDER];
-static double times[MOST_THREADS][WINDOWS];
+static double times[MOST_THREADS][MOST_WINDOWS];
+static int windows = MOST_WINDOWS;
 static pthread_barrier_t barrier;
 static const char *load;
 
@@ -100,7 +101,7 @@ static void *work(void *number)
 {
     double *mine = times[(intptr_t)number];
     uintptr_t sum = step();
-    for (int window = 0; window < WINDOWS; window++) {
+    for (int window = 0; window < windows; window++) {
         pthread_barrier_wait(&barrier);
         double begun = now();
         sum += step();
@@ -134,11 +135,12 @@ int main(int count, char **words)
     pthread_t ids[MOST_THREADS];
     double least = 1e18;
     load = words[1];
+    if (count > 3) windows = atoi(words[3]);
     prepare();
     pthread_barrier_init(&barrier, NULL, (unsigned)threads);
     for (intptr_t i = 0; i < threads; i++) pthread_create(&ids[i], NULL, work, (void *)i);
     for (int i = 0; i < threads; i++) pthread_join(ids[i], NULL);
-    for (int window = 0; window < WINDOWS; window++) {
+    for (int window = 0; window < windows; window++) {
         double slowest = 0;
         for (int i = 0; i < threads; i++)
             if (times[i][window] > slowest) slowest = times[i][window];
