@@ -9,7 +9,9 @@ enum { SPARE = 128, SPARE_CLASSES = 16 };
 pthread_mutex_t shim_lock = PTHREAD_MUTEX_INITIALIZER;
 _Atomic(uint64_t) shim_epoch = 1;
 static _Atomic(struct life *) current;
-_Thread_local struct seat shim_seat;
+static struct seat nobody;
+static _Thread_local struct seat own_seat;
+_Thread_local struct seat *shim_seat = &nobody; /* until the thread's first send, which finds epoch 0 there */
 static pthread_key_t seats;
 static pthread_once_t once = PTHREAD_ONCE_INIT;
 
@@ -180,7 +182,7 @@ static IMP find_seatless(struct record *record, uint32_t sel)
 /* The epoch is read before the life and before what the sender sees, so that what ends or changes them later makes it another. */
 IMP shim_find(struct record *record, uint32_t sel)
 {
-    struct seat *seat = &shim_seat;
+    struct seat *seat = shim_seat = &own_seat;
     for (;;) {
         uint32_t imp;
         uint64_t seen, epoch = atomic_load_explicit(&shim_epoch, memory_order_acquire);

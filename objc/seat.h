@@ -21,19 +21,21 @@ struct seat { uint64_t epoch; struct life *life; msg_sender sender; };
 
 /* It grows before a change returns, and with each life that ends. */
 extern _Atomic(uint64_t) shim_epoch;
-extern _Thread_local struct seat shim_seat;
+extern _Thread_local struct seat *shim_seat;
 
 /* What the calling thread's sender finds, by all changes that returned before; NULL is forwarding. */
 IMP shim_find(struct record *record, uint32_t sel);
 
 static inline IMP shim_function(struct life *life, uint32_t imp) { return atomic_load_explicit(&life->functions[imp], memory_order_acquire); }
 
-/* The same where the thread's sender has it at hand, else NULL. */
+/* The same where the thread's sender has it at hand and the class was initialized, else NULL: a probe for NOBODY is refused. */
 static inline IMP shim_probe(struct record *record, uint32_t sel)
 {
     uint32_t imp;
-    if (shim_seat.epoch != atomic_load_explicit(&shim_epoch, memory_order_acquire)) return NULL;
-    return msg_probe(&shim_seat.sender, record->number, record->meta, sel, &imp) ? NULL : shim_function(shim_seat.life, imp);
+    struct seat *seat = shim_seat;
+    if (seat->epoch != atomic_load_explicit(&shim_epoch, memory_order_acquire)) return NULL;
+    uint32_t number = atomic_load_explicit(&record->probed, memory_order_acquire);
+    return msg_probe(&seat->sender, number, record->meta, sel, &imp) ? NULL : shim_function(seat->life, imp);
 }
 
 #endif

@@ -43,7 +43,8 @@ static void initialize(Class class_)
     IMP imp = shim_look(class_->isa, sel);
     if (imp) imp((id)class_, sel);
     atomic_store(&class_->record->initialized, DONE);
-    atomic_store(&class_->isa->record->initialized, DONE);
+    atomic_store(&class_->record->probed, class_->record->number);
+    atomic_store(&class_->isa->record->probed, class_->record->number);
 }
 
 static Class plain_class(Class class_) { return class_->record->meta ? shim_classes[class_->record->number] : class_; }
@@ -70,13 +71,8 @@ static IMP find_slowly(id receiver, Class class_, SEL sel)
     return imp ? imp : shim_forward(receiver, sel);
 }
 
-/* What the thread has at hand, of a class that was initialized; else NULL. */
-static inline IMP at_hand(Class class_, SEL sel)
-{
-    struct record *record = class_->record;
-    if (!record || atomic_load_explicit(&record->initialized, memory_order_acquire) != DONE) return NULL;
-    return shim_probe(record, (uint32_t)sel->name.number);
-}
+/* What the thread has at hand, else NULL. */
+static inline IMP at_hand(Class class_, SEL sel) { return class_->record ? shim_probe(class_->record, (uint32_t)sel->name.number) : NULL; }
 
 IMP objc_msg_lookup(id receiver, SEL sel)
 {

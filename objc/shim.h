@@ -14,8 +14,12 @@ struct row { uint32_t sel; Method method; };
 
 enum { NOT_YET, RUNNING, DONE };
 
-/* Number 0: a class in construction, which no tables hold. `plain`: of a metaclass's record, its class's; else itself. */
-struct record { uint32_t number; bool meta; atomic_int initialized; struct record *plain; struct row *rows; uint32_t count, room; };
+/* No class has it. */
+#define NOBODY UINT32_MAX
+
+/* `probed`: the number, once the class was initialized; before, NOBODY. `number` is 0 for a class in construction, which no tables hold.
+ * `plain`: of a metaclass's record, its class's; else itself. */
+struct record { _Atomic(uint32_t) probed; bool meta; uint32_t number; atomic_int initialized; struct record *plain; struct row *rows; uint32_t count, room; };
 
 extern pthread_mutex_t shim_lock;
 extern Class shim_classes[MOST_CLASSES + 1]; /* by number, from 1; class 0 of the tables lists the selectors */
