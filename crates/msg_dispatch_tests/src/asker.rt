@@ -5,7 +5,7 @@ ghost use Rattle.std.specs.Coded.{codes};
 ghost use Rattle.msg_image.specs.Coding.{coded_expression};
 ghost use Rattle.msg_image.specs.Parts.{class_total};
 
-use msg_dispatch::{ArenaName, Changer, Sender};
+use msg_dispatch::{ArenaName, Changer, Dispatcher, NoSenderFree, Sender};
 use msg_names::{ClassRef, ImpRef, Selector};
 use std::process::Abort;
 use std::sync::Wait;
@@ -56,5 +56,28 @@ impl<'d, N: ArenaName> Asker<'d, N> {
 
     pub(crate) fn lock_takings(&self) -> u64 {
         self.sender.lock_takings()
+    }
+}
+
+// What a thread opens its sender with.
+#[derive(Drop)]
+pub(crate) struct Opener<'d, N: ArenaName> {
+    dispatcher: &'d Dispatcher<N>,
+    classes: u32,
+    pub ghost classes_are: { classes ≡ class_total N.arena.key.image },
+}
+
+impl<'d, N: ArenaName> Opener<'d, N> {
+    pub(crate) fn of(dispatcher: &'d Dispatcher<N>, classes: u32) -> Opener<'d, N>
+        requires { classes ≡ class_total N.arena.key.image }
+    {
+        Opener {
+            dispatcher,
+            classes,
+        }
+    }
+
+    pub(crate) fn open<R: Wait>(&self, rt: &R) -> Result<Asker<'d, N>, NoSenderFree> {
+        Ok(Asker::of(self.dispatcher.sender(rt)?, self.classes))
     }
 }

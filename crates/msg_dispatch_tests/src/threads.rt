@@ -4,13 +4,13 @@ ghost use Rattle.std.specs.Prelude.{◌≡◌, ◌<◌, ◌≤◌, IfOk};
 ghost use Rattle.msg_tables.specs.History.{empty};
 ghost use Rattle.msg_runtime.specs.Parts.{IsKeeperOf, keeper_history};
 
-use crate::asker::Asker;
+use crate::asker::{Asker, Opener};
 use crate::images::{CHAIN, GRAND, ROOT, grid, image, opened, selector};
 use msg_cache::{Arena, Keeper};
 use msg_dispatch::{ArenaName, Changer, Dispatcher, NoSenderFree};
 use msg_image::{Change, Image};
 use msg_names::{ClassRef, ImpRef, Selector};
-use std::alloc::Global;
+use std::alloc::{AllocError, Global};
 use std::marker::Brand;
 use std::process::Abort;
 use std::sync::Wait;
@@ -38,18 +38,39 @@ fn exchange<N: ArenaName, R: Wait + Abort>(
 }
 
 // Asks a hundred times, and is answered one of two implementations each time.
-fn ask<'d, N: ArenaName, R: Wait + Abort>(
+fn ask<N: ArenaName, R: Wait + Abort>(
     rt: &R,
-    sender: Asker<'d, N>,
+    sender: &mut Asker<'_, N>,
     class: ClassRef,
     sel: Selector,
-) -> Asker<'d, N> {
-    let mut sender = sender;
+) {
     for _time in 0..100 {
         let found = sender.find(rt, class, sel).number();
         assert!(rt; found == 1 || found == 2);
     }
-    sender
+}
+
+// So many threads ask, each by a sender that it opens. Says of each whether one was free.
+fn ask_in_threads<N: ArenaName + Send + Sync, R: Threads + Wait + Abort + Sync>(
+    rt: &R,
+    alloc: Global,
+    opener: &Opener<'_, N>,
+    threads: usize,
+    class: ClassRef,
+    sel: Selector,
+) -> Result<Vec<bool>, AllocError> {
+    thread::map_indices(
+        rt,
+        alloc,
+        threads,
+        &|_number| match opener.open(rt) {
+            Ok(mut sender) => {
+                ask(rt, &mut sender, class, sel);
+                true
+            }
+            Err(NoSenderFree) => false,
+        },
+    )
 }
 
 fn all_ask_beside_exchanges<N: ArenaName + Send + Sync, R: Threads + Wait + Abort + Sync>(
@@ -68,23 +89,21 @@ fn all_ask_beside_exchanges<N: ArenaName + Send + Sync, R: Threads + Wait + Abor
     let name = selector(3)?;
     let dispatcher: Dispatcher<N> = Dispatcher::open(alloc, arena, keeper, image)?;
     let mut changer = dispatcher.changer(rt)?;
-    let mut senders = Vec::new(alloc);
-    for _number in 0..64 {
-        senders.push(Asker::of(dispatcher.sender(rt)?, image.class_count()))?;
-    }
-    assert!(rt; matches!(dispatcher.sender(rt), Err(NoSenderFree)));
+    let opener = Opener::of(&dispatcher, image.class_count());
+    let mut first = opener.open(rt)?;
     assert_eq!(rt; image.listed_count(), 3);
     let (_changed, asked) = thread::join(
         rt,
         || exchange(rt, &mut changer, value, name, 100),
-        || thread::map_vec(rt, senders, &|sender| ask(rt, sender, GRAND, value)),
+        || ask_in_threads(rt, alloc, &opener, 63, GRAND, value),
     );
-    for sender in asked? {
-        let mut sender = sender;
-        sender.meet(rt, &mut changer);
-        assert_eq!(rt; sender.find(rt, GRAND, value).number(), 1);
-        assert_eq!(rt; sender.published(), 100);
+    for asked in asked? {
+        assert!(rt; asked);
     }
+    assert!(rt; matches!(opener.open(rt), Err(NoSenderFree)));
+    first.meet(rt, &mut changer);
+    assert_eq!(rt; first.find(rt, GRAND, value).number(), 1);
+    assert_eq!(rt; first.published(), 100);
     Ok(())
 }
 
@@ -125,12 +144,7 @@ fn add_all<N: ArenaName, R: Wait + Abort>(rt: &R, changer: &mut Changer<'_, N>) 
 }
 
 // Asks for what is added, until the last was found and so many answers were given. What was added before something that was found is found, too.
-fn never_older<'d, N: ArenaName, R: Wait + Abort>(
-    rt: &R,
-    sender: Asker<'d, N>,
-    times: u32,
-) -> Asker<'d, N> {
-    let mut sender = sender;
+fn never_older<N: ArenaName, R: Wait + Abort>(rt: &R, sender: &mut Asker<'_, N>, times: u32) {
     let mut found = 0;
     let mut place = 7u32;
     for _time in 0..times {
@@ -144,7 +158,28 @@ fn never_older<'d, N: ArenaName, R: Wait + Abort>(
             }
         }
     }
-    sender
+}
+
+// So many threads ask so many times, each by a sender that it opens. Says of each whether one was free.
+fn never_older_in_threads<N: ArenaName + Send + Sync, R: Threads + Wait + Abort + Sync>(
+    rt: &R,
+    alloc: Global,
+    opener: &Opener<'_, N>,
+    threads: usize,
+    times: u32,
+) -> Result<Vec<bool>, AllocError> {
+    thread::map_indices(
+        rt,
+        alloc,
+        threads,
+        &|_number| match opener.open(rt) {
+            Ok(mut sender) => {
+                never_older(rt, &mut sender, times);
+                true
+            }
+            Err(NoSenderFree) => false,
+        },
+    )
 }
 
 fn three_ask_beside_additions<N: ArenaName + Send + Sync, R: Threads + Wait + Abort + Sync>(
@@ -161,23 +196,21 @@ fn three_ask_beside_additions<N: ArenaName + Send + Sync, R: Threads + Wait + Ab
 {
     let dispatcher: Dispatcher<N> = Dispatcher::open(alloc, arena, keeper, image)?;
     let mut changer = dispatcher.changer(rt)?;
-    let mut senders = Vec::new(alloc);
-    for _number in 0..3 {
-        senders.push(Asker::of(dispatcher.sender(rt)?, image.class_count()))?;
-    }
+    let opener = Opener::of(&dispatcher, image.class_count());
+    let mut first = opener.open(rt)?;
     assert_eq!(rt; image.listed_count(), 33);
     let (_changed, asked) = thread::join(
         rt,
         || add_all(rt, &mut changer),
-        || thread::map_vec(rt, senders, &|sender| never_older(rt, sender, 500_000)),
+        || never_older_in_threads(rt, alloc, &opener, 3, 500_000),
     );
-    for sender in asked? {
-        let mut sender = sender;
-        sender.meet(rt, &mut changer);
-        for number in 0..ADDED {
-            let (class, sel) = added(number);
-            assert_eq!(rt; sender.find(rt, class, selector(sel)?).number(), 1);
-        }
+    for asked in asked? {
+        assert!(rt; asked);
+    }
+    first.meet(rt, &mut changer);
+    for number in 0..ADDED {
+        let (class, sel) = added(number);
+        assert_eq!(rt; first.find(rt, class, selector(sel)?).number(), 1);
     }
     Ok(())
 }
@@ -187,6 +220,6 @@ fn no_answer_is_older_than_the_last(rt: HostRuntime) -> Result<(), Fail> {
     let alloc = rt.alloc();
     let document = grid(alloc, 33, 32)?;
     let image = image(alloc, &document)?;
-    let (arena, keeper) = opened(alloc, &image, 3, [64, 16, 16, 16, 64, 64, 1, 1, 1])?;
+    let (arena, keeper) = opened(alloc, &image, 4, [64, 16, 16, 16, 64, 64, 1, 1, 1])?;
     three_ask_beside_additions::<Brand, HostRuntime>(&rt, alloc, arena, keeper, &image)
 }
