@@ -14,7 +14,9 @@ pub mod ProbeLemmas
 pub mod RestLemmas
 pub mod SeatLemmas
 pub mod SenderLemmas
+pub mod SenderSetLemmas
 pub mod ShownLemmas
+pub mod StandingsLemmas
 pub mod SweepingLemmas
 pub mod TidyLemmas
 pub mod TokenLemmas

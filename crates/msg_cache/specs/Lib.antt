@@ -7,4 +7,6 @@ pub mod Ours
 pub mod Plays
 pub mod Record
 pub mod Rule
+pub mod SenderSet
+pub mod Standings
 pub mod Views

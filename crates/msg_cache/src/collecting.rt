@@ -1,90 +1,36 @@
 //! A collection: who is out, which arrays nobody holds any more, and their words cleared.
 
-ghost use Rattle.std.specs.Prelude.{◌≡◌, ◌&&◌, not, ℕ, List, Bool, ◌+◌, ◌^◌, ◌<◌, ◌≤◌, length, true, false};
-ghost use Rattle.std.specs.List.{list_any};
-ghost use Rattle.msg_names.specs.declared.value.ClassRef.{ClassRef};
+ghost use Rattle.std.specs.Prelude.{◌≡◌, ℕ, ◌+◌, ◌^◌, ◌<◌, length, true};
 ghost use Rattle.msg_tables.specs.History.{lookup};
-ghost use Rattle.msg_core.specs.declared.state.Standing.TheVariants.{Free, Live, Retired};
+ghost use Rattle.msg_core.specs.declared.state.Standing.TheVariants.{Free};
 ghost use Rattle.msg_core.specs.State.{awaits, capacity};
-ghost use Rattle.msg_core.specs.Steps.{is_free};
 ghost use Rattle.msg_cache.specs.Layout.{layout_of, base as base_of};
 ghost use Rattle.msg_cache.specs.Rule.{TidyBy};
 ghost use Rattle.msg_cache.specs.Plays.{keeper_of, kept};
-ghost use Rattle.msg_cache.specs.Keeping.{standing_of, looks, looked_by, minus, cleared, emptied, Collects, InOrder};
+ghost use Rattle.msg_cache.specs.SenderSet.{flags};
+ghost use Rattle.msg_cache.specs.Standings.{noted};
+ghost use Rattle.msg_cache.specs.Keeping.{standing_of, looks, cleared, emptied, Collects, InOrder};
 
 use crate::arena::Arena;
+use crate::sender_set::SenderSet;
+use crate::standings::{Note, look};
 use crate::steps::{Seat, Words, clear_word, load_probe};
-use msg_core::Standing;
-
-fn any_awaited(left: &[bool; 64]) -> bool
-    ensures { result ≡ list_any (λ b. b) left.now }
-{
-    for awaits in left {
-        if *awaits {
-            return true;
-        }
-    }
-    false
-}
-
-// The sender numbers that are awaited still, when the first of them were looked at and these were out.
-fn left_over(awaited: &[bool; 64], outs: &[bool; 64], senders: usize) -> [bool; 64]
-    requires { senders ≤ 64 }
-    ensures { result ≡ minus senders outs.now awaited.now }
-{
-    let mut left = *awaited;
-    for number in 0..senders {
-        if outs[number] {
-            left[number] = false;
-        }
-    }
-    left
-}
-
-// An array once the first of the sender numbers were looked at, and these were out.
-fn after_looks(standing: Standing, outs: &[bool; 64], senders: usize) -> Standing
-    requires senders { senders ≤ 64 }
-    requires awaits_some { (c : ClassRef) (r : ℕ) (aw : List Bool) → standing ≡ Retired c r aw → (n : ℕ) × (awaits aw n ≡ true) }
-    ensures { result ≡ looked_by senders outs.now standing }
-{
-    match standing {
-        Standing::Free => Standing::Free,
-        Standing::Live(class) => Standing::Live(class),
-        Standing::Retired(class, at, awaited) => {
-            let left = left_over(&awaited, outs, senders);
-            if any_awaited(&left) {
-                Standing::Retired(class, at, left)
-            } else {
-                Standing::Free
-            }
-        }
-    }
-}
-
-pub(crate) fn is_free(standing: &Standing) -> bool
-    ensures { result ≡ is_free standing.now }
-{
-    match standing {
-        Standing::Free => true,
-        Standing::Live(_) => false,
-        Standing::Retired(_, _, _) => false,
-    }
-}
 
 // One look at each sender number. Says who was out.
-fn look_at_senders(arena: &Arena, seat: &mut Seat) -> [bool; 64]
+fn look_at_senders(arena: &Arena, seat: &mut Seat) -> SenderSet
     requires table { seat.old.table_id ≡ arena.now.table }
     requires keeper { seat.old.me ≡ kept (keeper_of seat.old.me.0) }
     requires tidy { TidyBy lookup arena.now.key (keeper_of seat.old.me.0) }
     ensures seat { (seat.new.table_id ≡ seat.old.table_id) × (seat.new.id ≡ seat.old.id) }
-    ensures told { seat.new.me ≡ kept (looks arena.now.key.senders result (keeper_of seat.old.me.0)) }
+    ensures told { seat.new.me ≡ kept (looks arena.now.key.senders (flags result) (keeper_of seat.old.me.0)) }
+    ensures within { (n : ℕ) → awaits (flags result) n ≡ true → n < arena.now.key.senders }
     ensures tidy { TidyBy lookup arena.now.key (keeper_of seat.new.me.0) }
 {
     let shared = arena.shared();
-    let mut outs = [false; 64];
+    let mut outs = SenderSet::none();
     for number in 0..arena.senders() {
         let word = arena.probe_at(number);
-        outs[number as usize] = load_probe(shared, seat, word, number);
+        outs.note(number as usize, load_probe(shared, seat, word, number));
     }
     outs
 }
@@ -138,19 +84,12 @@ fn clear_array(arena: &Arena, seat: &mut Seat, words: &mut Vec<u64>, array: usiz
     }
 }
 
-// Whether an array is free that was not.
-fn became_free(was: &Standing, now: &Standing) -> bool
-    ensures { result ≡ (is_free now.now && not (is_free was.now)) }
-{
-    is_free(now) && !is_free(was)
-}
-
 // A collection, with the keeper's copies of words and standings and its count of each array's entries.
 pub(crate) fn collect_into(
     arena: &Arena,
     seat: &mut Seat,
     words: &mut Vec<u64>,
-    standings: &mut Vec<Standing>,
+    standings: &mut Vec<Note>,
     occupied: &mut Vec<u32>,
     remembered: &Vec<u32>,
 ) -> u32
@@ -158,22 +97,18 @@ pub(crate) fn collect_into(
     requires keeper { seat.old.me ≡ kept (keeper_of seat.old.me.0) }
     requires in_order { InOrder lookup arena.now.key (keeper_of seat.old.me.0) remembered.now.items occupied.old.items }
     requires words { words.old.items ≡ (keeper_of seat.old.me.0).words }
-    requires standings { standings.old.items ≡ (keeper_of seat.old.me.0).standings }
+    requires standings { noted standings.old.items ≡ (keeper_of seat.old.me.0).standings }
     ensures seat { (seat.new.table_id ≡ seat.old.table_id) × (seat.new.id ≡ seat.old.id) }
     ensures keeper { seat.new.me ≡ kept (keeper_of seat.new.me.0) }
     ensures collects { Collects (layout_of arena.now.key) (keeper_of seat.old.me.0) (keeper_of seat.new.me.0) result }
     ensures in_order { InOrder lookup arena.now.key (keeper_of seat.new.me.0) remembered.now.items occupied.new.items }
     ensures words { words.new.items ≡ (keeper_of seat.new.me.0).words }
-    ensures standings { standings.new.items ≡ (keeper_of seat.new.me.0).standings }
+    ensures standings { noted standings.new.items ≡ (keeper_of seat.new.me.0).standings }
 {
     let outs = look_at_senders(arena, seat);
-    let senders = arena.senders() as usize;
     let mut freed = 0;
     for array in 0..arena.arrays() {
-        let was = standings[array];
-        let now = after_looks(was, &outs, senders);
-        standings[array] = now;
-        if became_free(&was, &now) {
+        if look(standings, array, outs) {
             clear_array(arena, seat, words, array);
             occupied[array] = 0;
             freed += 1;

@@ -18,14 +18,16 @@ ghost use Rattle.msg_cache.specs.Layout.{layout_of, header_at};
 ghost use Rattle.msg_cache.specs.Plays.{kept, keeper_of, flushed, installed, committed, lent, turn_in, turn_view, is_lent, sender_in, given_out, taken_in, newcomer};
 ghost use Rattle.msg_cache.specs.Keeping.{header as header_of, standing_of, array_words, remember, way_of, OnUse, OnTake, CanUse, lowest_free, filled, grown, Fills, Collects};
 ghost use Rattle.msg_cache.specs.Rule.{live_in};
+ghost use Rattle.msg_cache.specs.Standings.{noted};
 ghost use Rattle.msg_cache.specs.Views.{layout, classes, IsSenderOf};
 ghost use Rattle.msg_image.specs.Parts.{class_total};
 
 use crate::answer::{Filled, Report, Way};
 use crate::arena::Arena;
 use crate::collecting::collect_into;
-use crate::filling::{first_free, retire_in, start_of, way_in_array};
+use crate::filling::{retire_in, start_of, way_in_array};
 use crate::prober::Prober;
+use crate::standings::{Note, all_free, first_free, install_in, retire};
 use crate::steps::{
     Seat, header_at, join_sender, join_turn, recall, split_sender, split_turn, store_array,
     store_count, store_entry, store_none,
@@ -33,7 +35,6 @@ use crate::steps::{
 use crate::view::View;
 use atomic_table::Badge;
 use msg_buckets::{first_place, pack};
-use msg_core::{Standing, everyone};
 use msg_image::Change;
 use msg_names::{ClassRef, ImpRef, Selector};
 use std::alloc::{AllocError, Global};
@@ -45,7 +46,7 @@ use std::mem::replace;
 pub struct Keeper {
     pub(crate) seat: Seat,
     words: Vec<u64>,
-    standings: Vec<Standing>,
+    standings: Vec<Note>,
     // how many entries each array has
     pub(crate) occupied: Vec<u32>,
     // the capacity that the next array of each class reference without one has, or 0 for the least
@@ -61,7 +62,7 @@ pub struct Keeper {
     report: Report,
     pub ghost keeper: { seat.me ≡ kept (keeper_of seat.me.0) },
     pub ghost words_are: { words.items ≡ (keeper_of seat.me.0).words },
-    pub ghost standings_are: { standings.items ≡ (keeper_of seat.me.0).standings },
+    pub ghost standings_are: { noted standings.items ≡ (keeper_of seat.me.0).standings },
     pub ghost given_are: { given.items ≡ (keeper_of seat.me.0).given },
     pub ghost count_is: { count ≡ size (keeper_of seat.me.0).history },
     pub ghost searched: { (i a : ℕ) → slice_index searched_from i ≤ a → a < slice_index searched_to i → is_free (standing_of (keeper_of seat.me.0) a) ≡ false },
@@ -114,7 +115,7 @@ impl Keeper {
     {
         Ok(Keeper {
             words: vec![in alloc; 0; words]?,
-            standings: vec![in alloc; Standing::Free; arrays]?,
+            standings: all_free(alloc, arrays)?,
             occupied: vec![in alloc; 0; arrays]?,
             remembered: vec![in alloc; 0; 2 * classes]?,
             given: vec![in alloc; false; senders]?,
@@ -214,15 +215,14 @@ impl Keeper {
         let header = self.words[at];
         let shared = arena.shared();
         store_array(shared, &mut self.seat, class, array as u32);
-        let awaited = everyone(self.given.len());
         retire_in(
             &mut self.standings,
             header,
             class,
             self.count as usize,
-            &awaited,
+            self.given.len(),
         );
-        self.standings[array] = Standing::Live(class);
+        install_in(&mut self.standings, class, array);
         self.words[at] = array as u64 + 1;
         if header != 0 {
             self.report.retired = self.report.retired.saturating_add(1);
@@ -346,8 +346,9 @@ impl Keeper {
         let shared = arena.shared();
         store_none(shared, &mut self.seat, class, array);
         self.words[place] = 0;
-        let awaited = everyone(self.given.len());
-        self.standings[array] = Standing::Retired(class, self.count as usize, awaited);
+        let senders = self.given.len();
+        let changes = self.count as usize;
+        retire(&mut self.standings, class, array, changes, senders);
         self.remembered[place - 1] = capacity;
         self.report.flushes = self.report.flushes.saturating_add(1);
         self.report.retired = self.report.retired.saturating_add(1);

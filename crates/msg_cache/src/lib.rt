@@ -11,7 +11,9 @@ mod law;
 pub mod laws;
 mod plays;
 mod prober;
+mod sender_set;
 mod setting;
+mod standings;
 mod steps;
 mod view;
 

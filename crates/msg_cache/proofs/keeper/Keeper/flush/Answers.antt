@@ -1,4 +1,4 @@
-use Rattle.std.proofs.Common.{◌≡◌, ℕ, ◌-◌, ◌*◌, ◌<◌, List, length, get_or, refl, sym, ap, ◌∙◌, subst, arith}
+use Rattle.std.proofs.Common.{◌≡◌, ℕ, ◌-◌, ◌*◌, ◌<◌, List, Bool, length, get_or, refl, sym, ap, ◌∙◌, subst, arith}
 use Rattle.msg_image.specs.Parts.{class_total}
 use Rattle.std.specs.Prelude.{slice_index, slice_set}
 use Rattle.msg_names.specs.ClassRef.{slot_of}
@@ -11,12 +11,12 @@ use Rattle.msg_cache.specs.Layout.{layout_of, header_at, SettingView}
 use Rattle.msg_cache.specs.Rule.{TidyBy, named}
 use Rattle.msg_cache.specs.Plays.{retire, flushed}
 use Rattle.msg_cache.specs.Keeping.{standing_of, header, remember, InOrder}
-use Rattle.std.proofs.Common.{rules}
 use Rattle.msg_tables.specs.History.{lookup}
 use Rattle.msg_cache.specs.Plays.{Sat, keeper_of}
 use Rattle.msg_cache.proofs.LayoutLemmas.{header_inside}
 use Rattle.msg_cache.proofs.SweepingLemmas.{sizes}
 use Rattle.msg_cache.proofs.OrderLemmas.{kept_flushed, header_read, live_of, flushed_busy}
+use Rattle.msg_cache.proofs.StandingsLemmas.{noted_length}
 use Rattle.msg_cache.proofs.keeper.Keeper.flush.Goals as goal
 
 pub capacity-capacity-requires : goal.capacity-capacity-requires
@@ -47,8 +47,8 @@ store_none-requires-clause-live c =
     let live = live_of lookup key k s.remembered.items s.occupied.items kept_is c.args.class n cl read c.if-header-eq0.false in
     live.2
 
-pub index_mut-requires-2 : goal.index_mut-requires-2
-index_mut-requires-2 c =
+pub retire-requires-clause-array : goal.retire-requires-clause-array
+retire-requires-clause-array c =
     let a = c.args.arena.now in
     let key = a.key in
     let s = c.args.self.now in
@@ -59,10 +59,10 @@ index_mut-requires-2 c =
     let n = c.index-header.result.now in
     let read : n ≡ slice_index k.words (header_at c.args.class) = header_read s.words.items k.words (header_at c.args.class) n (length k.words) s.words_are (c.index-header.ensures ∙ ap (λ (i : ℕ). get_or s.words.items i n) c.header_at-place.ensures) refl (omega (arith, kept_is.tidy.kept.words, hi)) in
     let live = live_of lookup key k s.remembered.items s.occupied.items kept_is c.args.class n cl read c.if-header-eq0.false in
-    omega (arith, live.1, kept_is.tidy.kept.standings, ap (λ (l : List Standing). length l) s.standings_are)
+    omega (arith, live.1, kept_is.tidy.kept.standings, noted_length s.standings.items, ap (λ (l : List Standing). length l) s.standings_are)
 
-pub index_mut-requires-3 : goal.index_mut-requires-3
-index_mut-requires-3 c =
+pub index_mut-requires-2 : goal.index_mut-requires-2
+index_mut-requires-2 c =
     let key = c.args.arena.now.key in
     let t = slot_of-inside c.args.class (class_total key.image) (2 * class_total key.image) refl c.requires.class in
     omega (arith, t, c.requires.arena.1.classes, c.header_at-place.ensures)
@@ -118,5 +118,10 @@ invariant_of-self-clause-standings_are c =
     let n = c.index-header.result.now in
     let read : n ≡ slice_index k.words (header_at c.args.class) = header_read s.words.items k.words (header_at c.args.class) n (length k.words) s.words_are (c.index-header.ensures ∙ ap (λ (i : ℕ). get_or s.words.items i n) c.header_at-place.ensures) refl (omega (arith, kept_is.tidy.kept.words, hi)) in
     let live = live_of lookup key k s.remembered.items s.occupied.items kept_is c.args.class n cl read c.if-header-eq0.false in
-    let all : c.everyone-awaited.result ≡ everyone (length k.given) = search rules in
-    (λ i. slice_set (s.standings_are i) (n - 1) (Retired c.args.class (s.count_is i) (all i))) ∙ ap (λ (h : ℕ). retire c.args.class (named h) k) (sym live.2) ∙ ap (λ (x : Sat). (keeper_of x.0).standings) (sym c.store_none.ensures.told)
+    let all : everyone c.len-senders.result ≡ everyone (length k.given) = let same : c.len-senders.result ≡ length k.given = omega (arith, c.len-senders.ensures, ap (λ (l : List Bool). length l) s.given_are) in ap everyone same in
+    c.retire.ensures ∙ (λ i. slice_set (s.standings_are i) (n - 1) (Retired c.args.class (s.count_is i) (all i))) ∙ ap (λ (h : ℕ). retire c.args.class (named h) k) (sym live.2) ∙ ap (λ (x : Sat). (keeper_of x.0).standings) (sym c.store_none.ensures.told)
+
+pub invariant_of-self-clause-words_are : goal.invariant_of-self-clause-words_are
+invariant_of-self-clause-words_are c =
+    let s = c.args.self.now in
+    (λ i. slice_set (s.words_are i) (c.header_at-place.ensures i) 0) ∙ ap (λ (x : Sat). (keeper_of x.0).words) (sym c.store_none.ensures.told)

@@ -9,6 +9,7 @@ use Rattle.msg_core.specs.Steps.{is_free}
 use Rattle.msg_cache.specs.Layout.{layout_of}
 use Rattle.msg_cache.specs.Keeping.{standing_of}
 use Rattle.msg_cache.specs.Plays.{keeper_of}
+use Rattle.msg_cache.specs.Standings.{noted}
 use Rattle.msg_cache.proofs.ClearingLemmas.{same_or}
 use Rattle.msg_cache.proofs.OrderLemmas.{group_at, lowest_some, lowest_none, searched_none}
 use Rattle.msg_cache.proofs.keeper.Keeper.free_array.Goals as goal
@@ -35,8 +36,8 @@ invariant_of-self-clause-searched c =
     let i : ℕ = trailing_zeros w32 c.args.capacity - 2 in
     let from = c.group-from.result.0 in
     let end = c.first_free-end.result in
-    let none : (b : ℕ) → from ≤ b → b < end → is_free (standing_of k b) ≡ false = searched_none k c.deref.result.now from c.start_of-start.result end (slice_index s.searched_from i) (slice_index s.searched_to i)
-    (c.deref.ensures.value ∙ s.standings_are) c.start_of-start.ensures.known (s.searched i) c.first_free-end.ensures.none in
+    let none : (b : ℕ) → from ≤ b → b < end → is_free (standing_of k b) ≡ false = searched_none k (noted c.deref.result.now) from c.start_of-start.result end (slice_index s.searched_from i) (slice_index s.searched_to i)
+    (ap noted c.deref.ensures.value ∙ s.standings_are) c.start_of-start.ensures.known (s.searched i) c.first_free-end.ensures.none in
     let g = group_at c.args.capacity c.requires.capacity in
     let few : i < length s.searched_from = omega arith in
     let too : i < length s.searched_to = omega arith in
@@ -58,12 +59,12 @@ returns-then-end-until-clause-lowest c =
     let i : ℕ = trailing_zeros w32 c.args.capacity - 2 in
     let from = c.group-from.result.0 in
     let end = c.first_free-end.result in
-    let none : (b : ℕ) → from ≤ b → b < end → is_free (standing_of k b) ≡ false = searched_none k c.deref.result.now from c.start_of-start.result end (slice_index s.searched_from i) (slice_index s.searched_to i)
-    (c.deref.ensures.value ∙ s.standings_are) c.start_of-start.ensures.known (s.searched i) c.first_free-end.ensures.none in
+    let none : (b : ℕ) → from ≤ b → b < end → is_free (standing_of k b) ≡ false = searched_none k (noted c.deref.result.now) from c.start_of-start.result end (slice_index s.searched_from i) (slice_index s.searched_to i)
+    (ap noted c.deref.ensures.value ∙ s.standings_are) c.start_of-start.ensures.known (s.searched i) c.first_free-end.ensures.none in
     let yes_end : end < c.group-from.result.1 = c.if-end-until.true in
     let from_end : from ≤ end = let a = c.start_of-start.ensures.low in let b = c.first_free-end.ensures.after yes_end in omega arith in
     sym (lowest_some (layout_of c.args.arena.now.key) c.args.capacity k from c.group-from.result.1 c.group-from.ensures end from_end yes_end
-    (ap (λ (l : List Standing). is_free (slice_index_or l end Free)) (sym (c.deref.ensures.value ∙ s.standings_are)) ∙ c.first_free-end.ensures.found yes_end) none)
+    (ap (λ (l : List Standing). is_free (slice_index_or l end Free)) (sym (ap noted c.deref.ensures.value ∙ s.standings_are)) ∙ c.first_free-end.ensures.found yes_end) none)
 
 pub returns-else-end-until-clause-lowest : goal.returns-else-end-until-clause-lowest
 returns-else-end-until-clause-lowest c =
@@ -72,6 +73,6 @@ returns-else-end-until-clause-lowest c =
     let i : ℕ = trailing_zeros w32 c.args.capacity - 2 in
     let from = c.group-from.result.0 in
     let end = c.first_free-end.result in
-    let none : (b : ℕ) → from ≤ b → b < end → is_free (standing_of k b) ≡ false = searched_none k c.deref.result.now from c.start_of-start.result end (slice_index s.searched_from i) (slice_index s.searched_to i)
-    (c.deref.ensures.value ∙ s.standings_are) c.start_of-start.ensures.known (s.searched i) c.first_free-end.ensures.none in
+    let none : (b : ℕ) → from ≤ b → b < end → is_free (standing_of k b) ≡ false = searched_none k (noted c.deref.result.now) from c.start_of-start.result end (slice_index s.searched_from i) (slice_index s.searched_to i)
+    (ap noted c.deref.ensures.value ∙ s.standings_are) c.start_of-start.ensures.known (s.searched i) c.first_free-end.ensures.none in
     sym (lowest_none (layout_of c.args.arena.now.key) c.args.capacity k from c.group-from.result.1 c.group-from.ensures (λ b low high. none b low (omega (arith, c.if-end-until.false))))

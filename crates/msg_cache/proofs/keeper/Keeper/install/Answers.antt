@@ -20,8 +20,8 @@ use Rattle.msg_cache.proofs.keeper.Keeper.install.Goals as goal
 pub store_array-requires-clause-clear : goal.store_array-requires-clause-clear
 store_array-requires-clause-clear c = rw c.shared-shared.ensures.key (λ q lt. c.requires.arena.1.cleared c.args.array q c.requires.free lt)
 
-pub retire_in-requires : goal.retire_in-requires
-retire_in-requires c =
+pub retire_in-requires-clause-header : goal.retire_in-requires-clause-header
+retire_in-requires-clause-header c =
     let a = c.args.arena.now in
     let key = a.key in
     let s = c.args.self.now in
@@ -58,5 +58,5 @@ overflow_cast-array c =
 pub index-requires : goal.index-requires
 index-requires c = omega (arith, c.requires.array, c.requires.arena.2)
 
-pub index_mut-requires-3 : goal.index_mut-requires-3
-index_mut-requires-3 c = omega (arith, c.requires.array, c.requires.arena.2)
+pub index_mut-requires-2 : goal.index_mut-requires-2
+index_mut-requires-2 c = omega (arith, c.requires.array, c.requires.arena.2)
