@@ -5,7 +5,9 @@ ghost use Rattle.msg_names.specs.Number.{selector_number, imp_number};
 ghost use Rattle.msg_tables.specs.History.{BeginsWith, and_then, empty, lookup};
 ghost use Rattle.msg_tables.specs.Refusal.{refusal};
 ghost use Rattle.msg_tables.specs.declared.fault.ChangeFault.{ChangeFault};
+ghost use Rattle.msg_cache.specs.Plays.{taken_in};
 ghost use Rattle.msg_cache.specs.Views.{classes, IsSenderOf};
+ghost use Rattle.msg_runtime.specs.Parts.{IsNew};
 
 use crate::name::ArenaName;
 use msg_cache::{Arena, Prober, Report, Turn};
@@ -30,11 +32,17 @@ pub(crate) struct Desk<N: ArenaName> {
 }
 
 impl<N: ArenaName> Model for Desk<N> {
-    ghost use Rattle.std.specs.Prelude.{◌≡◌, ℕ};
+    ghost use Rattle.std.specs.Prelude.{◌≡◌};
+    ghost use Rattle.msg_runtime.specs.View.{RuntimeView};
 
-    ghost Value = { ℕ };
+    ghost Value = { RuntimeView };
 
-    ghost view = { λ d. 0 };
+    ghost use Rattle.std.specs.Coded.{codes};
+    ghost use Rattle.msg_image.specs.Coding.{coded_expression};
+
+    ghost coded = { Prim.hlevel (codes, coded_expression) };
+
+    ghost view = { λ d. d.runtime };
 
     ghost invariant = { λ d. d.runtime.arena ≡ N.arena };
 }
@@ -97,6 +105,7 @@ impl<N: ArenaName> Desk<N> {
     pub(crate) fn sender(&mut self, arena: &Arena) -> Option<Prober>
         requires arena { arena.now ≡ N.arena }
         ensures prober { IfSome result (IsSenderOf N.arena) }
+        ensures new { IfSome result (λ p. IsNew p.sender self.old.keeper self.new.keeper) }
         ensures image { IfSome result (λ p. p.sender.front.image ≡ N.arena.key.image) }
     {
         self.runtime.sender(arena)
@@ -106,6 +115,7 @@ impl<N: ArenaName> Desk<N> {
     pub(crate) fn finish(&mut self, arena: &Arena, prober: Prober)
         requires arena { arena.now ≡ N.arena }
         requires prober { IsSenderOf N.arena prober }
+        ensures taken { self.new.keeper ≡ taken_in prober.sender self.old.keeper }
     {
         self.runtime.finish(arena, prober);
     }
@@ -119,7 +129,9 @@ impl<N: ArenaName> Desk<N> {
         self.runtime.turn(arena)
     }
 
-    pub(crate) fn report(&self) -> Report {
+    pub(crate) fn report(&self) -> Report
+        ensures { result ≡ self.now.report }
+    {
         self.runtime.report()
     }
 }

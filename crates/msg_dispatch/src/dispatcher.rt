@@ -52,6 +52,7 @@ impl<N: ArenaName> Dispatcher<N> {
         requires keeper { IsKeeperOf N.arena keeper }
         requires image { image.now ≡ N.arena.key.image }
         requires history { keeper_history keeper ≡ empty image.now }
+        ensures { IfOk result (λ d. d.arena ≡ N.arena) }
     {
         let desk = Desk {
             runtime: Runtime::open(alloc, &arena, keeper, image)?,
@@ -93,6 +94,8 @@ impl<N: ArenaName> Dispatcher<N> {
     }
 
     /// What was done to caches so far: the keeper's report.
+    ///
+    /// No clause says what it is: until the lock is taken and once it is let go others may have counted more. Behind the lock it is the runtime's own.
     pub fn report<R: Wait>(&self, rt: &R) -> Report {
         self.desk.lock(rt).report()
     }

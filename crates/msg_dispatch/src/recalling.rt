@@ -4,12 +4,12 @@ ghost use Rattle.std.specs.Prelude.{◌≡◌, ◌<◌, ◌≤◌, ◌+◌, leng
 ghost use Rattle.msg_names.specs.Number.{selector_number, imp_number};
 ghost use Rattle.msg_image.specs.Parts.{class_total};
 ghost use Rattle.msg_tables.specs.History.{BeginsWith, lookup};
-ghost use Rattle.msg_dispatch.specs.Remembered.{IsSiteOf};
+ghost use Rattle.msg_memory.specs.Remembered.{IsSiteOf};
 
 use crate::changer::Changer;
-use crate::memory::{Memory, Site};
 use crate::name::ArenaName;
 use crate::sender::Sender;
+use msg_memory::{Memory, Site};
 use msg_names::{ClassRef, ImpRef, Selector};
 use std::alloc::{AllocError, Global};
 use std::marker::Model;
@@ -33,7 +33,7 @@ impl<'d, N: ArenaName> Model for Recalling<'d, N> {
     ghost coded = { Prim.hlevel (codes, coded_expression) };
 
     ghost use Rattle.std.specs.Prelude.{IfSome};
-    ghost use Rattle.msg_dispatch.specs.Remembered.{IsMemoryOf};
+    ghost use Rattle.msg_memory.specs.Remembered.{IsMemoryOf};
 
     ghost view = { λ r. r.sender };
 
@@ -41,7 +41,7 @@ impl<'d, N: ArenaName> Model for Recalling<'d, N> {
 }
 
 impl<'d, N: ArenaName> Recalling<'d, N> {
-    /// The sender, which remembers nothing yet. A memory takes 40 KiB.
+    /// The sender, which remembers nothing yet. A memory takes 48 KiB.
     pub fn new(alloc: Global, sender: Sender<'d, N>) -> Result<Recalling<'d, N>, AllocError>
         ensures { IfOk result (λ r. r ≡ sender.entry) }
     {
@@ -72,6 +72,22 @@ impl<'d, N: ArenaName> Recalling<'d, N> {
     /// The implementation that a lookup finds at what the sender has then seen. What it remembers of that point it answers with no load of a shared word.
     #[inline]
     pub fn find<R: Wait>(&mut self, rt: &R, class: ClassRef, sel: Selector) -> ImpRef
+        requires class { class.class < class_total self.old.seen.front.image }
+        ensures begins { BeginsWith self.new.seen.front self.old.seen.front }
+        ensures found { imp_number result ≡ lookup self.new.seen.front class (selector_number sel) }
+        ensures listed { imp_number result ≤ length self.new.seen.front.image.imps }
+        ensures takings { (self.old.takings ≤ self.new.takings) × (self.new.takings ≤ self.old.takings + 1) }
+    {
+        match self.recall(class, sel) {
+            Some(imp) => imp,
+            None => self.find_unremembered(rt, class, sel),
+        }
+    }
+
+    // As `find`, of what the memory may lack.
+    #[cold]
+    #[inline(never)]
+    fn find_unremembered<R: Wait>(&mut self, rt: &R, class: ClassRef, sel: Selector) -> ImpRef
         requires class { class.class < class_total self.old.seen.front.image }
         ensures begins { BeginsWith self.new.seen.front self.old.seen.front }
         ensures found { imp_number result ≡ lookup self.new.seen.front class (selector_number sel) }
@@ -142,7 +158,7 @@ impl<'d, N: ArenaName> Recalling<'d, N> {
         self.sender.lock_takings()
     }
 
-    /// Gives the sender's number back.
+    /// Gives the sender's number back, as the sender's `finish`.
     pub fn finish<R: Wait>(self, rt: &R) {
         let Recalling { sender, .. } = self;
         sender.finish(rt);

@@ -7,12 +7,13 @@ ghost use Rattle.std.specs.Prelude.{◌≡◌, ◌<◌, ◌≤◌, ◌+◌, leng
 ghost use Rattle.msg_names.specs.Number.{selector_number, imp_number};
 ghost use Rattle.msg_image.specs.Parts.{class_total};
 ghost use Rattle.msg_tables.specs.History.{BeginsWith, lookup};
-ghost use Rattle.msg_dispatch.specs.Remembered.{IsMemoryOf, IsSiteOf};
+ghost use Rattle.msg_memory.specs.Remembered.{IsMemoryOf, IsSiteOf};
 
 use crate::desk::Answer;
-use crate::memory::{Memory, Site};
 use crate::name::ArenaName;
 use crate::sender::Sender;
+use msg_memory::laws::a_longer_history_has_what_is_remembered;
+use msg_memory::{Memory, Site};
 use msg_names::{ClassRef, ImpRef, Selector};
 use msg_tables::laws::a_found_implementation_is_listed;
 use std::sync::Wait;
@@ -117,6 +118,7 @@ impl<'d, N: ArenaName> Sender<'d, N> {
         ensures memory { IsMemoryOf self.new.seen.front memory.new }
         ensures takings { (self.old.takings ≤ self.new.takings) × (self.new.takings ≤ self.old.takings + 1) }
     {
+        a_longer_history_has_what_is_remembered();
         let count = self.count();
         if let Some(imp) = memory.recall(count, class, sel) {
             return imp;
@@ -167,6 +169,7 @@ impl<'d, N: ArenaName> Sender<'d, N> {
         ensures site { IsSiteOf self.new.seen.front site.new }
         ensures takings { (self.old.takings ≤ self.new.takings) × (self.new.takings ≤ self.old.takings + 1) }
     {
+        a_longer_history_has_what_is_remembered();
         let count = self.count();
         if let Some(imp) = site.recall(count, class, sel) {
             return imp;

@@ -114,6 +114,8 @@ impl<'d, N: ArenaName> Sender<'d, N> {
     }
 
     /// Gives the sender's number back. That of a sender which is dropped stays used.
+    ///
+    /// No clause says that the number is free then: once the lock is let go another may have it. Behind the lock it is taken in.
     pub fn finish<R: Wait>(self, rt: &R) {
         let Sender {
             dispatcher,

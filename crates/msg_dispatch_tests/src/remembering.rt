@@ -6,9 +6,9 @@ ghost use Rattle.msg_runtime.specs.Parts.{IsKeeperOf, keeper_history};
 
 use crate::images::{CHAIN, CHILD, GRAND, image, opened};
 use msg_cache::{Arena, Keeper};
-use msg_dispatch::laws::a_site_is_one_of_a_later_history;
 use msg_dispatch::{ArenaName, Dispatcher, Recalling, Site};
 use msg_image::{Change, Image};
+use msg_memory::laws::a_longer_history_has_what_is_remembered;
 use msg_names::{ImpRef, Selector};
 use std::alloc::Global;
 use std::marker::Brand;
@@ -92,7 +92,7 @@ fn notes_at_a_site<N: ArenaName, R: Wait + Abort>(
     let mut sender = dispatcher.sender(rt)?;
     let mut changer = dispatcher.changer(rt)?;
     let mut site = Site::new();
-    a_site_is_one_of_a_later_history();
+    a_longer_history_has_what_is_remembered();
     assert_eq!(rt; sender.find_at(rt, &mut site, GRAND, value), ImpRef::of(1));
     assert_eq!(rt; sender.recall_at(&site, GRAND, value), Some(ImpRef::of(1)));
     assert_eq!(rt; sender.recall_at(&site, CHILD, value), None);

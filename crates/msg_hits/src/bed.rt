@@ -5,8 +5,7 @@ ghost use Rattle.msg_cache.specs.Views.{classes, IsSenderOf};
 ghost use Rattle.msg_hits.specs.Together.{Begin};
 
 use crate::document::image;
-use crate::draws::Draws;
-use crate::load::{Load, Queries, Query, entries};
+use crate::load::{Load, Queries, Query, drawn};
 use anyhow::{Context, Result, bail};
 use msg_cache::{Arena, Config, Keeper, Prober, Turn};
 use msg_tables::Tables;
@@ -82,13 +81,12 @@ impl<'a> Bed<'a> {
 
     /// Caches the entries of a load, and gives queries for them.
     pub(crate) fn prepare(&mut self, alloc: Global, load: Load) -> Result<Queries> {
-        let mut draws = Draws::new();
-        let entries = entries(alloc, &mut draws, load)?;
+        let (entries, queries) = drawn(alloc, load)?;
         // An array that a cache grows into has one entry, so what was cached before is cached again.
         for _time in 0..2 {
             self.fill_all(&entries);
         }
-        Queries::draw(alloc, &mut draws, load, &entries)?.context("an entry is missing")
+        Ok(queries)
     }
 
     fn fill_all(&mut self, entries: &[Query]) {

@@ -4,6 +4,7 @@ ghost use Rattle.std.specs.Prelude.{◌≡◌, ◌<◌, ◌≤◌, length};
 
 use crate::document::{CLASSES, SELECTORS};
 use crate::draws::Draws;
+use anyhow::{Context, Result};
 use msg_names::{ClassRef, Selector};
 use std::alloc::{AllocError, Global};
 
@@ -52,12 +53,8 @@ pub(crate) struct Query {
     pub ghost listed: { class.class < 32 },
 }
 
-/// The entries, those of one class after those of another.
-pub(crate) fn entries(
-    alloc: Global,
-    draws: &mut Draws,
-    load: Load,
-) -> Result<Vec<Query>, AllocError> {
+// The entries, those of one class after those of another.
+fn entries(alloc: Global, draws: &mut Draws, load: Load) -> Result<Vec<Query>, AllocError> {
     let mut entries = Vec::new(alloc);
     for class in 0..load.classes() {
         let class = ClassRef { class, meta: false };
@@ -89,6 +86,14 @@ fn draw_selectors(
     Ok(selectors)
 }
 
+/// The entries of a load, and queries that are drawn from them.
+pub(crate) fn drawn(alloc: Global, load: Load) -> Result<(Vec<Query>, Queries)> {
+    let mut draws = Draws::new();
+    let entries = entries(alloc, &mut draws, load)?;
+    let queries = Queries::draw(alloc, &mut draws, load, &entries)?.context("an entry is missing")?;
+    Ok((entries, queries))
+}
+
 /// How many queries there are, before they come again.
 const QUERY_COUNT: usize = 4096;
 
@@ -100,8 +105,8 @@ pub(crate) struct Queries {
 }
 
 impl Queries {
-    /// Queries that are drawn from the entries.
-    pub(crate) fn draw(
+    // Queries that are drawn from the entries.
+    fn draw(
         alloc: Global,
         draws: &mut Draws,
         load: Load,

@@ -1,6 +1,7 @@
-//! How long probes that hit take: `msg_hits mono|mix PROBES [SENDERS WINDOWS]`.
+//! How long probes that hit take: `msg_hits mono|mix PROBES [WAY | SENDERS WINDOWS]`.
 //!
-//! Without senders one thread makes so many probes, and the sum of the implementations that they find is printed.
+//! Without senders one thread makes so many probes, and the sum of the implementations that they find is printed. A way is one of tables, probe, memory, refreshed and site: so many
+//! lookups are made in that way, by a sender of a dispatcher where it isn't tables.
 //! With them each sender makes so many in each window, in a thread of its own, and its nanoseconds are printed for each window, those of one sender after those of another.
 #![tactic(auto)]
 
@@ -9,10 +10,12 @@ mod document;
 mod draws;
 mod load;
 mod racing;
+mod ways;
 
 use crate::bed::{Bed, Sender};
 use crate::load::{Load, Queries};
 use crate::racing::race;
+use crate::ways::{Way, sum_of};
 use anyhow::{Context, Result};
 use std::alloc::Global;
 use std::sync::Wait;
@@ -25,6 +28,7 @@ use std::{env, io};
 struct Task {
     load: Load,
     probes: u64,
+    way: Option<Way>,
     race: Option<(u32, u32)>,
 }
 
@@ -36,7 +40,11 @@ fn word<'a>(words: &'a [String], at: usize) -> Result<&'a str> {
 fn task_of(words: &[String]) -> Result<Task> {
     let load = Load::of(word(words, 1)?).context("the load is mono or mix")?;
     let probes = word(words, 2)?.parse::<u64>()?;
-    let race = if words.len() > 3 {
+    let way = match words.get(3) {
+        Some(word) => Way::of(word.as_str()),
+        None => None,
+    };
+    let race = if words.len() > 4 {
         Some((
             word(words, 3)?.parse::<u32>()?,
             word(words, 4)?.parse::<u32>()?,
@@ -44,7 +52,12 @@ fn task_of(words: &[String]) -> Result<Task> {
     } else {
         None
     };
-    Ok(Task { load, probes, race })
+    Ok(Task {
+        load,
+        probes,
+        way,
+        race,
+    })
 }
 
 // A line for each window of a sender.
@@ -102,6 +115,11 @@ fn perform<R: Threads + Wait + Clock + Print + Sync>(
     alloc: Global,
     task: &Task,
 ) -> Result<()> {
+    if let Some(way) = task.way {
+        let sum = sum_of(rt, alloc, task.load, way, task.probes)?;
+        println!(rt; "{sum}")?;
+        return Ok(());
+    }
     let (arena, keeper, tables) = bed::open(alloc)?;
     let mut bed = Bed::at(&arena, keeper, tables)?;
     measure(rt, alloc, &mut bed, task)

@@ -167,7 +167,7 @@ impl HostedRuntime {
         self.runtime.count()
     }
 
-    /// A sender, which has seen the whole history and remembers nothing yet. There is none where 64 are out. A memory takes 20 KiB.
+    /// A sender, which has seen the whole history and remembers nothing yet. There is none where 64 are out. A memory takes 48 KiB.
     pub fn sender(&mut self, alloc: Global) -> Result<HostedSender, SenderFault>
         ensures same { self.new ≡ self.old }
         ensures arena { IfOk result (λ s. s.arena ≡ self.old.arena) }

@@ -1,10 +1,12 @@
 -- What is remembered stays right where the history grows.
-use Rattle.std.proofs.Common.{◌≡◌, ◌<◌, ◌≤◌, ◌+◌, ℕ, List, [], ◌∷◌, ◌++◌, length, take, get_or, false, refl, sym, ap, subst, ◌∙◌, arith, length-append, append-nil}
+use Rattle.std.proofs.Common.{◌≡◌, ◌≤◌, ℕ, List, [], ◌∷◌, ◌++◌, length, get_or, refl, sym, ap, subst, ◌∙◌, arith, length-append, append-nil}
 use Rattle.std.proofs.lemmas.List.{take-append-le}
-use Rattle.std.specs.Prelude.{All}
 use Rattle.msg_image.specs.Parts.{ImageParts}
 use Rattle.msg_image.specs.declared.change.Change.{Change}
+use Rattle.msg_names.proofs.ClassRefLemmas.{slot_of-same}
+use Rattle.msg_names.specs.ClassRef.{slot_of}
 use Rattle.msg_names.specs.Number.{imp_number}
+use Rattle.msg_names.specs.declared.value.ClassRef.{ClassRef}
 use Rattle.msg_tables.specs.History.{History, BeginsWith, lookup}
 use Rattle.msg_memory.specs.declared.memory.Noted.{Noted}
 use Rattle.msg_memory.specs.declared.memory.Site.{Site}
@@ -12,10 +14,13 @@ use Rattle.msg_memory.specs.declared.memory.Memory.{Memory}
 use Rattle.msg_memory.specs.Remembered.{point_at, IsNoteOf, IsMemoryOf, IsSiteOf}
 
 abbrev pub blank : Noted
-blank = record { class = record { class = 0; meta = false }; sel = 0; imp = record { number = 0 }; count = 0 }
+blank = record { slot = 0; count = 0; sel = 0; imp = record { number = 0 } }
 
 pub blank_is : (h : History) → IsNoteOf h blank
-blank_is h = record { seen = omega arith; listed = omega arith; found = λ pos. absurd (omega (arith, pos)) }
+blank_is h = record { seen = omega arith; listed = omega arith; found = λ c same pos. absurd (omega (arith, pos)) }
+
+pub same_slot : (c d : ClassRef) → slot_of c ≡ slot_of d → c ≡ d
+same_slot c d = slot_of-same c d
 
 same_point : (h : History) (image : ImageParts) (more : List Change) (n : ℕ) → n ≤ length h.changes → image ≡ h.image
     → point_at n (record { image = image; changes = h.changes ++ more }) ≡ point_at n h
@@ -38,7 +43,7 @@ pub note-begins : (p h : History) (n : Noted) → BeginsWith p h → IsNoteOf h 
 note-begins p h n b is = record {
   seen = omega (arith, is.seen, ap length b.rest.1, length-append h.changes b.rest.0);
   listed = subst (λ (m : ImageParts). imp_number n.imp ≤ length m.imps) (sym b.same) is.listed;
-  found = λ pos. is.found pos ∙ ap (λ q. lookup q n.class n.sel) (sym (point-begins p h n.count b is.seen));
+  found = λ c same pos. is.found c same pos ∙ ap (λ q. lookup q c n.sel) (sym (point-begins p h n.count b is.seen));
 }
 
 -- a memory of a history is one of a longer history

@@ -7,26 +7,24 @@ ghost use Rattle.msg_memory.specs.Remembered.{IsNoteOf, IsMemoryOf, IsSiteOf};
 
 use msg_names::{ClassRef, ImpRef, Selector};
 
-const PLACES: usize = 1024;
+// How many lookups a memory holds. 32 classes with 64 selectors each have a place for every one.
+const PLACES: usize = 2048;
 
-// What a lookup found, and how many changes there were. Blank, it has selector number 0, which is no selector's.
+// What a lookup found in the slot of a class reference, and how many changes there were. Blank, it has selector number 0, which is no selector's.
 #[derive(Clone, Copy)]
 struct Noted {
-    class: ClassRef,
+    slot: usize,
+    count: u64,
     sel: u32,
     imp: ImpRef,
-    count: u32,
 }
 
 impl Noted {
     const BLANK: Noted = Noted {
-        class: ClassRef {
-            class: 0,
-            meta: false,
-        },
+        slot: 0,
+        count: 0,
         sel: 0,
         imp: ImpRef::FORWARD,
-        count: 0,
     };
 
     // The implementation, where this is a note of the lookup after so many changes.
@@ -35,31 +33,25 @@ impl Noted {
         ensures { IfSome result (λ i. (h : History) → IsNoteOf h self.now → count ≡ length h.changes
             → (imp_number i ≡ lookup h class (selector_number sel)) × (imp_number i ≤ length h.image.imps)) }
     {
-        if self.sel == sel.number()
-            && self.class.class == class.class
-            && self.class.meta == class.meta
-            && u64::from(self.count) == count
-        {
+        if self.sel == sel.number() && self.slot == class.slot() && self.count == count {
             Some(self.imp)
         } else {
             None
         }
     }
 
-    // A note of a lookup after so many changes, or none where they are more than it can count.
+    // A note of a lookup after so many changes.
     #[inline(always)]
+    #[tactic(auto, using(crate::proofs::MemoryLemmas::same_slot))]
     fn of(count: u64, class: ClassRef, sel: Selector, imp: ImpRef) -> Noted
         ensures { (h : History) → count ≡ length h.changes → imp_number imp ≡ lookup h class (selector_number sel) → imp_number imp ≤ length h.image.imps
             → IsNoteOf h result }
     {
-        match u32::try_from(count) {
-            Ok(count) => Noted {
-                class,
-                sel: sel.number(),
-                imp,
-                count,
-            },
-            Err(_) => Noted::BLANK,
+        Noted {
+            slot: class.slot(),
+            count,
+            sel: sel.number(),
+            imp,
         }
     }
 }
@@ -97,22 +89,22 @@ impl Site {
     }
 }
 
-/// What a sender remembers, at one of 1,024 places for each class reference and selector.
+/// What a sender remembers, at one of 2,048 places for each class reference and selector.
 #[derive(Drop)]
 pub struct Memory {
     notes: [Noted; PLACES],
 }
 
-// The one place at which it may be.
+// The one place at which it may be. Selectors whose numbers are near, of classes whose numbers are near, have places of their own.
 #[inline(always)]
 fn place(class: ClassRef, sel: Selector) -> usize
-    ensures { result < 1024 }
+    ensures { result < 2048 }
 {
-    let reference = class
-        .class
-        .wrapping_mul(2)
-        .wrapping_add(u32::from(class.meta));
-    (sel.number().wrapping_add(reference.wrapping_mul(37)) % 1024) as usize
+    class
+        .slot()
+        .wrapping_mul(32)
+        .wrapping_add(sel.number() as usize)
+        % PLACES
 }
 
 impl Memory {

@@ -5,8 +5,8 @@ find_at-requires-clause-site g c = c.new-site.ensures c.in_ok-sender.sender.seen
 
 pub recall_at-requires-3 : goal.recall_at-requires-3
 recall_at-requires-3 g c = record {
-  site = c.a_site_is_one_of_a_later_history.ensures c.published.new.self.seen.front c.find_at.new.self.seen.front c.find_at.new.site c.published.ensures.begins c.find_at.ensures.site;
+  site = c.a_longer_history_has_what_is_remembered.ensures.site c.published.new.self.seen.front c.find_at.new.self.seen.front c.find_at.new.site c.published.ensures.begins c.find_at.ensures.site;
 }
 
 pub find_at-requires-2-clause-site : goal.find_at-requires-2-clause-site
-find_at-requires-2-clause-site g c = c.a_site_is_one_of_a_later_history.ensures c.published.new.self.seen.front c.find_at.new.self.seen.front c.find_at.new.site c.published.ensures.begins c.find_at.ensures.site
+find_at-requires-2-clause-site g c = c.a_longer_history_has_what_is_remembered.ensures.site c.published.new.self.seen.front c.find_at.new.self.seen.front c.find_at.new.site c.published.ensures.begins c.find_at.ensures.site

@@ -1,4 +1,4 @@
-use Rattle.std.proofs.Common.{◌≡◌, ◌++◌, List, ℕ, Result, Ok, Err, OnOk, OnErr, Option, subst, ap, sym, ◌∙◌, codes}
+use Rattle.std.proofs.Common.{◌++◌, List, ℕ, Result, Ok, Err, OnOk, Option, subst, ap, ◌∙◌, codes}
 use Rattle.std.proofs.KnownBytes.{Appends-trans}
 use Rattle.std.proofs.lemmas.Result.{err_from_is_err_and}
 use Rattle.std.specs.Io.KnownBytes.{Appends}

@@ -1,4 +1,4 @@
-use Rattle.std.proofs.Common.{◌≡◌, ◌++◌, OnErr, option_map, subst, ap, sym, ◌∙◌, codes}
+use Rattle.std.proofs.Common.{◌≡◌, ◌++◌, OnErr, option_map, subst, ◌∙◌, codes}
 use Rattle.msg_runner.specs.Complaint.{program_name, said_line}
 use Rattle.msg_runner.specs.Writing.{AppendsFront}
 use Rattle.msg_runner.proofs.ByteLemmas.{front_after}

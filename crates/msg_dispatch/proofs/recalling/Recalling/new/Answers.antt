@@ -1,5 +1,5 @@
 use Rattle.std.proofs.Common.{subst, sym}
-use Rattle.msg_dispatch.specs.Remembered.{IsMemoryOf}
+use Rattle.msg_memory.specs.Remembered.{IsMemoryOf}
 use Rattle.msg_dispatch.proofs.recalling.Recalling.new.Goals as goal
 
 pub invariant_of-result : goal.invariant_of-result

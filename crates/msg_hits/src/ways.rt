@@ -1,0 +1,202 @@
+//! The ways to look a method up, each in a loop of its own.
+
+ghost use Rattle.std.specs.Prelude.{◌≡◌, ◌<◌, length};
+ghost use Rattle.msg_image.specs.Parts.{class_total};
+ghost use Rattle.msg_memory.specs.Remembered.{IsSiteOf};
+ghost use Rattle.msg_runtime.specs.Parts.{IsKeeperOf, keeper_history};
+ghost use Rattle.msg_tables.specs.History.{empty};
+
+use crate::document::image;
+use crate::load::{Load, Queries, drawn};
+use anyhow::{Context, Result, bail};
+use msg_cache::{Arena, Config, Keeper};
+use msg_dispatch::{ArenaName, Dispatcher, Recalling, Sender, Site};
+use msg_image::Image;
+use msg_tables::Tables;
+use std::alloc::Global;
+use std::marker::Brand;
+use std::sync::Wait;
+
+/// A way to look a method up.
+#[derive(Clone, Copy)]
+pub(crate) enum Way {
+    /// Along the chain, in the method lists.
+    Tables,
+    /// By a sender that probes the cache of the class.
+    Probe,
+    /// By a sender with a memory.
+    Memory,
+    /// The same, once it knows how many changes there are.
+    Refreshed,
+    /// By a sender, at a site.
+    Site,
+}
+
+impl Way {
+    pub(crate) fn of(word: &str) -> Option<Way> {
+        match word {
+            "tables" => Some(Way::Tables),
+            "probe" => Some(Way::Probe),
+            "memory" => Some(Way::Memory),
+            "refreshed" => Some(Way::Refreshed),
+            "site" => Some(Way::Site),
+            _ => None,
+        }
+    }
+}
+
+// Enough for all that is cached, with room to grow.
+const ARRAYS: [u16; 9] = [32, 32, 32, 32, 0, 0, 0, 0, 0];
+
+// A sender with a memory, of an image of 32 classes.
+#[derive(Drop)]
+struct Rememberer<'d, N: ArenaName> {
+    sender: Recalling<'d, N>,
+    ghost all: { class_total sender.seen.front.image ≡ 32 },
+}
+
+impl<N: ArenaName> Rememberer<'_, N> {
+    fn find<R: Wait>(&mut self, rt: &R, queries: &Queries, lookups: u64) -> u64 {
+        let mut sum = 0u64;
+        for at in 0..lookups {
+            let query = queries.at(at as usize);
+            let imp = self.sender.find(rt, query.class, query.sel);
+            sum = sum.wrapping_add(u64::from(imp.number()));
+        }
+        sum
+    }
+
+    fn find_refreshed<R: Wait>(&mut self, rt: &R, queries: &Queries, lookups: u64) -> u64 {
+        let mut sum = 0u64;
+        for at in 0..lookups {
+            let query = queries.at(at as usize);
+            self.sender.refresh();
+            let imp = self.sender.find(rt, query.class, query.sel);
+            sum = sum.wrapping_add(u64::from(imp.number()));
+        }
+        sum
+    }
+}
+
+// A sender, of an image of 32 classes, with a site.
+#[derive(Drop)]
+struct Caller<'d, N: ArenaName> {
+    sender: Sender<'d, N>,
+    site: Site,
+    ghost all: { class_total sender.seen.front.image ≡ 32 },
+    ghost noted: { IsSiteOf sender.seen.front site },
+}
+
+impl<N: ArenaName> Caller<'_, N> {
+    fn find<R: Wait>(&mut self, rt: &R, queries: &Queries, lookups: u64) -> u64 {
+        let mut sum = 0u64;
+        for at in 0..lookups {
+            let query = queries.at(at as usize);
+            let imp = self.sender.find(rt, query.class, query.sel);
+            sum = sum.wrapping_add(u64::from(imp.number()));
+        }
+        sum
+    }
+
+    fn find_at<R: Wait>(&mut self, rt: &R, queries: &Queries, lookups: u64) -> u64 {
+        let mut sum = 0u64;
+        for at in 0..lookups {
+            let query = queries.at(at as usize);
+            let imp = self
+                .sender
+                .find_at(rt, &mut self.site, query.class, query.sel);
+            sum = sum.wrapping_add(u64::from(imp.number()));
+        }
+        sum
+    }
+}
+
+// What so many lookups find along the chain, added up.
+fn sum_by_tables(tables: &Tables, queries: &Queries, lookups: u64) -> u64
+    requires { length tables.now.supers ≡ 32 }
+{
+    let mut sum = 0u64;
+    for at in 0..lookups {
+        let query = queries.at(at as usize);
+        sum = sum.wrapping_add(u64::from(tables.lookup(query.class, query.sel).number()));
+    }
+    sum
+}
+
+// What so many lookups by a sender find, added up.
+fn sum_by_sender<N: ArenaName, R: Wait>(
+    rt: &R,
+    alloc: Global,
+    dispatcher: &Dispatcher<N>,
+    way: Way,
+    queries: &Queries,
+    lookups: u64,
+) -> Result<u64>
+    requires { class_total N.arena.key.image ≡ 32 }
+{
+    let sender = dispatcher.sender(rt)?;
+    if let Way::Probe | Way::Site = way {
+        let site = Site::new();
+        let mut caller = Caller { sender, site };
+        return Ok(if let Way::Site = way {
+            caller.find_at(rt, queries, lookups)
+        } else {
+            caller.find(rt, queries, lookups)
+        });
+    }
+    let sender = Recalling::new(alloc, sender).context("a memory")?;
+    let mut rememberer = Rememberer { sender };
+    Ok(if let Way::Refreshed = way {
+        rememberer.find_refreshed(rt, queries, lookups)
+    } else {
+        rememberer.find(rt, queries, lookups)
+    })
+}
+
+// The same over an arena that was just opened.
+fn sum_over<N: ArenaName, R: Wait>(
+    rt: &R,
+    alloc: Global,
+    arena: Arena,
+    keeper: Keeper,
+    image: &Image,
+    way: Way,
+    queries: &Queries,
+    lookups: u64,
+) -> Result<u64>
+    requires arena { arena ≡ N.arena }
+    requires keeper { IsKeeperOf N.arena keeper }
+    requires image { image.now ≡ N.arena.key.image }
+    requires history { keeper_history keeper ≡ empty image.now }
+    requires all { class_total image.now ≡ 32 }
+{
+    let dispatcher: Dispatcher<N> = Dispatcher::open(alloc, arena, keeper, image).context(
+        "opening the dispatcher",
+    )?;
+    sum_by_sender(rt, alloc, &dispatcher, way, queries, lookups)
+}
+
+/// What so many lookups of a load find in a way, added up.
+pub(crate) fn sum_of<R: Wait>(
+    rt: &R,
+    alloc: Global,
+    load: Load,
+    way: Way,
+    lookups: u64,
+) -> Result<u64> {
+    let image = image(alloc)?;
+    if image.class_count() != 32 {
+        bail!("not 32 classes");
+    }
+    let (_entries, queries) = drawn(alloc, load)?;
+    if let Way::Tables = way {
+        let tables = Tables::open(alloc, &image).context("opening the tables")?;
+        return Ok(sum_by_tables(&tables, &queries, lookups));
+    }
+    let config = Config {
+        senders: 1,
+        arrays: ARRAYS,
+    };
+    let (arena, keeper) = Arena::open(alloc, &image, config).context("opening the arena")?;
+    sum_over::<Brand, R>(rt, alloc, arena, keeper, &image, way, &queries, lookups)
+}
