@@ -95,7 +95,7 @@ pub(crate) fn drawn(alloc: Global, load: Load) -> Result<(Vec<Query>, Queries)> 
 }
 
 /// How many queries there are, before they come again.
-const QUERY_COUNT: usize = 4096;
+pub(crate) const QUERY_COUNT: usize = 4096;
 
 /// Queries, in the order in which they are sought.
 #[derive(Drop)]
@@ -130,5 +130,13 @@ impl Queries {
     #[inline(always)]
     pub(crate) fn at(&self, number: usize) -> Query {
         self.list[number % QUERY_COUNT]
+    }
+
+    /// All of them, at hand for a loop: their place is loaded once.
+    #[inline(always)]
+    pub(crate) fn all(&self) -> &[Query]
+        ensures { length result.now ≡ 4096 }
+    {
+        &self.list
     }
 }

@@ -7,7 +7,7 @@ ghost use Rattle.msg_runtime.specs.Parts.{IsKeeperOf, keeper_history};
 ghost use Rattle.msg_tables.specs.History.{empty};
 
 use crate::document::image;
-use crate::load::{Load, Queries, drawn};
+use crate::load::{Load, QUERY_COUNT, Queries, drawn};
 use anyhow::{Context, Result, bail};
 use msg_cache::{Arena, Config, Keeper};
 use msg_dispatch::{ArenaName, Dispatcher, Recalling, Sender, Site};
@@ -26,6 +26,8 @@ pub(crate) enum Way {
     Probe,
     /// By a sender with a memory.
     Memory,
+    /// The same, first by a call that can't wait.
+    Recalled,
     /// The same, once it knows how many changes there are.
     Refreshed,
     /// By a sender, at a site.
@@ -38,6 +40,7 @@ impl Way {
             "tables" => Some(Way::Tables),
             "probe" => Some(Way::Probe),
             "memory" => Some(Way::Memory),
+            "recalled" => Some(Way::Recalled),
             "refreshed" => Some(Way::Refreshed),
             "site" => Some(Way::Site),
             _ => None,
@@ -57,19 +60,35 @@ struct Rememberer<'d, N: ArenaName> {
 
 impl<N: ArenaName> Rememberer<'_, N> {
     fn find<R: Wait>(&mut self, rt: &R, queries: &Queries, lookups: u64) -> u64 {
+        let all = queries.all();
         let mut sum = 0u64;
         for at in 0..lookups {
-            let query = queries.at(at as usize);
+            let query = all[at as usize % QUERY_COUNT];
             let imp = self.sender.find(rt, query.class, query.sel);
             sum = sum.wrapping_add(u64::from(imp.number()));
         }
         sum
     }
 
-    fn find_refreshed<R: Wait>(&mut self, rt: &R, queries: &Queries, lookups: u64) -> u64 {
+    fn recall_or_find<R: Wait>(&mut self, rt: &R, queries: &Queries, lookups: u64) -> u64 {
+        let all = queries.all();
         let mut sum = 0u64;
         for at in 0..lookups {
-            let query = queries.at(at as usize);
+            let query = all[at as usize % QUERY_COUNT];
+            let imp = match self.sender.recall(query.class, query.sel) {
+                Some(imp) => imp,
+                None => self.sender.find(rt, query.class, query.sel),
+            };
+            sum = sum.wrapping_add(u64::from(imp.number()));
+        }
+        sum
+    }
+
+    fn find_refreshed<R: Wait>(&mut self, rt: &R, queries: &Queries, lookups: u64) -> u64 {
+        let all = queries.all();
+        let mut sum = 0u64;
+        for at in 0..lookups {
+            let query = all[at as usize % QUERY_COUNT];
             self.sender.refresh();
             let imp = self.sender.find(rt, query.class, query.sel);
             sum = sum.wrapping_add(u64::from(imp.number()));
@@ -89,9 +108,10 @@ struct Caller<'d, N: ArenaName> {
 
 impl<N: ArenaName> Caller<'_, N> {
     fn find<R: Wait>(&mut self, rt: &R, queries: &Queries, lookups: u64) -> u64 {
+        let all = queries.all();
         let mut sum = 0u64;
         for at in 0..lookups {
-            let query = queries.at(at as usize);
+            let query = all[at as usize % QUERY_COUNT];
             let imp = self.sender.find(rt, query.class, query.sel);
             sum = sum.wrapping_add(u64::from(imp.number()));
         }
@@ -99,9 +119,10 @@ impl<N: ArenaName> Caller<'_, N> {
     }
 
     fn find_at<R: Wait>(&mut self, rt: &R, queries: &Queries, lookups: u64) -> u64 {
+        let all = queries.all();
         let mut sum = 0u64;
         for at in 0..lookups {
-            let query = queries.at(at as usize);
+            let query = all[at as usize % QUERY_COUNT];
             let imp = self
                 .sender
                 .find_at(rt, &mut self.site, query.class, query.sel);
@@ -115,9 +136,10 @@ impl<N: ArenaName> Caller<'_, N> {
 fn sum_by_tables(tables: &Tables, queries: &Queries, lookups: u64) -> u64
     requires { length tables.now.supers ≡ 32 }
 {
+    let all = queries.all();
     let mut sum = 0u64;
     for at in 0..lookups {
-        let query = queries.at(at as usize);
+        let query = all[at as usize % QUERY_COUNT];
         sum = sum.wrapping_add(u64::from(tables.lookup(query.class, query.sel).number()));
     }
     sum
@@ -146,10 +168,10 @@ fn sum_by_sender<N: ArenaName, R: Wait>(
     }
     let sender = Recalling::new(alloc, sender).context("a memory")?;
     let mut rememberer = Rememberer { sender };
-    Ok(if let Way::Refreshed = way {
-        rememberer.find_refreshed(rt, queries, lookups)
-    } else {
-        rememberer.find(rt, queries, lookups)
+    Ok(match way {
+        Way::Recalled => rememberer.recall_or_find(rt, queries, lookups),
+        Way::Refreshed => rememberer.find_refreshed(rt, queries, lookups),
+        _ => rememberer.find(rt, queries, lookups),
     })
 }
 
