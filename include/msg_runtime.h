@@ -29,10 +29,14 @@
 extern "C" {
 #endif
 
+/* What a sender has noted of one lookup, and how many notes it keeps, in its handle: 48 KiB. */
+typedef struct { size_t slot; uint64_t count; uint32_t sel; uint32_t imp; } msg_note;
+enum { MSG_NOTES = 2048 };
+
 typedef struct { void *at; bool open; } msg_runtime;
-typedef struct { void *at; bool open; } msg_sender;
+typedef struct { void *at; bool open; msg_note notes[MSG_NOTES]; } msg_sender;
 #define MSG_RUNTIME_INIT {0, 0}
-#define MSG_SENDER_INIT {0, 0}
+#define MSG_SENDER_INIT {0, 0, {{0, 0, 0, 0}}}
 
 /* A class, or its metaclass. */
 typedef struct { uint32_t number; bool meta; } msg_class;
@@ -101,6 +105,13 @@ uint32_t msg_meet(msg_runtime *runtime, msg_sender *sender);
 
 /* ---- without a lock ---- */
 
+/* How many bytes a msg_sender has, for hosts that don't compile this header. */
+size_t msg_sender_size(void);
+/* What the sender has noted of the lookup after the first `count` changes, for the slot 2 * number + meta: the implementation's number; or 0 where it has none
+ * noted, or forwarding: then ask msg_find, which notes what it finds. It loads from the handle alone and writes nothing, so it is the short way of a send for
+ * a host that keeps a word of how many changes it has made or begun: under the lock, it stores one more before each change, and one less again after a change
+ * that was refused. Who loads that word and recalls by it finds nothing from before a change that had returned. */
+size_t msg_recall(const msg_sender *sender, size_t slot, uint32_t sel, uint64_t count);
 /* cache_getImp: from the sender's own memory, else from the shared cache: the lookup at the changes that the sender has then seen, which are no fewer than
  * before; or MSG_MISSED. What it remembers it answers until it has seen another change: msg_refresh shows it all. */
 uint32_t msg_probe(msg_sender *sender, uint32_t number, bool meta, uint32_t sel, uint32_t *imp);

@@ -46,7 +46,8 @@ struct protocol_list { struct protocol_list *next; size_t count; struct protocol
 
 enum { CLASS_PLAIN = 1, CLASS_META = 2 };
 
-/* As emitted, `superclass` is a name, as is the metaclass's `isa`. `record` is empty and the runtime's to fill. */
+/* As emitted, `superclass` is a name, as is the metaclass's `isa`. `record` and `slot` are empty and the runtime's to fill. `slot` is 0 until the class was
+ * initialized; then twice its number, and 1 more for a metaclass. */
 struct objc_class {
     Class isa;
     union { const char *text; Class class_; } superclass;
@@ -57,7 +58,8 @@ struct objc_class {
     struct ivar_list *ivars;
     struct method_list *methods;
     struct record *record;
-    void *subclasses, *siblings;
+    uintptr_t slot;
+    void *siblings;
     struct protocol_list *protocols;
     void *extra;
 };

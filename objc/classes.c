@@ -29,7 +29,6 @@ Class shim_class_named(const char *name)
 struct record *shim_new_record(Class class_, bool meta)
 {
     struct record *record = shim_memory(sizeof *record);
-    record->probed = NOBODY;
     record->meta = meta;
     record->plain = record;
     return class_->record = record;

@@ -4,14 +4,14 @@
 #include <stdio.h>
 #include <stdlib.h>
 
-enum { SPARE = 128, SPARE_CLASSES = 16 };
+enum { SPARE = 128, SPARE_CLASSES = 2 };
 
 pthread_mutex_t shim_lock = PTHREAD_MUTEX_INITIALIZER;
-_Atomic(uint64_t) shim_epoch = 1;
 static _Atomic(struct life *) current;
-static struct seat nobody;
-static _Thread_local struct seat own_seat;
-_Thread_local struct seat *shim_seat = &nobody; /* until the thread's first send, which finds epoch 0 there */
+static uint32_t made; /* classes at run time: a life has room for as many again, since each that it has costs every change */
+static struct life nowhere;
+static struct seat nobody = {MSG_SENDER_INIT, &nowhere}; /* its sender is closed, and has noted nothing */
+_Thread_local struct seat *shim_seat = &nobody;          /* until the thread's first send */
 static pthread_key_t seats;
 static pthread_once_t once = PTHREAD_ONCE_INIT;
 
@@ -98,7 +98,7 @@ void shim_outdate(void)
     struct life *life = atomic_load(&current);
     if (!life) return;
     atomic_store(&current, NULL);
-    atomic_fetch_add(&shim_epoch, 1);
+    atomic_store(&life->count, OVER);
     msg_close(&life->runtime);
     leave(life);
 }
@@ -107,9 +107,9 @@ static struct life *open_life(void)
 {
     struct life *life = atomic_load(&current);
     if (life) return life;
-    life = shim_memory(sizeof *life);
+    life = shim_lines(sizeof *life);
     life->users = 1;
-    life->classes = with_spare(shim_class_count, SPARE_CLASSES, MOST_CLASSES);
+    life->classes = with_spare(shim_class_count, SPARE_CLASSES + made, MOST_CLASSES);
     life->selectors = with_spare(shim_selector_count, SPARE, MOST_SELECTORS);
     life->imps = MOST_IMPS;
     for (uint32_t i = 1; i <= shim_class_count; i++) {
@@ -131,30 +131,43 @@ static struct life *open_life(void)
 
 static void give_back(struct seat *seat)
 {
-    if (!seat->life) return;
+    if (seat->life == &nowhere) return;
     msg_sender_close(&seat->life->runtime, &seat->sender);
     leave(seat->life);
-    seat->life = NULL;
-    seat->epoch = 0;
+    seat->life = &nowhere;
 }
 
 static void at_thread_end(void *taken)
 {
+    struct seat *seat = taken;
     HOLDING(&shim_lock);
-    give_back(taken);
+    give_back(seat);
+    free(seat);
+    shim_seat = &nobody;
 }
 
 static void make_key(void) { if (pthread_key_create(&seats, at_thread_end)) shim_stop("no key", "pthread"); }
 
+/* The thread's own, or nobody's where none can be kept for it. */
+static struct seat *own_seat(void)
+{
+    if (shim_seat != &nobody) return shim_seat;
+    pthread_once(&once, make_key);
+    struct seat *seat = shim_lines(sizeof *seat);
+    seat->life = &nowhere;
+    if (!pthread_setspecific(seats, seat)) return shim_seat = seat;
+    free(seat);
+    return &nobody;
+}
+
 /* The thread's seat then is of the current life, unless all senders are out. */
 static struct life *sit_down(struct seat *seat)
 {
-    pthread_once(&once, make_key);
     HOLDING(&shim_lock);
     struct life *life = open_life();
-    if (seat->life == life) return life;
+    if (seat->life == life || seat == &nobody) return life;
     give_back(seat);
-    if (pthread_setspecific(seats, seat) || msg_sender_open(&life->runtime, &seat->sender)) return life;
+    if (msg_sender_open(&life->runtime, &seat->sender)) return life;
     seat->life = life;
     life->users++;
     return life;
@@ -179,44 +192,41 @@ static IMP find_seatless(struct record *record, uint32_t sel)
     return shim_function(life, imp);
 }
 
-/* The epoch is read before the life and before what the sender sees, so that what ends or changes them later makes it another. */
 IMP shim_find(struct record *record, uint32_t sel)
 {
-    struct seat *seat = shim_seat = &own_seat;
+    struct seat *seat = own_seat();
     for (;;) {
         uint32_t imp;
-        uint64_t seen, epoch = atomic_load_explicit(&shim_epoch, memory_order_acquire);
+        uint64_t seen;
         struct life *life = atomic_load_explicit(&current, memory_order_acquire);
         if (!life || seat->life != life) life = sit_down(seat);
         if (seat->life != life) return find_seatless(record, sel);
         if (sel > life->selectors) return NULL; /* no method of the name stands anywhere */
         if (msg_refresh(&seat->sender, &seen)) shim_stop("no refresh", "sender");
-        seat->epoch = epoch;
         uint32_t answer = msg_find(&life->runtime, &shim_lock, &seat->sender, record->number, record->meta, sel, &imp);
         if (answer == MSG_DONE) return shim_function(life, imp);
         if (answer != MSG_CLOSED) shim_stop("no answer", "find"); /* closed: it was opened anew meanwhile */
     }
 }
 
-/* After a change of the tables, before its call returns. */
-static void changed(uint32_t fault)
-{
-    if (fault) shim_outdate();
-    else atomic_fetch_add(&shim_epoch, 1);
-}
+/* Before a change of the tables: from here on no send goes by what was noted before it. One thread so never sees a change and then what was before it. */
+static void begin_change(struct life *life) { atomic_store_explicit(&life->count, life->count + 1, memory_order_release); }
 
 void shim_replace(struct record *record, uint32_t sel, IMP imp)
 {
     struct life *life = atomic_load(&current);
     if (!life || !record->number) return;
     uint32_t number = sel > life->selectors ? 0 : number_of(life, imp);
-    changed(number ? msg_replace(&life->runtime, record->number, record->meta, sel, number) : MSG_LIMIT);
+    begin_change(life);
+    if (!number || msg_replace(&life->runtime, record->number, record->meta, sel, number)) shim_outdate();
 }
 
 void shim_exchange(struct record *one, uint32_t sel, struct record *other, uint32_t other_sel)
 {
     struct life *life = atomic_load(&current);
-    if (life) changed(msg_exchange(&life->runtime, one->number, one->meta, sel, other->number, other->meta, other_sel));
+    if (!life) return;
+    begin_change(life);
+    if (msg_exchange(&life->runtime, one->number, one->meta, sel, other->number, other->meta, other_sel)) shim_outdate();
 }
 
 static void replace_rows(struct record *record)
@@ -227,13 +237,17 @@ static void replace_rows(struct record *record)
 void shim_make(Class class_)
 {
     struct life *life = atomic_load(&current);
+    made++;
     if (!life) return;
     uint32_t number = class_->record->number;
     Class above = class_->superclass.class_;
     uint32_t fault = MSG_LIMIT;
+    begin_change(life);
     if (number <= life->classes) fault = above ? msg_make_class(&life->runtime, number, above->record->number) : msg_make_root_class(&life->runtime, number);
-    changed(fault);
-    if (fault) return;
+    if (fault) {
+        shim_outdate();
+        return;
+    }
     replace_rows(class_->record);
     replace_rows(class_->isa->record);
 }

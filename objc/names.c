@@ -28,6 +28,13 @@ void *shim_memory(size_t size)
     return memory;
 }
 
+void *shim_lines(size_t size)
+{
+    void *memory = aligned_alloc(LINE, size);
+    if (!memory) shim_stop("no memory", "runtime");
+    return memset(memory, 0, size);
+}
+
 void shim_unlock(pthread_mutex_t **lock) { pthread_mutex_unlock(*lock); }
 
 static uint32_t place_of(const char *name)

@@ -1,4 +1,4 @@
-/* The way of a send that hits, without the lock: the thread's own sender of the current life of the runtime. */
+/* The way of a send that hits, without the lock: the book of the thread's own sender of the current life of the runtime. */
 #ifndef MSG_OBJC_SEAT_H
 #define MSG_OBJC_SEAT_H
 
@@ -7,35 +7,41 @@
 
 enum { MOST_IMPS = 4095, IMP_PLACES = 16384 };
 
-/* `classes`, `selectors` and `imps` are how many its document has, with those to spare; `functions` are numbered as it needs them.
+/* Of a life that was closed: no sender has noted anything after so many changes. */
+#define OVER UINT64_MAX
+
+/* `count`: how many changes were made or begun; sends go by it.
+ * `classes`, `selectors` and `imps` are how many its document has, with those to spare; `functions` are numbered as it needs them.
  * `users`: the senders of it that are out, and one while it is the current. */
 struct life {
-    msg_runtime runtime;
+    _Alignas(LINE) _Atomic(IMP) functions[MOST_IMPS + 1];
+    _Atomic(uint64_t) count;
+    _Alignas(LINE) msg_runtime runtime;
     uint32_t classes, selectors, imps, imp_count, users;
-    _Atomic(IMP) functions[MOST_IMPS + 1];
     uint16_t function_at[IMP_PLACES];
 };
 
-/* `epoch`: 0, or the one at which its life was the current and its sender had seen all. */
-struct seat { uint64_t epoch; struct life *life; msg_sender sender; };
+/* `life` is never NULL. */
+struct seat { _Alignas(LINE) msg_sender sender; struct life *life; };
 
-/* It grows before a change returns, and with each life that ends. */
-extern _Atomic(uint64_t) shim_epoch;
-extern _Thread_local struct seat *shim_seat;
+extern _Thread_local __attribute__((tls_model("initial-exec"))) struct seat *shim_seat;
 
 /* What the calling thread's sender finds, by all changes that returned before; NULL is forwarding. */
 IMP shim_find(struct record *record, uint32_t sel);
 
 static inline IMP shim_function(struct life *life, uint32_t imp) { return atomic_load_explicit(&life->functions[imp], memory_order_acquire); }
 
-/* The same where the thread's sender has it at hand and the class was initialized, else NULL: a probe for NOBODY is refused. */
-static inline IMP shim_probe(struct record *record, uint32_t sel)
+/* Whether the thread's sender has noted a method, by all changes that were begun before; then it is written. No sender notes anything for slot 0, which all
+ * classes have until they were initialized. */
+static inline bool shim_recall(Class class_, SEL sel, IMP *imp)
 {
-    uint32_t imp;
     struct seat *seat = shim_seat;
-    if (seat->epoch != atomic_load_explicit(&shim_epoch, memory_order_acquire)) return NULL;
-    uint32_t number = atomic_load_explicit(&record->probed, memory_order_acquire);
-    return msg_probe(&seat->sender, number, record->meta, sel, &imp) ? NULL : shim_function(seat->life, imp);
+    struct life *life = seat->life, *volatile kept = life; /* on the stack, so that no register is saved for it; as in the callers */
+    uint64_t count = atomic_load_explicit(&life->count, memory_order_acquire);
+    size_t number = msg_recall(&seat->sender, __atomic_load_n(&class_->slot, __ATOMIC_ACQUIRE), (uint32_t)sel->name.number, count);
+    if (__builtin_expect(!number, 0)) return false;
+    *imp = atomic_load_explicit(&kept->functions[number], memory_order_acquire);
+    return true;
 }
 
 #endif

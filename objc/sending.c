@@ -43,8 +43,8 @@ static void initialize(Class class_)
     IMP imp = shim_look(class_->isa, sel);
     if (imp) imp((id)class_, sel);
     atomic_store(&class_->record->initialized, DONE);
-    atomic_store(&class_->record->probed, class_->record->number);
-    atomic_store(&class_->isa->record->probed, class_->record->number);
+    __atomic_store_n(&class_->slot, 2 * class_->record->number, __ATOMIC_RELEASE);
+    __atomic_store_n(&class_->isa->slot, 2 * class_->record->number + 1, __ATOMIC_RELEASE);
 }
 
 static Class plain_class(Class class_) { return class_->record->meta ? shim_classes[class_->record->number] : class_; }
@@ -61,7 +61,7 @@ bool shim_resolve(Class class_, SEL sel)
     return imp && ((BOOL (*)(id, SEL, SEL))(void (*)(void))imp)((id)plain, asked, sel);
 }
 
-static IMP find_slowly(id receiver, Class class_, SEL sel)
+static __attribute__((noinline, cold)) IMP find_from(id receiver, Class class_, SEL sel)
 {
     if (!class_) shim_stop("a root class has no super to be sent", sel_getName(sel));
     if (!class_->record) shim_stop("a class is used before its superclass is there", class_->name);
@@ -71,28 +71,30 @@ static IMP find_slowly(id receiver, Class class_, SEL sel)
     return imp ? imp : shim_forward(receiver, sel);
 }
 
-/* What the thread has at hand, else NULL. */
-static inline IMP at_hand(Class class_, SEL sel) { return class_->record ? shim_probe(class_->record, (uint32_t)sel->name.number) : NULL; }
+static __attribute__((noinline, cold)) IMP find_slowly(id receiver, SEL sel) { return find_from(receiver, receiver->isa, sel); }
 
 IMP objc_msg_lookup(id receiver, SEL sel)
 {
-    if (!receiver) return answer_nil;
-    IMP imp = at_hand(receiver->isa, sel);
-    return imp ? imp : find_slowly(receiver, receiver->isa, sel);
+    if (__builtin_expect(!receiver, 0)) return answer_nil;
+    id volatile asked = receiver;
+    SEL volatile with = sel;
+    IMP imp;
+    return shim_recall(receiver->isa, sel, &imp) ? imp : find_slowly(asked, with);
 }
 
 IMP objc_msg_lookup_super(struct objc_super *super_, SEL sel)
 {
+    IMP imp;
     if (!super_->self) return answer_nil;
-    IMP imp = super_->class_ ? at_hand(super_->class_, sel) : NULL;
-    return imp ? imp : find_slowly(super_->self, super_->class_, sel);
+    if (super_->class_ && shim_recall(super_->class_, sel, &imp)) return imp;
+    return find_from(super_->self, super_->class_, sel);
 }
 
 IMP class_getMethodImplementation(Class class_, SEL sel)
 {
+    IMP imp;
     if (!class_ || !sel) return NULL;
-    IMP imp = at_hand(class_, sel);
-    return imp ? imp : find_slowly(NULL, class_, sel);
+    return shim_recall(class_, sel, &imp) ? imp : find_from(NULL, class_, sel);
 }
 
 BOOL class_respondsToSelector(Class class_, SEL sel)

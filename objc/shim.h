@@ -7,19 +7,15 @@
 #include <pthread.h>
 #include <stdatomic.h>
 
-enum { MOST_SELECTORS = 4095, MOST_CLASSES = 1023 };
+enum { MOST_SELECTORS = 4095, MOST_CLASSES = 1023, LINE = 64 };
 
 /* A method that stands in a class: what the proved tables hold, kept beside them, so that they can be opened anew. */
 struct row { uint32_t sel; Method method; };
 
 enum { NOT_YET, RUNNING, DONE };
 
-/* No class has it. */
-#define NOBODY UINT32_MAX
-
-/* `probed`: the number, once the class was initialized; before, NOBODY. `number` is 0 for a class in construction, which no tables hold.
- * `plain`: of a metaclass's record, its class's; else itself. */
-struct record { _Atomic(uint32_t) probed; bool meta; uint32_t number; atomic_int initialized; struct record *plain; struct row *rows; uint32_t count, room; };
+/* `number` is 0 for a class in construction, which no tables hold. `plain`: of a metaclass's record, its class's; else itself. */
+struct record { bool meta; uint32_t number; atomic_int initialized; struct record *plain; struct row *rows; uint32_t count, room; };
 
 extern pthread_mutex_t shim_lock;
 extern Class shim_classes[MOST_CLASSES + 1]; /* by number, from 1; class 0 of the tables lists the selectors */
@@ -28,6 +24,7 @@ extern uint32_t shim_class_count, shim_selector_count;
 /* Without the lock. */
 _Noreturn void shim_stop(const char *why, const char *what);
 void *shim_memory(size_t size);
+void *shim_lines(size_t size); /* zeros that begin with a cache line, of so many whole ones */
 void shim_unlock(pthread_mutex_t **lock);
 /* Held to the end of the block, also where an exception leaves it. */
 #define HOLDING(lock) pthread_mutex_t *held __attribute__((cleanup(shim_unlock), unused)) = (pthread_mutex_lock(lock), (lock))

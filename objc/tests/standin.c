@@ -121,14 +121,16 @@ uint32_t msg_make_root_class(msg_runtime *runtime, uint32_t number)
 
 uint32_t msg_sender_open(msg_runtime *runtime, msg_sender *sender)
 {
-    *sender = (msg_sender){runtime, true};
+    sender->at = runtime;
+    sender->open = true;
     return MSG_DONE;
 }
 
 uint32_t msg_sender_close(msg_runtime *runtime, msg_sender *sender)
 {
     (void)runtime;
-    *sender = (msg_sender){NULL, false};
+    sender->at = NULL;
+    sender->open = false;
     return MSG_DONE;
 }
 
@@ -142,6 +144,12 @@ uint32_t msg_probe(msg_sender *sender, uint32_t number, bool meta, uint32_t sel,
 {
     (void)number, (void)meta, (void)sel, (void)imp;
     return sender->open ? MSG_MISSED : MSG_CLOSED;
+}
+
+size_t msg_recall(const msg_sender *sender, size_t slot, uint32_t sel, uint64_t count)
+{
+    (void)sender, (void)slot, (void)sel, (void)count;
+    return 0;
 }
 
 uint32_t msg_refresh(msg_sender *sender, uint64_t *count)

@@ -20,3 +20,6 @@ pub const NONE: u32 = 70;
 
 /// The cache has no such entry: ask under the lock.
 pub const MISSED: u32 = 71;
+
+/// Of `msg_recall`: the sender has no implementation noted.
+pub const NOT_NOTED: usize = 0;

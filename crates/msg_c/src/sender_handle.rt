@@ -1,12 +1,15 @@
 //! What C holds of a sender.
 
-ghost use Rattle.std.specs.Prelude.{◌≡◌, Option, Some, None, option_map, is_some};
+ghost use Rattle.std.specs.Prelude.{◌≡◌, Option, Some, None, option_map, is_some, true};
 ghost use Rattle.msg_host.specs.View.{SenderView};
+ghost use Rattle.msg_c.specs.Book.{IsBookOf};
 ghost use Rattle.msg_c.specs.SenderOwned.{held_owns, state_coded};
 ghost use Rattle.msg_c.specs.Nothing.{sender_in};
 
 use crate::parts::Parts;
 use msg_host::HostedSender;
+use msg_memory::Memory;
+use msg_memory::laws::a_blank_memory_is_of_each_history;
 use std::alloc::Global;
 use std::marker::Model;
 use std::{mem, ptr};
@@ -71,15 +74,38 @@ impl HeldSender {
     {
         HeldSender::of_parts(Parts::of(held))
     }
+
+    // What is held. Nothing is, then.
+    #[inline(always)]
+    pub(crate) fn take(&mut self, alloc: Global) -> Box<HostedSender>
+        requires { is_some self.old.state ≡ true }
+        ensures closed { self.new.state ≡ None }
+        ensures taken { self.old.state ≡ Some result.value }
+    {
+        let held = mem::replace(self, HeldSender::closed(alloc));
+        held.into_box()
+    }
+
+    // Holds this.
+    #[inline(always)]
+    pub(crate) fn put(&mut self, held: Box<HostedSender>)
+        ensures { self.new.state ≡ Some held.value }
+    {
+        *self = HeldSender::of_box(held);
+    }
 }
 
 /// `msg_sender` of C. Zero bytes are a closed one.
+///
+/// A sender's memory lies in its handle, so that what it has noted is found without taking the sender out.
 #[repr(C)]
 #[derive(Drop)]
 pub struct SenderHandle {
-    held: HeldSender,
+    pub(crate) held: HeldSender,
     is_open: bool,
+    pub(crate) book: Memory,
     pub ghost open_is: { is_open ≡ is_some held.state },
+    pub ghost noted: { IsBookOf held.state book },
 }
 
 impl SenderHandle {
@@ -89,35 +115,37 @@ impl SenderHandle {
         SenderHandle {
             held: HeldSender::closed(alloc),
             is_open: false,
+            book: Memory::new(),
         }
     }
 
     #[inline(always)]
-    pub(crate) fn of(held: Box<HostedSender>) -> SenderHandle
-        ensures { result.held.state ≡ Some held.value }
-    {
-        SenderHandle {
-            held: HeldSender::of_box(held),
-            is_open: true,
-        }
-    }
-
     pub(crate) fn is_open(&self) -> bool
         ensures { result ≡ is_some self.now.held.state }
     {
         self.is_open
     }
 
+    // Opens a closed handle.
+    pub(crate) fn open(&mut self, held: Box<HostedSender>)
+        requires { self.old.held.state ≡ None }
+        ensures { self.new.held.state ≡ Some held.value }
+    {
+        a_blank_memory_is_of_each_history();
+        self.held.put(held);
+        self.is_open = true;
+    }
+
     // What an open handle holds. The handle is then closed.
-    #[inline(always)]
-    pub(crate) fn take(&mut self, alloc: Global) -> Option<Box<HostedSender>>
+    pub(crate) fn close(&mut self, alloc: Global) -> Option<Box<HostedSender>>
         ensures closed { self.new.held.state ≡ None }
         ensures taken { option_map (λ b. b.value) result ≡ self.old.held.state }
     {
         if !self.is_open {
             return None;
         }
-        let SenderHandle { held, .. } = mem::replace(self, SenderHandle::closed(alloc));
-        Some(held.into_box())
+        self.book.clear();
+        self.is_open = false;
+        Some(self.held.take(alloc))
     }
 }

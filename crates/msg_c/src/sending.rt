@@ -4,13 +4,30 @@ ghost use Rattle.std.specs.Prelude.{◌≡◌, ◌≢◌, ◌≤◌, ◌⊎◌, 
 ghost use Rattle.msg_tables.specs.History.{History, lookup};
 ghost use Rattle.msg_cache.specs.Views.{ArenaView, classes};
 ghost use Rattle.msg_host.specs.Asking.{ask_fault};
+ghost use Rattle.msg_names.specs.ClassRef.{slot_of};
+ghost use Rattle.msg_memory.specs.Remembered.{IsRecalled, recalled};
 ghost use Rattle.msg_c.specs.Answers.{AreOfOneArena, SeesOn, number_of_fault, runtime_arena, runtime_history, sender_arena, sender_front};
 
-use crate::answer::{ALREADY_OPEN, CLOSED, DONE, MISSED, NO_MEMORY, NO_SENDER};
+use crate::answer::{ALREADY_OPEN, CLOSED, DONE, MISSED, NO_MEMORY, NO_SENDER, NOT_NOTED};
 use crate::runtime_handle::RuntimeHandle;
 use crate::sender_handle::SenderHandle;
 use msg_host::SenderFault;
+use msg_memory::laws::a_longer_history_has_what_is_remembered;
 use std::alloc::Global;
+use std::mem;
+
+// As the header spells it: a pointer, whether it is open, and 2,048 notes of 24 bytes.
+const SENDER_BYTES: usize = 49_168;
+
+const _: () = prove!(mem::size_of::<SenderHandle>() == SENDER_BYTES);
+
+/// How many bytes a sender's handle has, for hosts that don't compile the header.
+#[unsafe(no_mangle)]
+pub extern "C" fn msg_sender_size() -> usize
+    ensures { result ≡ 49168 }
+{
+    SENDER_BYTES
+}
 
 /// A sender of the runtime, which has seen all changes that were made. 64 may be out at a time.
 #[unsafe(no_mangle)]
@@ -33,10 +50,10 @@ pub extern "C" fn msg_sender_open(
     let Some(mut held) = runtime.take(alloc) else {
         return CLOSED;
     };
-    let answer = match held.sender(alloc) {
+    let answer = match held.sender() {
         Ok(made) => match Box::new(alloc, made) {
             Ok(made) => {
-                *sender = SenderHandle::of(made);
+                sender.open(made);
                 DONE
             }
             Err(refused) => {
@@ -64,7 +81,7 @@ pub extern "C" fn msg_sender_close(
     ensures was_closed { sender.old.held.state ≡ None → result ≡ CLOSED }
     ensures was_open { is_some sender.old.held.state ≡ true → result ≡ 0 }
 {
-    let Some(taken) = sender.take(alloc) else {
+    let Some(taken) = sender.close(alloc) else {
         return CLOSED;
     };
     match runtime.take(alloc) {
@@ -96,13 +113,16 @@ pub extern "C" fn msg_probe(
     ensures hit { result ≡ 0 → (h : History) → sender_front sender.new.held.state ≡ Some h → imp.new ≡ lookup h (record { class = class; meta = meta }) sel }
     ensures listed { result ≡ 0 → (a : ArenaView) → sender_arena sender.old.held.state ≡ Some a → imp.new ≤ length a.key.image.imps }
     ensures fault { (a : ArenaView) → sender_arena sender.old.held.state ≡ Some a → result ≢ 0 → result ≢ MISSED → result ≡ number_of_fault (ask_fault (classes a) class sel) }
+    ensures noted { result ≡ 0 → (h : History) → sender_front sender.new.held.state ≡ Some h → recalled sender.new.book (length h.changes) (slot_of (record { class = class; meta = meta })) sel ≡ imp.new }
     ensures miss { (a : ArenaView) → sender_arena sender.old.held.state ≡ Some a → result ≡ MISSED → ask_fault (classes a) class sel ≡ None }
+    ensures recalled { result ≡ MISSED → (h : History) → sender_front sender.old.held.state ≡ Some h → sender_front sender.new.held.state ≡ Some h → recalled sender.old.book (length h.changes) (slot_of (record { class = class; meta = meta })) sel ≡ 0 }
 {
-    let Some(mut held) = sender.take(alloc) else {
+    if !sender.is_open() {
         return CLOSED;
-    };
-    let found = held.find_by(class, meta, sel);
-    *sender = SenderHandle::of(held);
+    }
+    let mut asker = sender.held.take(alloc);
+    let found = asker.find_by(&mut sender.book, class, meta, sel);
+    sender.held.put(asker);
     match found {
         Ok(Some(found)) => {
             *imp = found;
@@ -111,6 +131,19 @@ pub extern "C" fn msg_probe(
         Ok(None) => MISSED,
         Err(fault) => fault.number(),
     }
+}
+
+/// The number of the implementation that the sender noted after so many changes for a slot (twice a class's number, and 1 more for its metaclass) and a selector,
+/// where it has that still; else 0, and so for forwarding. It is what the lookup found after the first `count` changes.
+///
+/// It takes no lock, loads no word that threads share, and writes nothing: a few loads from the handle.
+#[unsafe(no_mangle)]
+pub extern "C" fn msg_recall(sender: &SenderHandle, slot: usize, sel: u32, count: u64) -> usize
+    ensures found { result ≢ NOT_NOTED → (h : History) → sender_front sender.now.held.state ≡ Some h → IsRecalled h count slot sel result }
+    ensures closed { sender.now.held.state ≡ None → result ≡ NOT_NOTED }
+    ensures answer { result ≡ recalled sender.now.book count slot sel }
+{
+    sender.book.recall_method(count, slot, sel) as usize
 }
 
 /// `lookUpImpOrForward`: looks up what a probe missed, and caches it. The sender has then seen all changes that were made.
@@ -134,18 +167,20 @@ pub extern "C" fn msg_fill(
     ensures listed { result ≡ 0 → (h : History) → runtime_history runtime.old.held.state ≡ Some h → imp.new ≤ length h.image.imps }
     ensures front { result ≡ 0 → sender_front sender.new.held.state ≡ runtime_history runtime.old.held.state }
     ensures begins { result ≡ 0 → SeesOn (sender_front sender.old.held.state) (sender_front sender.new.held.state) }
+    ensures noted { result ≡ 0 → (h : History) → runtime_history runtime.old.held.state ≡ Some h → recalled sender.new.book (length h.changes) (slot_of (record { class = class; meta = meta })) sel ≡ imp.new }
     ensures fault { (a : ArenaView) → runtime_arena runtime.old.held.state ≡ Some a → is_some sender.old.held.state ≡ true → result ≡ number_of_fault (ask_fault (classes a) class sel) }
 {
     let Some(mut held) = runtime.take(alloc) else {
         return CLOSED;
     };
-    let Some(mut asker) = sender.take(alloc) else {
+    if !sender.is_open() {
         *runtime = RuntimeHandle::of(held);
         return CLOSED;
-    };
-    let found = held.answer_by(&mut asker, class, meta, sel);
+    }
+    let mut asker = sender.held.take(alloc);
+    let found = held.answer_by(&mut asker, &mut sender.book, class, meta, sel);
+    sender.held.put(asker);
     *runtime = RuntimeHandle::of(held);
-    *sender = SenderHandle::of(asker);
     match found {
         Ok(found) => {
             *imp = found;
@@ -174,13 +209,15 @@ pub extern "C" fn msg_meet(
     let Some(mut held) = runtime.take(alloc) else {
         return CLOSED;
     };
-    let Some(mut asker) = sender.take(alloc) else {
+    if !sender.is_open() {
         *runtime = RuntimeHandle::of(held);
         return CLOSED;
-    };
+    }
+    a_longer_history_has_what_is_remembered();
+    let mut asker = sender.held.take(alloc);
     held.meet(&mut asker);
+    sender.held.put(asker);
     *runtime = RuntimeHandle::of(held);
-    *sender = SenderHandle::of(asker);
     DONE
 }
 
@@ -194,10 +231,12 @@ pub extern "C" fn msg_refresh(alloc: Global, sender: &mut SenderHandle, count: &
     ensures begins { SeesOn (sender_front sender.old.held.state) (sender_front sender.new.held.state) }
     ensures done { (h : History) → sender_front sender.new.held.state ≡ Some h → count.new ≡ length h.changes }
 {
-    let Some(mut held) = sender.take(alloc) else {
+    if !sender.is_open() {
         return CLOSED;
-    };
-    *count = held.refresh();
-    *sender = SenderHandle::of(held);
+    }
+    a_longer_history_has_what_is_remembered();
+    let mut asker = sender.held.take(alloc);
+    *count = asker.refresh();
+    sender.held.put(asker);
     DONE
 }

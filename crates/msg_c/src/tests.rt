@@ -3,7 +3,7 @@
 ghost use Rattle.std.specs.Prelude.{◌≡◌, Some, None, IfOk, is_some, true};
 ghost use Rattle.msg_c.specs.Answers.{AreOfOneArena};
 
-use crate::answer::{ALREADY_OPEN, CLOSED, DONE, MISSED, NO_SENDER, NONE};
+use crate::answer::{ALREADY_OPEN, CLOSED, DONE, MISSED, NO_SENDER, NONE, NOT_NOTED};
 use crate::asking::{
     MsgClass, msg_change_count, msg_class_count, msg_find_class, msg_find_selector, msg_holder,
     msg_lookup, msg_superclass,
@@ -16,7 +16,8 @@ use crate::opening::{msg_close, msg_open};
 use crate::runtime_handle::RuntimeHandle;
 use crate::sender_handle::SenderHandle;
 use crate::sending::{
-    msg_fill, msg_meet, msg_probe, msg_refresh, msg_sender_close, msg_sender_open,
+    msg_fill, msg_meet, msg_probe, msg_recall, msg_refresh, msg_sender_close, msg_sender_open,
+    msg_sender_size,
 };
 use msg_host::MethodRow;
 use std::alloc::Global;
@@ -538,5 +539,77 @@ fn a_sender_is_closed_after_its_runtime(rt: HostRuntime) -> Result<(), Fail> {
     assert_eq!(rt; msg_close(alloc, &mut runtime), DONE);
     assert_eq!(rt; msg_sender_close(alloc, &mut runtime, &mut sender), DONE);
     assert_eq!(rt; msg_sender_close(alloc, &mut runtime, &mut sender), CLOSED);
+    Ok(())
+}
+
+// The slots of Child and of its metaclass.
+const CHILD_SLOT: usize = 2;
+
+const META_SLOT: usize = 3;
+
+#[test]
+fn what_is_noted_is_recalled_at_its_count(rt: HostRuntime) -> Result<(), Fail> {
+    let alloc = rt.alloc();
+    let mut runtime = opened(&rt, alloc);
+    let mut sender = sending(&rt, alloc, &mut runtime);
+    let mut imp = 99;
+    assert_eq!(rt; msg_recall(&sender, CHILD_SLOT, VALUE, 0), NOT_NOTED);
+    assert_eq!(rt;
+        msg_fill(
+            alloc,
+            &mut runtime,
+            &mut sender,
+            CHILD,
+            false,
+            VALUE,
+            &mut imp
+        ),
+        DONE
+    );
+    assert_eq!(rt; msg_recall(&sender, CHILD_SLOT, VALUE, 0), 1);
+    assert_eq!(rt; msg_recall(&sender, META_SLOT, VALUE, 0), NOT_NOTED);
+    assert_eq!(rt; msg_recall(&sender, CHILD_SLOT, NAME, 0), NOT_NOTED);
+    assert_eq!(rt; msg_recall(&sender, CHILD_SLOT, VALUE, 1), NOT_NOTED);
+    assert_eq!(rt;
+        msg_replace(alloc, &mut runtime, CHILD, false, VALUE, 2),
+        DONE
+    );
+    assert_eq!(rt; msg_recall(&sender, CHILD_SLOT, VALUE, 1), NOT_NOTED);
+    assert_eq!(rt;
+        msg_fill(
+            alloc,
+            &mut runtime,
+            &mut sender,
+            CHILD,
+            false,
+            VALUE,
+            &mut imp
+        ),
+        DONE
+    );
+    assert_eq!(rt; msg_recall(&sender, CHILD_SLOT, VALUE, 1), 2);
+    assert_eq!(rt; msg_recall(&sender, CHILD_SLOT, VALUE, 0), NOT_NOTED);
+    Ok(())
+}
+
+#[test]
+fn a_closed_handle_recalls_nothing(rt: HostRuntime) -> Result<(), Fail> {
+    let alloc = rt.alloc();
+    let mut runtime = opened(&rt, alloc);
+    let mut sender = SenderHandle::closed(alloc);
+    assert_eq!(rt; msg_recall(&sender, 0, 0, 0), NOT_NOTED);
+    assert_eq!(rt; msg_sender_open(alloc, &mut runtime, &mut sender), DONE);
+    assert_eq!(rt; msg_recall(&sender, 0, 0, 0), NOT_NOTED);
+    let mut imp = 99;
+    assert_eq!(rt;
+        msg_fill(alloc, &mut runtime, &mut sender, CHILD, true, NEW, &mut imp),
+        DONE
+    );
+    assert_eq!(rt; msg_recall(&sender, META_SLOT, NEW, 0), 4);
+    assert_eq!(rt; msg_sender_close(alloc, &mut runtime, &mut sender), DONE);
+    assert_eq!(rt; msg_recall(&sender, META_SLOT, NEW, 0), NOT_NOTED);
+    assert_eq!(rt; msg_sender_open(alloc, &mut runtime, &mut sender), DONE);
+    assert_eq!(rt; msg_recall(&sender, META_SLOT, NEW, 0), NOT_NOTED);
+    assert_eq!(rt; msg_sender_size(), 49168);
     Ok(())
 }

@@ -1,12 +1,12 @@
 -- What each of the keeper's changes leaves between calls.
-use Rattle.std.proofs.Common.{◌≡◌, ◌≢◌, ℕ, zero, suc, ◌+◌, ◌-◌, ◌*◌, ◌<◌, ◌≤◌, List, [], ◌∷◌, length, take, drop, get_or, Bool, true, false, true≢false, cond, refl, sym, ap, ◌∙◌, subst, ⊎_elim, arith, eq-eqb, ne_eqb}
+use Rattle.std.proofs.Common.{◌≡◌, ◌≢◌, ℕ, zero, suc, ◌+◌, ◌-◌, ◌*◌, ◌<◌, ◌≤◌, List, [], ◌∷◌, map, length, take, drop, get_or, Bool, true, false, cond, refl, sym, ap, ◌∙◌, subst, ⊎_elim, arith, eq-eqb, ne_eqb}
 use Rattle.msg_image.specs.Parts.{class_total}
 use Rattle.msg_image.specs.Sound.{IsSound}
-use Rattle.std.specs.Prelude.{slice_index, slice_index_or, slice_set, replicate, find, ◌&&◌, ◌==◌, nat_le, nat_lt, Option, Some, None, MatchOption}
+use Rattle.std.specs.Prelude.{slice_index, slice_index_or, slice_set, replicate, find, ◌&&◌, ◌==◌, nat_le, nat_lt, Option, Some, None, MatchOption, IfSome, IfNone}
 use Rattle.std.specs.List.{range_with_len}
 use Rattle.std.specs.Int.{trailing_zeros}
 use Rattle.std.proofs.lemmas.List.{get_or-set_other, get_or-set_same, length-replicate, get_or_default, drop-set-add, drop-set-lt}
-use Rattle.std.proofs.lemmas.Bool.{and_parts, eqb-true, leb-true, ltb-true, cases_lt}
+use Rattle.std.proofs.lemmas.Bool.{and_parts, eqb-true, leb-true, ltb-true}
 use Rattle.std.proofs.Math.ListN.{length-set}
 use lib.Seq.{take-set-lt}
 use lib.Count.{count_trailing_zeros}
@@ -35,11 +35,14 @@ use Rattle.msg_cache.specs.Plays.{retire, flushed, installed, committed, lent, g
 use Rattle.msg_cache.proofs.LayoutLemmas.{one_place}
 use Rattle.msg_cache.proofs.OpeningLemmas.{first_tidy}
 use Rattle.msg_cache.proofs.ShownLemmas.{live_is}
-use Rattle.msg_cache.specs.Keeping.{IsGroup, standing_of, array_words, header, lowest_free, looks, freed, collected, Collects, or_least, remember, way_in, way_by_header, way_of, OnUse, filled, grown, FillsBy, Fills, retired_at, InOrder}
+use Rattle.msg_cache.specs.Keeping.{IsGroup, standing_of, array_words, header, lowest_free, looks, CollectsBy, Collects, or_least, remember, way_in, way_by_header, way_of, OnUse, filled, grown, FillsBy, Fills, InOrder}
+use Rattle.msg_cache.specs.declared.answer.Filled.{Filled}
 use Rattle.msg_cache.specs.declared.answer.Filled.TheVariants.{Grown, NoArray}
 use Rattle.msg_cache.specs.declared.answer.Way.{Way}
 use Rattle.msg_cache.specs.declared.answer.Way.TheVariants.{Present, Use, Take}
 use Rattle.msg_cache.proofs.ClearingLemmas.{same_or}
+use Rattle.msg_cache.specs.Notes.{Note, live, note_of, note_at, is_free_note}
+use Rattle.msg_cache.proofs.SettledLemmas.{free_at, noted_at}
 use Rattle.msg_cache.proofs.SweepingLemmas.{array_same, array_zero, array_length, array_within, word_in, looks_rest, all_emptied_rest}
 
 -- ---- capacities
@@ -97,6 +100,12 @@ module _ (z : Layout) (n : ℕ) (k : KeeperView) (from until : ℕ) (group : IsG
   lowest_none busy =
       find_none (λ b. is_free (standing_of k b) && (capacity z b == n)) 0 (length z.capacities) (λ b lt. ap (λ (i : ℕ). is_free (standing_of k i) && (capacity z i == n)) (let t : 0 + b ≡ b = omega arith in t) ∙ passed b lt (busy b))
 
+  -- what a search of the group found
+  pub lowest_is : (notes : List Note) → notes ≡ map note_of k.standings → (o : Option ℕ) → IfNone o ((b : ℕ) → from ≤ b → b < until → is_free_note (note_at notes b) ≡ false)
+      → IfSome o (λ a. (from ≤ a) × (a < until) × (is_free_note (note_at notes a) ≡ true) × ((b : ℕ) → from ≤ b → b < a → is_free_note (note_at notes b) ≡ false)) → o ≡ lowest_free z n k
+  lowest_is notes are None none some = sym (lowest_none (λ b low high. free_at k.standings notes b false are (none b low high)))
+  lowest_is notes are (Some a) none some = sym (lowest_some a some.0 some.1 (free_at k.standings notes a true are some.2) (λ b low high. free_at k.standings notes b false are (some.3 b low high)))
+
 -- ---- a standing that is written over
 
 set_other_free : (l : List Standing) (i b : ℕ) (s : Standing) → (s ≡ Free → ⊥) → slice_index_or (slice_set l i s) b Free ≡ Free → slice_index_or l b Free ≡ Free
@@ -126,10 +135,6 @@ retire_live c (Some a) b d k e = set_other_live k.standings a b d (Retired c (si
   where
     not_it : (c : ClassRef) (r : ℕ) (d : ClassRef) (aw : List Bool) → Retired c r aw ≡ Live d → ⊥
     not_it c r d aw u = cc
-
-pub retired_is : (c : ClassRef) (n : ℕ) (k : KeeperView) → retire c (named n) k ≡ retired_at c n (size k.history) (everyone (length k.given)) k.standings
-retired_is c zero k = refl
-retired_is c (suc a) k = refl
 
 -- ---- changes
 
@@ -171,15 +176,15 @@ module _ (look : History → ClassRef → ℕ → ℕ) (key : SettingView) (k : 
 
   pub kept_filled : (c : ClassRef) (a p s w : ℕ) → standing_of k a ≡ Live c → find_in (array_words (layout_of key) k a) s ≡ empty p → occupied_in (array_words (layout_of key) k a) + 1 ≤ fill_limit (capacity (layout_of key) a)
       → sel_of w ≡ s → w ≢ 0 → TidyBy look key (filled (layout_of key) a p w k) → InOrder look key (filled (layout_of key) a p w k) rem (slice_set has a (slice_index has a + 1))
-  kept_filled c a p s w live found room sel some tidy =
+  kept_filled c a p s w alive found room sel some tidy =
       let z = layout_of key in
       let k' = filled z a p w k in
-      let al = live_below c a live in
+      let al = live_below c a alive in
       let here = place_in a p s al found in
       let put : array_words z k' a ≡ slice_set (array_words z k a) p w = ap (take (capacity z a)) (drop-set-add (base z a) k.words p w) ∙ take-set-lt (capacity z a) (drop (base z a) k.words) p w here.0 in
       let others : (b : ℕ) → b ≢ a → array_words z k' b ≡ array_words z k b = λ b ne. array_same z k k' b (length-set k.words (base z a + p) w) (λ q lt. get_or-set_other k.words (base z a + p) (base z b + q) w 0 (λ e. ne (one_place z b a q p lt here.0 e).0)) in record {
         tidy = tidy;
-        cleared = λ b q free lt. get_or-set_other k.words (base z a + p) (base z b + q) w 0 (λ e. apart c (standing_of k b) free (ap (standing_of k) (one_place z b a q p lt here.0 e).0 ∙ live)) ∙ kept.cleared b q free lt;
+        cleared = λ b q free lt. get_or-set_other k.words (base z a + p) (base z b + q) w 0 (λ e. apart c (standing_of k b) free (ap (standing_of k) (one_place z b a q p lt here.0 e).0 ∙ alive)) ∙ kept.cleared b q free lt;
         counted = λ b bl. ⊎_elim
             (λ (e : b ≡ a). ap (slice_index (slice_set has a (slice_index has a + 1))) e ∙ get_or-set_same has a (slice_index has a + 1) 0 (omega (arith, kept.counts)) ∙ ap (λ (m : ℕ). m + 1) (kept.counted a al)
             ∙ sym (occupied-written (array_words z k a) s w p sel found some) ∙ ap occupied_in (sym put) ∙ ap (λ (x : ℕ). occupied_in (array_words z k' x)) (sym e))
@@ -258,15 +263,19 @@ module _ (look : History → ClassRef → ℕ → ℕ) (key : SettingView) (k : 
 
 -- ---- a collection
 
-pub collected_rest : (z : Layout) (outs : List Bool) (k : KeeperView) → collected z outs k ≡ record k { words = (collected z outs k).words; standings = (looks z.senders outs k).standings; stores = (collected z outs k).stores }
-collected_rest z outs k =
+pub collects_by_rest : {z : Layout} {outs : List Bool} {k k' : KeeperView} → CollectsBy z outs k k' → k' ≡ record k { words = k'.words; standings = (looks z.senders outs k).standings; stores = k'.stores }
+collects_by_rest {z} {outs} {k} {k'} t =
     let j = looks z.senders outs k in
-    all_emptied_rest z (freed z outs k) j ∙ ap (λ (x : KeeperView). record x { words = (collected z outs k).words; stores = (collected z outs k).stores }) (looks_rest z.senders outs k)
+    t.view ∙ all_emptied_rest z t.order j ∙ (λ i. record j { words = (sym t.view i).words; stores = (sym t.view i).stores }) ∙ ap (λ (x : KeeperView). record x { words = k'.words; stores = k'.stores }) (looks_rest z.senders outs k)
 
 pub collects_rest : {z : Layout} {k k' : KeeperView} {n : ℕ} → Collects z k k' n → k' ≡ record k { words = k'.words; standings = k'.standings; stores = k'.stores }
 collects_rest {z} {k} {k'} t =
-    let is = t.view ∙ collected_rest z t.outs k in
-    is ∙ (λ i. record k { words = (sym is i).words; standings = (sym is i).standings; stores = (sym is i).stores })
+    let is = collects_by_rest t.collects in
+    is ∙ (λ i. record k { words = k'.words; standings = (sym is i).standings; stores = k'.stores })
+
+-- the lowest free array doesn't depend on the clears
+pub lowest_free-collects : (z : Layout) (n : ℕ) (outs : List Bool) (k k' : KeeperView) → CollectsBy z outs k k' → lowest_free z n k' ≡ lowest_free z n (looks z.senders outs k)
+lowest_free-collects z n outs k k' t = ap (λ (x : KeeperView). find (λ a. is_free (standing_of x a) && (capacity z a == n)) (range_with_len 0 (length z.capacities))) (collects_by_rest t)
 
 -- ---- what a header word names
 
@@ -279,8 +288,14 @@ module _ (look : History → ClassRef → ℕ → ℕ) (key : SettingView) (k : 
   live_of c n lt e some =
       let is : n ≡ suc (n - 1) = omega arith in
       let h : header k c ≡ suc (n - 1) = sym e ∙ is in
-      let live = header_live look key k kept.tidy c (n - 1) lt h in
-      (live, live_array look key k kept.tidy c (n - 1) live, h)
+      let alive = header_live look key k kept.tidy c (n - 1) lt h in
+      (alive, live_array look key k kept.tidy c (n - 1) alive, h)
+
+  -- the array of a header word is noted as live
+  pub live_noted : (c : ClassRef) (n b : ℕ) (notes : List Note) → c.class < class_total key.image → n ≡ header k c → n ≡ suc b → notes ≡ map note_of k.standings → note_at notes b ≡ live
+  live_noted c n b notes lt e is are =
+      let at : n - 1 ≡ b = omega arith in
+      ap (λ l. note_at l b) are ∙ noted_at k.standings b ∙ ap (λ (x : ℕ). note_of (standing_of k x)) (sym at) ∙ ap note_of (live_of c n lt e (λ z. absurd (omega arith))).0
 
   pub header_small : (c : ClassRef) (n : ℕ) → c.class < class_total key.image → n ≡ header k c → n ≤ length k.standings
   header_small c zero lt e = omega arith
@@ -339,44 +354,20 @@ module _ (look : History → ClassRef → ℕ → ℕ) (key : SettingView) (k : 
         classes = kept.classes;
       }
 
--- ---- arrays that aren't free
-
-not_free : (s t : Standing) → (t ≡ Free → s ≡ Free) → is_free s ≡ false → is_free t ≡ false
-not_free s Free back busy = absurd (true≢false (ap is_free (sym (back refl)) ∙ busy))
-not_free s (Live c) back busy = refl
-not_free s (Retired c r aw) back busy = refl
-
-pub installed_busy : (c : ClassRef) (a b : ℕ) (k : KeeperView) → is_free (standing_of k b) ≡ false → is_free (standing_of (installed c a k) b) ≡ false
-installed_busy c a b k = not_free (standing_of k b) (standing_of (installed c a k) b) (λ e. retire_free c (named (slice_index k.words (header_at c))) b k (set_other_free (retire c (named (slice_index k.words (header_at c))) k) a b (Live c) (λ u. is_live c u) e))
-  where
-    is_live : (c : ClassRef) → Live c ≡ Free → ⊥
-    is_live c u = cc
-
-pub flushed_busy : (c : ClassRef) (b : ℕ) (k : KeeperView) → is_free (standing_of k b) ≡ false → is_free (standing_of (flushed c k) b) ≡ false
-flushed_busy c b k = not_free (standing_of k b) (standing_of (flushed c k) b) (λ e. retire_free c (named (slice_index k.words (header_at c))) b k e)
-
--- what was searched, and what was known before
-pub searched_none : (k : KeeperView) (items : List Standing) (from start end known_from known_to : ℕ) → items ≡ k.standings
-    → ((b : ℕ) → from ≤ b → b < start → (known_from ≤ b) × (b < known_to)) → ((b : ℕ) → known_from ≤ b → b < known_to → is_free (standing_of k b) ≡ false)
-    → ((b : ℕ) → start ≤ b → b < end → is_free (slice_index_or items b Free) ≡ false) → (b : ℕ) → from ≤ b → b < end → is_free (standing_of k b) ≡ false
-searched_none k items from start end known_from known_to is known busy none b low high = ⊎_elim
-    (λ (before : b < start). let t = known b low before in busy b t.0 t.1)
-    (λ (after : start ≤ b). ap (λ (l : List Standing). is_free (slice_index_or l b Free)) (sym is) ∙ none b after high)
-    (cases_lt b start)
-
 -- ---- a fill after a collection
 
-pub fills_grown : (z : Layout) (rem : List ℕ) (c : ClassRef) (s i n a m : ℕ) (k j k' : KeeperView) → way_of z rem k c s ≡ Take n → lowest_free z n k ≡ None → Collects z k j m → lowest_free z n j ≡ Some a → k' ≡ grown z c s i a j → Fills z rem c s i k k' Grown
-fills_grown z rem c s i n a m k j k' way none t found is =
-    subst (FillsBy z c s i k k' Grown) (sym way)
-    (subst (λ (o : Option ℕ). MatchOption o ((outs : List Bool) × MatchOption (lowest_free z n (collected z outs k)) ((Grown ≡ NoArray) × (k' ≡ collected z outs k)) (λ b. (Grown ≡ Grown) × (k' ≡ grown z c s i b (collected z outs k)))) (λ b. (Grown ≡ Grown) × (k' ≡ grown z c s i b k))) (sym none)
-    (t.outs, subst (λ (o : Option ℕ). MatchOption o ((Grown ≡ NoArray) × (k' ≡ collected z t.outs k)) (λ b. (Grown ≡ Grown) × (k' ≡ grown z c s i b (collected z t.outs k)))) (sym (ap (lowest_free z n) (sym t.view) ∙ found)) (refl, is ∙ ap (grown z c s i a) t.view)))
+module _ (z : Layout) (rem : List ℕ) (c : ClassRef) (s i n m : ℕ) (k j k' : KeeperView) (way : way_of z rem k c s ≡ Take n) (none : lowest_free z n k ≡ None) (t : Collects z k j m) where
+  -- where none was free at entry
+  after : (answer : Filled) → MatchOption (lowest_free z n (looks z.senders t.outs k)) ((answer ≡ NoArray) × (k' ≡ j)) (λ a. (answer ≡ Grown) × (k' ≡ grown z c s i a j)) → Fills z rem c s i k k' answer
+  after answer ends = subst (FillsBy z c s i k k' answer) (sym way)
+      (subst (λ (o : Option ℕ). MatchOption o ((outs : List Bool) × (j : KeeperView) × CollectsBy z outs k j × MatchOption (lowest_free z n (looks z.senders outs k)) ((answer ≡ NoArray) × (k' ≡ j)) (λ a. (answer ≡ Grown) × (k' ≡ grown z c s i a j))) (λ a. (answer ≡ Grown) × (k' ≡ grown z c s i a k))) (sym none)
+      (t.outs, j, t.collects, ends))
 
-pub fills_none : (z : Layout) (rem : List ℕ) (c : ClassRef) (s i n m : ℕ) (k j k' : KeeperView) → way_of z rem k c s ≡ Take n → lowest_free z n k ≡ None → Collects z k j m → lowest_free z n j ≡ None → k' ≡ j → Fills z rem c s i k k' NoArray
-fills_none z rem c s i n m k j k' way none t none' is =
-    subst (FillsBy z c s i k k' NoArray) (sym way)
-    (subst (λ (o : Option ℕ). MatchOption o ((outs : List Bool) × MatchOption (lowest_free z n (collected z outs k)) ((NoArray ≡ NoArray) × (k' ≡ collected z outs k)) (λ b. (NoArray ≡ Grown) × (k' ≡ grown z c s i b (collected z outs k)))) (λ b. (NoArray ≡ Grown) × (k' ≡ grown z c s i b k))) (sym none)
-    (t.outs, subst (λ (o : Option ℕ). MatchOption o ((NoArray ≡ NoArray) × (k' ≡ collected z t.outs k)) (λ b. (NoArray ≡ Grown) × (k' ≡ grown z c s i b (collected z t.outs k)))) (sym (ap (lowest_free z n) (sym t.view) ∙ none')) (refl, is ∙ t.view)))
+  pub fills_grown : (a : ℕ) → lowest_free z n j ≡ Some a → k' ≡ grown z c s i a j → Fills z rem c s i k k' Grown
+  fills_grown a found is = after Grown (subst (λ (o : Option ℕ). MatchOption o ((Grown ≡ NoArray) × (k' ≡ j)) (λ b. (Grown ≡ Grown) × (k' ≡ grown z c s i b j))) (sym found ∙ lowest_free-collects z n t.outs k j t.collects) (refl, is))
+
+  pub fills_none : lowest_free z n j ≡ None → k' ≡ j → Fills z rem c s i k k' NoArray
+  fills_none found is = after NoArray (subst (λ (o : Option ℕ). MatchOption o ((NoArray ≡ NoArray) × (k' ≡ j)) (λ b. (NoArray ≡ Grown) × (k' ≡ grown z c s i b j))) (sym found ∙ lowest_free-collects z n t.outs k j t.collects) (refl, is))
 
 -- ---- the first view
 

@@ -4,7 +4,7 @@ use Rattle.std.specs.Prelude.{MatchOption}
 use Rattle.msg_names.specs.declared.value.ClassRef.{ClassRef}
 use Rattle.msg_tables.specs.History.{History}
 use Rattle.msg_core.specs.State.{Layout, capacity, awaits}
-use Rattle.msg_cache.specs.Keeping.{looks, clears, emptied, all_emptied, freed, collected, lowest_free, grown, FillsBy, Fills, way_of}
+use Rattle.msg_cache.specs.Keeping.{looks, clears, emptied, all_emptied, CollectsBy, lowest_free, grown, FillsBy, Fills, way_of}
 use Rattle.msg_cache.specs.Layout.{base}
 use Rattle.msg_cache.specs.Plays.{looked}
 use Rattle.msg_cache.specs.declared.answer.Filled.{Filled}
@@ -42,23 +42,22 @@ all_emptied-rest : (z : Layout) (arrays : List ℕ) (k : KeeperView) → rest (a
 all_emptied-rest z [] k = refl
 all_emptied-rest z (a ∷ arrays) k = all_emptied-rest z arrays (emptied z a k) ∙ clears-rest (base z a) (capacity z a) k
 
-pub collected-rest : (z : Layout) (outs : List Bool) (k : KeeperView) → rest (collected z outs k) ≡ rest k
-collected-rest z outs k = all_emptied-rest z (freed z outs k) (looks z.senders outs k) ∙ looks-rest z.senders outs k
+pub collects-rest : (z : Layout) (outs : List Bool) (k j : KeeperView) → CollectsBy z outs k j → rest j ≡ rest k
+collects-rest z outs k j t = ap rest t.view ∙ all_emptied-rest z t.order (looks z.senders outs k) ∙ looks-rest z.senders outs k
 
 -- ---- a fill
 
 module _ (z : Layout) (c : ClassRef) (s i : ℕ) (k k' : KeeperView) (answer : Filled) where
-  collects-rest : (outs : List Bool) (o : Option ℕ)
-      → MatchOption o ((answer ≡ NoArray) × (k' ≡ collected z outs k)) (λ a. (answer ≡ Grown) × (k' ≡ grown z c s i a (collected z outs k))) → rest k' ≡ rest k
-  collects-rest outs None (is, same) = ap rest same ∙ collected-rest z outs k
-  collects-rest outs (Some a) (is, same) = ap rest same ∙ collected-rest z outs k
+  after-rest : (j : KeeperView) → rest j ≡ rest k → (o : Option ℕ) → MatchOption o ((answer ≡ NoArray) × (k' ≡ j)) (λ a. (answer ≡ Grown) × (k' ≡ grown z c s i a j)) → rest k' ≡ rest k
+  after-rest j collected None (is, same) = ap rest same ∙ collected
+  after-rest j collected (Some a) (is, same) = ap rest same ∙ collected
 
   grows-rest : (n : ℕ) (o : Option ℕ)
       → MatchOption o
-      ((outs : List Bool) × MatchOption (lowest_free z n (collected z outs k)) ((answer ≡ NoArray) × (k' ≡ collected z outs k)) (λ a. (answer ≡ Grown) × (k' ≡ grown z c s i a (collected z outs k))))
+      ((outs : List Bool) × (j : KeeperView) × CollectsBy z outs k j × MatchOption (lowest_free z n (looks z.senders outs k)) ((answer ≡ NoArray) × (k' ≡ j)) (λ a. (answer ≡ Grown) × (k' ≡ grown z c s i a j)))
       (λ a. (answer ≡ Grown) × (k' ≡ grown z c s i a k))
       → rest k' ≡ rest k
-  grows-rest n None (outs, collects) = collects-rest outs (lowest_free z n (collected z outs k)) collects
+  grows-rest n None (outs, j, collects, ends) = after-rest j (collects-rest z outs k j collects) (lowest_free z n (looks z.senders outs k)) ends
   grows-rest n (Some a) (is, same) = ap rest same
 
   fills_by-rest : (w : Way) → FillsBy z c s i k k' answer w → rest k' ≡ rest k

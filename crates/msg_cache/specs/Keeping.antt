@@ -1,7 +1,8 @@
 -- What the keeper's calls do, as changes of its view.
-use Rattle.std.specs.Prelude.{◌≡◌, ◌↔◌, ℕ, zero, suc, ◌+◌, ◌*◌, ◌<◌, ◌≤◌, ◌==◌, ◌&&◌, not, List, [], ◌∷◌, length, take, drop, find, Bool, false, slice_index, slice_set, if◌then◌else◌, Option, None, MatchOption}
+use Rattle.std.specs.Prelude.{◌≡◌, ◌↔◌, ℕ, zero, suc, ◌+◌, ◌*◌, ◌<◌, ◌≤◌, ◌==◌, ◌&&◌, not, List, [], ◌∷◌, length, take, drop, find, Bool, slice_index, slice_set, if◌then◌else◌, Option, None, MatchOption}
 use Rattle.msg_image.specs.Parts.{class_total}
 use Rattle.std.specs.List.{range_with_len, filter}
+use Rattle.std.specs.List.Sorted.{IsPermutation}
 use Rattle.msg_names.specs.declared.value.ClassRef.{ClassRef}
 use Rattle.msg_buckets.specs.declared.capacity.Plan.{Plan}
 use Rattle.msg_buckets.specs.declared.capacity.Plan.TheVariants.{Use as PlanUse, Take as PlanTake}
@@ -12,7 +13,7 @@ use Rattle.msg_buckets.specs.Array.{find_in, occupied_in}
 use Rattle.msg_tables.specs.History.{History}
 use Rattle.msg_names.specs.ClassRef.{slot_of}
 use Rattle.msg_core.specs.declared.state.Standing.{Standing}
-use Rattle.msg_core.specs.declared.state.Standing.TheVariants.{Free, Live, Retired}
+use Rattle.msg_core.specs.declared.state.Standing.TheVariants.{Free, Live}
 use Rattle.msg_core.specs.State.{Layout, capacity, awaits}
 use Rattle.msg_core.specs.Steps.{is_free, seen_out}
 use Rattle.msg_core.specs.View.{standing_at}
@@ -63,11 +64,6 @@ abbrev pub looked_by : ℕ → List Bool → Standing → Standing
 looked_by zero outs s = s
 looked_by (suc n) outs s = if awaits outs n then seen_out n (looked_by n outs s) else looked_by n outs s
 
--- the sender numbers of a set that are left after that
-abbrev pub minus : ℕ → List Bool → List Bool → List Bool
-minus zero outs aw = aw
-minus (suc n) outs aw = if awaits outs n then slice_set (minus n outs aw) n false else minus n outs aw
-
 -- a Clear of a word that isn't 0, and no store where it is
 abbrev pub cleared : ℕ → KeeperView → KeeperView
 cleared i k = if slice_index k.words i == 0 then k else stored i 0 k
@@ -94,14 +90,17 @@ newly_free z k j = filter (λ a. is_free (standing_of j a) && not (is_free (stan
 abbrev pub freed : Layout → List Bool → KeeperView → List ℕ
 freed z outs k = newly_free z k (looks z.senders outs k)
 
--- one Look at each sender number, then a Clear of each word that isn't 0 of each array that became free
-abbrev pub collected : Layout → List Bool → KeeperView → KeeperView
-collected z outs k = all_emptied z (freed z outs k) (looks z.senders outs k)
+-- A collection whose looks see these senders out took the view k to k': one Look at each sender number, then a Clear of each word that isn't 0 of each array that became free, of one array after another. The order
+-- of the arrays is any.
+pub record CollectsBy (z : Layout) (outs : List Bool) (k k' : KeeperView) : Type 0 where
+  pub order : List ℕ
+  pub are_freed : IsPermutation order (freed z outs k)
+  pub view : k' ≡ all_emptied z order (looks z.senders outs k)
 
 -- a collection took the view k to k', and n arrays became free
 pub record Collects (z : Layout) (k k' : KeeperView) (n : ℕ) : Type 0 where
   pub outs : List Bool
-  pub view : k' ≡ collected z outs k
+  pub collects : CollectsBy z outs k k'
   pub count : n ≡ length (freed z outs k)
 
 -- ---- a fill
@@ -161,12 +160,12 @@ filled z a p w k = stored (base z a + p) w k
 abbrev pub grown : Layout → ClassRef → ℕ → ℕ → ℕ → KeeperView → KeeperView
 grown z c s i a k = filled z a (probe_place s (capacity z a) 0) (word_of s i) (installed c a k)
 
--- an entry that needs an array of capacity n: the lowest that is free, at entry or after one collection
+-- An entry that needs an array of capacity n: the lowest that is free, at entry or after one collection. Which one that is depends on what the looks saw, and not on the order of the clears.
 abbrev pub Grows : Layout → ClassRef → ℕ → ℕ → ℕ → KeeperView → KeeperView → Filled → Type 0
 Grows z c s i n k k' answer = MatchOption (lowest_free z n k)
-    ((outs : List Bool) × MatchOption (lowest_free z n (collected z outs k))
-    ((answer ≡ NoArray) × (k' ≡ collected z outs k))
-    (λ a. (answer ≡ Grown) × (k' ≡ grown z c s i a (collected z outs k))))
+    ((outs : List Bool) × (j : KeeperView) × CollectsBy z outs k j × MatchOption (lowest_free z n (looks z.senders outs k))
+    ((answer ≡ NoArray) × (k' ≡ j))
+    (λ a. (answer ≡ Grown) × (k' ≡ grown z c s i a j)))
     (λ a. (answer ≡ Grown) × (k' ≡ grown z c s i a k))
 
 abbrev pub FillsBy : Layout → ClassRef → ℕ → ℕ → KeeperView → KeeperView → Filled → Way → Type 0
@@ -177,11 +176,6 @@ FillsBy z c s i k k' answer (Take n) = Grows z c s i n k k' answer
 -- a fill of the class reference c with the selector s and the implementation i took the view k to k', while these capacities were remembered
 abbrev pub Fills : Layout → List ℕ → ClassRef → ℕ → ℕ → KeeperView → KeeperView → Filled → Type 0
 Fills z remembered c s i k k' answer = FillsBy z c s i k k' answer (way_of z remembered k c s)
-
--- the standings, once a class reference lost the array of its header word
-abbrev pub retired_at : ClassRef → ℕ → ℕ → List Bool → List Standing → List Standing
-retired_at c zero r all l = l
-retired_at c (suc a) r all l = slice_set l a (Retired c r all)
 
 -- ---- when each answer comes
 
@@ -195,7 +189,7 @@ HasRoom z k c = (a : ℕ) × (header k c ≡ suc a) × (plan_of (capacity z a) (
 
 -- no array of the capacity that is wanted was free, nor after one collection, which alone has changed the view
 abbrev pub NoneIsFree : Layout → KeeperView → KeeperView → Type 0
-NoneIsFree z k k' = (n : ℕ) × (lowest_free z n k ≡ None) × (outs : List Bool) × (lowest_free z n (collected z outs k) ≡ None) × (k' ≡ collected z outs k)
+NoneIsFree z k k' = (n : ℕ) × (lowest_free z n k ≡ None) × (outs : List Bool) × CollectsBy z outs k k' × (lowest_free z n k' ≡ None)
 
 -- which answer of a fill comes when: nothing was done where the selector is there, the live array is used where it has room, and only then is an array needed
 abbrev pub FillLaw : Type 0

@@ -1,12 +1,13 @@
+pub mod BitSet
 pub mod Config
 pub mod Inside
 pub mod Keeping
 pub mod Laws
 pub mod Layout
+pub mod Notes
 pub mod Ours
 pub mod Plays
 pub mod Record
 pub mod Rule
-pub mod SenderSet
 pub mod Standings
 pub mod Views

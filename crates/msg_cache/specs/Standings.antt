@@ -1,17 +1,49 @@
--- What contracts see of the keeper's notes of what arrays are for.
-use Rattle.std.specs.Prelude.{List, map}
-use Rattle.msg_core.specs.declared.state.Standing.{Standing}
-use Rattle.msg_core.specs.declared.state.Standing.TheVariants.{Free, Live, Retired}
-use Rattle.msg_cache.specs.declared.standings.Note.{Note}
-use Rattle.msg_cache.specs.declared.standings.Note.TheVariants.{Free as NotedFree, Live as NotedLive, Retired as NotedRetired}
-use Rattle.msg_cache.specs.SenderSet.{flags}
+-- What the fields of the keeper's copy of what arrays are for say.
+use Rattle.std.specs.Prelude.{◌≡◌, ◌≢◌, ℕ, ◌+◌, ◌-◌, ◌^◌, ◌==◌, ◌&&◌, ◌<◌, ◌≤◌, nat_lt, nat_le, List, Bool, true, false, length, map, take, slice_index, slice_index_or, if◌then◌else◌}
+use Rattle.std.specs.List.{range_with_len, position_or_len}
+use Rattle.std.specs.VecDeque.{deque_capacity}
+use Rattle.msg_cache.specs.declared.standings.Standings.TheInside.{Inside}
+use Rattle.msg_cache.specs.Notes.{StandingsView, Note, free, live, waiting}
 
--- the standing that a note says
-abbrev pub standing : Note → Standing
-standing NotedFree = Free
-standing (NotedLive c) = Live c
-standing (NotedRetired c r bits) = Retired c r (flags (record { bits = bits }))
+-- whom an array at this place of the queue awaits: the senders whose cursors haven't passed it
+unfoldable pub awaited_at : ℕ → List ℕ → ℕ → List Bool
+awaited_at senders cursors place = map (λ n. nat_lt n senders && nat_le (slice_index cursors n) place) (range_with_len 0 64)
 
--- the standing of each array
-abbrev pub noted : List Note → List Standing
-noted notes = map standing notes
+-- the place of an array in the queue, or the queue's length
+abbrev pub place_of : List ℕ → ℕ → ℕ
+place_of queue a = position_or_len (λ b. b == a) queue
+
+-- the note of an array that isn't marked as free, by its place
+abbrev pub note_by : ℕ → ℕ → ℕ → List ℕ → ℕ → Note
+note_by end ready senders cursors place =
+    if nat_le end place then live
+    else if nat_lt place ready then free
+    else waiting (awaited_at senders cursors (place - ready))
+
+abbrev pub note_for : List Bool → List ℕ → ℕ → ℕ → List ℕ → ℕ → Note
+note_for marks queue ready senders cursors a =
+    if slice_index_or marks a true then free else note_by (length queue) ready senders cursors (place_of queue a)
+
+-- the note of each array
+abbrev pub notes : List Bool → List ℕ → ℕ → ℕ → List ℕ → List Note
+notes marks queue ready senders cursors = map (note_for marks queue ready senders cursors) (range_with_len 0 (length marks))
+
+-- how many senders there may be, the notes, and the queue's front that is to be taken out
+abbrev pub standings_view : Inside → StandingsView
+standings_view s = record {
+  senders = s.senders;
+  notes = notes s.free s.queue.items s.ready s.senders s.cursors;
+  ready = take s.ready s.queue.items;
+}
+
+-- what holds of the fields
+pub record IsStandings (s : Inside) : Type 0 where
+  pub few_arrays : length s.free < 2 ^ 32
+  pub few_senders : s.senders ≤ 64
+  -- the queue has room for all arrays, each once, and has none that is marked as free
+  pub room : length s.free ≤ deque_capacity s.queue
+  pub unmarked : (p : ℕ) → p < length s.queue.items → slice_index_or s.free (slice_index s.queue.items p) true ≡ false
+  pub distinct : (p q : ℕ) → p < q → q < length s.queue.items → slice_index s.queue.items p ≢ slice_index s.queue.items q
+  -- nobody has passed more than there is
+  pub ends : s.ready ≤ length s.queue.items
+  pub within : (n : ℕ) → n < s.senders → s.ready + slice_index s.cursors n ≤ length s.queue.items

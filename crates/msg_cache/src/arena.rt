@@ -73,7 +73,6 @@ impl Arena {
             return Err(fault);
         }
         let capacities = capacities_of(alloc, &config.arrays)?;
-        let arrays = capacities.len();
         let (arena, seat) = Arena::of(
             alloc,
             image,
@@ -83,6 +82,7 @@ impl Arena {
         )?;
         let classes = image.class_count() as usize;
         let senders = config.senders as usize;
+        let arrays = arena.arrays();
         let keeper = Keeper::first(alloc, seat, arena.probes(), arrays, classes, senders)?;
         Ok((arena, keeper))
     }

@@ -1,36 +1,33 @@
 //! A collection: who is out, which arrays nobody holds any more, and their words cleared.
 
-ghost use Rattle.std.specs.Prelude.{◌≡◌, ℕ, ◌+◌, ◌^◌, ◌<◌, length, true};
+ghost use Rattle.std.specs.Prelude.{◌≡◌, ℕ, ◌+◌, ◌^◌, ◌<◌, length};
 ghost use Rattle.msg_tables.specs.History.{lookup};
 ghost use Rattle.msg_core.specs.declared.state.Standing.TheVariants.{Free};
-ghost use Rattle.msg_core.specs.State.{awaits, capacity};
+ghost use Rattle.msg_core.specs.State.{capacity};
 ghost use Rattle.msg_cache.specs.Layout.{layout_of, base as base_of};
 ghost use Rattle.msg_cache.specs.Rule.{TidyBy};
 ghost use Rattle.msg_cache.specs.Plays.{keeper_of, kept};
-ghost use Rattle.msg_cache.specs.SenderSet.{flags};
-ghost use Rattle.msg_cache.specs.Standings.{noted};
+ghost use Rattle.msg_cache.specs.Notes.{settled};
 ghost use Rattle.msg_cache.specs.Keeping.{standing_of, looks, cleared, emptied, Collects, InOrder};
 
 use crate::arena::Arena;
-use crate::sender_set::SenderSet;
-use crate::standings::{Note, look};
+use crate::standings::Standings;
 use crate::steps::{Seat, Words, clear_word, load_probe};
 
 // One look at each sender number. Says who was out.
-fn look_at_senders(arena: &Arena, seat: &mut Seat) -> SenderSet
+fn look_at_senders(arena: &Arena, seat: &mut Seat) -> [bool; 64]
     requires table { seat.old.table_id ≡ arena.now.table }
     requires keeper { seat.old.me ≡ kept (keeper_of seat.old.me.0) }
     requires tidy { TidyBy lookup arena.now.key (keeper_of seat.old.me.0) }
     ensures seat { (seat.new.table_id ≡ seat.old.table_id) × (seat.new.id ≡ seat.old.id) }
-    ensures told { seat.new.me ≡ kept (looks arena.now.key.senders (flags result) (keeper_of seat.old.me.0)) }
-    ensures within { (n : ℕ) → awaits (flags result) n ≡ true → n < arena.now.key.senders }
+    ensures told { seat.new.me ≡ kept (looks arena.now.key.senders result (keeper_of seat.old.me.0)) }
     ensures tidy { TidyBy lookup arena.now.key (keeper_of seat.new.me.0) }
 {
     let shared = arena.shared();
-    let mut outs = SenderSet::none();
+    let mut outs = [false; 64];
     for number in 0..arena.senders() {
         let word = arena.probe_at(number);
-        outs.note(number as usize, load_probe(shared, seat, word, number));
+        outs[number as usize] = load_probe(shared, seat, word, number);
     }
     outs
 }
@@ -89,7 +86,7 @@ pub(crate) fn collect_into(
     arena: &Arena,
     seat: &mut Seat,
     words: &mut Vec<u64>,
-    standings: &mut Vec<Note>,
+    standings: &mut Standings,
     occupied: &mut Vec<u32>,
     remembered: &Vec<u32>,
 ) -> u32
@@ -97,22 +94,20 @@ pub(crate) fn collect_into(
     requires keeper { seat.old.me ≡ kept (keeper_of seat.old.me.0) }
     requires in_order { InOrder lookup arena.now.key (keeper_of seat.old.me.0) remembered.now.items occupied.old.items }
     requires words { words.old.items ≡ (keeper_of seat.old.me.0).words }
-    requires standings { noted standings.old.items ≡ (keeper_of seat.old.me.0).standings }
+    requires standings { standings.old ≡ settled arena.now.key.senders (keeper_of seat.old.me.0).standings }
     ensures seat { (seat.new.table_id ≡ seat.old.table_id) × (seat.new.id ≡ seat.old.id) }
     ensures keeper { seat.new.me ≡ kept (keeper_of seat.new.me.0) }
     ensures collects { Collects (layout_of arena.now.key) (keeper_of seat.old.me.0) (keeper_of seat.new.me.0) result }
     ensures in_order { InOrder lookup arena.now.key (keeper_of seat.new.me.0) remembered.now.items occupied.new.items }
     ensures words { words.new.items ≡ (keeper_of seat.new.me.0).words }
-    ensures standings { noted standings.new.items ≡ (keeper_of seat.new.me.0).standings }
+    ensures standings { standings.new ≡ settled arena.now.key.senders (keeper_of seat.new.me.0).standings }
 {
     let outs = look_at_senders(arena, seat);
-    let mut freed = 0;
-    for array in 0..arena.arrays() {
-        if look(standings, array, outs) {
-            clear_array(arena, seat, words, array);
-            occupied[array] = 0;
-            freed += 1;
-        }
+    let freed = standings.see_out(&outs);
+    for _turn in 0..freed {
+        let array = standings.take_ready();
+        clear_array(arena, seat, words, array);
+        occupied[array] = 0;
     }
     freed
 }

@@ -18,16 +18,16 @@ ghost use Rattle.msg_cache.specs.Layout.{layout_of, header_at};
 ghost use Rattle.msg_cache.specs.Plays.{kept, keeper_of, flushed, installed, committed, lent, turn_in, turn_view, is_lent, sender_in, given_out, taken_in, newcomer};
 ghost use Rattle.msg_cache.specs.Keeping.{header as header_of, standing_of, array_words, remember, way_of, OnUse, OnTake, CanUse, lowest_free, filled, grown, Fills, Collects};
 ghost use Rattle.msg_cache.specs.Rule.{live_in};
-ghost use Rattle.msg_cache.specs.Standings.{noted};
+ghost use Rattle.msg_cache.specs.Notes.{settled};
 ghost use Rattle.msg_cache.specs.Views.{layout, classes, IsSenderOf};
 ghost use Rattle.msg_image.specs.Parts.{class_total};
 
 use crate::answer::{Filled, Report, Way};
 use crate::arena::Arena;
 use crate::collecting::collect_into;
-use crate::filling::{retire_in, start_of, way_in_array};
+use crate::filling::{retire_in, way_in_array};
 use crate::prober::Prober;
-use crate::standings::{Note, all_free, first_free, install_in, retire};
+use crate::standings::Standings;
 use crate::steps::{
     Seat, header_at, join_sender, join_turn, recall, split_sender, split_turn, store_array,
     store_count, store_entry, store_none,
@@ -46,7 +46,7 @@ use std::mem::replace;
 pub struct Keeper {
     pub(crate) seat: Seat,
     words: Vec<u64>,
-    standings: Vec<Note>,
+    standings: Standings,
     // how many entries each array has
     pub(crate) occupied: Vec<u32>,
     // the capacity that the next array of each class reference without one has, or 0 for the least
@@ -54,18 +54,15 @@ pub struct Keeper {
     given: Vec<bool>,
     count: u64,
     lent: bool,
-    // of each capacity, the arrays from this one up to that one aren't free
-    searched_from: [usize; 9],
-    searched_to: [usize; 9],
     // the arrays that were installed before
     pub(crate) used: Vec<bool>,
     report: Report,
     pub ghost keeper: { seat.me ≡ kept (keeper_of seat.me.0) },
     pub ghost words_are: { words.items ≡ (keeper_of seat.me.0).words },
-    pub ghost standings_are: { noted standings.items ≡ (keeper_of seat.me.0).standings },
+    pub ghost standings_are: { standings ≡ settled standings.senders (keeper_of seat.me.0).standings },
+    pub ghost senders_are: { standings.senders ≡ length (keeper_of seat.me.0).given },
     pub ghost given_are: { given.items ≡ (keeper_of seat.me.0).given },
     pub ghost count_is: { count ≡ size (keeper_of seat.me.0).history },
-    pub ghost searched: { (i a : ℕ) → slice_index searched_from i ≤ a → a < slice_index searched_to i → is_free (standing_of (keeper_of seat.me.0) a) ≡ false },
     pub ghost lent_is: { lent ≡ is_lent (keeper_of seat.me.0).turn },
 }
 
@@ -106,6 +103,8 @@ impl Keeper {
         senders: usize,
     ) -> Result<Keeper, AllocError>
         requires classes { classes < 2 ^ 32 }
+        requires few_arrays { arrays < 2 ^ 32 }
+        requires few_senders { senders ≤ 64 }
         requires seat { (seat.me ≡ kept (keeper_of seat.me.0)) × (size (keeper_of seat.me.0).history ≡ 0) × ((keeper_of seat.me.0).turn ≡ Never) }
         requires words { (keeper_of seat.me.0).words ≡ replicate words 0 }
         requires arrays { (keeper_of seat.me.0).standings ≡ replicate arrays Free }
@@ -115,15 +114,13 @@ impl Keeper {
     {
         Ok(Keeper {
             words: vec![in alloc; 0; words]?,
-            standings: all_free(alloc, arrays)?,
+            standings: Standings::all_free(alloc, arrays, senders)?,
             occupied: vec![in alloc; 0; arrays]?,
             remembered: vec![in alloc; 0; 2 * classes]?,
             given: vec![in alloc; false; senders]?,
             used: vec![in alloc; false; arrays]?,
             count: 0,
             lent: false,
-            searched_from: [0; 9],
-            searched_to: [0; 9],
             report: Report::default(),
             seat,
         })
@@ -155,22 +152,14 @@ impl Keeper {
     }
 
     // The lowest free array of a capacity.
-    fn free_array(&mut self, arena: &Arena, capacity: u32) -> Option<usize>
-        requires arena { IsOf arena.now self.old }
+    fn free_array(&self, arena: &Arena, capacity: u32) -> Option<usize>
+        requires arena { IsOf arena.now self.now }
         requires capacity { IsCapacity capacity }
-        ensures arena { IsOf arena.now self.new }
-        ensures remembered { self.new.remembered.items ≡ self.old.remembered.items }
-        ensures view { view self.new ≡ view self.old }
-        ensures lowest { result ≡ lowest_free (layout arena.now) capacity (view self.old) }
-        ensures free { IfSome result (λ a. (a < length arena.now.key.capacities) × (standing_of (view self.old) a ≡ Free)) }
+        ensures lowest { result ≡ lowest_free (layout arena.now) capacity (view self.now) }
+        ensures free { IfSome result (λ a. (a < length arena.now.key.capacities) × (standing_of (view self.now) a ≡ Free)) }
     {
         let (from, until) = arena.group(capacity);
-        let at = capacity.trailing_zeros() as usize - 2;
-        let start = start_of(from, until, self.searched_from[at], self.searched_to[at]);
-        let end = first_free(&self.standings, start, until);
-        self.searched_from[at] = from;
-        self.searched_to[at] = end;
-        if end < until { Some(end) } else { None }
+        self.standings.first_free(from, until)
     }
 
     // Fill.
@@ -215,14 +204,8 @@ impl Keeper {
         let header = self.words[at];
         let shared = arena.shared();
         store_array(shared, &mut self.seat, class, array as u32);
-        retire_in(
-            &mut self.standings,
-            header,
-            class,
-            self.count as usize,
-            self.given.len(),
-        );
-        install_in(&mut self.standings, class, array);
+        retire_in(&mut self.standings, header);
+        self.standings.install(array);
         self.words[at] = array as u64 + 1;
         if header != 0 {
             self.report.retired = self.report.retired.saturating_add(1);
@@ -264,7 +247,6 @@ impl Keeper {
         ensures remembered { self.new.remembered.items ≡ self.old.remembered.items }
         ensures collects { Collects (layout arena.now) (view self.old) (view self.new) result }
     {
-        self.searched_to = [0; 9];
         collect_into(
             arena,
             &mut self.seat,
@@ -346,9 +328,7 @@ impl Keeper {
         let shared = arena.shared();
         store_none(shared, &mut self.seat, class, array);
         self.words[place] = 0;
-        let senders = self.given.len();
-        let changes = self.count as usize;
-        retire(&mut self.standings, class, array, changes, senders);
+        self.standings.retire(array);
         self.remembered[place - 1] = capacity;
         self.report.flushes = self.report.flushes.saturating_add(1);
         self.report.retired = self.report.retired.saturating_add(1);

@@ -3,6 +3,7 @@
 
 mod answer;
 mod arena;
+mod bit_set;
 mod collecting;
 mod config;
 mod filling;
@@ -11,7 +12,6 @@ mod law;
 pub mod laws;
 mod plays;
 mod prober;
-mod sender_set;
 mod setting;
 mod standings;
 mod steps;

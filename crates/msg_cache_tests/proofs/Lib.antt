@@ -1,2 +1,3 @@
 pub mod ArrayLemmas
+pub mod BeginLemmas
 pub mod KeepLemmas

@@ -2,6 +2,7 @@
 
 ghost use Rattle.std.specs.Prelude.{◌≡◌, ◌<◌, IfOk, IfSome};
 ghost use Rattle.msg_names.specs.declared.value.ClassRef.{ClassRef};
+ghost use Rattle.msg_image.specs.Parts.{class_total};
 ghost use Rattle.msg_cache.specs.Ours.{IsOf};
 ghost use Rattle.msg_cache.specs.Views.{classes, IsSenderOf};
 ghost use Rattle.msg_cache_tests.specs.Together.{Begin, HasNoArray, history};
@@ -48,8 +49,16 @@ pub(crate) fn open(
     if image.class_count() != 2 {
         Err("not two classes")?;
     }
-    let tables = Tables::open(alloc, &image)?;
-    let (arena, keeper) = Arena::open(alloc, &image, Config { senders, arrays })?;
+    opened(alloc, &image, Config { senders, arrays })
+}
+
+// The same of an image of two classes.
+fn opened(alloc: Global, image: &Image, config: Config) -> Result<(Arena, Keeper, Tables), Fail>
+    requires { class_total image.now ≡ 2 }
+    ensures { IfOk result (λ r. Begin r.0 r.1 r.2) }
+{
+    let tables = Tables::open(alloc, image)?;
+    let (arena, keeper) = Arena::open(alloc, image, config)?;
     Ok((arena, keeper, tables))
 }
 

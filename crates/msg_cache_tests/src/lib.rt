@@ -6,6 +6,8 @@ mod desk;
 #[cfg(test)]
 mod rows;
 #[cfg(test)]
+mod same;
+#[cfg(test)]
 mod stops;
 #[cfg(test)]
 mod threads;

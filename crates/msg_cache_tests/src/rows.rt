@@ -1,9 +1,11 @@
 //! Worked rows of caches.
 
-use crate::desk::{CHILD, Desk, image, open, selector};
+use crate::desk::{CHILD, Desk, Reader, image, open, selector};
+use crate::same::{same, same_at};
 use msg_cache::{Arena, ArenaFault, Config, Filled, Report};
 use msg_image::Change;
 use msg_names::ImpRef;
+use std::process::Abort;
 use std::test::Fail;
 
 #[test]
@@ -24,53 +26,88 @@ fn an_arena_is_refused(rt: HostRuntime) -> Result<(), Fail> {
         (64, [0; 9], None),
     ] {
         let opened = Arena::open(rt.alloc(), &image, Config { senders, arrays });
-        assert_eq!(rt; opened.err(), fault, "{senders} senders");
+        same_at(&rt, &senders, opened.err(), fault);
     }
     Ok(())
 }
 
 #[test]
-fn a_cache_is_filled_flushed_and_filled(rt: HostRuntime) -> Result<(), Fail> {
-    let (arena, keeper, tables) = open(rt.alloc(), 1, [2, 1, 0, 0, 0, 0, 0, 0, 0])?;
+fn a_number_is_given_once(rt: HostRuntime) -> Result<(), Fail> {
+    let (arena, keeper, tables) = open(rt.alloc(), 1, [0; 9])?;
     let mut desk = Desk::at(&arena, keeper, tables)?;
-    assert!(rt; !desk.has_turn());
-    let mut reader = desk.give_out(0).ok_or("no sender")?;
+    let reader = desk.give_out(0).ok_or("no sender")?;
+    same(&rt, reader.number(), 0);
+    same(&rt, reader.loads(), 0);
     assert!(rt; desk.give_out(0).is_none());
     assert!(rt; desk.give_out(1).is_none());
-    assert_eq!(rt; reader.number(), 0);
-    assert_eq!(rt; reader.loads(), 0);
-    assert_eq!(rt; reader.published(), 0);
-    for (number, filled, found, loads) in [
+    assert!(rt; !desk.has_turn());
+    Ok(())
+}
+
+// Caches a selector in Child, where it is then found with this implementation after so many loads.
+fn caches(
+    rt: &impl Abort,
+    desk: &mut Desk<'_>,
+    reader: &mut Reader<'_>,
+    entry: (u32, Filled, u32, u32),
+) -> Result<(), Fail> {
+    let (number, filled, found, loads) = entry;
+    let sel = selector(number)?;
+    same_at(rt, &number, desk.fill(CHILD, sel), filled);
+    same_at(
+        rt,
+        &number,
+        reader.find(CHILD, sel),
+        Some(ImpRef::of(found)),
+    );
+    same_at(rt, &number, reader.loads(), loads);
+    Ok(())
+}
+
+// Makes the first change, which the sender then sees.
+fn changes(rt: &impl Abort, desk: &mut Desk<'_>, reader: &mut Reader<'_>) -> Result<(), Fail> {
+    let change = Change::Add {
+        class: CHILD,
+        sel: selector(2)?,
+        imp: ImpRef::of(1),
+    };
+    same(rt, reader.published(), 0);
+    same(rt, desk.change(&change).ok(), Some(1));
+    same(rt, reader.published(), 1);
+    Ok(())
+}
+
+// Caches Child's selectors: the larger array has the last entry alone.
+fn fills(rt: &impl Abort, desk: &mut Desk<'_>, reader: &mut Reader<'_>) -> Result<(), Fail> {
+    for entry in [
         (2, Filled::Grown, 1, 1),
         (2, Filled::Present, 1, 1),
         (6, Filled::Used, 0, 2),
         (3, Filled::Used, 0, 2),
         (4, Filled::Grown, 0, 1),
     ] {
-        let sel = selector(number)?;
-        assert_eq!(rt; desk.fill(CHILD, sel), filled, "{number}");
-        assert_eq!(rt;
-            reader.find(CHILD, sel),
-            Some(ImpRef::of(found)),
-            "{number}"
-        );
-        assert_eq!(rt; reader.loads(), loads, "{number}");
+        caches(rt, desk, reader, entry)?;
     }
-    // The larger array has the last entry alone.
-    let value = selector(2)?;
-    assert!(rt; reader.find(CHILD, value).is_none());
-    assert_eq!(rt; reader.loads(), 1);
+    assert!(rt; reader.find(CHILD, selector(2)?).is_none());
+    same(rt, reader.loads(), 1);
+    Ok(())
+}
+
+// Takes Child's cache away, makes a change, and fills it again.
+fn flushes(rt: &impl Abort, desk: &mut Desk<'_>, reader: &mut Reader<'_>) -> Result<(), Fail> {
     assert!(rt; desk.flush(CHILD));
     assert!(rt; !desk.flush(CHILD));
-    let change = Change::Add {
-        class: CHILD,
-        sel: value,
-        imp: ImpRef::of(1),
-    };
-    assert_eq!(rt; desk.change(&change).ok(), Some(1));
-    assert_eq!(rt; reader.published(), 1);
-    assert_eq!(rt; desk.fill(CHILD, value), Filled::Grown);
-    assert_eq!(rt; reader.find(CHILD, value), Some(ImpRef::of(1)));
+    changes(rt, desk, reader)?;
+    caches(rt, desk, reader, (2, Filled::Grown, 1, 1))
+}
+
+fn fills_and_flushes(
+    rt: &impl Abort,
+    desk: &mut Desk<'_>,
+    reader: &mut Reader<'_>,
+) -> Result<(), Fail> {
+    fills(rt, desk, reader)?;
+    flushes(rt, desk, reader)?;
     let report = Report {
         fills: 5,
         growths: 3,
@@ -78,8 +115,16 @@ fn a_cache_is_filled_flushed_and_filled(rt: HostRuntime) -> Result<(), Fail> {
         retired: 2,
         given_again: 1,
     };
-    assert_eq!(rt; desk.report(), report);
+    same(rt, desk.report(), report);
     Ok(())
+}
+
+#[test]
+fn a_cache_is_filled_flushed_and_filled(rt: HostRuntime) -> Result<(), Fail> {
+    let (arena, keeper, tables) = open(rt.alloc(), 1, [2, 1, 0, 0, 0, 0, 0, 0, 0])?;
+    let mut desk = Desk::at(&arena, keeper, tables)?;
+    let mut reader = desk.give_out(0).ok_or("no sender")?;
+    fills_and_flushes(&rt, &mut desk, &mut reader)
 }
 
 #[test]
@@ -129,10 +174,10 @@ fn a_cache_grows_to_the_largest(rt: HostRuntime) -> Result<(), Fail> {
                 refused = refused.saturating_add(1);
             }
         }
-        assert_eq!(rt; refused, none);
-        assert_eq!(rt; desk.report(), report);
+        same(&rt, refused, none);
+        same(&rt, desk.report(), report);
         let last = reader.find(CHILD, selector(1534)?);
-        assert_eq!(rt; last.is_some(), none == 0);
+        same(&rt, last.is_some(), none == 0);
     }
     Ok(())
 }

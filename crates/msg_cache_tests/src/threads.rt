@@ -7,6 +7,7 @@ ghost use Rattle.msg_cache.specs.Views.{classes, IsSenderOf};
 ghost use Rattle.msg_cache_tests.specs.Together.{history};
 
 use crate::desk::{CHILD, Desk, open, selector};
+use crate::same::same;
 use msg_cache::{Arena, Filled, Keeper, Prober};
 use msg_names::{ClassRef, ImpRef, Selector};
 use std::alloc::Global;
@@ -75,11 +76,15 @@ fn threads_own_an_arena(rt: HostRuntime) -> Result<(), Fail> {
     let one = Owner::give_out(&arena, &mut keeper, 0)?;
     let other = Owner::give_out(&arena, &mut keeper, 1)?;
     let mut desk = Desk::at(&arena, keeper, tables)?;
-    assert_eq!(rt; desk.fill(CHILD, value), Filled::Grown);
+    same(&rt, desk.fill(CHILD, value), Filled::Grown);
     let one = thread::spawn(&rt, move || ask(one, value))?;
     let other = thread::spawn(&rt, move || ask(other, value))?;
     let refused = flush_and_fill(&mut desk, value);
-    assert_eq!(rt; desk.report().fills.saturating_add(u64::from(refused)), 101);
+    same(
+        &rt,
+        desk.report().fills.saturating_add(u64::from(refused)),
+        101,
+    );
     let (mut one, is_right) = one.join(&rt);
     assert!(rt; is_right);
     let (mut other, is_right) = other.join(&rt);
@@ -87,8 +92,8 @@ fn threads_own_an_arena(rt: HostRuntime) -> Result<(), Fail> {
     // Both are out, so one more collection frees every array.
     desk.flush(CHILD);
     desk.collect();
-    assert_eq!(rt; desk.fill(CHILD, value), Filled::Grown);
-    assert_eq!(rt; one.find(CHILD, value), Some(ImpRef::of(1)));
-    assert_eq!(rt; other.find(CHILD, value), Some(ImpRef::of(1)));
+    same(&rt, desk.fill(CHILD, value), Filled::Grown);
+    same(&rt, one.find(CHILD, value), Some(ImpRef::of(1)));
+    same(&rt, other.find(CHILD, value), Some(ImpRef::of(1)));
     Ok(())
 }

@@ -1,6 +1,6 @@
 //! A sender with its memory.
 
-ghost use Rattle.std.specs.Prelude.{◌≡◌, ◌<◌, ◌≤◌, ◌+◌, length, IfOk, IfSome};
+ghost use Rattle.std.specs.Prelude.{◌≡◌, ◌<◌, ◌≤◌, ◌+◌, length, IfErr, IfOk, IfSome};
 ghost use Rattle.msg_names.specs.Number.{selector_number, imp_number};
 ghost use Rattle.msg_image.specs.Parts.{class_total};
 ghost use Rattle.msg_tables.specs.History.{BeginsWith, lookup};
@@ -11,7 +11,7 @@ use crate::name::ArenaName;
 use crate::sender::Sender;
 use msg_memory::{Memory, Site};
 use msg_names::{ClassRef, ImpRef, Selector};
-use std::alloc::{AllocError, Global};
+use std::alloc::Global;
 use std::marker::Model;
 use std::sync::Wait;
 
@@ -19,7 +19,7 @@ use std::sync::Wait;
 #[derive(Drop)]
 pub struct Recalling<'d, N: ArenaName> {
     sender: Sender<'d, N>,
-    memory: Option<Box<Memory>>,
+    memory: Box<Memory>,
 }
 
 impl<'d, N: ArenaName> Model for Recalling<'d, N> {
@@ -32,33 +32,22 @@ impl<'d, N: ArenaName> Model for Recalling<'d, N> {
 
     ghost coded = { Prim.hlevel (codes, coded_expression) };
 
-    ghost use Rattle.std.specs.Prelude.{IfSome};
     ghost use Rattle.msg_memory.specs.Remembered.{IsMemoryOf};
 
     ghost view = { λ r. r.sender };
 
-    ghost invariant = { λ r. IfSome r.memory (λ m. IsMemoryOf r.sender.seen.front m.value) };
+    ghost invariant = { λ r. IsMemoryOf r.sender.seen.front r.memory.value };
 }
 
 impl<'d, N: ArenaName> Recalling<'d, N> {
-    /// The sender, which remembers nothing yet. A memory takes 48 KiB.
-    pub fn new(alloc: Global, sender: Sender<'d, N>) -> Result<Recalling<'d, N>, AllocError>
-        ensures { IfOk result (λ r. r ≡ sender.entry) }
+    /// The sender, which remembers nothing yet. A memory takes 48 KiB: where they can't be had, the sender comes back.
+    pub fn new(alloc: Global, sender: Sender<'d, N>) -> Result<Recalling<'d, N>, Sender<'d, N>>
+        ensures ok { IfOk result (λ r. r ≡ sender.entry) }
+        ensures err { IfErr result (λ s. s ≡ sender.entry) }
     {
-        let memory = Box::new(alloc, Memory::new())?;
-        Ok(Recalling {
-            sender,
-            memory: Some(memory),
-        })
-    }
-
-    /// The sender, which remembers nothing now or later: for so few lookups that a memory isn't worth its making.
-    pub fn without_memory(sender: Sender<'d, N>) -> Recalling<'d, N>
-        ensures { result ≡ sender.entry }
-    {
-        Recalling {
-            sender,
-            memory: None,
+        match Box::new(alloc, Memory::new()) {
+            Ok(memory) => Ok(Recalling { sender, memory }),
+            Err(_) => Err(sender),
         }
     }
 
@@ -94,10 +83,7 @@ impl<'d, N: ArenaName> Recalling<'d, N> {
         ensures listed { imp_number result ≤ length self.new.seen.front.image.imps }
         ensures takings { (self.old.takings ≤ self.new.takings) × (self.new.takings ≤ self.old.takings + 1) }
     {
-        match &mut self.memory {
-            Some(memory) => self.sender.find_by(rt, memory, class, sel),
-            None => self.sender.find(rt, class, sel),
-        }
+        self.sender.find_by(rt, &mut self.memory, class, sel)
     }
 
     /// As `find`, but first from the site, which is the sender's alone.
@@ -126,10 +112,7 @@ impl<'d, N: ArenaName> Recalling<'d, N> {
         ensures found { IfSome result (λ i. imp_number i ≡ lookup self.now.seen.front class (selector_number sel)) }
         ensures listed { IfSome result (λ i. imp_number i ≤ length self.now.seen.front.image.imps) }
     {
-        match &self.memory {
-            Some(memory) => self.sender.recall(memory, class, sel),
-            None => None,
-        }
+        self.sender.recall(&self.memory, class, sel)
     }
 
     /// How many changes there are, which the sender has then seen: nothing older is answered from then on. One shared word is loaded, and nothing is forgotten.

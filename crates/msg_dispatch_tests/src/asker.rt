@@ -50,6 +50,11 @@ impl<'d, N: ArenaName> Asker<'d, N> {
         changer.meet(rt, &mut self.sender);
     }
 
+    pub(crate) fn finish<R: Wait>(self, rt: &R) {
+        let Asker { sender, .. } = self;
+        sender.finish(rt);
+    }
+
     pub(crate) fn published(&mut self) -> u64 {
         self.sender.published()
     }

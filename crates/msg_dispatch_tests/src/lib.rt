@@ -14,4 +14,6 @@ mod one_thread;
 #[cfg(test)]
 mod remembering;
 #[cfg(test)]
+mod same;
+#[cfg(test)]
 mod threads;

@@ -4,9 +4,11 @@ ghost use Rattle.std.specs.Prelude.{◌≡◌};
 ghost use Rattle.msg_tables.specs.History.{empty};
 ghost use Rattle.msg_runtime.specs.Parts.{IsKeeperOf, keeper_history};
 
+use crate::asker::Asker;
 use crate::images::{CHAIN, CHILD, GRAND, ROOT};
+use crate::same::same;
 use msg_cache::{Arena, ArenaFault, Config, Keeper};
-use msg_dispatch::{ArenaName, Dispatcher, Receipt};
+use msg_dispatch::{ArenaName, Changer, Dispatcher, Receipt};
 use msg_image::{Change, DocumentFault, Image, read_document};
 use msg_names::{ImpRef, Selector};
 use msg_tables::ChangeFault;
@@ -14,6 +16,64 @@ use std::alloc::Global;
 use std::marker::Brand;
 use std::process::Abort;
 use std::sync::Wait;
+
+// A lookup, and a change that takes no memory with the lookup after it.
+fn finds_and_sets<N: ArenaName, R: Wait + Abort>(
+    rt: &R,
+    sender: &mut Asker<'_, N>,
+    changer: &mut Changer<'_, N>,
+    sel: Selector,
+) {
+    same(rt, sender.find(rt, GRAND, sel), ImpRef::of(1));
+    same(rt, sender.find_cached(rt, GRAND, sel), Some(ImpRef::of(1)));
+    let set = Change::SetImp {
+        class: ROOT,
+        sel,
+        imp: ImpRef::of(2),
+    };
+    same(rt, changer.change(rt, &set), Ok(Receipt { count: 1 }));
+    same(rt, sender.find(rt, GRAND, sel), ImpRef::of(2));
+}
+
+// A change that was refused for want of memory has changed nothing.
+fn is_left<N: ArenaName, R: Wait + Abort>(
+    rt: &R,
+    sender: &mut Asker<'_, N>,
+    changer: &Changer<'_, N>,
+    sel: Selector,
+    fault: ChangeFault,
+) {
+    same(rt, fault, ChangeFault::Memory);
+    same(rt, changer.count(), 1);
+    same(rt, sender.find_cached(rt, GRAND, sel), Some(ImpRef::of(2)));
+}
+
+// A change that adds a row, for which there may be no memory. Answers the implementation that is found afterwards.
+fn adds<N: ArenaName, R: Wait + Abort>(
+    rt: &R,
+    dispatcher: &Dispatcher<N>,
+    sender: &mut Asker<'_, N>,
+    changer: &mut Changer<'_, N>,
+    sel: Selector,
+) -> u32 {
+    let before = dispatcher.report(rt);
+    let add = Change::Add {
+        class: CHILD,
+        sel,
+        imp: ImpRef::of(1),
+    };
+    match changer.change(rt, &add) {
+        Ok(receipt) => {
+            same(rt, receipt, Receipt { count: 2 });
+            1
+        }
+        Err(fault) => {
+            is_left(rt, sender, changer, sel, fault);
+            same(rt, dispatcher.report(rt), before);
+            2
+        }
+    }
+}
 
 // Every call after `open`: all but a change that adds a row answer as they do with ample memory.
 fn answers<N: ArenaName, R: Wait + Abort>(
@@ -24,42 +84,16 @@ fn answers<N: ArenaName, R: Wait + Abort>(
 )
     requires image { image.now ≡ N.arena.key.image }
 {
-    assert!(rt; image.class_count() > GRAND.class);
-    let mut sender = dispatcher.sender(rt).expect(rt, "a number is free");
+    let sender = dispatcher.sender(rt).expect(rt, "a number is free");
+    let mut sender = Asker::of(sender, image.class_count());
     let mut changer = dispatcher.changer(rt).expect(rt, "the turn is there");
     assert!(rt; dispatcher.sender(rt).is_err());
-    assert_eq!(rt; sender.find(rt, GRAND, value), ImpRef::of(1));
-    assert_eq!(rt; sender.find_cached(GRAND, value), Some(ImpRef::of(1)));
-    let set = Change::SetImp {
-        class: ROOT,
-        sel: value,
-        imp: ImpRef::of(2),
-    };
-    assert_eq!(rt; changer.change(rt, &set), Ok(Receipt { count: 1 }));
-    assert_eq!(rt; sender.find(rt, GRAND, value), ImpRef::of(2));
-    let before = dispatcher.report(rt);
-    let add = Change::Add {
-        class: CHILD,
-        sel: value,
-        imp: ImpRef::of(1),
-    };
-    let found = match changer.change(rt, &add) {
-        Ok(receipt) => {
-            assert_eq!(rt; receipt, Receipt { count: 2 });
-            1
-        }
-        Err(fault) => {
-            assert_eq!(rt; fault, ChangeFault::Memory);
-            assert_eq!(rt; changer.count(), 1);
-            assert_eq!(rt; dispatcher.report(rt), before);
-            assert_eq!(rt; sender.find_cached(GRAND, value), Some(ImpRef::of(2)));
-            2
-        }
-    };
-    assert_eq!(rt; sender.find(rt, GRAND, value), ImpRef::of(found));
-    assert_eq!(rt; sender.published(), changer.count());
-    changer.meet(rt, &mut sender);
-    assert_eq!(rt; sender.published(), changer.count());
+    finds_and_sets(rt, &mut sender, &mut changer, value);
+    let found = adds(rt, dispatcher, &mut sender, &mut changer, value);
+    same(rt, sender.find(rt, GRAND, value), ImpRef::of(found));
+    same(rt, sender.published(), changer.count());
+    sender.meet(rt, &mut changer);
+    same(rt, sender.published(), changer.count());
     sender.finish(rt);
     assert!(rt; dispatcher.sender(rt).is_ok());
 }
@@ -93,7 +127,7 @@ fn after_open_all_answers_are_as_with_ample_memory(rt: HostRuntime) {
     let image = match read_document(alloc, CHAIN.as_bytes()) {
         Ok(document) => document.image,
         Err(fault) => {
-            assert_eq!(rt; fault, DocumentFault::Memory);
+            same(&rt, fault, DocumentFault::Memory);
             return;
         }
     };
@@ -110,6 +144,6 @@ fn after_open_all_answers_are_as_with_ample_memory(rt: HostRuntime) {
                 &rt, alloc, arena, keeper, &image, value,
             );
         }
-        Err(fault) => assert_eq!(rt; fault, ArenaFault::Memory),
+        Err(fault) => same(&rt, fault, ArenaFault::Memory),
     }
 }

@@ -1,33 +1,89 @@
 //! What senders remember: what is noted, and from when on it isn't taken any more.
 
 ghost use Rattle.std.specs.Prelude.{◌≡◌};
+ghost use Rattle.std.specs.Coded.{codes};
+ghost use Rattle.msg_image.specs.Coding.{coded_expression};
+ghost use Rattle.msg_image.specs.Parts.{class_total};
 ghost use Rattle.msg_tables.specs.History.{empty};
 ghost use Rattle.msg_runtime.specs.Parts.{IsKeeperOf, keeper_history};
 
-use crate::images::{CHAIN, CHILD, GRAND, image, opened};
+use crate::images::{CHAIN, CHILD, GRAND, image, opened, selector};
+use crate::same::same;
 use msg_cache::{Arena, Keeper};
-use msg_dispatch::{ArenaName, Dispatcher, Recalling, Site};
+use msg_dispatch::{ArenaName, Changer, Dispatcher, Recalling, Site};
 use msg_image::{Change, Image};
 use msg_memory::laws::a_longer_history_has_what_is_remembered;
-use msg_names::{ImpRef, Selector};
+use msg_names::{ClassRef, ImpRef, Selector};
 use std::alloc::Global;
 use std::marker::Brand;
 use std::process::Abort;
 use std::sync::Wait;
 use std::test::Fail;
 
-// The selector `value`.
-fn value() -> Result<Selector, Fail> {
-    Ok(Selector::of(2).ok_or("0")?)
-}
-
 // The change by which `Child` has a `value` of its own.
 fn addition() -> Result<Change, Fail> {
     Ok(Change::Add {
         class: CHILD,
-        sel: value()?,
+        sel: selector(2)?,
         imp: ImpRef::of(2),
     })
+}
+
+// A sender with a memory that is known to be of its dispatcher's image, and looks for its classes alone.
+#[derive(Drop)]
+struct Reminded<'d, N: ArenaName> {
+    sender: Recalling<'d, N>,
+    classes: u32,
+    ghost classes_are: { classes ≡ class_total N.arena.key.image },
+    ghost image: { sender.seen.front.image ≡ N.arena.key.image } by { Prim.hlevel (codes, coded_expression) },
+}
+
+impl<N: ArenaName> Reminded<'_, N> {
+    fn find<R: Wait + Abort>(&mut self, rt: &R, class: ClassRef, sel: Selector) -> ImpRef {
+        assert!(rt; class.class < self.classes);
+        self.sender.find(rt, class, sel)
+    }
+
+    fn recall(&self, class: ClassRef, sel: Selector) -> Option<ImpRef> {
+        self.sender.recall(class, sel)
+    }
+
+    fn refresh(&mut self) -> u64 {
+        self.sender.refresh()
+    }
+
+    fn meet<R: Wait>(&mut self, rt: &R, changer: &mut Changer<'_, N>) {
+        self.sender.meet(rt, changer);
+    }
+
+    fn lock_takings(&self) -> u64 {
+        self.sender.lock_takings()
+    }
+
+    fn finish<R: Wait>(self, rt: &R) {
+        let Reminded { sender, .. } = self;
+        sender.finish(rt);
+    }
+}
+
+// Finds a method that it remembers from then on, in the class that it asked for alone.
+fn asks_twice<N: ArenaName, R: Wait + Abort>(rt: &R, sender: &mut Reminded<'_, N>, sel: Selector) {
+    same(rt, sender.recall(GRAND, sel), None);
+    same(rt, sender.find(rt, GRAND, sel), ImpRef::of(1));
+    same(rt, sender.recall(GRAND, sel), Some(ImpRef::of(1)));
+    same(rt, sender.recall(CHILD, sel), None);
+    same(rt, sender.find(rt, GRAND, sel), ImpRef::of(1));
+    same(rt, sender.lock_takings(), 1);
+}
+
+// After a change: what it remembers is taken until it sees the change.
+fn asks_anew<N: ArenaName, R: Wait + Abort>(rt: &R, sender: &mut Reminded<'_, N>, sel: Selector) {
+    same(rt, sender.recall(GRAND, sel), Some(ImpRef::of(1)));
+    same(rt, sender.refresh(), 1);
+    same(rt, sender.recall(GRAND, sel), None);
+    same(rt, sender.find(rt, GRAND, sel), ImpRef::of(2));
+    same(rt, sender.recall(GRAND, sel), Some(ImpRef::of(2)));
+    same(rt, sender.lock_takings(), 2);
 }
 
 fn remembers<N: ArenaName, R: Wait + Abort>(
@@ -42,26 +98,20 @@ fn remembers<N: ArenaName, R: Wait + Abort>(
     requires image { image.now ≡ N.arena.key.image }
     requires history { keeper_history keeper ≡ empty image.now }
 {
-    assert!(rt; image.class_count() > GRAND.class);
-    let value = value()?;
+    let value = selector(2)?;
     let dispatcher: Dispatcher<N> = Dispatcher::open(alloc, arena, keeper, image)?;
-    let mut sender = Recalling::new(alloc, dispatcher.sender(rt)?)?;
+    let mut sender = Reminded {
+        sender: Recalling::new(alloc, dispatcher.sender(rt)?)
+            .ok()
+            .ok_or("memory")?,
+        classes: image.class_count(),
+    };
     let mut changer = dispatcher.changer(rt)?;
-    assert_eq!(rt; sender.recall(GRAND, value), None);
-    assert_eq!(rt; sender.find(rt, GRAND, value), ImpRef::of(1));
-    assert_eq!(rt; sender.recall(GRAND, value), Some(ImpRef::of(1)));
-    assert_eq!(rt; sender.recall(CHILD, value), None);
-    assert_eq!(rt; sender.find(rt, GRAND, value), ImpRef::of(1));
-    assert_eq!(rt; sender.lock_takings(), 1);
+    asks_twice(rt, &mut sender, value);
     let _receipt = changer.change(rt, &addition()?);
-    assert_eq!(rt; sender.recall(GRAND, value), Some(ImpRef::of(1)));
-    assert_eq!(rt; sender.refresh(), 1);
-    assert_eq!(rt; sender.recall(GRAND, value), None);
-    assert_eq!(rt; sender.find(rt, GRAND, value), ImpRef::of(2));
-    assert_eq!(rt; sender.recall(GRAND, value), Some(ImpRef::of(2)));
-    assert_eq!(rt; sender.lock_takings(), 2);
+    asks_anew(rt, &mut sender, value);
     sender.meet(rt, &mut changer);
-    assert_eq!(rt; sender.recall(GRAND, value), Some(ImpRef::of(2)));
+    same(rt, sender.recall(GRAND, value), Some(ImpRef::of(2)));
     sender.finish(rt);
     Ok(())
 }
@@ -87,21 +137,37 @@ fn notes_at_a_site<N: ArenaName, R: Wait + Abort>(
     requires history { keeper_history keeper ≡ empty image.now }
 {
     assert!(rt; image.class_count() > GRAND.class);
-    let value = value()?;
+    let value = selector(2)?;
     let dispatcher: Dispatcher<N> = Dispatcher::open(alloc, arena, keeper, image)?;
     let mut sender = dispatcher.sender(rt)?;
     let mut changer = dispatcher.changer(rt)?;
     let mut site = Site::new();
     a_longer_history_has_what_is_remembered();
-    assert_eq!(rt; sender.find_at(rt, &mut site, GRAND, value), ImpRef::of(1));
-    assert_eq!(rt; sender.recall_at(&site, GRAND, value), Some(ImpRef::of(1)));
-    assert_eq!(rt; sender.recall_at(&site, CHILD, value), None);
+    same(
+        rt,
+        sender.find_at(rt, &mut site, GRAND, value),
+        ImpRef::of(1),
+    );
+    same(
+        rt,
+        sender.recall_at(&site, GRAND, value),
+        Some(ImpRef::of(1)),
+    );
+    same(rt, sender.recall_at(&site, CHILD, value), None);
     let _receipt = changer.change(rt, &addition()?);
-    assert_eq!(rt; sender.published(), 1);
-    assert_eq!(rt; sender.recall_at(&site, GRAND, value), None);
-    assert_eq!(rt; sender.find_at(rt, &mut site, GRAND, value), ImpRef::of(2));
-    assert_eq!(rt; sender.find_at(rt, &mut site, GRAND, value), ImpRef::of(2));
-    assert_eq!(rt; sender.lock_takings(), 2);
+    same(rt, sender.published(), 1);
+    same(rt, sender.recall_at(&site, GRAND, value), None);
+    same(
+        rt,
+        sender.find_at(rt, &mut site, GRAND, value),
+        ImpRef::of(2),
+    );
+    same(
+        rt,
+        sender.find_at(rt, &mut site, GRAND, value),
+        ImpRef::of(2),
+    );
+    same(rt, sender.lock_takings(), 2);
     Ok(())
 }
 

@@ -39,15 +39,7 @@ use selectors::{has_bad_selector, has_duplicate_selector};
 use std::alloc::{AllocError, Global};
 
 /// The least fault of those that a form can have, [`Version`](DocumentFault::Version) to
-/// [`ClassCycle`](DocumentFault::ClassCycle).
-pub fn fault(alloc: Global, form: &Form) -> Result<Option<DocumentFault>, AllocError>
-    ensures { IfOk result (λ f. f ≡ spec.fault_of (form_view form.now)) }
-{
-    let names = FormNames::of(alloc, form)?;
-    fault_by(alloc, form, &names)
-}
-
-/// The same where the form's names are at hand.
+/// [`ClassCycle`](DocumentFault::ClassCycle), by the form's names.
 #[tactic(auto, unfolding(crate::specs::Faults::fault_of))]
 pub fn fault_by(
     alloc: Global,

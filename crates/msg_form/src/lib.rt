@@ -1,6 +1,6 @@
 //! The syntax of documents, with names as texts, and what is wrong with one.
 //!
-//! [`Form::read`] reads the form of a document from its JSON value, [`fault`] judges it, and [`Form::selector_texts`] lists the texts that
+//! [`Form::read`] reads the form of a document from its JSON value, [`fault_by`] judges it, and [`Form::selector_texts`] lists the texts that
 //! get numbers as selectors. A form borrows its texts from the JSON text.
 #![tactic(auto)]
 
@@ -20,7 +20,7 @@ pub use form::{
     Object, Operator, Pair, SendExpr, SuperExpr,
 };
 pub use form_names::FormNames;
-pub use judge::{fault, fault_by};
+pub use judge::fault_by;
 pub use limits::{
     MAX_CATEGORIES, MAX_CLASSES, MAX_DEPTH, MAX_ENTRIES, MAX_EXPRESSIONS, MAX_IMPS, MAX_ITEMS,
     MAX_OBJECTS,

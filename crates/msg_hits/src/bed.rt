@@ -1,6 +1,7 @@
 //! An arena of caches that are filled from class tables, and its senders.
 
 ghost use Rattle.std.specs.Prelude.{◌≡◌, ◌<◌, IfOk};
+ghost use Rattle.msg_image.specs.Parts.{class_total};
 ghost use Rattle.msg_cache.specs.Views.{classes, IsSenderOf};
 ghost use Rattle.msg_hits.specs.Together.{Begin};
 
@@ -8,6 +9,7 @@ use crate::document::image;
 use crate::load::{Load, Queries, Query, drawn};
 use anyhow::{Context, Result, bail};
 use msg_cache::{Arena, Config, Keeper, Prober, Turn};
+use msg_image::Image;
 use msg_tables::Tables;
 use std::alloc::{AllocError, Global};
 use std::marker::Model;
@@ -23,12 +25,20 @@ pub(crate) fn open(alloc: Global) -> Result<(Arena, Keeper, Tables)>
     if image.class_count() != 32 {
         bail!("not 32 classes");
     }
-    let tables = Tables::open(alloc, &image).context("opening the tables")?;
     let config = Config {
         senders: 64,
         arrays: ARRAYS,
     };
-    let (arena, keeper) = Arena::open(alloc, &image, config).context("opening the arena")?;
+    opened(alloc, &image, config)
+}
+
+// The same of an image of 32 classes.
+fn opened(alloc: Global, image: &Image, config: Config) -> Result<(Arena, Keeper, Tables)>
+    requires { class_total image.now ≡ 32 }
+    ensures { IfOk result (λ r. Begin r.0 r.1 r.2) }
+{
+    let tables = Tables::open(alloc, image)?;
+    let (arena, keeper) = Arena::open(alloc, image, config)?;
     Ok((arena, keeper, tables))
 }
 

@@ -30,8 +30,10 @@ pub(crate) enum Way {
     Recalled,
     /// The same, once it knows how many changes there are.
     Refreshed,
-    /// By a sender, at a site.
+    /// By a sender, at a site that meets each question.
     Site,
+    /// By a sender, at a site that meets one question.
+    Spot,
 }
 
 impl Way {
@@ -43,6 +45,7 @@ impl Way {
             "recalled" => Some(Way::Recalled),
             "refreshed" => Some(Way::Refreshed),
             "site" => Some(Way::Site),
+            "spot" => Some(Way::Spot),
             _ => None,
         }
     }
@@ -130,6 +133,19 @@ impl<N: ArenaName> Caller<'_, N> {
         }
         sum
     }
+
+    // As a place of a program does that sends one selector, to objects of one class.
+    fn find_at_spot<R: Wait>(&mut self, rt: &R, queries: &Queries, lookups: u64) -> u64 {
+        let query = queries.at(0);
+        let mut sum = 0u64;
+        for _at in 0..lookups {
+            let imp = self
+                .sender
+                .find_at(rt, &mut self.site, query.class, query.sel);
+            sum = sum.wrapping_add(u64::from(imp.number()));
+        }
+        sum
+    }
 }
 
 // What so many lookups find along the chain, added up.
@@ -157,16 +173,16 @@ fn sum_by_sender<N: ArenaName, R: Wait>(
     requires { class_total N.arena.key.image ≡ 32 }
 {
     let sender = dispatcher.sender(rt)?;
-    if let Way::Probe | Way::Site = way {
+    if let Way::Probe | Way::Site | Way::Spot = way {
         let site = Site::new();
         let mut caller = Caller { sender, site };
-        return Ok(if let Way::Site = way {
-            caller.find_at(rt, queries, lookups)
-        } else {
-            caller.find(rt, queries, lookups)
+        return Ok(match way {
+            Way::Site => caller.find_at(rt, queries, lookups),
+            Way::Spot => caller.find_at_spot(rt, queries, lookups),
+            _ => caller.find(rt, queries, lookups),
         });
     }
-    let sender = Recalling::new(alloc, sender).context("a memory")?;
+    let sender = Recalling::new(alloc, sender).ok().context("a memory")?;
     let mut rememberer = Rememberer { sender };
     Ok(match way {
         Way::Recalled => rememberer.recall_or_find(rt, queries, lookups),

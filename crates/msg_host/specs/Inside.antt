@@ -2,7 +2,6 @@
 use Rattle.std.specs.Prelude.{◌≡◌, length, IfSome}
 use Rattle.std.specs.Arc.{arc_value}
 use Rattle.msg_cache.specs.Views.{IsSenderOf, classes}
-use Rattle.msg_memory.specs.Remembered.{IsMemoryOf}
 use Rattle.msg_host.specs.View.{RuntimeView, SenderView}
 use Rattle.msg_host.specs.declared.runtime.HostedRuntime.TheInside.{Inside as RuntimeInside}
 use Rattle.msg_host.specs.declared.sender.HostedSender.TheInside.{Inside as SenderInside}
@@ -27,6 +26,5 @@ pub record IsOfArena (s : SenderInside) : Type 0 where
   pub prober : IsSenderOf (arc_value s.arena) s.prober
   pub image : s.prober.sender.front.image ≡ (arc_value s.arena).key.image
   pub classes : s.classes ≡ classes (arc_value s.arena)
-  -- what is remembered is of the history that was seen, and the count is its length
-  pub memory : IsMemoryOf s.prober.sender.front s.memory.value
+  -- how many changes were seen, where it is known
   pub count : IfSome s.count (λ n. n ≡ length s.prober.sender.front.changes)

@@ -11,7 +11,8 @@ ghost use Rattle.msg_tables.specs.Refusal.{refusal};
 ghost use Rattle.msg_tables.specs.declared.fault.ChangeFault.{ChangeFault};
 ghost use Rattle.msg_cache.specs.Views.{classes};
 ghost use Rattle.std.specs.Arc.{arc_value};
-ghost use Rattle.msg_memory.specs.Remembered.{IsMemoryOf};
+ghost use Rattle.msg_names.specs.ClassRef.{slot_of};
+ghost use Rattle.msg_memory.specs.Remembered.{IsMemoryOf, recalled};
 ghost use Rattle.msg_host.specs.Opening.{OpensAs};
 
 use crate::fault::SenderFault;
@@ -66,12 +67,6 @@ fn shared(alloc: Global, arena: Arena) -> Result<Arc<Arena, Global>, AllocError>
         Ok(shared) => Ok(shared),
         Err(_) => Err(AllocError),
     }
-}
-
-fn blank_memory(alloc: Global) -> Result<Box<Memory>, AllocError>
-    ensures { IfOk result (λ memory. (h : History) → IsMemoryOf h memory.value) }
-{
-    Ok(Box::new(alloc, Memory::new())?)
 }
 
 // The runtime of an image.
@@ -167,14 +162,13 @@ impl HostedRuntime {
         self.runtime.count()
     }
 
-    /// A sender, which has seen the whole history and remembers nothing yet. There is none where 64 are out. A memory takes 48 KiB.
-    pub fn sender(&mut self, alloc: Global) -> Result<HostedSender, SenderFault>
+    /// A sender, which has seen the whole history. There is none where 64 are out.
+    pub fn sender(&mut self) -> Result<HostedSender, SenderFault>
         ensures same { self.new ≡ self.old }
         ensures arena { IfOk result (λ s. s.arena ≡ self.old.arena) }
         ensures front { IfOk result (λ s. s.seen.front ≡ self.old.history) }
     {
         let arena = Arc::try_clone(&self.arena)?;
-        let memory = blank_memory(alloc)?;
         let Some(prober) = self.runtime.sender(&self.arena) else {
             return Err(SenderFault::NoneFree);
         };
@@ -182,14 +176,20 @@ impl HostedRuntime {
             arena,
             prober,
             classes: self.image.class_count(),
-            memory,
             count: None,
         })
     }
 
-    /// `lookUpImpOrForward`: answers what a sender's probe missed, and caches it. The sender has then seen the whole history.
-    pub fn answer(&mut self, sender: &mut HostedSender, class: ClassRef, sel: Selector) -> ImpRef
+    /// `lookUpImpOrForward`: answers what a sender's probe missed, caches it, and notes it in the sender's memory. The sender has then seen the whole history.
+    pub fn answer(
+        &mut self,
+        sender: &mut HostedSender,
+        memory: &mut Memory,
+        class: ClassRef,
+        sel: Selector,
+    ) -> ImpRef
         requires sender { sender.old.arena ≡ self.old.arena }
+        requires memory { IsMemoryOf sender.old.seen.front memory.old }
         requires class { class.class < classes self.old.arena }
         ensures same { self.new ≡ self.old }
         ensures arena { sender.new.arena ≡ sender.old.arena }
@@ -197,13 +197,17 @@ impl HostedRuntime {
         ensures front { sender.new.seen.front ≡ self.old.history }
         ensures found { imp_number result ≡ lookup self.old.history class (selector_number sel) }
         ensures listed { imp_number result ≤ length self.old.history.image.imps }
+        ensures memory { IsMemoryOf self.old.history memory.new }
+        ensures noted { recalled memory.new (length self.old.history.changes) (slot_of class) (selector_number sel) ≡ imp_number result }
     {
         a_longer_history_has_what_is_remembered();
         sender.count = None;
         let imp = self
             .runtime
             .answer(&self.arena, &mut sender.prober, class, sel);
-        sender.note(self.runtime.count(), class, sel, imp);
+        let count = self.runtime.count();
+        memory.keep(count, class, sel, imp);
+        sender.count = Some(count);
         imp
     }
 
@@ -215,7 +219,6 @@ impl HostedRuntime {
         ensures begins { BeginsWith self.old.history sender.old.seen.front }
         ensures front { sender.new.seen.front ≡ self.old.history }
     {
-        a_longer_history_has_what_is_remembered();
         sender.count = None;
         self.runtime
             .meet(&self.arena, &mut self.turn, &mut sender.prober);

@@ -1,4 +1,4 @@
-//! Senders, with what each remembers of its lookups.
+//! Senders, and what one finds with a memory of its own.
 //!
 //! A lookup is answered from memory where it was noted after as many changes as the sender has seen: then it is the lookup at what the sender has seen, and no word
 //! that threads share is read. What a memory lacks is probed for, and is then noted.
@@ -9,6 +9,8 @@ ghost use Rattle.msg_image.specs.Parts.{class_total};
 ghost use Rattle.msg_tables.specs.History.{BeginsWith, lookup};
 ghost use Rattle.msg_cache.specs.Record.{Probes, Hits, Misses};
 ghost use Rattle.msg_cache.specs.Views.{classes, layout};
+ghost use Rattle.msg_names.specs.ClassRef.{slot_of};
+ghost use Rattle.msg_memory.specs.Remembered.{IsMemoryOf, recalled};
 
 use msg_cache::{Arena, Prober};
 use msg_memory::Memory;
@@ -25,7 +27,6 @@ pub struct HostedSender {
     pub(crate) arena: Arc<Arena, Global>,
     pub(crate) prober: Prober,
     pub(crate) classes: u32,
-    pub(crate) memory: Box<Memory>,
     // how many changes it has seen, where it knows
     pub(crate) count: Option<u64>,
 }
@@ -56,16 +57,37 @@ impl HostedSender {
         self.classes
     }
 
-    // What it remembers of the point at which it stands.
+    // What a memory has of the point at which the sender stands, where the sender knows that.
     #[inline]
-    fn recall(&self, class: ClassRef, sel: Selector) -> Option<ImpRef>
+    fn recall(&self, memory: &Memory, class: ClassRef, sel: Selector) -> Option<ImpRef>
+        requires memory { IsMemoryOf self.now.seen.front memory.now }
         ensures found { IfSome result (λ i. imp_number i ≡ lookup self.now.seen.front class (selector_number sel)) }
         ensures listed { IfSome result (λ i. imp_number i ≤ length self.now.arena.key.image.imps) }
+        ensures noted { IfSome result (λ i. recalled memory.now (length self.now.seen.front.changes) (slot_of class) (selector_number sel) ≡ imp_number i) }
     {
         match self.count {
-            Some(count) => self.memory.recall(count, class, sel),
+            Some(count) => self.recall_at(memory, count, class, sel),
             None => None,
         }
+    }
+
+    // The same, after so many changes as there are at that point.
+    #[inline]
+    fn recall_at(
+        &self,
+        memory: &Memory,
+        count: u64,
+        class: ClassRef,
+        sel: Selector,
+    ) -> Option<ImpRef>
+        requires memory { IsMemoryOf self.now.seen.front memory.now }
+        requires count { count ≡ length self.now.seen.front.changes }
+        ensures found { IfSome result (λ i. imp_number i ≡ lookup self.now.seen.front class (selector_number sel)) }
+        ensures listed { IfSome result (λ i. imp_number i ≤ length self.now.seen.front.image.imps) }
+        ensures noted { IfSome result (λ i. recalled memory.now (length self.now.seen.front.changes) (slot_of class) (selector_number sel) ≡ imp_number i) }
+        ensures none { IfNone result (recalled memory.now (length self.now.seen.front.changes) (slot_of class) (selector_number sel) ≡ 0) }
+    {
+        memory.recall(count, class, sel)
     }
 
     // How many changes the sender has seen. Where it doesn't know, it loads how many there are, which it has then seen.
@@ -80,17 +102,6 @@ impl HostedSender {
         }
     }
 
-    // Notes what a lookup found after as many changes as the sender has seen.
-    pub(crate) fn note(&mut self, count: u64, class: ClassRef, sel: Selector, imp: ImpRef)
-        requires count { count ≡ length self.old.seen.front.changes }
-        requires found { imp_number imp ≡ lookup self.old.seen.front class (selector_number sel) }
-        requires listed { imp_number imp ≤ length self.old.arena.key.image.imps }
-        ensures { self.new ≡ self.old }
-    {
-        self.memory.keep(count, class, sel, imp);
-        self.count = Some(count);
-    }
-
     /// `cache_getImp`: the implementation that the cache of a class reference has, which is the lookup's at what the sender has then seen. No lock is wanted.
     pub fn probe(&mut self, class: ClassRef, sel: Selector) -> Option<ImpRef>
         requires class { class.class < classes self.old.arena }
@@ -101,7 +112,6 @@ impl HostedSender {
         ensures none { IfNone result (Misses (layout self.old.arena) self.new.seen.last) }
     {
         a_found_implementation_is_listed();
-        a_longer_history_has_what_is_remembered();
         self.count = None;
         self.prober.probe(&self.arena, class, sel)
     }
@@ -112,41 +122,51 @@ impl HostedSender {
         ensures begins { BeginsWith self.new.seen.front self.old.seen.front }
         ensures length { result ≡ length self.new.seen.front.changes }
     {
-        a_longer_history_has_what_is_remembered();
         let count = self.prober.published(&self.arena);
         self.count = Some(count);
         count
     }
 
-    /// The implementation that the sender remembers, or else that the cache has: what a lookup finds at what the sender has then seen. No lock is wanted. Where a
-    /// change falls into a probe that hits, its answer is left.
+    /// The implementation that the sender's memory has, or else that the cache has, and then the memory too: what a lookup finds at what the sender has then seen. No
+    /// lock is wanted. Where a change falls into a probe that hits, its answer is left. What the memory has of the point at which the sender stands is found, unless the
+    /// sender sees a change meanwhile.
     #[inline]
-    pub fn find(&mut self, class: ClassRef, sel: Selector) -> Option<ImpRef>
+    pub fn find(&mut self, memory: &mut Memory, class: ClassRef, sel: Selector) -> Option<ImpRef>
         requires class { class.class < classes self.old.arena }
+        requires memory { IsMemoryOf self.old.seen.front memory.old }
         ensures arena { self.new.arena ≡ self.old.arena }
         ensures begins { BeginsWith self.new.seen.front self.old.seen.front }
         ensures some { IfSome result (λ i. imp_number i ≡ lookup self.new.seen.front class (selector_number sel)) }
         ensures listed { IfSome result (λ i. imp_number i ≤ length self.old.arena.key.image.imps) }
+        ensures memory { IsMemoryOf self.new.seen.front memory.new }
+        ensures noted { IfSome result (λ i. recalled memory.new (length self.new.seen.front.changes) (slot_of class) (selector_number sel) ≡ imp_number i) }
+        ensures recalled { IfNone result (self.new.seen.front ≡ self.old.seen.front → recalled memory.old (length self.old.seen.front.changes) (slot_of class) (selector_number sel) ≡ 0) }
     {
-        match self.recall(class, sel) {
+        match self.recall(memory, class, sel) {
             Some(imp) => Some(imp),
-            None => self.find_cached(class, sel),
+            None => self.find_cached(memory, class, sel),
         }
     }
 
     // As `find`, where the memory may lack it.
     #[cold]
     #[inline(never)]
-    fn find_cached(&mut self, class: ClassRef, sel: Selector) -> Option<ImpRef>
+    fn find_cached(&mut self, memory: &mut Memory, class: ClassRef, sel: Selector) -> Option<ImpRef>
         requires class { class.class < classes self.old.arena }
+        requires memory { IsMemoryOf self.old.seen.front memory.old }
         ensures arena { self.new.arena ≡ self.old.arena }
         ensures begins { BeginsWith self.new.seen.front self.old.seen.front }
         ensures some { IfSome result (λ i. imp_number i ≡ lookup self.new.seen.front class (selector_number sel)) }
         ensures listed { IfSome result (λ i. imp_number i ≤ length self.old.arena.key.image.imps) }
+        ensures memory { IsMemoryOf self.new.seen.front memory.new }
+        ensures noted { IfSome result (λ i. recalled memory.new (length self.new.seen.front.changes) (slot_of class) (selector_number sel) ≡ imp_number i) }
+        ensures recalled { IfNone result (self.new.seen.front ≡ self.old.seen.front → recalled memory.old (length self.old.seen.front.changes) (slot_of class) (selector_number sel) ≡ 0) }
     {
+        a_longer_history_has_what_is_remembered();
         a_history_no_longer_is_the_same();
+        let _ = &self.arena;
         let before = self.seen();
-        if let Some(imp) = self.recall(class, sel) {
+        if let Some(imp) = self.recall_at(memory, before, class, sel) {
             return Some(imp);
         }
         let imp = self.probe(class, sel)?;
@@ -154,7 +174,7 @@ impl HostedSender {
         if count != before {
             return None;
         }
-        self.note(count, class, sel, imp);
+        memory.keep(count, class, sel, imp);
         Some(imp)
     }
 }

@@ -1,26 +1,50 @@
 -- What is remembered stays right where the history grows.
-use Rattle.std.proofs.Common.{◌≡◌, ◌≤◌, ℕ, List, [], ◌∷◌, ◌++◌, length, get_or, refl, sym, ap, subst, ◌∙◌, arith, length-append, append-nil}
-use Rattle.std.proofs.lemmas.List.{take-append-le}
+use Rattle.std.proofs.Common.{◌≡◌, ◌≢◌, ◌<◌, ◌≤◌, ℕ, List, [], ◌∷◌, ◌++◌, length, get_or, refl, sym, ap, subst, ◌∙◌, arith, length-append, append-nil}
+use Rattle.std.proofs.lemmas.List.{take-append-le, take_all}
 use Rattle.msg_image.specs.Parts.{ImageParts}
 use Rattle.msg_image.specs.declared.change.Change.{Change}
 use Rattle.msg_names.proofs.ClassRefLemmas.{slot_of-same}
 use Rattle.msg_names.specs.ClassRef.{slot_of}
-use Rattle.msg_names.specs.Number.{imp_number}
 use Rattle.msg_names.specs.declared.value.ClassRef.{ClassRef}
 use Rattle.msg_tables.specs.History.{History, BeginsWith, lookup}
 use Rattle.msg_memory.specs.declared.memory.Noted.{Noted}
 use Rattle.msg_memory.specs.declared.memory.Site.{Site}
 use Rattle.msg_memory.specs.declared.memory.Memory.{Memory}
-use Rattle.msg_memory.specs.Remembered.{point_at, IsNoteOf, IsMemoryOf, IsSiteOf}
+use Rattle.msg_memory.specs.Remembered.{point_at, IsBlank, IsNoteOf, IsMemoryOf, IsRecalled, IsSiteOf}
 
-abbrev pub blank : Noted
-blank = record { slot = 0; count = 0; sel = 0; imp = record { number = 0 } }
+-- a blank note is one of each history
+pub unnamed : (h : History) (n : Noted) → (n.sel ≡ 0) × (n.imp ≡ 0) → IsNoteOf h n
+unnamed h n none = record { recalled = λ pos. absurd (omega (arith, none.0, pos)); blank = λ e. none.1 }
 
-pub blank_is : (h : History) → IsNoteOf h blank
-blank_is h = record { seen = omega arith; listed = omega arith; found = λ c same pos. absurd (omega (arith, pos)) }
+pub blank_of : (h : History) (m : Memory) → IsBlank m → IsMemoryOf h m
+blank_of h m b = record { notes = λ k d inside. unnamed h (get_or m.notes k d) (b.notes k d inside) }
 
-pub same_slot : (c d : ClassRef) → slot_of c ≡ slot_of d → c ≡ d
-same_slot c d = slot_of-same c d
+-- a note answers what it notes
+pub as_noted : (h : History) (n : Noted) (count slot sel : ℕ) → n.sel ≡ sel → n.slot ≡ slot → n.count ≡ count → 0 < sel → IsNoteOf h n → IsRecalled h count slot sel n.imp
+as_noted h n count slot sel e f g pos is =
+    subst (λ k. IsRecalled h k slot sel n.imp) g (subst (λ s. IsRecalled h n.count s sel n.imp) f (subst (λ s. IsRecalled h n.count n.slot s n.imp) e (is.recalled (subst (λ s. 0 < s) (sym e) pos))))
+
+-- a note of an implementation isn't blank
+pub method_noted : (h : History) (n : Noted) (count slot sel : ℕ) → n.sel ≡ sel → n.slot ≡ slot → n.count ≡ count → n.imp ≢ 0 → IsNoteOf h n → IsRecalled h count slot sel n.imp
+method_noted h n count slot sel e f g some is = as_noted h n count slot sel e f g (positive sel (λ none. some (is.blank (e ∙ none)))) is
+  where
+    positive : (k : ℕ) → k ≢ 0 → 0 < k
+    positive k not = omega (arith, not)
+
+whole : (h : History) (n : ℕ) → n ≡ length h.changes → point_at n h ≡ h
+whole h n e = ap (λ (cs : List Change). record { image = h.image; changes = cs }) (take_all n h.changes (omega (arith, e)))
+
+-- what is recalled at all changes is the lookup at the history
+pub recalled_whole : (h : History) (c : ClassRef) (n sel imp : ℕ) → n ≡ length h.changes → IsRecalled h n (slot_of c) sel imp → imp ≡ lookup h c sel
+recalled_whole h c n sel imp e is = is.found c refl ∙ ap (λ q. lookup q c sel) (whole h n e)
+
+-- what the lookup finds at the history may be noted at all changes
+pub recalled_now : (h : History) (c : ClassRef) (n sel imp : ℕ) → n ≡ length h.changes → imp ≡ lookup h c sel → imp ≤ length h.image.imps → IsRecalled h n (slot_of c) sel imp
+recalled_now h c n sel imp e found listed = record {
+  seen = omega (arith, e);
+  listed = listed;
+  found = λ d same. found ∙ ap (λ q. lookup q c sel) (sym (whole h n e)) ∙ ap (λ x. lookup (point_at n h) x sel) (sym (slot_of-same d c same));
+}
 
 same_point : (h : History) (image : ImageParts) (more : List Change) (n : ℕ) → n ≤ length h.changes → image ≡ h.image
     → point_at n (record { image = image; changes = h.changes ++ more }) ≡ point_at n h
@@ -39,12 +63,15 @@ begins_same p h b e = at p.image p.changes b.rest.0 b.same b.rest.1 e
     at image changes [] same is e = rw (same, is, append-nil h.changes) refl
     at image changes (x ∷ xs) same is e = absurd (omega (arith, length-append h.changes (x ∷ xs), ap length is, e))
 
-pub note-begins : (p h : History) (n : Noted) → BeginsWith p h → IsNoteOf h n → IsNoteOf p n
-note-begins p h n b is = record {
+pub recalled-begins : (p h : History) (n slot sel imp : ℕ) → BeginsWith p h → IsRecalled h n slot sel imp → IsRecalled p n slot sel imp
+recalled-begins p h n slot sel imp b is = record {
   seen = omega (arith, is.seen, ap length b.rest.1, length-append h.changes b.rest.0);
-  listed = subst (λ (m : ImageParts). imp_number n.imp ≤ length m.imps) (sym b.same) is.listed;
-  found = λ c same pos. is.found c same pos ∙ ap (λ q. lookup q c n.sel) (sym (point-begins p h n.count b is.seen));
+  listed = subst (λ (m : ImageParts). imp ≤ length m.imps) (sym b.same) is.listed;
+  found = λ c same. is.found c same ∙ ap (λ q. lookup q c sel) (sym (point-begins p h n b is.seen));
 }
+
+pub note-begins : (p h : History) (n : Noted) → BeginsWith p h → IsNoteOf h n → IsNoteOf p n
+note-begins p h n b is = record { recalled = λ pos. recalled-begins p h n.count n.slot n.sel n.imp b (is.recalled pos); blank = is.blank }
 
 -- a memory of a history is one of a longer history
 pub memory_begins : (p h : History) (m : Memory) → BeginsWith p h → IsMemoryOf h m → IsMemoryOf p m

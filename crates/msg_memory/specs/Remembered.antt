@@ -1,7 +1,6 @@
 -- What is remembered of lookups.
-use Rattle.std.specs.Prelude.{◌≡◌, ◌<◌, ◌≤◌, ℕ, length, take, All}
+use Rattle.std.specs.Prelude.{◌≡◌, ◌<◌, ◌≤◌, ◌+◌, ◌*◌, ◌%◌, ◌==◌, ◌&&◌, ℕ, if◌then◌else◌, length, slice_index_or, take, All}
 use Rattle.msg_names.specs.ClassRef.{slot_of}
-use Rattle.msg_names.specs.Number.{imp_number}
 use Rattle.msg_names.specs.declared.value.ClassRef.{ClassRef}
 use Rattle.msg_tables.specs.History.{History, lookup}
 use Rattle.msg_memory.specs.declared.memory.Noted.{Noted}
@@ -12,11 +11,16 @@ use Rattle.msg_memory.specs.declared.memory.Memory.{Memory}
 abbrev pub point_at : ℕ → History → History
 point_at n h = record { image = h.image; changes = take n h.changes }
 
--- a note is a lookup at a point of the history, by the class reference of its slot, or blank
+-- The lookup of a selector by the class reference of a slot, at the point of the history after its first n changes, finds this implementation.
+pub record IsRecalled (h : History) (n slot sel imp : ℕ) : Type 0 where
+  pub seen : n ≤ length h.changes
+  pub listed : imp ≤ length h.image.imps
+  pub found : (c : ClassRef) → slot_of c ≡ slot → imp ≡ lookup (point_at n h) c sel
+
+-- A note is what a lookup found at a point of the history, or blank: the selector's number is 0, and so is the implementation's.
 pub record IsNoteOf (h : History) (n : Noted) : Type 0 where
-  pub seen : n.count ≤ length h.changes
-  pub listed : imp_number n.imp ≤ length h.image.imps
-  pub found : (c : ClassRef) → slot_of c ≡ n.slot → 0 < n.sel → imp_number n.imp ≡ lookup (point_at n.count h) c n.sel
+  pub recalled : 0 < n.sel → IsRecalled h n.count n.slot n.sel n.imp
+  pub blank : n.sel ≡ 0 → n.imp ≡ 0
 
 -- each note of the memory is
 pub record IsMemoryOf (h : History) (m : Memory) : Type 0 where
@@ -25,3 +29,26 @@ pub record IsMemoryOf (h : History) (m : Memory) : Type 0 where
 -- the note of the site is
 pub record IsSiteOf (h : History) (s : Site) : Type 0 where
   pub note : IsNoteOf h s.note
+
+-- nothing is remembered: each note is blank
+pub record IsBlank (m : Memory) : Type 0 where
+  pub notes : All (λ (n : Noted). (n.sel ≡ 0) × (n.imp ≡ 0)) m.notes
+
+-- the place of a lookup among the notes
+abbrev pub place_of : ℕ → ℕ → ℕ
+place_of slot sel = (slot % 64 * 32 + sel % 2048) % 2048
+
+abbrev pub blank : Noted
+blank = record { slot = 0; count = 0; sel = 0; imp = 0 }
+
+-- the implementation's number that a note has of a lookup, or 0
+abbrev pub found_by : Noted → ℕ → ℕ → ℕ → ℕ
+found_by n count slot sel = if n.sel == sel && n.slot == slot && n.count == count then n.imp else 0
+
+-- that which a site has of a lookup, or 0
+abbrev pub recalled_at : Site → ℕ → ℕ → ℕ → ℕ
+recalled_at s count slot sel = found_by s.note count slot sel
+
+-- that which a memory has of a lookup, or 0: what stands at its place
+abbrev pub recalled : Memory → ℕ → ℕ → ℕ → ℕ
+recalled m count slot sel = found_by (slice_index_or m.notes (place_of slot sel) blank) count slot sel

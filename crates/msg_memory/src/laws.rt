@@ -2,7 +2,7 @@
 
 ghost use Rattle.std.specs.Prelude.{◌≡◌, length};
 ghost use Rattle.msg_tables.specs.History.{History, BeginsWith};
-ghost use Rattle.msg_memory.specs.Remembered.{IsMemoryOf, IsSiteOf};
+ghost use Rattle.msg_memory.specs.Remembered.{IsBlank, IsMemoryOf, IsSiteOf};
 ghost use Rattle.msg_memory.specs.declared.memory.Memory.{Memory};
 ghost use Rattle.msg_memory.specs.declared.memory.Site.{Site};
 
@@ -11,6 +11,12 @@ ghost use Rattle.msg_memory.specs.declared.memory.Site.{Site};
 pub fn a_longer_history_has_what_is_remembered()
     ensures memory { (p h : History) (m : Memory) → BeginsWith p h → IsMemoryOf h m → IsMemoryOf p m }
     ensures site { (p h : History) (s : Site) → BeginsWith p h → IsSiteOf h s → IsSiteOf p s }
+{}
+
+/// A memory that remembers nothing is one of each history.
+#[tactic(auto, using(crate::proofs::MemoryLemmas::blank_of))]
+pub fn a_blank_memory_is_of_each_history()
+    ensures { (h : History) (m : Memory) → IsBlank m → IsMemoryOf h m }
 {}
 
 /// A history that begins with another and is no longer is that one.

@@ -1,9 +1,10 @@
 //! What a sender remembers of its lookups. No thread but its own sees it, and no call here takes a lock or reads a shared word.
 
-ghost use Rattle.std.specs.Prelude.{◌≡◌, ◌<◌, ◌≤◌, length, IfSome, IfNone};
+ghost use Rattle.std.specs.Prelude.{◌≡◌, ◌<◌, ◌≤◌, ◌≢◌, ◌==◌, ◌&&◌, length, IfSome, IsNone};
 ghost use Rattle.msg_names.specs.Number.{selector_number, imp_number};
 ghost use Rattle.msg_tables.specs.History.{History, lookup};
-ghost use Rattle.msg_memory.specs.Remembered.{IsNoteOf, IsMemoryOf, IsSiteOf};
+ghost use Rattle.msg_names.specs.ClassRef.{slot_of};
+ghost use Rattle.msg_memory.specs.Remembered.{IsBlank, IsNoteOf, IsMemoryOf, IsRecalled, IsSiteOf, found_by, place_of, recalled, recalled_at};
 
 use msg_names::{ClassRef, ImpRef, Selector};
 
@@ -11,12 +12,13 @@ use msg_names::{ClassRef, ImpRef, Selector};
 const PLACES: usize = 2048;
 
 // What a lookup found in the slot of a class reference, and how many changes there were. Blank, it has selector number 0, which is no selector's.
+#[repr(C)]
 #[derive(Clone, Copy)]
 struct Noted {
     slot: usize,
     count: u64,
     sel: u32,
-    imp: ImpRef,
+    imp: u32,
 }
 
 impl Noted {
@@ -24,34 +26,59 @@ impl Noted {
         slot: 0,
         count: 0,
         sel: 0,
-        imp: ImpRef::FORWARD,
+        imp: 0,
     };
 
-    // The implementation, where this is a note of the lookup after so many changes.
+    // Whether this is a note of that lookup after so many changes. A blank one is of selector number 0.
     #[inline(always)]
-    fn answer(&self, count: u64, class: ClassRef, sel: Selector) -> Option<ImpRef>
-        ensures { IfSome result (λ i. (h : History) → IsNoteOf h self.now → count ≡ length h.changes
-            → (imp_number i ≡ lookup h class (selector_number sel)) × (imp_number i ≤ length h.image.imps)) }
+    fn is_of(&self, count: u64, slot: usize, sel: u32) -> bool
+        ensures { result ≡ (self.now.sel == sel && self.now.slot == slot && self.now.count == count) }
     {
-        if self.sel == sel.number() && self.slot == class.slot() && self.count == count {
-            Some(self.imp)
+        self.sel == sel && self.slot == slot && self.count == count
+    }
+
+    // The implementation, where this is a note of that lookup.
+    #[inline(always)]
+    #[tactic(auto, using(crate::proofs::MemoryLemmas::as_noted, crate::proofs::MemoryLemmas::recalled_whole))]
+    fn answer(&self, count: u64, class: ClassRef, sel: Selector) -> Option<ImpRef>
+        ensures found { IfSome result (λ i. (h : History) → IsNoteOf h self.now → count ≡ length h.changes
+            → (imp_number i ≡ lookup h class (selector_number sel)) × (imp_number i ≤ length h.image.imps)) }
+        ensures some { IfSome result (λ i. imp_number i ≡ found_by self.now count (slot_of class) (selector_number sel)) }
+        ensures none { IsNone result → found_by self.now count (slot_of class) (selector_number sel) ≡ 0 }
+    {
+        if self.is_of(count, class.slot(), sel.number()) {
+            Some(ImpRef::of(self.imp))
         } else {
             None
         }
     }
 
+    // The implementation's number, where this is a note of that lookup; else 0. It is compared at once, without a jump: calls for C are short, and what a jump costs
+    // there depends on where the linker puts it.
+    #[inline(always)]
+    #[tactic(auto, using(crate::proofs::MemoryLemmas::method_noted))]
+    fn method(&self, count: u64, slot: usize, sel: u32) -> u32
+        ensures recalled { result ≢ 0 → (h : History) → IsNoteOf h self.now → IsRecalled h count slot sel result }
+        ensures answer { result ≡ found_by self.now count slot sel }
+    {
+        let imp = self.imp;
+        let is_of = (self.sel == sel) & (self.slot == slot) & (self.count == count);
+        if is_of { imp } else { 0 }
+    }
+
     // A note of a lookup after so many changes.
     #[inline(always)]
-    #[tactic(auto, using(crate::proofs::MemoryLemmas::same_slot))]
+    #[tactic(auto, using(crate::proofs::MemoryLemmas::recalled_now))]
     fn of(count: u64, class: ClassRef, sel: Selector, imp: ImpRef) -> Noted
-        ensures { (h : History) → count ≡ length h.changes → imp_number imp ≡ lookup h class (selector_number sel) → imp_number imp ≤ length h.image.imps
+        ensures kept { found_by result count (slot_of class) (selector_number sel) ≡ imp_number imp }
+        ensures note { (h : History) → count ≡ length h.changes → imp_number imp ≡ lookup h class (selector_number sel) → imp_number imp ≤ length h.image.imps
             → IsNoteOf h result }
     {
         Noted {
             slot: class.slot(),
             count,
             sel: sel.number(),
-            imp,
+            imp: imp.number(),
         }
     }
 }
@@ -73,8 +100,10 @@ impl Site {
     /// The implementation that a lookup found after so many changes, where it is kept.
     #[inline]
     pub fn recall(&self, count: u64, class: ClassRef, sel: Selector) -> Option<ImpRef>
-        ensures { IfSome result (λ i. (h : History) → IsSiteOf h self.now → count ≡ length h.changes
+        ensures found { IfSome result (λ i. (h : History) → IsSiteOf h self.now → count ≡ length h.changes
             → (imp_number i ≡ lookup h class (selector_number sel)) × (imp_number i ≤ length h.image.imps)) }
+        ensures some { IfSome result (λ i. imp_number i ≡ recalled_at self.now count (slot_of class) (selector_number sel)) }
+        ensures none { IsNone result → recalled_at self.now count (slot_of class) (selector_number sel) ≡ 0 }
     {
         self.note.answer(count, class, sel)
     }
@@ -82,14 +111,16 @@ impl Site {
     /// Keeps what a lookup found after so many changes.
     #[inline]
     pub fn keep(&mut self, count: u64, class: ClassRef, sel: Selector, imp: ImpRef)
-        ensures { (h : History) → count ≡ length h.changes → imp_number imp ≡ lookup h class (selector_number sel) → imp_number imp ≤ length h.image.imps
+        ensures site { (h : History) → count ≡ length h.changes → imp_number imp ≡ lookup h class (selector_number sel) → imp_number imp ≤ length h.image.imps
             → IsSiteOf h self.new }
+        ensures kept { recalled_at self.new count (slot_of class) (selector_number sel) ≡ imp_number imp }
     {
         self.note = Noted::of(count, class, sel, imp);
     }
 }
 
-/// What a sender remembers, at one of 2,048 places for each class reference and selector.
+/// What a sender remembers, at one of 2,048 places for each class reference and selector. In C it is so many notes of 24 bytes, and zero bytes are a blank one.
+#[repr(C)]
 #[derive(Drop)]
 pub struct Memory {
     notes: [Noted; PLACES],
@@ -97,41 +128,59 @@ pub struct Memory {
 
 // The one place at which it may be. Selectors whose numbers are near, of classes whose numbers are near, have places of their own.
 #[inline(always)]
-fn place(class: ClassRef, sel: Selector) -> usize
-    ensures { result < 2048 }
+fn place(slot: usize, sel: u32) -> usize
+    ensures inside { result < 2048 }
+    ensures place { result ≡ place_of slot sel }
 {
-    class
-        .slot()
-        .wrapping_mul(32)
-        .wrapping_add(sel.number() as usize)
-        % PLACES
+    (slot % 64 * 32 + sel as usize % PLACES) % PLACES
 }
 
 impl Memory {
     /// It remembers nothing.
     pub const fn new() -> Memory
-        ensures { (h : History) → IsMemoryOf h result }
+        ensures blank { IsBlank result }
+        ensures memory { (h : History) → IsMemoryOf h result }
     {
         Memory {
             notes: [Noted::BLANK; PLACES],
         }
     }
 
+    /// It then remembers nothing.
+    pub fn clear(&mut self)
+        ensures { IsBlank self.new }
+    {
+        *self = Memory::new();
+    }
+
     /// The implementation that a lookup found after so many changes, where it is remembered.
     #[inline]
     pub fn recall(&self, count: u64, class: ClassRef, sel: Selector) -> Option<ImpRef>
-        ensures { IfSome result (λ i. (h : History) → IsMemoryOf h self.now → count ≡ length h.changes
+        ensures found { IfSome result (λ i. (h : History) → IsMemoryOf h self.now → count ≡ length h.changes
             → (imp_number i ≡ lookup h class (selector_number sel)) × (imp_number i ≤ length h.image.imps)) }
+        ensures some { IfSome result (λ i. imp_number i ≡ recalled self.now count (slot_of class) (selector_number sel)) }
+        ensures none { IsNone result → recalled self.now count (slot_of class) (selector_number sel) ≡ 0 }
     {
-        self.notes[place(class, sel)].answer(count, class, sel)
+        self.notes[place(class.slot(), sel.number())].answer(count, class, sel)
+    }
+
+    /// As `recall`, in numbers: of the slot of a class reference and a selector's number the number of the method's implementation, or 0, for forwarding too.
+    #[inline]
+    pub fn recall_method(&self, count: u64, slot: usize, sel: u32) -> u32
+        ensures found { result ≢ 0 → (h : History) → IsMemoryOf h self.now → IsRecalled h count slot sel result }
+        ensures answer { result ≡ recalled self.now count slot sel }
+        ensures blank { IsBlank self.now → result ≡ 0 }
+    {
+        self.notes[place(slot, sel)].method(count, slot, sel)
     }
 
     /// Remembers what a lookup found after so many changes.
     #[inline]
     pub fn keep(&mut self, count: u64, class: ClassRef, sel: Selector, imp: ImpRef)
-        ensures { (h : History) → IsMemoryOf h self.old → count ≡ length h.changes → imp_number imp ≡ lookup h class (selector_number sel) → imp_number imp ≤ length h.image.imps
+        ensures memory { (h : History) → IsMemoryOf h self.old → count ≡ length h.changes → imp_number imp ≡ lookup h class (selector_number sel) → imp_number imp ≤ length h.image.imps
             → IsMemoryOf h self.new }
+        ensures kept { recalled self.new count (slot_of class) (selector_number sel) ≡ imp_number imp }
     {
-        self.notes[place(class, sel)] = Noted::of(count, class, sel, imp);
+        self.notes[place(class.slot(), sel.number())] = Noted::of(count, class, sel, imp);
     }
 }

@@ -10,13 +10,14 @@ ghost use Rattle.msg_runner.specs.Serving.{AllSends, sends_of};
 ghost use Rattle.msg_runner.specs.Text.{answer_line, text_of};
 ghost use Rattle.msg_runner.specs.Written.{AreWritten};
 
+use crate::asker::Asker;
 use crate::asking::Asking;
 use crate::crew::change_one;
 use crate::deal::Deal;
 use crate::gate::Gate;
 use crate::gather::push_outcome;
 use crate::text::push_reply;
-use msg_dispatch::{ArenaName, Changer, Recalling, Sender};
+use msg_dispatch::{ArenaName, Changer, Sender};
 use msg_image::{Change, Image, Item};
 use std::alloc::{AllocError, Global};
 use std::sync::Wait;
@@ -108,23 +109,6 @@ fn answer_pieces<'r, 'd, N: ArenaName, R: Wait, G: Gate>(
     Ok(pieces)
 }
 
-// For fewer sends a memory isn't worth its making.
-const SENDS_FOR_A_MEMORY: usize = 16;
-
-// The sender with a memory, where there are sends enough for one.
-fn remembering<'d, N: ArenaName>(
-    alloc: Global,
-    sender: Sender<'d, N>,
-    sends: usize,
-) -> Result<Recalling<'d, N>, AllocError>
-    ensures { IfOk result (λ r. r ≡ sender.entry) }
-{
-    if sends < SENDS_FOR_A_MEMORY {
-        return Ok(Recalling::without_memory(sender));
-    }
-    Recalling::new(alloc, sender)
-}
-
 // Meets a changer whose whole history the sender has seen. Where there are no more changes the sender has seen no more, and no lock is taken.
 fn meet_again<'d, N: ArenaName, R: Wait>(
     rt: &R,
@@ -163,7 +147,7 @@ pub(crate) fn answer_sends<'d, N: ArenaName, R: Wait, G: Gate>(
 {
     let mut sender = sender;
     changer.meet(rt, &mut sender);
-    let sender = remembering(alloc, sender, items.len())?;
+    let sender = Asker::of(alloc, sender, items.len());
     let mut asking = Asking { rt, sender };
     let pieces = answer_pieces(&mut asking, gate, deal, image, items, text)?;
     let Asking { sender, .. } = asking;

@@ -6,17 +6,18 @@ ghost use Rattle.msg_tables.specs.History.{History, BeginsWith};
 ghost use Rattle.msg_eval.specs.Evaluation.{send_of};
 ghost use Rattle.msg_eval.specs.Points.{Rise, EndsAfter, last_of};
 
-use msg_dispatch::{ArenaName, Recalling};
+use crate::asker::Asker;
+use msg_dispatch::ArenaName;
 use msg_eval::{Args, Finder, Reply, send};
 use msg_image::Image;
 use msg_names::{ClassRef, ImpRef, Selector, Value};
 use std::sync::Wait;
 
-// A sender and its memory, with the handle by which its misses wait.
+// A sender, with the handle by which its misses wait.
 #[derive(Drop)]
 pub(crate) struct Asking<'r, 'd, N: ArenaName, R: Wait> {
     pub(crate) rt: &'r R,
-    pub(crate) sender: Recalling<'d, N>,
+    pub(crate) sender: Asker<'d, N>,
 }
 
 impl<'r, 'd, N: ArenaName, R: Wait> Finder for Asking<'r, 'd, N, R> {
@@ -33,7 +34,10 @@ impl<'r, 'd, N: ArenaName, R: Wait> Finder for Asking<'r, 'd, N, R> {
     ghost stands = { λ s h. s.sender.seen.front ≡ h };
 
     fn find(&mut self, class: ClassRef, sel: Selector) -> ImpRef {
-        self.sender.find(self.rt, class, sel)
+        match self.sender.recall(class, sel) {
+            Some(imp) => imp,
+            None => self.sender.find(self.rt, class, sel),
+        }
     }
 }
 

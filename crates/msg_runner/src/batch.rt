@@ -160,12 +160,13 @@ fn serve_alone<'d, N: ArenaName, G: Gate, R: Wait>(
         return Err(AllocError);
     };
     changer.meet(rt, &mut sender);
-    let mut done = serve_with(rt, alloc, sender, gate, deal, 0, image, items, count)?;
+    let mut done = serve_with(rt, alloc, sender, gate, deal, 0, image, items, count);
+    let replies = done.replies?;
     let outcomes = change_all(rt, alloc, &mut changer, gate, first_change, items)?;
     changer.meet(rt, &mut done.sender);
     senders.push(done.sender)?;
     let mut shares = Vec::new(alloc);
-    shares.push(done.replies)?;
+    shares.push(replies)?;
     Ok(Batch {
         changer,
         senders,

@@ -9,11 +9,12 @@ ghost use Rattle.msg_tables.specs.Refusal.{refusal};
 ghost use Rattle.msg_runner.specs.Serial.{longer_by};
 ghost use Rattle.msg_runner.specs.Serving.{Served, share_of, worker_of, sends_of, history_of, refusals_of, at_worker};
 
+use crate::asker::Asker;
 use crate::asking::Asking;
 use crate::deal::Deal;
 use crate::gate::Gate;
 use crate::work::serve;
-use msg_dispatch::{ArenaName, Changer, Recalling, Sender};
+use msg_dispatch::{ArenaName, Changer, Sender};
 use msg_eval::Reply;
 use msg_image::{Change, Image, Item};
 use msg_tables::ChangeFault;
@@ -22,11 +23,11 @@ use std::snapshot::Snapshot;
 use std::sync::Wait;
 use std::thread::{Promise, Scope, Threads};
 
-// A sender after a batch, with its replies.
+// A sender after a batch, with its replies, where there was memory for them.
 #[derive(Drop)]
 pub(crate) struct Done<'d, N: ArenaName> {
     pub(crate) sender: Sender<'d, N>,
-    pub(crate) replies: Vec<Reply>,
+    pub(crate) replies: Result<Vec<Reply>, AllocError>,
 }
 
 // That a worker serves its share.
@@ -39,11 +40,11 @@ pub(crate) struct ServesShare<'a, 'd, N: ArenaName> {
     pub(crate) items: &'a [Item],
 }
 
-impl<'a, 'd, N: ArenaName> Promise<Result<Done<'d, N>, AllocError>> for ServesShare<'a, 'd, N> {
-    ghost kept_by = { λ p r. IfOk r (λ d. Served p.was.value.seen.front (share_of (worker_of p.deal.cut p.deal.workers) p.me 0 (sends_of p.image.now (map item_parts p.items.now))) d.replies.items d.sender.seen.front) };
+impl<'a, 'd, N: ArenaName> Promise<Done<'d, N>> for ServesShare<'a, 'd, N> {
+    ghost kept_by = { λ p d. IfOk d.replies (λ rs. Served p.was.value.seen.front (share_of (worker_of p.deal.cut p.deal.workers) p.me 0 (sends_of p.image.now (map item_parts p.items.now))) rs.items d.sender.seen.front) };
 }
 
-// One worker's work, with a sender of its own, and with a memory for this work.
+// One worker's work, with a sender of its own, and with a memory for this work. There are so many sends in all.
 pub(crate) fn serve_with<'d, N: ArenaName, G: Gate, R: Wait>(
     rt: &R,
     alloc: Global,
@@ -54,20 +55,20 @@ pub(crate) fn serve_with<'d, N: ArenaName, G: Gate, R: Wait>(
     image: &Image,
     items: &[Item],
     count: usize,
-) -> Result<Done<'d, N>, AllocError>
+) -> Done<'d, N>
     requires image { sender.seen.front.image ≡ image.now }
     requires sound { All (IsSoundItem image.now) (map item_parts items.now) }
     requires places { deal.first + length items.now < 2 ^ 32 }
-    ensures { IfOk result (λ d. Served sender.entry.seen.front (share_of (worker_of deal.cut deal.workers) me 0 (sends_of image.now (map item_parts items.now))) d.replies.items d.sender.seen.front) }
+    ensures { IfOk result.replies (λ rs. Served sender.entry.seen.front (share_of (worker_of deal.cut deal.workers) me 0 (sends_of image.now (map item_parts items.now))) rs.items result.sender.seen.front) }
 {
-    let sender = Recalling::new(alloc, sender)?;
+    let sender = Asker::of(alloc, sender, count);
     let mut asking = Asking { rt, sender };
-    let replies = serve(alloc, &mut asking, gate, deal, me, image, items, count)?;
+    let replies = serve(alloc, &mut asking, gate, deal, me, image, items, count);
     let Asking { sender, .. } = asking;
-    Ok(Done {
+    Done {
         sender: sender.into_sender(),
         replies,
-    })
+    }
 }
 
 // Makes a change, and says why not, if so.
@@ -170,9 +171,9 @@ pub(crate) fn serve_beside<
     };
     let last = scope.spawn_with(
         promise,
-        move || -> Result<Done<N>, AllocError>
+        move || -> Done<N>
             requires { IsSync R.row × (sender.seen.front.image ≡ image.now) × All (IsSoundItem image.now) (map item_parts items.now) × (deal.first + length items.now < 2 ^ 32) }
-            ensures { IfOk result (λ d. Served sender.entry.seen.front (share_of (worker_of deal.cut deal.workers) me 0 (sends_of image.entry.now (map item_parts items.entry.now))) d.replies.items d.sender.seen.front) }
+            ensures { IfOk result.replies (λ rs. Served sender.entry.seen.front (share_of (worker_of deal.cut deal.workers) me 0 (sends_of image.entry.now (map item_parts items.entry.now))) rs.items result.sender.seen.front) }
         { serve_with(rt, alloc, sender, gate, deal, me, image, items, count) },
     )?;
     let others = serve_beside(
@@ -189,11 +190,11 @@ pub(crate) fn serve_beside<
         items,
         count,
     );
-    let mine = last.join(rt);
+    let mut mine = last.join(rt);
     let (mut all, outcomes) = others?;
-    let mut mine = mine?;
     changer.meet(rt, &mut mine.sender);
     senders.push(mine.sender)?;
-    all.push(mine.replies)?;
+    let replies = mine.replies?;
+    all.push(replies)?;
     Ok((all, outcomes))
 }

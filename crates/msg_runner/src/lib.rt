@@ -3,6 +3,7 @@
 
 mod alone;
 mod arrays;
+mod asker;
 mod asking;
 mod batch;
 mod command_line;

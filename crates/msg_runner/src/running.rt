@@ -18,7 +18,7 @@ use crate::gate::Gate;
 use crate::reading::read_whole;
 use crate::serving::{text, text_beside};
 use crate::writing::write_whole;
-use msg_image::{Document, read_document};
+use msg_image::{Document, MAX_ITEMS, read_document};
 use std::alloc::Global;
 use std::sync::Wait;
 use std::thread::Threads;
@@ -31,7 +31,7 @@ fn document<R: Source>(alloc: Global, source: &mut R) -> Result<Document, RunFau
     requires { R.mark source.old ≡ false }
     ensures ok { IfOk result (λ d. IfSome (R.remaining source.old) (λ bytes. IsAnswer bytes (Ok (document_parts d)))) }
     ensures sound { IfOk result (λ d. All (IsSoundItem d.image) (map item_parts d.items.items)) }
-    ensures few { IfOk result (λ d. length d.items.items ≤ 65536) }
+    ensures few { IfOk result (λ d. length d.items.items ≤ MAX_ITEMS) }
     ensures fault { (f : DocumentFault) → result ≡ Err (RunFault.Document f) → IfSome (R.remaining source.old) (λ bytes. IsAnswer bytes (Err f)) }
     ensures memory { result ≢ Err (RunFault.Document documents.Memory) }
     ensures read { (result ≡ Err RunFault.Read) ↔ (R.mark source.new ≡ true) }
@@ -43,8 +43,8 @@ fn document<R: Source>(alloc: Global, source: &mut R) -> Result<Document, RunFau
 
 // Whether there can be a run with so many workers and this cut.
 fn judge(workers: u32, cut: u32) -> Result<(), RunFault>
-    ensures workers { (result ≡ Err RunFault.Workers) ↔ ((workers ≡ 0) ⊎ (64 < workers)) }
-    ensures cut { (result ≡ Err RunFault.Cut) ↔ ((cut ≡ 0) × (0 < workers) × (workers ≤ 64)) }
+    ensures workers { (result ≡ Err RunFault.Workers) ↔ ((workers ≡ 0) ⊎ (MAX_WORKERS < workers)) }
+    ensures cut { (result ≡ Err RunFault.Cut) ↔ ((cut ≡ 0) × (0 < workers) × (workers ≤ MAX_WORKERS)) }
     ensures others { IfErr result (λ f. (f ≡ RunFault.Workers) ⊎ (f ≡ RunFault.Cut)) }
 {
     if workers == 0 || workers > MAX_WORKERS {
@@ -88,8 +88,8 @@ pub fn run<R: Source, W: Sink, G: Gate, T: Threads + Wait + Sync>(
     ensures whole { OnOk result (IfSome (R.remaining source.old) (Wrote (W.contents sink.old) (W.contents sink.new))) }
     ensures front { result ≡ Err RunFault.Write → IfSome (R.remaining source.old) (WroteFront (W.contents sink.old) (W.contents sink.new)) }
     ensures nothing { Leaves (W.contents sink.old) (W.contents sink.new) result }
-    ensures workers { (result ≡ Err RunFault.Workers) ↔ ((workers ≡ 0) ⊎ (64 < workers)) }
-    ensures cut { (result ≡ Err RunFault.Cut) ↔ ((cut ≡ 0) × (0 < workers) × (workers ≤ 64)) }
+    ensures workers { (result ≡ Err RunFault.Workers) ↔ ((workers ≡ 0) ⊎ (MAX_WORKERS < workers)) }
+    ensures cut { (result ≡ Err RunFault.Cut) ↔ ((cut ≡ 0) × (0 < workers) × (workers ≤ MAX_WORKERS)) }
     ensures document { (f : DocumentFault) → result ≡ Err (RunFault.Document f) → IfSome (R.remaining source.old) (λ bytes. IsAnswer bytes (Err f)) }
     ensures memory { result ≢ Err (RunFault.Document documents.Memory) }
     ensures read { (result ≡ Err RunFault.Read) ↔ (R.mark source.new ≡ true) }
@@ -118,8 +118,8 @@ pub fn run_beside<R: Source, W: Sink, G: Gate, T: Threads + Wait + Sync>(
     ensures whole { OnOk result (IfSome (R.remaining source.old) (WroteBeside workers cut (W.contents sink.old) (W.contents sink.new))) }
     ensures front { result ≡ Err RunFault.Write → IfSome (R.remaining source.old) (WroteFrontBeside workers cut (W.contents sink.old) (W.contents sink.new)) }
     ensures nothing { Leaves (W.contents sink.old) (W.contents sink.new) result }
-    ensures workers { (result ≡ Err RunFault.Workers) ↔ ((workers ≡ 0) ⊎ (64 < workers)) }
-    ensures cut { (result ≡ Err RunFault.Cut) ↔ ((cut ≡ 0) × (0 < workers) × (workers ≤ 64)) }
+    ensures workers { (result ≡ Err RunFault.Workers) ↔ ((workers ≡ 0) ⊎ (MAX_WORKERS < workers)) }
+    ensures cut { (result ≡ Err RunFault.Cut) ↔ ((cut ≡ 0) × (0 < workers) × (workers ≤ MAX_WORKERS)) }
     ensures document { (f : DocumentFault) → result ≡ Err (RunFault.Document f) → IfSome (R.remaining source.old) (λ bytes. IsAnswer bytes (Err f)) }
     ensures memory { result ≢ Err (RunFault.Document documents.Memory) }
     ensures read { (result ≡ Err RunFault.Read) ↔ (R.mark source.new ≡ true) }

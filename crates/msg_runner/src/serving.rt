@@ -17,7 +17,7 @@ use crate::deal::Deal;
 use crate::gate::Gate;
 use msg_cache::{Arena, Config, Keeper};
 use msg_dispatch::{ArenaName, Changer, Dispatcher, Sender};
-use msg_image::{Document, Image, Item};
+use msg_image::{Document, Image, Item, MAX_ITEMS};
 use std::alloc::{AllocError, Global};
 use std::marker::Brand;
 use std::sync::Wait;
@@ -154,7 +154,7 @@ fn answer_parts<'d, N: ArenaName + Send + Sync + 'd, G: Gate, R: Threads + Wait 
 ) -> Result<Vec<u8>, AllocError>
     requires image { changer.image ≡ image.now }
     requires sound { All (IsSoundItem image.now) (map item_parts items.now) }
-    requires few { length items.now ≤ 65536 }
+    requires few { length items.now ≤ MAX_ITEMS }
     requires first { deal.first ≡ 0 }
     requires enough { deal.workers ≤ vec_len senders }
     ensures { IfOk result (λ text. text.items ≡ text_of image.now (serial_from changer.entry (map item_parts items.now))) }
@@ -221,7 +221,7 @@ fn text_in<N: ArenaName + Send + Sync, G: Gate, R: Threads + Wait + Sync>(
     requires image { document.now.image ≡ N.arena.key.image }
     requires history { keeper_history keeper ≡ empty document.now.image }
     requires sound { All (IsSoundItem document.now.image) (map item_parts document.now.items.items) }
-    requires few { length document.now.items.items ≤ 65536 }
+    requires few { length document.now.items.items ≤ MAX_ITEMS }
     requires first { deal.first ≡ 0 }
     ensures { IfOk result (λ text. text.items ≡ text_of document.now.image (serial_from (empty document.now.image) (map item_parts document.now.items.items))) }
 {
@@ -257,7 +257,7 @@ fn text_beside_in<N: ArenaName + Send + Sync, G: Gate, R: Threads + Wait + Sync>
     requires image { document.now.image ≡ N.arena.key.image }
     requires history { keeper_history keeper ≡ empty document.now.image }
     requires sound { All (IsSoundItem document.now.image) (map item_parts document.now.items.items) }
-    requires few { length document.now.items.items ≤ 65536 }
+    requires few { length document.now.items.items ≤ MAX_ITEMS }
     requires first { deal.first ≡ 0 }
     ensures { IfOk result (λ text. AreAnswered document.now.image deal.workers deal.cut (empty document.now.image) (map item_parts document.now.items.items) [] text.items) }
 {
@@ -311,7 +311,7 @@ pub(crate) fn text<G: Gate, R: Threads + Wait + Sync>(
     requires workers { 1 ≤ workers }
     requires cut { 1 ≤ cut }
     requires sound { All (IsSoundItem document.now.image) (map item_parts document.now.items.items) }
-    requires few { length document.now.items.items ≤ 65536 }
+    requires few { length document.now.items.items ≤ MAX_ITEMS }
     ensures { IfOk result (λ text. text.items ≡ output_of (document_parts document.now)) }
 {
     let (arena, keeper) = arena_for(alloc, &document.image, workers)?;
@@ -336,7 +336,7 @@ pub(crate) fn text_beside<G: Gate, R: Threads + Wait + Sync>(
     requires workers { 1 ≤ workers }
     requires cut { 1 ≤ cut }
     requires sound { All (IsSoundItem document.now.image) (map item_parts document.now.items.items) }
-    requires few { length document.now.items.items ≤ 65536 }
+    requires few { length document.now.items.items ≤ MAX_ITEMS }
     ensures answered { IfOk result (λ text. AreAnswered document.now.image workers cut (empty document.now.image) (map item_parts document.now.items.items) [] text.items) }
     ensures alone { IfOk result (λ text. AllSends (map item_parts document.now.items.items) → text.items ≡ output_of (document_parts document.now)) }
 {

@@ -71,6 +71,7 @@ pub(crate) fn mark_reach(tables: &Tables, change: &Change, marks: &mut Marks) ->
 }
 
 // Flushes the cache of a class reference, where a change reaches it.
+#[inline(always)]
 fn flush_reached(keeper: &mut Keeper, arena: &Arena, class: ClassRef, reach: Reach, marks: &Marks)
     requires arena { IsKeeperOf arena.now keeper.old }
     requires class { class.class < class_total (keeper_history keeper.old).image }
@@ -91,6 +92,7 @@ fn flush_reached(keeper: &mut Keeper, arena: &Arena, class: ClassRef, reach: Rea
 }
 
 // Flushes the caches of a class and of its metaclass, where a change reaches them.
+#[inline(always)]
 fn flush_both_reached(keeper: &mut Keeper, arena: &Arena, class: u32, reach: Reach, marks: &Marks)
     requires arena { IsKeeperOf arena.now keeper.old }
     requires class { class < class_total (keeper_history keeper.old).image }

@@ -14,7 +14,7 @@ use crate::flushing::{flush_all_reached, mark_reach};
 use msg_cache::{Arena, Keeper, Prober, Report, Turn};
 use msg_image::{Change, Image};
 use msg_names::{ClassRef, ImpRef, Selector};
-use msg_tables::laws::{an_accepted_change_is_among_65536, tables_are_of_their_image};
+use msg_tables::laws::{an_accepted_change_is_within_the_limit, tables_are_of_their_image};
 use msg_tables::{ChangeFault, Marks, Tables};
 use std::alloc::{AllocError, Global};
 use std::marker::Model;
@@ -158,7 +158,7 @@ impl Runtime {
         ensures fault { IfErr result (λ f. f ≢ ChangeFault.Memory → refusal self.old.keeper.history change.now ≡ Some f) }
     {
         tables_are_of_their_image();
-        an_accepted_change_is_among_65536();
+        an_accepted_change_is_within_the_limit();
         self.keeper.face(arena, turn);
         self.tables.apply(change)?;
         let reach = mark_reach(&self.tables, change, &mut self.marks);

@@ -33,7 +33,7 @@ pub fn an_earlier_point_is_a_history()
 {}
 
 /// A change is accepted after fewer than 65,536 others.
-pub fn an_accepted_change_is_among_65536()
+pub fn an_accepted_change_is_within_the_limit()
     ensures { (h : History) (x : Change) → refusal h x ≡ None → length h.changes < MAX_CHANGES }
 {}
 

@@ -1,5 +1,6 @@
 //! Bucket words and plain arrays.
 
+use crate::same::{same, same_at};
 use msg_buckets::{
     Look, Placed, Plan, Probe, fill_plan, find, first_place, is_capacity, look_at, next_place,
     pack, put, unpack,
@@ -16,31 +17,45 @@ fn a_probe_goes_on_to_the_next_place(rt: HostRuntime) -> Result<(), Fail> {
     let mut words = [0; 4];
     for (number, place) in [(1, 1), (5, 2), (9, 3)] {
         let placed = put(&mut words, selector(number)?, ImpRef::of(number + 1));
-        assert_eq!(rt; placed, Placed::At(place), "{number}");
+        same_at(&rt, &number, placed, Placed::At(place));
     }
     for number in [1, 5, 9] {
-        assert_eq!(rt;
+        same_at(
+            &rt,
+            &number,
             find(&words, selector(number)?),
             Probe::Hit(ImpRef::of(number + 1)),
-            "{number}"
         );
     }
     let mut larger = [0; 8];
-    assert_eq!(rt;
+    same(
+        &rt,
         put(&mut larger, selector(13)?, ImpRef::FORWARD),
-        Placed::At(5)
+        Placed::At(5),
     );
-    assert_eq!(rt; find(&larger, selector(1)?), Probe::Empty(1));
-    assert_eq!(rt; find(&larger, selector(13)?), Probe::Hit(ImpRef::FORWARD));
+    same(&rt, find(&larger, selector(1)?), Probe::Empty(1));
+    same(
+        &rt,
+        find(&larger, selector(13)?),
+        Probe::Hit(ImpRef::FORWARD),
+    );
     Ok(())
 }
 
 #[test]
 fn a_probe_goes_round(rt: HostRuntime) -> Result<(), Fail> {
     let mut words = [0; 4];
-    assert_eq!(rt; put(&mut words, selector(3)?, ImpRef::of(1)), Placed::At(3));
-    assert_eq!(rt; put(&mut words, selector(7)?, ImpRef::of(2)), Placed::At(0));
-    assert_eq!(rt; find(&words, selector(7)?), Probe::Hit(ImpRef::of(2)));
+    same(
+        &rt,
+        put(&mut words, selector(3)?, ImpRef::of(1)),
+        Placed::At(3),
+    );
+    same(
+        &rt,
+        put(&mut words, selector(7)?, ImpRef::of(2)),
+        Placed::At(0),
+    );
+    same(&rt, find(&words, selector(7)?), Probe::Hit(ImpRef::of(2)));
     let mut full = [0; 4];
     for number in [1, 2, 3, 4] {
         let imp = ImpRef::of(10 * number);
@@ -51,40 +66,54 @@ fn a_probe_goes_round(rt: HostRuntime) -> Result<(), Fail> {
         );
     }
     let before = full;
-    assert_eq!(rt; put(&mut full, selector(5)?, ImpRef::of(50)), Placed::Full);
-    assert_eq!(rt; find(&full, selector(5)?), Probe::Wrapped);
-    assert_eq!(rt;
-        put(&mut full, selector(2)?, ImpRef::of(50)),
-        Placed::Present
+    same(
+        &rt,
+        put(&mut full, selector(5)?, ImpRef::of(50)),
+        Placed::Full,
     );
-    assert_eq!(rt; find(&full, selector(2)?), Probe::Hit(ImpRef::of(20)));
-    assert_eq!(rt; full.as_slice(), before.as_slice());
+    same(&rt, find(&full, selector(5)?), Probe::Wrapped);
+    same(
+        &rt,
+        put(&mut full, selector(2)?, ImpRef::of(50)),
+        Placed::Present,
+    );
+    same(&rt, find(&full, selector(2)?), Probe::Hit(ImpRef::of(20)));
+    same(&rt, full.as_slice(), before.as_slice());
     Ok(())
 }
 
 #[test]
 fn a_selector_is_compared_whole(rt: HostRuntime) -> Result<(), Fail> {
     let mut words = [0; 4];
-    assert_eq!(rt; put(&mut words, selector(1)?, ImpRef::of(1)), Placed::At(1));
-    assert_eq!(rt; find(&words, selector(65_537)?), Probe::Empty(2));
-    assert_eq!(rt;
-        put(&mut words, selector(65_537)?, ImpRef::of(2)),
-        Placed::At(2)
+    same(
+        &rt,
+        put(&mut words, selector(1)?, ImpRef::of(1)),
+        Placed::At(1),
     );
-    assert_eq!(rt; find(&words, selector(65_537)?), Probe::Hit(ImpRef::of(2)));
+    same(&rt, find(&words, selector(65_537)?), Probe::Empty(2));
+    same(
+        &rt,
+        put(&mut words, selector(65_537)?, ImpRef::of(2)),
+        Placed::At(2),
+    );
+    same(
+        &rt,
+        find(&words, selector(65_537)?),
+        Probe::Hit(ImpRef::of(2)),
+    );
     Ok(())
 }
 
 #[test]
 fn an_array_is_filled_to_three_quarters(rt: HostRuntime) {
-    assert_eq!(rt; fill_plan(0, 0), Plan::Take(4));
-    assert_eq!(rt; fill_plan(4, 0), Plan::Use);
-    assert_eq!(rt; fill_plan(4, 2), Plan::Use);
-    assert_eq!(rt; fill_plan(4, 3), Plan::Take(8));
-    assert_eq!(rt; fill_plan(512, 383), Plan::Use);
-    assert_eq!(rt; fill_plan(512, 384), Plan::Take(1024));
-    assert_eq!(rt; fill_plan(1024, 767), Plan::Use);
-    assert_eq!(rt; fill_plan(1024, 768), Plan::Take(1024));
+    same(&rt, fill_plan(0, 0), Plan::Take(4));
+    same(&rt, fill_plan(4, 0), Plan::Use);
+    same(&rt, fill_plan(4, 2), Plan::Use);
+    same(&rt, fill_plan(4, 3), Plan::Take(8));
+    same(&rt, fill_plan(512, 383), Plan::Use);
+    same(&rt, fill_plan(512, 384), Plan::Take(1024));
+    same(&rt, fill_plan(1024, 767), Plan::Use);
+    same(&rt, fill_plan(1024, 768), Plan::Take(1024));
 }
 
 #[test]
@@ -99,31 +128,33 @@ fn capacities_are_powers_of_two(rt: HostRuntime) {
         (1024, true),
         (2048, false),
     ] {
-        assert_eq!(rt; is_capacity(buckets), want, "{buckets}");
+        same_at(&rt, &buckets, is_capacity(buckets), want);
     }
 }
 
 #[test]
 fn places_and_words(rt: HostRuntime) -> Result<(), Fail> {
-    assert_eq!(rt; first_place(selector(13)?, 8), 5);
-    assert_eq!(rt; first_place(selector(1024)?, 1024), 0);
-    assert_eq!(rt; next_place(3, 4), 0);
-    assert_eq!(rt; next_place(3, 8), 4);
+    same(&rt, first_place(selector(13)?, 8), 5);
+    same(&rt, first_place(selector(1024)?, 1024), 0);
+    same(&rt, next_place(3, 4), 0);
+    same(&rt, next_place(3, 8), 4);
     let word = pack(selector(2)?, ImpRef::of(1));
-    assert_eq!(rt; word, 0x0000_0002_0000_0001);
-    assert_eq!(rt; unpack(word), Some((selector(2)?, ImpRef::of(1))));
-    assert_eq!(rt;
+    same(&rt, word, 0x0000_0002_0000_0001);
+    same(&rt, unpack(word), Some((selector(2)?, ImpRef::of(1))));
+    same(
+        &rt,
         unpack(0x0000_0001_0000_0000),
-        Some((selector(1)?, ImpRef::FORWARD))
+        Some((selector(1)?, ImpRef::FORWARD)),
     );
-    assert_eq!(rt;
+    same(
+        &rt,
         unpack(0xffff_ffff_ffff_ffff),
-        Some((selector(4294967295)?, ImpRef::of(4294967295)))
+        Some((selector(4294967295)?, ImpRef::of(4294967295))),
     );
-    assert_eq!(rt; unpack(0xffff_ffff), None);
-    assert_eq!(rt; unpack(0), None);
-    assert_eq!(rt; look_at(word, selector(2)?), Look::Hit(ImpRef::of(1)));
-    assert_eq!(rt; look_at(word, selector(1)?), Look::Other);
-    assert_eq!(rt; look_at(0, selector(1)?), Look::Empty);
+    same(&rt, unpack(0xffff_ffff), None);
+    same(&rt, unpack(0), None);
+    same(&rt, look_at(word, selector(2)?), Look::Hit(ImpRef::of(1)));
+    same(&rt, look_at(word, selector(1)?), Look::Other);
+    same(&rt, look_at(0, selector(1)?), Look::Empty);
     Ok(())
 }

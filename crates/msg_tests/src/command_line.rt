@@ -1,5 +1,6 @@
 //! The words of the command line, and what is said of a fault.
 
+use crate::same::{same, same_at};
 use msg_form::DocumentFault;
 use msg_runner::{Program, RunFault, ToWriter, arguments, complain};
 use std::alloc::Global;
@@ -49,7 +50,7 @@ fn words_are_two_numbers_at_most(rt: HostRuntime) -> Result<(), Fail> {
     let alloc = rt.alloc();
     for (texts, want) in WORDS {
         let words = words(alloc, texts)?;
-        assert_eq!(rt; arguments(&words), want, "{texts:?}");
+        same_at(&rt, &texts, arguments(&words), want);
     }
     Ok(())
 }
@@ -162,12 +163,13 @@ fn each_fault_has_a_line_and_a_status(rt: HostRuntime) -> Result<(), Fail> {
             let said = said.replace(alloc, "PROGRAM", name)?;
             let line = format!(in alloc; "{name}: {said}")?;
             let mut sink = ToWriter::new(Vec::new(alloc));
-            assert_eq!(rt;
+            same_at(
+                &rt,
+                &line,
                 complain(&mut sink, program, fault.as_ref()),
                 status,
-                "{line}"
             );
-            assert_eq!(rt; sink.writer.as_slice(), line.as_bytes());
+            same(&rt, sink.writer.as_slice(), line.as_bytes());
         }
     }
     Ok(())
@@ -180,13 +182,14 @@ fn a_failed_write_leaves_the_status(rt: HostRuntime) {
         for size in [3, 12] {
             let mut room = [0; 12];
             let mut sink = ToWriter::new(io::Cursor::new(&mut room[..size.min(12)]));
-            assert_eq!(rt;
+            same(
+                &rt,
                 complain(&mut sink, Program::Msgrun, fault.as_ref()),
-                status
+                status,
             );
             let front = sink.failed;
             assert!(rt; front);
-            assert_eq!(rt; room.as_slice().first(), Some(&b'm'));
+            same(&rt, room.as_slice().first(), Some(&b'm'));
         }
     }
 }

@@ -1,5 +1,6 @@
 //! Documents, edits of them, and the number of the fault that one is refused with.
 
+use crate::same::same_at;
 use msg_image::{DocumentFault, read_document};
 use std::alloc::Global;
 use std::process::Abort;
@@ -85,7 +86,7 @@ pub(crate) fn edit_is(
     new: &str,
 ) -> Result<(), Fail> {
     let text = edited(alloc, document, old, new)?;
-    assert_eq!(rt; number(alloc, text.as_bytes()), want, "{old}");
+    same_at(rt, &old, number(alloc, text.as_bytes()), want);
     Ok(())
 }
 
@@ -101,10 +102,6 @@ pub(crate) fn list_is(
     let new = format!(in alloc; "\"{key}\":[{values}]")?;
     let text = edited(alloc, EMPTY, old.as_str(), new.as_str())?;
     let length = values.len();
-    assert_eq!(rt;
-        number(alloc, text.as_bytes()),
-        want,
-        "{key} of {length} bytes"
-    );
+    same_at(rt, &(key, length), number(alloc, text.as_bytes()), want);
     Ok(())
 }

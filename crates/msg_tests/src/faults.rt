@@ -1,6 +1,7 @@
 //! Documents at their limits.
 
 use crate::documents::{EMPTY, FULL, SMALL, edit_is, edited, list_is, listed, number};
+use crate::same::{same, same_at};
 use std::alloc::Global;
 use std::test::Fail;
 
@@ -70,7 +71,7 @@ fn many_method_entries(rt: HostRuntime) -> Result<(), Fail> {
         r#"{"send":[["obj","c"],"value"]}"#,
         change.as_str(),
     )?;
-    assert_eq!(rt; number(alloc, attached.as_bytes()), Some(13));
+    same(&rt, number(alloc, attached.as_bytes()), Some(13));
     Ok(())
 }
 
@@ -112,12 +113,12 @@ fn a_text_of_more_bytes_is_not_read(rt: HostRuntime) -> Result<(), Fail> {
     let alloc = rt.alloc();
     let room = " ".repeat(alloc, 16_777_216_usize.saturating_sub(EMPTY.len()))?;
     let mut text = format!(in alloc; "{EMPTY}{room}")?;
-    assert_eq!(rt; text.len(), 16_777_216);
-    assert_eq!(rt; number(alloc, text.as_bytes()), None);
+    same(&rt, text.len(), 16_777_216);
+    same(&rt, number(alloc, text.as_bytes()), None);
     text.push(' ')?;
-    assert_eq!(rt; number(alloc, text.as_bytes()), Some(4));
+    same(&rt, number(alloc, text.as_bytes()), Some(4));
     text.push('x')?;
-    assert_eq!(rt; number(alloc, text.as_bytes()), Some(4));
+    same(&rt, number(alloc, text.as_bytes()), Some(4));
     Ok(())
 }
 
@@ -139,7 +140,7 @@ fn arguments_are_numbered_below_their_count(rt: HostRuntime) -> Result<(), Fail>
             r#""args":0,"body":["self"]"#,
             body.as_str(),
         )?;
-        assert_eq!(rt; number(alloc, text.as_bytes()), want, "{args} and {index}");
+        same_at(&rt, &(args, index), number(alloc, text.as_bytes()), want);
     }
     Ok(())
 }

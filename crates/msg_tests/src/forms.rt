@@ -1,13 +1,14 @@
 //! Which texts are JSON, and which values have the form of a document.
 
 use crate::documents::{BODY, EMPTY, FULL, SMALL, edit_is, nested, number};
+use crate::same::{same, same_at};
 use std::test::Fail;
 
 #[test]
 fn documents_are_read(rt: HostRuntime) -> Result<(), Fail> {
     let alloc = rt.alloc();
     for text in [EMPTY, SMALL, FULL] {
-        assert_eq!(rt; number(alloc, text.as_bytes()), None, "{text}");
+        same_at(&rt, &text, number(alloc, text.as_bytes()), None);
     }
     Ok(())
 }
@@ -37,7 +38,7 @@ fn texts_that_are_not_json(rt: HostRuntime) -> Result<(), Fail> {
         "\"open",
         "\0",
     ] {
-        assert_eq!(rt; number(alloc, text.as_bytes()), Some(1), "{text}");
+        same_at(&rt, &text, number(alloc, text.as_bytes()), Some(1));
     }
     Ok(())
 }
@@ -57,11 +58,7 @@ fn what_stands_round_the_value(rt: HostRuntime) -> Result<(), Fail> {
         ("[", "]", Some(2)),
     ] {
         let text = format!(in alloc; "{before}{SMALL}{after}")?;
-        assert_eq!(rt;
-            number(alloc, text.as_bytes()),
-            want,
-            "{before:?} and {after:?}"
-        );
+        same_at(&rt, &(before, after), number(alloc, text.as_bytes()), want);
     }
     Ok(())
 }
@@ -84,10 +81,10 @@ fn bytes_that_are_not_utf8(rt: HostRuntime) -> Result<(), Fail> {
         text.extend_from_slice(bytes)?;
         text.extend_from_slice(b"\"]}")?;
         text.extend_from_slice(after.as_bytes())?;
-        assert_eq!(rt; number(alloc, &text), want, "{bytes:?}");
+        same_at(&rt, &bytes, number(alloc, &text), want);
     }
-    assert_eq!(rt; number(alloc, b"\xef\xbb\xbf{}"), Some(1));
-    assert_eq!(rt; number(alloc, b"[\"\xff\"]"), Some(1));
+    same(&rt, number(alloc, b"\xef\xbb\xbf{}"), Some(1));
+    same(&rt, number(alloc, b"[\"\xff\"]"), Some(1));
     Ok(())
 }
 
@@ -95,13 +92,13 @@ fn bytes_that_are_not_utf8(rt: HostRuntime) -> Result<(), Fail> {
 fn values_nest_127_deep(rt: HostRuntime) -> Result<(), Fail> {
     let alloc = rt.alloc();
     let lists = nested(alloc, "[", "", "]", 127)?;
-    assert_eq!(rt; number(alloc, lists.as_bytes()), Some(2));
+    same(&rt, number(alloc, lists.as_bytes()), Some(2));
     let lists = nested(alloc, "[", "", "]", 128)?;
-    assert_eq!(rt; number(alloc, lists.as_bytes()), Some(1));
+    same(&rt, number(alloc, lists.as_bytes()), Some(1));
     let objects = nested(alloc, r#"{"a":"#, "1", "}", 127)?;
-    assert_eq!(rt; number(alloc, objects.as_bytes()), Some(2));
+    same(&rt, number(alloc, objects.as_bytes()), Some(2));
     let objects = nested(alloc, r#"{"a":"#, "1", "}", 128)?;
-    assert_eq!(rt; number(alloc, objects.as_bytes()), Some(1));
+    same(&rt, number(alloc, objects.as_bytes()), Some(1));
     // A body lies three deep.
     for (levels, want) in [(124, 16), (125, 1)] {
         let body = nested(alloc, r#"["add",1,"#, "1", "]", levels)?;
@@ -124,7 +121,7 @@ fn values_that_are_no_documents(rt: HostRuntime) -> Result<(), Fail> {
         "{}",
         r#"{"version":1}"#,
     ] {
-        assert_eq!(rt; number(alloc, text.as_bytes()), Some(2), "{text}");
+        same_at(&rt, &text, number(alloc, text.as_bytes()), Some(2));
     }
     Ok(())
 }

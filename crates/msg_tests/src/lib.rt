@@ -22,6 +22,8 @@ mod readings;
 #[cfg(test)]
 mod refusals;
 #[cfg(test)]
+mod same;
+#[cfg(test)]
 mod sets;
 #[cfg(test)]
 mod tables;

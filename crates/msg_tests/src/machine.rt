@@ -1,5 +1,6 @@
 //! Worked rows of events.
 
+use crate::same::same;
 use msg_core::{Event, EventFault, Machine, Seen};
 use msg_image::{Change, Image, read_document};
 use msg_names::{ClassRef, ImpRef, Selector};
@@ -66,7 +67,7 @@ fn an_array_is_flushed_while_a_sender_holds_it(rt: HostRuntime) {
         (Event::Install(ROOT, 0), Ok(Seen::Nothing)),
     ];
     for (event, answer) in events {
-        assert_eq!(rt; machine.step(event), answer);
+        same(&rt, machine.step(event), answer);
     }
 }
 
@@ -108,14 +109,14 @@ fn each_refusal_is_the_least(rt: HostRuntime) {
     ];
     for (event, answer) in events {
         let event = event.expect(&rt, "an event");
-        assert_eq!(rt; machine.step(event), answer);
+        same(&rt, machine.step(event), answer);
     }
 }
 
 #[test]
 fn faults_have_numbers(rt: HostRuntime) {
-    assert_eq!(rt; EventFault::NoSender.number(), 1);
-    assert_eq!(rt; EventFault::Refused(ChangeFault::NoImp).number(), 11);
-    assert_eq!(rt; EventFault::Memory.number(), 13);
-    assert_eq!(rt; ChangeFault::NoImp.number(), 2);
+    same(&rt, EventFault::NoSender.number(), 1);
+    same(&rt, EventFault::Refused(ChangeFault::NoImp).number(), 11);
+    same(&rt, EventFault::Memory.number(), 13);
+    same(&rt, ChangeFault::NoImp.number(), 2);
 }

@@ -1,5 +1,6 @@
 //! Selectors, values and interned names.
 
+use crate::same::{same, same_at};
 use msg_names::{ImpRef, NameFault, Names, Selector, Value, is_identifier, is_selector_name};
 use std::alloc::Global;
 use std::process::Abort;
@@ -7,7 +8,7 @@ use std::test::Fail;
 
 fn interned(rt: &impl Abort, names: &mut Names, text: &str, want: Result<u32, NameFault>) {
     let number = names.intern(text).map(Selector::number);
-    assert_eq!(rt; number, want, "{text}");
+    same_at(rt, &text, number, want);
 }
 
 #[test]
@@ -33,10 +34,10 @@ fn names_are_interned(rt: HostRuntime) -> Result<(), Fail> {
     ] {
         interned(&rt, &mut names, text, want);
     }
-    assert_eq!(rt; names.len(), 4);
+    same(&rt, names.len(), 4);
     assert!(rt; !names.is_empty());
-    assert_eq!(rt; names.find("at:put:").map(Selector::number), Some(2));
-    assert_eq!(rt; names.find("at:"), None);
+    same(&rt, names.find("at:put:").map(Selector::number), Some(2));
+    same(&rt, names.find("at:"), None);
     for (number, text, colons) in [
         (1, Some("value"), Some(0)),
         (2, Some("at:put:"), Some(2)),
@@ -46,8 +47,8 @@ fn names_are_interned(rt: HostRuntime) -> Result<(), Fail> {
         (4294967295, None, None),
     ] {
         let selector = Selector::of(number).ok_or("0")?;
-        assert_eq!(rt; names.text(selector), text, "{number}");
-        assert_eq!(rt; names.colons(selector), colons, "{number}");
+        same_at(&rt, &number, names.text(selector), text);
+        same_at(&rt, &number, names.colons(selector), colons);
     }
     Ok(())
 }
@@ -64,18 +65,18 @@ fn no_more_than_4096_names_fit(rt: HostRuntime) -> Result<(), Fail> {
     interned(&rt, &mut names, "a b", Err(NameFault::BadName));
     interned(&rt, &mut names, "n1", Ok(1));
     interned(&rt, &mut names, "n4096", Ok(4096));
-    assert_eq!(rt; names.len(), 4096);
+    same(&rt, names.len(), 4096);
     Ok(())
 }
 
 #[test]
 fn numbers_and_texts(rt: HostRuntime) {
-    assert_eq!(rt; Selector::of(0), None);
-    assert_eq!(rt; Selector::of(7).map(Selector::number), Some(7));
-    assert_eq!(rt; ImpRef::of(7).number(), 7);
-    assert_eq!(rt; ImpRef::of(0), ImpRef::FORWARD);
-    assert_eq!(rt; ImpRef::FORWARD.number(), 0);
-    assert_eq!(rt; Value::default(), Value::Nil);
+    same(&rt, Selector::of(0), None);
+    same(&rt, Selector::of(7).map(Selector::number), Some(7));
+    same(&rt, ImpRef::of(7).number(), 7);
+    same(&rt, ImpRef::of(0), ImpRef::FORWARD);
+    same(&rt, ImpRef::FORWARD.number(), 0);
+    same(&rt, Value::default(), Value::Nil);
     for (text, identifier, selector) in [
         ("_x9", true, true),
         ("at:", false, true),
@@ -83,7 +84,7 @@ fn numbers_and_texts(rt: HostRuntime) {
         ("a-b", false, false),
         ("", false, false),
     ] {
-        assert_eq!(rt; is_identifier(text), identifier, "{text}");
-        assert_eq!(rt; is_selector_name(text), selector, "{text}");
+        same_at(&rt, &text, is_identifier(text), identifier);
+        same_at(&rt, &text, is_selector_name(text), selector);
     }
 }

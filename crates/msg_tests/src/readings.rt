@@ -3,6 +3,7 @@
 ghost use Rattle.std.specs.Prelude.{◌≡◌};
 
 use crate::images::{IMAGE, with_items};
+use crate::same::{same, same_at};
 use msg_image::{Change, Document, Expr, Image, Item, MethodList, read_document};
 use msg_names::{ClassRef, ImpRef, ObjectRef, Selector, Value};
 use std::alloc::Global;
@@ -38,21 +39,21 @@ fn names_come_in_the_order_of_the_walk(rt: HostRuntime) -> Result<(), Fail> {
         "plus:",
         "go",
     ];
-    assert_eq!(rt; image.names().len(), 14);
+    same(&rt, image.names().len(), 14);
     for (text, number) in names.into_iter().zip(1..15_u32) {
         let sel = image.names().find(text);
-        assert_eq!(rt; sel.map(Selector::number), Some(number), "{text}");
+        same_at(&rt, &text, sel.map(Selector::number), Some(number));
     }
-    assert_eq!(rt; image.forwarding_selector().number(), 1);
+    same(&rt, image.forwarding_selector().number(), 1);
     Ok(())
 }
 
 #[test]
 fn classes_and_objects_come_as_listed(rt: HostRuntime) -> Result<(), Fail> {
     let image = image(rt.alloc())?;
-    assert_eq!(rt; image.class_count(), 5);
-    assert_eq!(rt; image.object_count(), 5);
-    assert_eq!(rt; image.imp_count(), 14);
+    same(&rt, image.class_count(), 5);
+    same(&rt, image.object_count(), 5);
+    same(&rt, image.imp_count(), 14);
     for (class, name, above, above_meta) in [
         (0, "Root", None, Some(at(0, false))),
         (1, "Child", Some(at(0, false)), Some(at(0, true))),
@@ -61,9 +62,9 @@ fn classes_and_objects_come_as_listed(rt: HostRuntime) -> Result<(), Fail> {
         (4, "Proxy", None, Some(at(4, false))),
     ] {
         assert!(rt; class < image.listed_count());
-        assert_eq!(rt; image.class_name(class).as_bytes(), name.as_bytes());
-        assert_eq!(rt; image.superclass(at(class, false)), above, "{name}");
-        assert_eq!(rt; image.superclass(at(class, true)), above_meta, "{name}");
+        same(&rt, image.class_name(class).as_bytes(), name.as_bytes());
+        same_at(&rt, &name, image.superclass(at(class, false)), above);
+        same_at(&rt, &name, image.superclass(at(class, true)), above_meta);
     }
     for (object, name, class) in [
         (0, "c", 1),
@@ -74,18 +75,18 @@ fn classes_and_objects_come_as_listed(rt: HostRuntime) -> Result<(), Fail> {
     ] {
         assert!(rt; object < image.object_count());
         let text = image.object_name(ObjectRef { object });
-        assert_eq!(rt; text.as_bytes(), name.as_bytes());
-        assert_eq!(rt; image.object_class(ObjectRef { object }), class, "{name}");
+        same(&rt, text.as_bytes(), name.as_bytes());
+        same_at(&rt, &name, image.object_class(ObjectRef { object }), class);
     }
     Ok(())
 }
 
 // The methods have these numbers of selectors and implementations.
 fn methods_are(rt: &impl Abort, methods: &[(Selector, ImpRef)], want: &[(u32, u32)]) {
-    assert_eq!(rt; methods.len(), want.len());
+    same(rt, methods.len(), want.len());
     for (method, pair) in methods.iter().zip(want.iter()) {
-        assert_eq!(rt; method.0.number(), pair.0);
-        assert_eq!(rt; method.1.number(), pair.1);
+        same(rt, method.0.number(), pair.0);
+        same(rt, method.1.number(), pair.1);
     }
 }
 
@@ -97,8 +98,8 @@ const SECOND: &[u8] = br#"{"version":2,
 fn depths_are_counted_to_the_root(rt: HostRuntime) -> Result<(), Fail> {
     let Document { image, items } = read_document(rt.alloc(), SECOND)?;
     assert_eq!(rt; image.listed_count(), 2);
-    assert_eq!(rt; image.depth(0), 1);
-    assert_eq!(rt; image.depth(1), 0);
+    same(&rt, image.depth(0), 1);
+    same(&rt, image.depth(1), 0);
     assert_eq!(rt; items.len(), 1);
     assert!(rt;
         matches!(
@@ -116,11 +117,11 @@ fn depths_are_counted_to_the_root(rt: HostRuntime) -> Result<(), Fail> {
 fn classes_that_may_be_made_come_last(rt: HostRuntime) -> Result<(), Fail> {
     let Document { image, .. } = read_document(rt.alloc(), SECOND)?;
     assert_eq!(rt; image.class_count(), 3);
-    assert_eq!(rt; image.class_name(2).as_bytes(), b"Late".as_slice());
+    same(&rt, image.class_name(2).as_bytes(), b"Late".as_slice());
     methods_are(&rt, image.methods(at(2, false)), &[]);
     methods_are(&rt, image.methods(at(2, true)), &[]);
     assert_eq!(rt; image.object_count(), 1);
-    assert_eq!(rt; image.object_class(ObjectRef { object: 0 }), 2);
+    same(&rt, image.object_class(ObjectRef { object: 0 }), 2);
     Ok(())
 }
 
@@ -146,9 +147,9 @@ fn methods_come_as_listed(rt: HostRuntime) -> Result<(), Fail> {
     // without the methods of its categories
     methods_are(&rt, image.methods(at(3, false)), &[(12, 2)]);
     let categories = image.categories();
-    assert_eq!(rt; categories.len(), 2);
+    same(&rt, categories.len(), 2);
     for (category, imp) in categories.iter().zip([12, 13]) {
-        assert_eq!(rt; category.class, 3);
+        same(&rt, category.class, 3);
         methods_are(&rt, category.methods.as_slice(), &[(12, imp)]);
         methods_are(&rt, category.class_methods.as_slice(), &[]);
     }
@@ -227,8 +228,8 @@ fn implementations_come_as_listed(rt: HostRuntime) -> Result<(), Fail> {
     ] {
         assert!(rt; number <= image.imp_count());
         let imp = image.imp(ImpRef::of(number));
-        assert_eq!(rt; imp.home, home, "{number}");
-        assert_eq!(rt; imp.args, args, "{number}");
+        same_at(&rt, &number, imp.home, home);
+        same_at(&rt, &number, imp.args, args);
         let is_as_listed = match number {
             1 => is_number(&imp.body, 7),
             3 => is_countdown(&imp.body, 4),
@@ -256,23 +257,35 @@ fn items_come_as_listed(rt: HostRuntime) -> Result<(), Fail> {
                 sel,
                 args,
             } => {
-                assert_eq!(rt; receiver, Value::Object(ObjectRef { object: 1 }));
-                assert_eq!(rt; sel.number(), 4);
-                assert_eq!(rt; args.as_slice(), [Value::Number(31)].as_slice());
-                assert_eq!(rt; seen, 1);
+                same(&rt, receiver, Value::Object(ObjectRef { object: 1 }));
+                same(&rt, sel.number(), 4);
+                same(&rt, args.as_slice(), [Value::Number(31)].as_slice());
+                same(&rt, seen, 1);
             }
             Item::Change(Change::Add { class, sel, imp }) => {
-                assert_eq!(rt; (class, sel.number(), imp.number()), (at(1, true), 2, 2));
-                assert_eq!(rt; seen, 2);
+                same(
+                    &rt,
+                    (class, sel.number(), imp.number()),
+                    (at(1, true), 2, 2),
+                );
+                same(&rt, seen, 2);
             }
             Item::Change(Change::Replace { class, sel, imp }) => {
-                assert_eq!(rt; (class, sel.number(), imp.number()), (at(3, false), 12, 12));
-                assert_eq!(rt; seen, 3);
+                same(
+                    &rt,
+                    (class, sel.number(), imp.number()),
+                    (at(3, false), 12, 12),
+                );
+                same(&rt, seen, 3);
             }
             Item::Change(Change::SetImp { class, sel, imp }) => {
                 // the selectors of items come after those of bodies
-                assert_eq!(rt; (class, sel.number(), imp.number()), (at(4, true), 15, 1));
-                assert_eq!(rt; seen, 4);
+                same(
+                    &rt,
+                    (class, sel.number(), imp.number()),
+                    (at(4, true), 15, 1),
+                );
+                same(&rt, seen, 4);
             }
             Item::Change(
                 Change::Exchange {
@@ -282,9 +295,9 @@ fn items_come_as_listed(rt: HostRuntime) -> Result<(), Fail> {
                     other_sel,
                 },
             ) => {
-                assert_eq!(rt; (class, sel.number()), (at(1, false), 2));
-                assert_eq!(rt; (other, other_sel.number()), (at(0, true), 3));
-                assert_eq!(rt; seen, 5);
+                same(&rt, (class, sel.number()), (at(1, false), 2));
+                same(&rt, (other, other_sel.number()), (at(0, true), 3));
+                same(&rt, seen, 5);
             }
             Item::Change(Change::AddClass { class, .. }) => {
                 assert!(rt; false, "class {class} is made by no item");
@@ -296,14 +309,14 @@ fn items_come_as_listed(rt: HostRuntime) -> Result<(), Fail> {
                     class_methods,
                 },
             ) => {
-                assert_eq!(rt; class, 3);
+                same(&rt, class, 3);
                 methods_are(&rt, methods.as_slice(), &[(12, 1), (16, 13)]);
                 methods_are(&rt, class_methods.as_slice(), &[(11, 10)]);
-                assert_eq!(rt; seen, 6);
+                same(&rt, seen, 6);
             }
         }
     }
-    assert_eq!(rt; seen, 6);
+    same(&rt, seen, 6);
     Ok(())
 }
 

@@ -2,6 +2,7 @@
 
 use crate::documents::SMALL;
 use crate::images::ran;
+use crate::same::same_at;
 use msg_form::DocumentFault;
 use msg_runner::RunFault;
 use std::test::Fail;
@@ -21,12 +22,8 @@ fn workers_and_cuts_that_are_refused(rt: HostRuntime) -> Result<(), Fail> {
     ] {
         let ended = ran(&rt, alloc, SMALL.as_bytes(), workers, cut);
         let lines = if want.is_none() { "7\n" } else { "" };
-        assert_eq!(rt; ended.fault, want, "{workers} workers, cut {cut}");
-        assert_eq!(rt;
-            str::from_utf8(&ended.text)?,
-            lines,
-            "{workers} workers, cut {cut}"
-        );
+        same_at(&rt, &(workers, cut), ended.fault, want);
+        same_at(&rt, &(workers, cut), str::from_utf8(&ended.text)?, lines);
     }
     Ok(())
 }
@@ -48,7 +45,7 @@ fn texts_that_are_refused(rt: HostRuntime) {
         ("{}", 64, 64, RunFault::Document(DocumentFault::Shape)),
     ] {
         let ended = ran(&rt, alloc, text.as_bytes(), workers, cut);
-        assert_eq!(rt; ended.fault, Some(want), "{text}");
+        same_at(&rt, &text, ended.fault, Some(want));
         assert!(rt; ended.text.is_empty(), "{text}");
     }
 }

@@ -1,6 +1,7 @@
 //! The walk over selectors, the sets of names, and the faults' numbers and texts.
 
 use crate::documents::FULL;
+use crate::same::{same, same_at};
 use msg_form::{DocumentFault, FORWARDING, Form, NameSet, ReadFault};
 use msg_json::{Scratch, read};
 use std::test::Fail;
@@ -34,15 +35,15 @@ fn selectors_come_in_the_order_of_the_walk(rt: HostRuntime) -> Result<(), Fail> 
         "top",
         "low",
     ];
-    assert_eq!(rt; texts.as_slice(), want.as_slice());
-    assert_eq!(rt; FORWARDING, "forwardingTargetForSelector:");
+    same(&rt, texts.as_slice(), want.as_slice());
+    same(&rt, FORWARDING, "forwardingTargetForSelector:");
     Ok(())
 }
 
 #[test]
 fn names_are_numbered_as_they_come(rt: HostRuntime) -> Result<(), Fail> {
     let mut names = NameSet::new(rt.alloc());
-    assert_eq!(rt; names.number("value"), None);
+    same(&rt, names.number("value"), None);
     for (name, is_new, number) in [
         ("value", true, 1),
         ("at:put:", true, 2),
@@ -52,10 +53,10 @@ fn names_are_numbered_as_they_come(rt: HostRuntime) -> Result<(), Fail> {
         ("Value", true, 5),
         ("at:put:", false, 2),
     ] {
-        assert_eq!(rt; names.insert(name)?, is_new, "{name}");
-        assert_eq!(rt; names.number(name), Some(number), "{name}");
+        same_at(&rt, &name, names.insert(name)?, is_new);
+        same_at(&rt, &name, names.number(name), Some(number));
     }
-    assert_eq!(rt; names.number("at:"), None);
+    same(&rt, names.number("at:"), None);
     Ok(())
 }
 
@@ -82,10 +83,10 @@ fn faults_have_numbers_and_texts(rt: HostRuntime) -> Result<(), Fail> {
         (DocumentFault::Memory, 17, "out of memory"),
         (DocumentFault::ClassCycle, 18, "class cycle"),
     ] {
-        assert_eq!(rt; fault.number(), number, "{text}");
-        assert_eq!(rt; fault.text(), text, "{number}");
-        assert_eq!(rt; fault.to_string(alloc)?.as_str(), text, "{number}");
+        same_at(&rt, &text, fault.number(), number);
+        same_at(&rt, &number, fault.text(), text);
+        same_at(&rt, &number, fault.to_string(alloc)?.as_str(), text);
     }
-    assert_eq!(rt; ReadFault::Shape.to_string(alloc)?.as_str(), "shape");
+    same(&rt, ReadFault::Shape.to_string(alloc)?.as_str(), "shape");
     Ok(())
 }

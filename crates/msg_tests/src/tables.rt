@@ -3,6 +3,7 @@
 ghost use Rattle.std.specs.Prelude.{◌≡◌, ◌<◌, IfOk, length};
 
 use crate::images::IMAGE;
+use crate::same::{same, same_at};
 use msg_image::{Change, Image, MethodList, read_document};
 use msg_names::{ClassRef, ImpRef, Selector};
 use msg_tables::{ChangeFault, MAX_CHANGES, Tables};
@@ -57,7 +58,7 @@ fn methods_are_found_along_the_superclasses(rt: HostRuntime) -> Result<(), Fail>
     let alloc = rt.alloc();
     let image = image(alloc)?;
     let tables = Tables::open(alloc, &image)?;
-    assert_eq!(rt; image.class_count(), 5);
+    same(&rt, image.class_count(), 5);
     for (class, name, imp, holder) in [
         (ROOT, "value", 1, Some(ROOT)),
         (GRAND, "value", 1, Some(ROOT)),
@@ -81,12 +82,8 @@ fn methods_are_found_along_the_superclasses(rt: HostRuntime) -> Result<(), Fail>
     ] {
         let sel = selector(&image, name)?;
         assert!(rt; class.class < image.class_count());
-        assert_eq!(rt;
-            tables.lookup(class, sel).number(),
-            imp,
-            "{name} at {class:?}"
-        );
-        assert_eq!(rt; tables.holder(class, sel), holder, "{name} at {class:?}");
+        same_at(&rt, &(name, class), tables.lookup(class, sel).number(), imp);
+        same_at(&rt, &(name, class), tables.holder(class, sel), holder);
     }
     for (class, above) in [
         (ROOT, None),
@@ -98,7 +95,7 @@ fn methods_are_found_along_the_superclasses(rt: HostRuntime) -> Result<(), Fail>
         (metaclass(PROXY), Some(PROXY)),
     ] {
         assert!(rt; class.class < image.class_count());
-        assert_eq!(rt; tables.superclass(class), above, "{class:?}");
+        same_at(&rt, &class, tables.superclass(class), above);
     }
     Ok(())
 }
@@ -138,7 +135,7 @@ fn descendants_are_marked(rt: HostRuntime) -> Result<(), Fail> {
     ] {
         assert!(rt; class.class < image.class_count() && other.class < image.class_count());
         let found = descendants(alloc, &tables, class, other)?;
-        assert_eq!(rt; found, (count, is_below, false), "{class:?} and {other:?}");
+        same_at(&rt, &(class, other), found, (count, is_below, false));
     }
     Ok(())
 }
@@ -153,7 +150,7 @@ fn fault_of(
     let mut tables = Tables::open(alloc, image)?;
     let refusal = tables.refusal(change);
     let fault = tables.apply(change).err();
-    assert_eq!(rt; refusal, fault);
+    same(rt, refusal, fault);
     Ok(fault)
 }
 
@@ -176,11 +173,11 @@ fn changes_of_no_method_of_the_image(rt: HostRuntime) -> Result<(), Fail> {
         let sel = Selector::of(number).ok_or("0")?;
         let imp = ImpRef::of(imp);
         let add = Change::Add { class, sel, imp };
-        assert_eq!(rt; fault_of(&rt, alloc, &image, &add)?, Some(want));
+        same(&rt, fault_of(&rt, alloc, &image, &add)?, Some(want));
         let replace = Change::Replace { class, sel, imp };
-        assert_eq!(rt; fault_of(&rt, alloc, &image, &replace)?, Some(want));
+        same(&rt, fault_of(&rt, alloc, &image, &replace)?, Some(want));
         let set = Change::SetImp { class, sel, imp };
-        assert_eq!(rt; fault_of(&rt, alloc, &image, &set)?, Some(want));
+        same(&rt, fault_of(&rt, alloc, &image, &set)?, Some(want));
     }
     Ok(())
 }
@@ -197,11 +194,11 @@ fn methods_present_and_absent(rt: HostRuntime) -> Result<(), Fail> {
     ] {
         let sel = Selector::of(number).ok_or("0")?;
         let add = Change::Add { class, sel, imp };
-        assert_eq!(rt; fault_of(&rt, alloc, &image, &add)?, present);
+        same(&rt, fault_of(&rt, alloc, &image, &add)?, present);
         let replace = Change::Replace { class, sel, imp };
-        assert_eq!(rt; fault_of(&rt, alloc, &image, &replace)?, None);
+        same(&rt, fault_of(&rt, alloc, &image, &replace)?, None);
         let set = Change::SetImp { class, sel, imp };
-        assert_eq!(rt; fault_of(&rt, alloc, &image, &set)?, absent);
+        same(&rt, fault_of(&rt, alloc, &image, &set)?, absent);
     }
     Ok(())
 }
@@ -227,10 +224,11 @@ fn exchanges_of_fresh_tables(rt: HostRuntime) -> Result<(), Fail> {
             other: ClassRef { class: other, meta },
             other_sel: Selector::of(number).ok_or("0")?,
         };
-        assert_eq!(rt;
+        same_at(
+            &rt,
+            &(class, other),
             fault_of(&rt, alloc, &image, &exchange)?,
             want,
-            "{class} and {other}"
         );
     }
     Ok(())
@@ -286,10 +284,11 @@ fn lookups_after_a_change(rt: HostRuntime) -> Result<(), Fail> {
         (&exchange, GRAND, name, 1),
         (&exchange, SIDE, name, 2),
     ] {
-        assert_eq!(rt;
+        same_at(
+            &rt,
+            &(sel, class),
             found_after(&rt, alloc, &image, change, class, sel)?,
             want,
-            "{sel:?} at {class:?}"
         );
     }
     Ok(())
@@ -304,9 +303,9 @@ fn no_more_than_65536_changes_are_accepted(rt: HostRuntime) -> Result<(), Fail> 
     let (sel, name) = (selector(&image, "value")?, selector(&image, "name")?);
     let replace = Change::Replace { class, sel, imp };
     for place in 0..MAX_CHANGES {
-        assert_eq!(rt; tables.apply(&replace), Ok(()), "change {place}");
+        same_at(&rt, &place, tables.apply(&replace), Ok(()));
     }
-    assert_eq!(rt; MAX_CHANGES, 65_536);
+    same(&rt, MAX_CHANGES, 65_536);
     let (other, other_sel) = (class, name);
     let (methods, class_methods) = (
         MethodList::new(Vec::new(alloc)),
@@ -332,10 +331,10 @@ fn no_more_than_65536_changes_are_accepted(rt: HostRuntime) -> Result<(), Fail> 
             class_methods,
         },
     ] {
-        assert_eq!(rt; tables.apply(&change), Err(ChangeFault::Limit));
-        assert_eq!(rt; tables.refusal(&change), Some(ChangeFault::Limit));
+        same(&rt, tables.apply(&change), Err(ChangeFault::Limit));
+        same(&rt, tables.refusal(&change), Some(ChangeFault::Limit));
     }
     let present = Change::Add { class, sel, imp };
-    assert_eq!(rt; tables.apply(&present), Err(ChangeFault::MethodPresent));
+    same(&rt, tables.apply(&present), Err(ChangeFault::MethodPresent));
     Ok(())
 }

@@ -1,5 +1,6 @@
 //! JSON texts as trees.
 
+use crate::same::{same, same_at};
 use msg_json::{JsonFault, Scratch, Value, get, has_keys, read, whole};
 use std::test::Fail;
 
@@ -10,13 +11,13 @@ fn a_tree_is_looked_into(rt: HostRuntime) -> Result<(), Fail> {
     let text = r#"{"a":1,"b":[-7,1.0,-0,9223372036854775807,9223372036854775808],"\u0061":2}"#;
     let value = read(alloc, text.as_bytes(), &mut scratch)?;
     for (count, is_it) in [(1, false), (2, true), (3, false)] {
-        assert_eq!(rt; has_keys(&value, count), is_it, "{count}");
+        same_at(&rt, &count, has_keys(&value, count), is_it);
     }
     let Some(last) = get(&value, "a") else {
         return Err("no key".into());
     };
-    assert_eq!(rt; whole(last), Some(2));
-    assert_eq!(rt; get(&value, "c").is_none(), true);
+    same(&rt, whole(last), Some(2));
+    same(&rt, get(&value, "c").is_none(), true);
     let Some(Value::Array(numbers)) = get(&value, "b") else {
         return Err("no list".into());
     };
@@ -24,7 +25,7 @@ fn a_tree_is_looked_into(rt: HostRuntime) -> Result<(), Fail> {
         .iter()
         .zip([Some(-7), None, None, Some(i64::MAX), None])
     {
-        assert_eq!(rt; whole(number), want);
+        same(&rt, whole(number), want);
     }
     Ok(())
 }
@@ -42,6 +43,6 @@ fn what_is_no_json_is_not_read(rt: HostRuntime) {
     ] {
         let mut scratch = Scratch::new(rt.alloc());
         let fault = read(rt.alloc(), text.as_bytes(), &mut scratch).err();
-        assert_eq!(rt; fault, Some(JsonFault::NotJson), "{text}");
+        same_at(&rt, &text, fault, Some(JsonFault::NotJson));
     }
 }

@@ -1,7 +1,5 @@
-use Rattle.std.proofs.Common.{◌≡◌, ℕ, ◌<◌, true}
-use Rattle.msg_core.specs.State.{awaits}
+use Rattle.std.proofs.Common.{◌≡◌, length}
 use Rattle.msg_cache.specs.Rule.{TidyBy}
-use Rattle.msg_cache.specs.SenderSet.{flags}
 use Rattle.msg_cache.specs.Keeping.{looks}
 use Rattle.msg_tables.specs.History.{lookup}
 use Rattle.msg_cache.specs.Plays.{kept, keeper_of}
@@ -11,7 +9,7 @@ abbrev pub invariant-loop-number : goal.invariant-loop-number
 invariant-loop-number l = record {
   table : l.seat.table_id ≡ l.fn.seat.table_id;
   id : l.seat.id ≡ l.fn.seat.id;
-  told : l.seat.me ≡ kept (looks l.number (flags l.outs) (keeper_of l.fn.seat.me.0));
-  within : (n : ℕ) → awaits (flags l.outs) n ≡ true → n < l.number;
+  told : l.seat.me ≡ kept (looks l.number l.outs (keeper_of l.fn.seat.me.0));
+  long : length l.outs ≡ 64;
   tidy : TidyBy lookup l.arena.key (keeper_of l.seat.me.0);
 }

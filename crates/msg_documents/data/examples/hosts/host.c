@@ -8,6 +8,9 @@
 enum { THREADS = 4, SENDS = 1000000, CHANGES = 1001 };
 enum { SHAPE, SQUARE, TILE };
 
+/* What the library says of a sender's handle, msg_sender_size, is proved to be this. */
+_Static_assert(sizeof(msg_sender) == 49168, "the header spells a sender's handle otherwise than the library");
+
 typedef struct { uint32_t class_, side; } object;
 typedef uint32_t (*method)(object *self);
 
@@ -46,13 +49,26 @@ static uint32_t send(msg_sender *sender, object *self, uint32_t sel)
 
 static uint32_t area, sides;
 
+/* How many exchanges were made or begun. */
+static _Atomic(uint64_t) changes;
+
+/* The short way: what the sender has noted by all changes that were begun before, else by the lock, at all changes that were made. */
+static uint32_t send_recalled(msg_sender *sender, object *self, uint32_t sel)
+{
+    uint64_t seen;
+    uint32_t imp = (uint32_t)msg_recall(sender, 2 * self->class_, sel, changes);
+    if (imp) return methods[imp](self);
+    want(msg_refresh(sender, &seen));
+    return send(sender, self, sel);
+}
+
 static void *work(void *taken)
 {
     msg_sender *sender = taken;
     object square = {SQUARE, 3};
     size_t odd = 0;
     for (int i = 0; i < SENDS; i++) {
-        uint32_t answer = send(sender, &square, area);
+        uint32_t answer = i & 1 ? send(sender, &square, area) : send_recalled(sender, &square, area);
         if (answer != 9 && answer != 4) odd++; /* the area, or after an exchange the sides: nothing else */
     }
     return (void *)odd;
@@ -68,11 +84,12 @@ int main(int count, char **words)
     fclose(file);
     printf("a text that isn't JSON: %u\n", msg_open(&runtime, (const uint8_t *)"{", 1));
     printf("a closed handle: %u\n", msg_change_count(&runtime, &(uint64_t){0}));
+    if (msg_sender_size() != sizeof(msg_sender)) return 3;
     want(msg_open(&runtime, (const uint8_t *)text, length));
     area = selector("area");
     sides = selector("sides");
 
-    msg_sender senders[THREADS + 1] = {MSG_SENDER_INIT};
+    static msg_sender senders[THREADS + 1]; /* zero bytes */
     pthread_t threads[THREADS];
     for (int i = 0; i <= THREADS; i++) want(msg_sender_open(&runtime, &senders[i]));
     object square = {SQUARE, 3}, tile = {TILE, 5};
@@ -82,6 +99,7 @@ int main(int count, char **words)
     for (int i = 0; i < THREADS; i++) pthread_create(&threads[i], NULL, work, &senders[i]);
     for (int i = 0; i < CHANGES; i++) {
         pthread_mutex_lock(&lock);
+        changes++;
         want(msg_exchange(&runtime, SQUARE, false, area, SHAPE, false, sides));
         pthread_mutex_unlock(&lock);
     }
@@ -96,6 +114,8 @@ int main(int count, char **words)
     uint64_t seen;
     want(msg_refresh(&senders[THREADS], &seen));
     printf("after %u changes: area %u, sides %u\n", (unsigned)seen, send(&senders[THREADS], &square, area), send(&senders[THREADS], &square, sides));
+    printf("recalled: area %u, sides %u\n", send_recalled(&senders[THREADS], &square, area), send_recalled(&senders[THREADS], &square, sides));
+    changes++;
     want(msg_make_class(&runtime, TILE, SQUARE));
     want(msg_meet(&runtime, &senders[THREADS]));
     printf("a class that was made: sides %u\n", send(&senders[THREADS], &tile, sides));

@@ -8,6 +8,24 @@ struct Handle {
     open: bool,
 }
 
+/// A sender's handle, with what it has noted. The library says how many bytes that is.
+#[repr(C)]
+struct SenderHandle {
+    handle: Handle,
+    notes: [Note; 2048],
+}
+
+#[repr(C)]
+#[derive(Clone, Copy)]
+struct Note {
+    slot: usize,
+    count: u64,
+    sel: u32,
+    imp: u32,
+}
+
+const BLANK: Note = Note { slot: 0, count: 0, sel: 0, imp: 0 };
+
 const CLOSED: Handle = Handle { at: std::ptr::null_mut(), open: false };
 const DONE: u32 = 0;
 const MISSED: u32 = 71;
@@ -17,10 +35,11 @@ unsafe extern "C" {
     fn msg_close(runtime: *mut Handle) -> u32;
     fn msg_find_selector(runtime: *mut Handle, name: *const u8, length: usize, sel: *mut u32) -> u32;
     fn msg_replace(runtime: *mut Handle, class: u32, meta: bool, sel: u32, imp: u32) -> u32;
-    fn msg_sender_open(runtime: *mut Handle, sender: *mut Handle) -> u32;
-    fn msg_sender_close(runtime: *mut Handle, sender: *mut Handle) -> u32;
-    fn msg_probe(sender: *mut Handle, class: u32, meta: bool, sel: u32, imp: *mut u32) -> u32;
-    fn msg_fill(runtime: *mut Handle, sender: *mut Handle, class: u32, meta: bool, sel: u32, imp: *mut u32) -> u32;
+    fn msg_sender_open(runtime: *mut Handle, sender: *mut SenderHandle) -> u32;
+    fn msg_sender_close(runtime: *mut Handle, sender: *mut SenderHandle) -> u32;
+    fn msg_sender_size() -> usize;
+    fn msg_probe(sender: *mut SenderHandle, class: u32, meta: bool, sel: u32, imp: *mut u32) -> u32;
+    fn msg_fill(runtime: *mut Handle, sender: *mut SenderHandle, class: u32, meta: bool, sel: u32, imp: *mut u32) -> u32;
 }
 
 fn answer<T>(fault: u32, value: T) -> Result<T, u32> {
@@ -56,8 +75,9 @@ impl Runtime {
 
     /// By its lifetime the sender goes to calls on this runtime alone, and is closed before it.
     pub fn sender(&self) -> Result<Sender<'_>, u32> {
-        let mut raw = CLOSED;
-        let fault = unsafe { msg_sender_open(&mut *self.raw.lock().unwrap(), &mut raw) };
+        assert_eq!(size_of::<SenderHandle>(), unsafe { msg_sender_size() });
+        let mut raw = Box::new(SenderHandle { handle: CLOSED, notes: [BLANK; 2048] });
+        let fault = unsafe { msg_sender_open(&mut *self.raw.lock().unwrap(), &mut *raw) };
         answer(fault, ())?;
         Ok(Sender { runtime: self, raw })
     }
@@ -71,7 +91,7 @@ impl Drop for Runtime {
 
 pub struct Sender<'r> {
     runtime: &'r Runtime,
-    raw: Handle,
+    raw: Box<SenderHandle>,
 }
 
 // SAFETY: as of a runtime. Its calls take `&mut self`, so it needs no lock.
@@ -80,9 +100,9 @@ unsafe impl Send for Sender<'_> {}
 impl Sender<'_> {
     pub fn find(&mut self, class: u32, sel: u32) -> Result<usize, u32> {
         let mut imp = 0;
-        let mut fault = unsafe { msg_probe(&mut self.raw, class, false, sel, &mut imp) };
+        let mut fault = unsafe { msg_probe(&mut *self.raw, class, false, sel, &mut imp) };
         if fault == MISSED {
-            fault = unsafe { msg_fill(&mut *self.runtime.raw.lock().unwrap(), &mut self.raw, class, false, sel, &mut imp) };
+            fault = unsafe { msg_fill(&mut *self.runtime.raw.lock().unwrap(), &mut *self.raw, class, false, sel, &mut imp) };
         }
         answer(fault, imp as usize)
     }
@@ -90,7 +110,7 @@ impl Sender<'_> {
 
 impl Drop for Sender<'_> {
     fn drop(&mut self) {
-        unsafe { msg_sender_close(&mut *self.runtime.raw.lock().unwrap(), &mut self.raw) };
+        unsafe { msg_sender_close(&mut *self.runtime.raw.lock().unwrap(), &mut *self.raw) };
     }
 }
 

@@ -33,7 +33,7 @@ returns-clause-ok c =
     let is : c.in_ok-arena.arena.key ≡ key = c.in_ok-arena.ensures.key ∙ ap (λ (l : List ℕ). record { image = c.args.image.now; senders = c.args.config.senders; capacities = l }) c.in_ok-capacities.ensures in
     let me = c.in_ok-keeper.ensures.seat.1 ∙ c.in_ok-arena.ensures.seat.1 ∙ ap (λ (k : SettingView). kept (first_keeper k)) is in
     let counts = c.in_ok-keeper.ensures.counts in
-    let arrays : c.len-arrays.result ≡ length key.capacities = omega (arith, c.len-arrays.ensures, c.in_ok-capacities.capacities.ok.0, ap (λ (l : List ℕ). length l) c.in_ok-capacities.ensures) in
+    let arrays : c.arrays-arrays.result ≡ length key.capacities = c.arrays-arrays.ensures.count ∙ ap (λ (k : SettingView). length k.capacities) is in
     let classes : c.class_count-classes.result ≡ class_total key.image = c.class_count-classes.ensures.count in
     let has : c.in_ok-keeper.keeper.occupied.items ≡ replicate (length key.capacities) 0 = counts.0 ∙ ap (λ (n : ℕ). replicate n 0) arrays in
     let rem : c.in_ok-keeper.keeper.remembered.items ≡ replicate (2 * class_total key.image) 0 = counts.1 ∙ ap (λ (n : ℕ). replicate (2 * n) 0) classes in (

@@ -1,22 +1,21 @@
-use Rattle.std.proofs.Common.{◌≡◌, ℕ, ◌-◌, ◌*◌, ◌<◌, List, Bool, length, get_or, refl, sym, ap, ◌∙◌, subst, arith}
+use Rattle.std.proofs.Common.{◌≡◌, ℕ, ◌-◌, ◌*◌, ◌<◌, List, length, get_or, refl, sym, ap, ◌∙◌, subst, arith}
 use Rattle.msg_image.specs.Parts.{class_total}
 use Rattle.std.specs.Prelude.{slice_index, slice_set}
 use Rattle.msg_names.specs.ClassRef.{slot_of}
 use Rattle.msg_names.proofs.ClassRefLemmas.{slot_of-inside}
-use Rattle.msg_core.specs.declared.state.Standing.{Standing}
-use Rattle.msg_core.specs.declared.state.Standing.TheVariants.{Retired}
-use Rattle.msg_core.specs.Steps.{is_free, everyone}
 use Rattle.msg_cache.specs.declared.view.KeeperView.{KeeperView}
 use Rattle.msg_cache.specs.Layout.{layout_of, header_at, SettingView}
-use Rattle.msg_cache.specs.Rule.{TidyBy, named}
-use Rattle.msg_cache.specs.Plays.{retire, flushed}
-use Rattle.msg_cache.specs.Keeping.{standing_of, header, remember, InOrder}
+use Rattle.msg_cache.specs.Rule.{TidyBy}
+use Rattle.msg_cache.specs.Plays.{flushed}
+use Rattle.msg_cache.specs.Keeping.{header, remember, InOrder}
 use Rattle.msg_tables.specs.History.{lookup}
 use Rattle.msg_cache.specs.Plays.{Sat, keeper_of}
 use Rattle.msg_cache.proofs.LayoutLemmas.{header_inside}
 use Rattle.msg_cache.proofs.SweepingLemmas.{sizes}
-use Rattle.msg_cache.proofs.OrderLemmas.{kept_flushed, header_read, live_of, flushed_busy}
-use Rattle.msg_cache.proofs.StandingsLemmas.{noted_length}
+use Rattle.msg_cache.proofs.OrderLemmas.{kept_flushed, header_read, live_of}
+use Rattle.std.proofs.lemmas.List.{length-map}
+use Rattle.msg_cache.specs.Notes.{StandingsView, settled, note_of, note_at}
+use Rattle.msg_cache.proofs.SettledLemmas.{noted_at, flushed_settled}
 use Rattle.msg_cache.proofs.keeper.Keeper.flush.Goals as goal
 
 pub capacity-capacity-requires : goal.capacity-capacity-requires
@@ -47,8 +46,8 @@ store_none-requires-clause-live c =
     let live = live_of lookup key k s.remembered.items s.occupied.items kept_is c.args.class n cl read c.if-header-eq0.false in
     live.2
 
-pub retire-requires-clause-array : goal.retire-requires-clause-array
-retire-requires-clause-array c =
+pub retire-requires : goal.retire-requires
+retire-requires c =
     let a = c.args.arena.now in
     let key = a.key in
     let s = c.args.self.now in
@@ -58,8 +57,11 @@ retire-requires-clause-array c =
     let hi = header_inside (layout_of key) c.args.class cl in
     let n = c.index-header.result.now in
     let read : n ≡ slice_index k.words (header_at c.args.class) = header_read s.words.items k.words (header_at c.args.class) n (length k.words) s.words_are (c.index-header.ensures ∙ ap (λ (i : ℕ). get_or s.words.items i n) c.header_at-place.ensures) refl (omega (arith, kept_is.tidy.kept.words, hi)) in
-    let live = live_of lookup key k s.remembered.items s.occupied.items kept_is c.args.class n cl read c.if-header-eq0.false in
-    omega (arith, live.1, kept_is.tidy.kept.standings, noted_length s.standings.items, ap (λ (l : List Standing). length l) s.standings_are)
+    let live = live_of lookup key k s.remembered.items s.occupied.items kept_is c.args.class n cl read c.if-header-eq0.false in record {
+      array = omega (arith, live.1, kept_is.tidy.kept.standings, ap (λ (v : StandingsView). length v.notes) s.standings_are, length-map k.standings note_of);
+      live = ap (λ (v : StandingsView). note_at v.notes (n - 1)) s.standings_are ∙ noted_at k.standings (n - 1) ∙ ap note_of live.0;
+      ready = ap (λ (v : StandingsView). v.ready) s.standings_are;
+    }
 
 pub index_mut-requires-2 : goal.index_mut-requires-2
 index_mut-requires-2 c =
@@ -103,9 +105,6 @@ returns-clause-remembered c =
     let at : c.header_at-place.result - 1 ≡ slot_of c.args.class = omega (arith, c.header_at-place.ensures) in
     (λ i. slice_set s.remembered.items (at i) (c.capacity-capacity.ensures.capacity i)) ∙ ap (λ (h : ℕ). remember (layout_of key) c.args.class h s.remembered.items) (sym live.2)
 
-pub invariant_of-self-clause-searched : goal.invariant_of-self-clause-searched
-invariant_of-self-clause-searched c = λ i b low high. ap (λ (x : Sat). is_free (standing_of (keeper_of x.0) b)) c.store_none.ensures.told ∙ flushed_busy c.args.class b (keeper_of c.args.self.now.seat.me.0) (c.args.self.now.searched i b low high)
-
 pub invariant_of-self-clause-standings_are : goal.invariant_of-self-clause-standings_are
 invariant_of-self-clause-standings_are c =
     let a = c.args.arena.now in
@@ -118,8 +117,8 @@ invariant_of-self-clause-standings_are c =
     let n = c.index-header.result.now in
     let read : n ≡ slice_index k.words (header_at c.args.class) = header_read s.words.items k.words (header_at c.args.class) n (length k.words) s.words_are (c.index-header.ensures ∙ ap (λ (i : ℕ). get_or s.words.items i n) c.header_at-place.ensures) refl (omega (arith, kept_is.tidy.kept.words, hi)) in
     let live = live_of lookup key k s.remembered.items s.occupied.items kept_is c.args.class n cl read c.if-header-eq0.false in
-    let all : everyone c.len-senders.result ≡ everyone (length k.given) = let same : c.len-senders.result ≡ length k.given = omega (arith, c.len-senders.ensures, ap (λ (l : List Bool). length l) s.given_are) in ap everyone same in
-    c.retire.ensures ∙ (λ i. slice_set (s.standings_are i) (n - 1) (Retired c.args.class (s.count_is i) (all i))) ∙ ap (λ (h : ℕ). retire c.args.class (named h) k) (sym live.2) ∙ ap (λ (x : Sat). (keeper_of x.0).standings) (sym c.store_none.ensures.told)
+    flushed_settled s.standings k c.args.class s.standings_are s.senders_are c.retire.new.self (n - 1) live.2 c.retire.ensures
+    ∙ ap (λ (x : Sat). settled c.retire.new.self.senders (keeper_of x.0).standings) (sym c.store_none.ensures.told)
 
 pub invariant_of-self-clause-words_are : goal.invariant_of-self-clause-words_are
 invariant_of-self-clause-words_are c =

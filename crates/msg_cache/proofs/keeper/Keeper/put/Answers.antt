@@ -1,12 +1,12 @@
 use Rattle.std.proofs.Common.{◌≡◌, ℕ, ◌+◌, List, length, sym, ap, ◌∙◌, subst, arith}
 use Rattle.std.specs.Prelude.{slice_index, slice_set}
 use Rattle.std.proofs.lemmas.List.{get_or_default}
-use Rattle.msg_core.specs.Steps.{is_free}
 use Rattle.msg_cache.specs.declared.view.KeeperView.{KeeperView}
 use Rattle.msg_cache.specs.Layout.{layout_of, SettingView}
 use Rattle.msg_cache.specs.Rule.{TidyBy}
+use Rattle.msg_cache.specs.Notes.{settled}
 use Rattle.msg_cache.specs.Plays.{stored}
-use Rattle.msg_cache.specs.Keeping.{standing_of, filled, InOrder}
+use Rattle.msg_cache.specs.Keeping.{filled, InOrder}
 use Rattle.msg_tables.specs.History.{lookup}
 use Rattle.msg_cache.specs.Plays.{Sat, keeper_of}
 use Rattle.msg_names.specs.Number.{selector_number}
@@ -105,5 +105,5 @@ returns-clause-arena c =
       c.requires.arena.2,
     )
 
-pub invariant_of-self-clause-searched : goal.invariant_of-self-clause-searched
-invariant_of-self-clause-searched c = λ i b low high. ap (λ (x : Sat). is_free (standing_of (keeper_of x.0) b)) c.store_entry.ensures.told ∙ c.args.self.now.searched i b low high
+pub invariant_of-self-clause-standings_are : goal.invariant_of-self-clause-standings_are
+invariant_of-self-clause-standings_are c = let s = c.args.self.now in s.standings_are ∙ ap (λ (x : Sat). settled s.standings.senders (keeper_of x.0).standings) (sym c.store_entry.ensures.told)

@@ -6,9 +6,9 @@ use Rattle.msg_tables.specs.History.{lookup}
 use Rattle.msg_cache.specs.declared.view.KeeperView.{KeeperView}
 use Rattle.msg_cache.specs.Layout.{SettingView}
 use Rattle.msg_cache.specs.Rule.{TidyBy}
+use Rattle.msg_cache.specs.Notes.{settled}
 use Rattle.msg_cache.specs.Plays.{keeper_of, taken_in, given_out}
-use Rattle.msg_cache.specs.Keeping.{InOrder, standing_of}
-use Rattle.msg_core.specs.Steps.{is_free}
+use Rattle.msg_cache.specs.Keeping.{InOrder}
 use Rattle.msg_cache.proofs.OrderLemmas.{kept_given, kept_taken}
 use Rattle.msg_cache.proofs.TidyLemmas.{tidy_given}
 use Rattle.msg_cache.proofs.keeper.Keeper.renew.Goals as goal
@@ -40,9 +40,9 @@ invariant_of-self-clause-given_are c =
     ∙ sym (set-set k.given v.number false true)
     ∙ ap (λ (j : KeeperView). j.given) (sym two)
 
-pub invariant_of-self-clause-searched : goal.invariant_of-self-clause-searched
-invariant_of-self-clause-searched c = λ i a from to.
+pub invariant_of-self-clause-standings_are : goal.invariant_of-self-clause-standings_are
+invariant_of-self-clause-standings_are c =
     let s = c.args.self.now in
     let v = c.args.prober.now.sender in
     let two : keeper_of c.renew.new.keeper.me.0 ≡ given_out v.number (taken_in v (keeper_of s.seat.me.0)) = search rules in
-    ap (λ (j : KeeperView). is_free (standing_of j a)) two ∙ s.searched i a from to
+    s.standings_are ∙ ap (λ (j : KeeperView). settled s.standings.senders j.standings) (sym two)

@@ -6,6 +6,5 @@ invariant_of-result c = record {
   prober = search rules;
   image = search rules;
   classes = search rules;
-  memory = c.in_ok-memory.ensures c.in-Some.prober.sender.front;
   count = tt;
 }

@@ -1,0 +1,62 @@
+use Rattle.std.proofs.Common.{◌≡◌, ℕ, ◌+◌, ◌<◌, ◌≤◌, List, map, length, take, ap, ◌∙◌, sym, subst, arith}
+use Rattle.std.specs.Prelude.{slice_index, if◌then◌else◌}
+use Rattle.std.specs.List.Sorted.{IsPermutation}
+use Rattle.std.proofs.lemmas.List.{length-take-le}
+use Rattle.msg_core.specs.State.{awaits}
+use Rattle.msg_cache.specs.Keeping.{looked_by}
+use Rattle.msg_cache.specs.Notes.{StandingsView, Note, note_of, note_at, newly_freed}
+use Rattle.msg_cache.specs.Standings.{notes}
+use Rattle.msg_cache.proofs.CursorLemmas.{moved_within}
+use Rattle.msg_cache.proofs.NoteLemmas.{notes_seen, newly_seen, none_ready, unmarked_inside}
+use Rattle.msg_cache.proofs.QueueLemmas.{few}
+use Rattle.msg_cache.proofs.standings.Standings.see_out.Goals as goal
+
+pub pass-passed-requires-clause-within : goal.pass-passed-requires-clause-within
+pass-passed-requires-clause-within c = λ n l. let s = c.self.inside in omega (arith, c.self.invariant.within n l, c.len-end.ensures, s.queue.ok.0)
+
+pub overflow_cast-result : goal.overflow_cast-result
+overflow_cast-result c =
+    let s = c.self.inside in
+    let v = c.self.invariant in
+    omega (arith, c.pass-passed.ensures.end, c.len-end.ensures, s.queue.ok.0, v.few_arrays, few s.queue.items (length s.free) v.distinct (unmarked_inside s.free s.queue.items v.unmarked))
+
+pub invariant_of-self : goal.invariant_of-self
+invariant_of-self c =
+    let s = c.self.inside in
+    let v = c.self.invariant in
+    let none : s.ready ≡ 0 = none_ready s.ready s.queue.items (ap (λ (v : StandingsView). v.ready) c.self.view_is ∙ c.requires.ready) v.ends in
+    let end : c.len-end.result ≡ length s.queue.items = omega (arith, c.len-end.ensures, s.queue.ok.0) in record {
+      few_arrays = v.few_arrays;
+      few_senders = v.few_senders;
+      room = v.room;
+      unmarked = v.unmarked;
+      distinct = v.distinct;
+      ends = omega (arith, c.pass-passed.ensures.end);
+      within = λ n l. let t = v.within n l in
+          let m = moved_within (awaits c.args.outs.now n) c.len-end.result (slice_index s.cursors n) (length s.queue.items) (omega arith) (omega arith) in omega (arith, c.cut.ensures n l, c.pass-passed.ensures.moved n l, m);
+    }
+
+pub returns : goal.returns
+returns c =
+    let s = c.self.inside in
+    let v = c.self.invariant in
+    let p = c.pass-passed in
+    let after = c.cut.new.cursors in
+    let none : s.ready ≡ 0 = none_ready s.ready s.queue.items (ap (λ (v : StandingsView). v.ready) c.self.view_is ∙ c.requires.ready) v.ends in
+    let end : c.len-end.result ≡ length s.queue.items = omega (arith, c.len-end.ensures, s.queue.ok.0) in
+    let senders : s.senders ≡ c.args.self.now.senders = ap (λ (v : StandingsView). v.senders) c.self.view_is in
+    let was : notes s.free s.queue.items 0 s.senders s.cursors ≡ c.args.self.now.notes = ap (λ (m : ℕ). notes s.free s.queue.items m s.senders s.cursors) (sym none) ∙ ap (λ (v : StandingsView). v.notes) c.self.view_is in
+    let moved : (n : ℕ) → n < s.senders → slice_index after n + p.result ≡ (if awaits c.args.outs.now n then length s.queue.items else slice_index s.cursors n) =
+    λ n l. c.cut.ensures n l ∙ p.ensures.moved n l ∙ ap (λ (m : ℕ). if awaits c.args.outs.now n then m else slice_index s.cursors n) end in
+    let all : (n : ℕ) → n < s.senders → p.result ≤ slice_index after n + p.result = λ n l. omega arith in
+    let one = p.ensures.some (omega (arith, c.requires.senders)) in
+    let some : (n : ℕ) × (n < s.senders) × (slice_index after n + p.result ≡ p.result) = (one.0, one.1, c.cut.ensures one.0 one.1 ∙ one.2) in
+    let ends : p.result ≤ length s.queue.items = omega (arith, p.ensures.end) in record {
+      senders = senders;
+      notes = λ l are. notes_seen s.free s.queue.items s.senders s.cursors after p.result c.args.outs.now v.few_senders v.unmarked moved all some ends l (was ∙ are)
+          (λ a aw e. c.requires.awaits_some a aw (ap (λ x. note_at x a) (sym was) ∙ e))
+          ∙ ap (λ (m : ℕ). map note_of (map (looked_by m c.args.outs.now) l)) senders;
+      ready = subst (λ (x : List Note). IsPermutation (take p.result s.queue.items) (newly_freed x (notes s.free s.queue.items p.result s.senders after))) was
+          (newly_seen s.free s.queue.items s.senders s.cursors after p.result c.args.outs.now v.few_senders v.unmarked moved all some ends v.distinct);
+      count = sym (length-take-le p.result s.queue.items ends);
+    }

@@ -1,0 +1,108 @@
+//! A sender as it answers a batch.
+
+ghost use Rattle.std.specs.Prelude.{◌≡◌, ◌<◌, ◌≤◌, length, IfSome};
+ghost use Rattle.msg_names.specs.Number.{selector_number, imp_number};
+ghost use Rattle.msg_image.specs.Parts.{class_total};
+ghost use Rattle.msg_tables.specs.History.{BeginsWith, lookup};
+
+use msg_dispatch::{ArenaName, Recalling, Sender};
+use msg_names::{ClassRef, ImpRef, Selector};
+use std::alloc::Global;
+use std::marker::Model;
+use std::sync::Wait;
+
+// For fewer sends a memory isn't worth its making.
+const SENDS_FOR_A_MEMORY: usize = 16;
+
+// A sender, with a memory or without.
+#[derive(Drop)]
+enum Kind<'d, N: ArenaName> {
+    Plain(Sender<'d, N>),
+    Remembering(Recalling<'d, N>),
+}
+
+// A sender, with a memory where one is worth its making. Contracts see it as the sender.
+#[derive(Drop)]
+pub(crate) struct Asker<'d, N: ArenaName> {
+    kind: Kind<'d, N>,
+}
+
+impl<'d, N: ArenaName> Model for Asker<'d, N> {
+    ghost use Rattle.msg_dispatch.specs.Seen.{SenderView};
+
+    ghost Value = { SenderView };
+
+    ghost use Rattle.std.specs.Coded.{codes};
+    ghost use Rattle.msg_image.specs.Coding.{coded_expression};
+
+    ghost coded = { Prim.hlevel (codes, coded_expression) };
+
+    ghost use Rattle.msg_runner.specs.Asked.{asked};
+
+    ghost view = { λ a. asked a.kind };
+}
+
+impl<'d, N: ArenaName> Asker<'d, N> {
+    // The sender for so many sends. Where a memory can't be had it goes without one.
+    pub(crate) fn of(alloc: Global, sender: Sender<'d, N>, sends: usize) -> Asker<'d, N>
+        ensures { result ≡ sender.entry }
+    {
+        let kind = if sends < SENDS_FOR_A_MEMORY {
+            Kind::Plain(sender)
+        } else {
+            match Recalling::new(alloc, sender) {
+                Ok(sender) => Kind::Remembering(sender),
+                Err(sender) => Kind::Plain(sender),
+            }
+        };
+        Asker { kind }
+    }
+
+    // The sender without its memory.
+    pub(crate) fn into_sender(self) -> Sender<'d, N>
+        ensures { result ≡ self.entry }
+    {
+        match self.kind {
+            Kind::Plain(sender) => sender,
+            Kind::Remembering(sender) => sender.into_sender(),
+        }
+    }
+
+    // What it remembers of the point at which the sender stands. It waits for nothing.
+    #[inline]
+    pub(crate) fn recall(&self, class: ClassRef, sel: Selector) -> Option<ImpRef>
+        ensures found { IfSome result (λ i. imp_number i ≡ lookup self.now.seen.front class (selector_number sel)) }
+        ensures listed { IfSome result (λ i. imp_number i ≤ length self.now.seen.front.image.imps) }
+    {
+        match &self.kind {
+            Kind::Remembering(sender) => sender.recall(class, sel),
+            Kind::Plain(_) => None,
+        }
+    }
+
+    // The implementation that a lookup finds at what the sender has then seen.
+    #[cold]
+    #[inline(never)]
+    pub(crate) fn find<R: Wait>(&mut self, rt: &R, class: ClassRef, sel: Selector) -> ImpRef
+        requires class { class.class < class_total self.old.seen.front.image }
+        ensures begins { BeginsWith self.new.seen.front self.old.seen.front }
+        ensures found { imp_number result ≡ lookup self.new.seen.front class (selector_number sel) }
+        ensures listed { imp_number result ≤ length self.new.seen.front.image.imps }
+    {
+        match &mut self.kind {
+            Kind::Remembering(sender) => sender.find(rt, class, sel),
+            Kind::Plain(sender) => sender.find(rt, class, sel),
+        }
+    }
+
+    // How many changes there are, which the sender has then seen.
+    pub(crate) fn refresh(&mut self) -> u64
+        ensures begins { BeginsWith self.new.seen.front self.old.seen.front }
+        ensures length { result ≡ length self.new.seen.front.changes }
+    {
+        match &mut self.kind {
+            Kind::Remembering(sender) => sender.refresh(),
+            Kind::Plain(sender) => sender.published(),
+        }
+    }
+}

@@ -1,5 +1,0 @@
-use Rattle.msg_tables.proofs.LimitLemmas.{accepted_few}
-use Rattle.msg_tables.proofs.laws.an_accepted_change_is_among_65536.Goals as goal
-
-pub returns : goal.returns
-returns c = accepted_few
