@@ -2,6 +2,8 @@
 use Rattle.std.specs.Prelude.{ℕ, ◌+◌, ◌*◌, ◌==◌, nat_lt, List, [], ◌∷◌, ◌++◌, replicate, Option, Some, None, if◌then◌else◌}
 use Rattle.msg_buckets.specs.Capacity.{capacities}
 use Rattle.msg_image.specs.Parts.{ImageParts, class_total}
+use Rattle.msg_core.specs.declared.state.TheConstants.{MAX_SENDERS}
+use Rattle.msg_cache.specs.declared.config.TheConstants.{MOST_WORDS}
 use Rattle.msg_cache.specs.declared.config.Config.{Config}
 use Rattle.msg_cache.specs.declared.config.ArenaFault.{ArenaFault}
 use Rattle.msg_cache.specs.declared.config.ArenaFault.TheVariants.{NoSenders, TooManySenders, TooLarge}
@@ -31,6 +33,6 @@ words_of image config = 2 * class_total image + weigh config.arrays capacities +
 abbrev pub refusal_of : ImageParts → Config → Option ArenaFault
 refusal_of image config =
     if config.senders == 0 then Some NoSenders
-    else if nat_lt 64 config.senders then Some TooManySenders
-    else if nat_lt 1048576 (words_of image config) then Some TooLarge
+    else if nat_lt MAX_SENDERS config.senders then Some TooManySenders
+    else if nat_lt MOST_WORDS (words_of image config) then Some TooLarge
     else None

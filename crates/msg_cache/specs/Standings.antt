@@ -2,12 +2,13 @@
 use Rattle.std.specs.Prelude.{◌≡◌, ◌≢◌, ℕ, ◌+◌, ◌-◌, ◌^◌, ◌==◌, ◌&&◌, ◌<◌, ◌≤◌, nat_lt, nat_le, List, Bool, true, false, length, map, take, slice_index, slice_index_or, if◌then◌else◌}
 use Rattle.std.specs.List.{range_with_len, position_or_len}
 use Rattle.std.specs.VecDeque.{deque_capacity}
+use Rattle.msg_core.specs.declared.state.TheConstants.{MAX_SENDERS}
 use Rattle.msg_cache.specs.declared.standings.Standings.TheInside.{Inside}
 use Rattle.msg_cache.specs.Notes.{StandingsView, Note, free, live, waiting}
 
 -- whom an array at this place of the queue awaits: the senders whose cursors haven't passed it
 unfoldable pub awaited_at : ℕ → List ℕ → ℕ → List Bool
-awaited_at senders cursors place = map (λ n. nat_lt n senders && nat_le (slice_index cursors n) place) (range_with_len 0 64)
+awaited_at senders cursors place = map (λ n. nat_lt n senders && nat_le (slice_index cursors n) place) (range_with_len 0 MAX_SENDERS)
 
 -- the place of an array in the queue, or the queue's length
 abbrev pub place_of : List ℕ → ℕ → ℕ
@@ -39,7 +40,7 @@ standings_view s = record {
 -- what holds of the fields
 pub record IsStandings (s : Inside) : Type 0 where
   pub few_arrays : length s.free < 2 ^ 32
-  pub few_senders : s.senders ≤ 64
+  pub few_senders : s.senders ≤ MAX_SENDERS
   -- the queue has room for all arrays, each once, and has none that is marked as free
   pub room : length s.free ≤ deque_capacity s.queue
   pub unmarked : (p : ℕ) → p < length s.queue.items → slice_index_or s.free (slice_index s.queue.items p) true ≡ false

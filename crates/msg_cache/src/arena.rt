@@ -18,6 +18,7 @@ use crate::setting::Setting;
 use crate::steps::{Seat, Words};
 use crate::view::View;
 use atomic_table::Table;
+use msg_core::MAX_SENDERS;
 use msg_image::Image;
 use std::alloc::{AllocError, Global};
 use std::marker::Model;
@@ -94,7 +95,7 @@ impl Arena {
         ensures key { result.now.key ≡ self.now.key }
         ensures count { (self.now.table.words ≡ word_count (layout_of self.now.key)) × (self.now.table.words < 2 ^ 32) }
         ensures capacities { All IsCapacity self.now.key.capacities }
-        ensures senders { self.now.key.senders ≤ 64 }
+        ensures senders { self.now.key.senders ≤ MAX_SENDERS }
     {
         &self.table.shared
     }
@@ -118,7 +119,7 @@ impl Arena {
     #[inline(always)]
     pub(crate) fn senders(&self) -> u32
         ensures senders { result ≡ self.now.key.senders }
-        ensures few { result ≤ 64 }
+        ensures few { result ≤ MAX_SENDERS }
     {
         self.senders
     }
@@ -170,7 +171,7 @@ impl Arena {
         capacities: Vec<u32>,
         firsts: [usize; 10],
     ) -> Result<(Arena, Seat), AllocError>
-        requires senders { (0 < senders) × (senders ≤ 64) }
+        requires senders { (0 < senders) × (senders ≤ MAX_SENDERS) }
         requires capacities { All IsCapacity capacities.items }
         requires firsts { (i : ℕ) → i < 9 → IsGroup capacities.items (slice_index all_capacities i) (slice_index firsts i) (slice_index firsts (i + 1)) }
         requires room { total capacities.items < 2 ^ 21 }

@@ -13,9 +13,10 @@ ghost use Rattle.msg_cache.specs.Keeping.{standing_of, looks, cleared, emptied, 
 use crate::arena::Arena;
 use crate::standings::Standings;
 use crate::steps::{Seat, Words, clear_word, load_probe};
+use msg_core::MAX_SENDERS;
 
 // One look at each sender number. Says who was out.
-fn look_at_senders(arena: &Arena, seat: &mut Seat) -> [bool; 64]
+fn look_at_senders(arena: &Arena, seat: &mut Seat) -> [bool; MAX_SENDERS]
     requires table { seat.old.table_id ≡ arena.now.table }
     requires keeper { seat.old.me ≡ kept (keeper_of seat.old.me.0) }
     requires tidy { TidyBy lookup arena.now.key (keeper_of seat.old.me.0) }
@@ -24,7 +25,7 @@ fn look_at_senders(arena: &Arena, seat: &mut Seat) -> [bool; 64]
     ensures tidy { TidyBy lookup arena.now.key (keeper_of seat.new.me.0) }
 {
     let shared = arena.shared();
-    let mut outs = [false; 64];
+    let mut outs = [false; MAX_SENDERS];
     for number in 0..arena.senders() {
         let word = arena.probe_at(number);
         outs[number as usize] = load_probe(shared, seat, word, number);

@@ -35,6 +35,7 @@ use crate::steps::{
 use crate::view::View;
 use atomic_table::Badge;
 use msg_buckets::{first_place, pack};
+use msg_core::MAX_SENDERS;
 use msg_image::Change;
 use msg_names::{ClassRef, ImpRef, Selector};
 use std::alloc::{AllocError, Global};
@@ -104,7 +105,7 @@ impl Keeper {
     ) -> Result<Keeper, AllocError>
         requires classes { classes < 2 ^ 32 }
         requires few_arrays { arrays < 2 ^ 32 }
-        requires few_senders { senders ≤ 64 }
+        requires few_senders { senders ≤ MAX_SENDERS }
         requires seat { (seat.me ≡ kept (keeper_of seat.me.0)) × (size (keeper_of seat.me.0).history ≡ 0) × ((keeper_of seat.me.0).turn ≡ Never) }
         requires words { (keeper_of seat.me.0).words ≡ replicate words 0 }
         requires arrays { (keeper_of seat.me.0).standings ≡ replicate arrays Free }

@@ -10,6 +10,7 @@ ghost use Rattle.msg_cache.specs.Keeping.{looked_by};
 ghost use Rattle.msg_cache.specs.Notes.{StandingsView, free, live, waiting, note_of, note_at, is_free_note, newly_freed};
 
 use crate::bit_set::BitSet;
+use msg_core::MAX_SENDERS;
 use std::alloc::{AllocError, Global};
 use std::collections::VecDeque;
 use std::marker::Model;
@@ -27,7 +28,7 @@ pub(crate) struct Standings {
     // how many of them, from the oldest on, are free and are to be taken out
     ready: usize,
     // how many of the others, from the oldest on, each sender has passed
-    cursors: [usize; 64],
+    cursors: [usize; MAX_SENDERS],
     senders: usize,
 }
 
@@ -51,8 +52,13 @@ fn passed(cursor: usize, is_out: bool, end: usize) -> usize
 }
 
 // Senders that were seen out pass a queue of this length. Answers how many of its arrays all have passed.
-fn pass(cursors: &mut [usize; 64], outs: &[bool; 64], senders: usize, end: usize) -> usize
-    requires senders { senders ≤ 64 }
+fn pass(
+    cursors: &mut [usize; MAX_SENDERS],
+    outs: &[bool; MAX_SENDERS],
+    senders: usize,
+    end: usize,
+) -> usize
+    requires senders { senders ≤ MAX_SENDERS }
     requires within { (n : ℕ) → n < senders → slice_index cursors.old n ≤ end }
     ensures moved { (n : ℕ) → n < senders → slice_index cursors.new n ≡ (if slice_index_or outs.now n false then end else slice_index cursors.old n) }
     ensures all { (n : ℕ) → n < senders → result ≤ slice_index cursors.new n }
@@ -69,8 +75,8 @@ fn pass(cursors: &mut [usize; 64], outs: &[bool; 64], senders: usize, end: usize
 }
 
 // The queue's front, which all have passed, counts no more.
-fn cut(cursors: &mut [usize; 64], senders: usize, by: usize)
-    requires senders { senders ≤ 64 }
+fn cut(cursors: &mut [usize; MAX_SENDERS], senders: usize, by: usize)
+    requires senders { senders ≤ MAX_SENDERS }
     requires all { (n : ℕ) → n < senders → by ≤ slice_index cursors.old n }
     ensures { (n : ℕ) → n < senders → slice_index cursors.new n + by ≡ slice_index cursors.old n }
 {
@@ -87,14 +93,14 @@ impl Standings {
         senders: usize,
     ) -> Result<Standings, AllocError>
         requires arrays { arrays < 2 ^ 32 }
-        requires senders { senders ≤ 64 }
+        requires senders { senders ≤ MAX_SENDERS }
         ensures { IfOk result (λ s. s ≡ record { senders = senders; notes = replicate arrays free; ready = [] }) }
     {
         Ok(Standings {
             free: BitSet::all(alloc, arrays)?,
             queue: VecDeque::with_capacity(alloc, arrays)?,
             ready: 0,
-            cursors: [0; 64],
+            cursors: [0; MAX_SENDERS],
             senders,
         })
     }
@@ -120,7 +126,7 @@ impl Standings {
     }
 
     // These senders were seen out. What awaits nobody then is free, and ready to be taken out. Answers how many.
-    pub(crate) fn see_out(&mut self, outs: &[bool; 64]) -> u32
+    pub(crate) fn see_out(&mut self, outs: &[bool; MAX_SENDERS]) -> u32
         requires senders { 0 < self.old.senders }
         requires awaits_some { (a : ℕ) (aw : List Bool) → note_at self.old.notes a ≡ waiting aw → (n : ℕ) × (awaits aw n ≡ true) }
         requires ready { self.old.ready ≡ [] }

@@ -4,21 +4,21 @@ ghost use Rattle.std.specs.Prelude.{◌≡◌, ◌<◌, ◌≤◌, map, length};
 ghost use Rattle.std.specs.List.{list_any};
 ghost use Rattle.msg_core.specs.Steps.{everyone, seen_out};
 
-use crate::state::Standing;
+use crate::state::{MAX_SENDERS, Standing};
 
 // All senders, of whom there are so many.
-pub fn everyone(senders: usize) -> [bool; 64]
-    requires { senders ≤ 64 }
+pub fn everyone(senders: usize) -> [bool; MAX_SENDERS]
+    requires { senders ≤ MAX_SENDERS }
     ensures { result ≡ everyone senders }
 {
-    let mut awaited = [false; 64];
+    let mut awaited = [false; MAX_SENDERS];
     for sender in 0..senders {
         awaited[sender] = true;
     }
     awaited
 }
 
-fn awaits_some(awaited: &[bool; 64]) -> bool
+fn awaits_some(awaited: &[bool; MAX_SENDERS]) -> bool
     ensures { result ≡ list_any (λ b. b) awaited.now }
 {
     for awaits in awaited {
@@ -31,7 +31,7 @@ fn awaits_some(awaited: &[bool; 64]) -> bool
 
 // The standing of an array after the sender was seen out.
 fn seen_out(standing: Standing, sender: usize) -> Standing
-    requires { sender < 64 }
+    requires { sender < MAX_SENDERS }
     ensures { result ≡ seen_out sender standing }
 {
     match standing {
@@ -50,7 +50,7 @@ fn seen_out(standing: Standing, sender: usize) -> Standing
 
 // Notes that a sender was seen out.
 pub fn see_out(standings: &mut [Standing], sender: usize)
-    requires { sender < 64 }
+    requires { sender < MAX_SENDERS }
     ensures { standings.new ≡ map (seen_out sender) standings.old }
 {
     for array in 0..standings.len() {

@@ -21,4 +21,4 @@ pub use awaited::{everyone, see_out};
 pub use event::{Event, Seen};
 pub use fault::EventFault;
 pub use machine::Machine;
-pub use state::{Standing, Whereabouts};
+pub use state::{MAX_SENDERS, Standing, Whereabouts};

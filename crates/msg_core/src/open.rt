@@ -8,7 +8,7 @@ ghost use Rattle.msg_core.specs.View.{layout_of, state_of};
 
 use crate::buckets::Buckets;
 use crate::machine::Machine;
-use crate::state::{Standing, Whereabouts};
+use crate::state::{MAX_SENDERS, Standing, Whereabouts};
 use msg_image::Image;
 use msg_tables::Tables;
 use std::alloc::{AllocError, Global};
@@ -35,7 +35,7 @@ impl Machine {
         arrays: &[u32],
     ) -> Result<Machine, AllocError>
         requires some_sender { 1 ≤ senders }
-        requires few_senders { senders ≤ 64 }
+        requires few_senders { senders ≤ MAX_SENDERS }
         requires arrays { All IsCapacity arrays.now }
         ensures layout { IfOk result (λ machine. layout_of machine ≡ record { classes = class_total image.now; senders = senders; capacities = arrays.now }) }
         ensures state { IfOk result (λ machine. state_of machine ≡ opening image.now) }

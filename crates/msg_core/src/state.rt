@@ -2,6 +2,9 @@
 
 use msg_names::ClassRef;
 
+/// How many senders there may be.
+pub const MAX_SENDERS: usize = 64;
+
 /// What an array is for.
 #[derive(Clone, Copy)]
 pub enum Standing {
@@ -10,7 +13,7 @@ pub enum Standing {
     /// It is the cache of this class reference.
     Live(ClassRef),
     /// It was taken from this class reference when the history had so many changes, and awaits each sender whose flag is set.
-    Retired(ClassRef, usize, [bool; 64]),
+    Retired(ClassRef, usize, [bool; MAX_SENDERS]),
 }
 
 /// Where a sender is.

@@ -6,11 +6,9 @@ ghost use Rattle.msg_runtime.specs.Parts.{IsKeeperOf, keeper_history, keeper_vie
 ghost use Rattle.msg_cache.specs.Plays.{is_lent};
 
 use msg_cache::{Arena, Config, Keeper};
+use msg_core::MAX_SENDERS;
 use msg_image::Image;
 use std::alloc::{AllocError, Global};
-
-// The most senders that an arena may have.
-const SENDERS: u32 = 64;
 
 // How many arrays of 4, 8, .., 1,024 buckets: some 29,000 words in all, of which the keeper has a copy. An arena of this size is too large for no image.
 const ARRAYS: [u16; 9] = [2048, 512, 128, 64, 32, 16, 8, 4, 4];
@@ -23,7 +21,7 @@ pub(crate) fn arena_of(alloc: Global, image: &Image) -> Result<(Arena, Keeper), 
     ensures turn { IfOk result (λ r. is_lent (keeper_view r.1).turn ≡ false) }
 {
     let config = Config {
-        senders: SENDERS,
+        senders: MAX_SENDERS as u32,
         arrays: ARRAYS,
     };
     match Arena::open(alloc, image, config) {

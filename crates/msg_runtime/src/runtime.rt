@@ -12,6 +12,7 @@ ghost use Rattle.msg_runtime.specs.Parts.{IsKeeperOf, AnswersMiss, IsNew, AreOut
 use crate::caching::cache_found;
 use crate::flushing::{flush_all_reached, mark_reach};
 use msg_cache::{Arena, Keeper, Prober, Report, Turn};
+use msg_core::MAX_SENDERS;
 use msg_image::{Change, Image};
 use msg_names::{ClassRef, ImpRef, Selector};
 use msg_tables::laws::{an_accepted_change_is_within_the_limit, tables_are_of_their_image};
@@ -19,9 +20,6 @@ use msg_tables::{ChangeFault, Marks, Tables};
 use std::alloc::{AllocError, Global};
 use std::marker::Model;
 use std::snapshot::Snapshot;
-
-// The most senders of an arena.
-const MAX_SENDERS: u32 = 64;
 
 /// The keeper of an arena's method caches, and class tables that stand at its history.
 ///
@@ -174,10 +172,10 @@ impl Runtime {
         ensures prober { IfSome result (IsSenderOf self.old.arena) }
         ensures some { IfSome result (λ p. IsNew p.sender self.old.keeper self.new.keeper) }
         ensures front { IfSome result (λ p. p.sender.front ≡ self.old.keeper.history) }
-        ensures none { IsNone result → AreOut 64 self.old.arena.key.senders self.old.keeper × (self.new.keeper ≡ self.old.keeper) }
+        ensures none { IsNone result → AreOut MAX_SENDERS self.old.arena.key.senders self.old.keeper × (self.new.keeper ≡ self.old.keeper) }
         ensures image { self.old.keeper.history.image ≡ self.old.arena.key.image }
     {
-        for number in 0..MAX_SENDERS {
+        for number in 0..MAX_SENDERS as u32 {
             if let Some(prober) = self.keeper.give_out(arena, number) {
                 return Some(prober);
             }
