@@ -1,5 +1,5 @@
 -- Going over the values of a list.
-use Rattle.std.proofs.Common.{◌≡◌, ℕ, suc, ◌+◌, ◌<◌, List, [], ◌∷◌, ◌++◌, map, drop, get_or, length, Option, None, Some, option_map, Global, refl, sym, ap, ◌∙◌, append_assoc, drop-cons, add-one}
+use Rattle.std.proofs.Common.{◌≡◌, ℕ, zero, suc, ◌+◌, ◌<◌, List, [], ◌∷◌, ◌++◌, map, drop, get_or, length, slice_get, Option, None, Some, option_map, refl, sym, ap, ◌∙◌, append_assoc, drop-cons, add-one, arith}
 use Rattle.std.proofs.lemmas.List.{map_push}
 use Rattle.serde_json.specs.Data.{Data}
 use Rattle.json.specs.Value.{items_view}
@@ -7,9 +7,15 @@ use Rattle.json.specs.declared.value.Value.{Value}
 use Rattle.msg_json.specs.View.{view, items_data}
 use Rattle.msg_form.specs.Json.{each, values_of}
 
-pub values_of-items_view : (vs : List (Value Global)) → values_of (items_data (items_view vs)) ≡ map view vs
+pub values_of-items_view : {A : Type 0} (vs : List (Value A)) → values_of (items_data (items_view vs)) ≡ map view vs
 values_of-items_view [] = refl
 values_of-items_view (v ∷ vs) = ap (λ ds. view v ∷ ds) (values_of-items_view vs)
+
+-- the value at a place
+pub value_there : {A : Type 0} (vs : List (Value A)) (i : ℕ) (v : Value A) → i < length vs → v ≡ get_or vs i v → slice_get (map view vs) i ≡ Some (view v)
+value_there [] i v lt at = absurd (omega arith)
+value_there (w ∷ vs) zero v lt at = ap (λ x. Some (view x)) (sym at)
+value_there (w ∷ vs) (suc i) v lt at = value_there vs i v (omega arith) at
 
 -- what has been read, before what is still to be read
 abbrev pub with_front : {B : Type 0} → List B → Option (List B) → Option (List B)
@@ -24,7 +30,7 @@ regroup front x None = refl
 regroup front x (Some xs) = ap Some (sym (append_assoc front (x ∷ []) xs))
 
 -- a turn of a loop that reads each value by f, and pushes what it read
-pub each_on : {A B : Type 0} (g : A → B) (f : Data → Option B) (vs : List (Value Global)) (i : ℕ) (v : Value Global) (old new : List A) (x : A) (whole : Option (List B)) → i < length vs → v ≡ get_or vs i v → f (view v) ≡ Some (g x) → new ≡ old ++ x ∷ []
+pub each_on : {A B L : Type 0} (g : A → B) (f : Data → Option B) (vs : List (Value L)) (i : ℕ) (v : Value L) (old new : List A) (x : A) (whole : Option (List B)) → i < length vs → v ≡ get_or vs i v → f (view v) ≡ Some (g x) → new ≡ old ++ x ∷ []
     → with_front (map g old) (each f (map view (drop i vs))) ≡ whole → with_front (map g new) (each f (map view (drop (i + 1) vs))) ≡ whole
 each_on g f vs i v old new x whole lt at read pushed so_far =
     let left : drop i vs ≡ v ∷ drop (i + 1) vs = rw add-one (drop-cons vs i v lt ∙ ap (λ y. y ∷ drop (suc i) vs) (sym at)) in

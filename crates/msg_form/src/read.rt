@@ -12,7 +12,7 @@ mod parts;
 mod values;
 
 use crate::faults::ReadFault;
-use msg_json::Value;
+use msg_json::Tree;
 use std::alloc::Global;
 use values::list;
 
@@ -26,19 +26,19 @@ trait FromValue<'v>: Sized + Drop {
     // What a value spells.
     ghost spelled: { Data → Option Plain };
 
-    fn from_value(alloc: Global, value: &Value<'v>) -> Result<Self, ReadFault>
+    fn from_value(alloc: Global, value: &Tree<'v, '_>) -> Result<Self, ReadFault>
         ensures { Gives plain result (spelled (view value.now)) };
 }
 
 /// What the values of a list spell.
-fn list_of<'v, T: FromValue<'v>>(alloc: Global, value: &Value<'v>) -> Result<Vec<T>, ReadFault>
+fn list_of<'v, T: FromValue<'v>>(alloc: Global, value: &Tree<'v, '_>) -> Result<Vec<T>, ReadFault>
     ensures { Gives (λ v. map T.plain v.items) result (list_of T.spelled (view value.now)) }
 {
     each(alloc, list(value)?)
 }
 
 /// What each of the values spells.
-fn each<'v, T: FromValue<'v>>(alloc: Global, values: &[Value<'v>]) -> Result<Vec<T>, ReadFault>
+fn each<'v, T: FromValue<'v>>(alloc: Global, values: &[Tree<'v, '_>]) -> Result<Vec<T>, ReadFault>
     ensures { Gives (λ v. map T.plain v.items) result (each T.spelled (map view values.now)) }
 {
     let mut parts = Vec::new(alloc);

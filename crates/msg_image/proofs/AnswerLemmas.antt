@@ -8,20 +8,35 @@ use Rattle.msg_form.specs.declared.faults.DocumentFault.TheVariants.{Memory}
 use Rattle.msg_image.specs.declared.document.Document.{Document}
 use Rattle.msg_image.specs.DocumentParts.{document_parts}
 use Rattle.msg_form.specs.declared.faults.DocumentFault.{DocumentFault}
+use Rattle.msg_form.specs.declared.faults.ReadFault.{ReadFault}
+use Rattle.msg_form.specs.declared.faults.ReadFault.TheVariants as reading
+use Rattle.msg_form.specs.Gives.{Fails}
 use Rattle.msg_form.specs.Shape.{form_of}
-use Rattle.msg_image.specs.Answer.{IsJson, IsAnswer, judged, answer, most_bytes}
+use Rattle.msg_form.specs.Unread.{unread}
+use Rattle.msg_form.specs.Form.{Form}
+use Rattle.msg_image.specs.Answer.{IsJson, IsAnswer, IsRefused, Spells, judged, answer, most_bytes}
 use Rattle.msg_image.specs.Items.{DocumentParts}
 
 pub answered : (bytes : List ℕ) (o : Option Data) (r : Result DocumentParts DocumentFault) → length bytes ≤ most_bytes → IsJson bytes o → answer o ≡ r → IsAnswer bytes r
 answered bytes o r le is e = let k : nat_lt most_bytes (length bytes) ≡ false = grind (arith, nat_tests) in rw k (o, is, sym e)
 
-pub answers-ok : (bytes : List ℕ) (d : Data) (r : Result Document DocumentFault) → length bytes ≤ most_bytes → IsJson bytes (Some d) → IfOk r (λ x. judged (form_of d) ≡ Ok (document_parts x)) → IfOk r (λ x. IsAnswer bytes (Ok (document_parts x)))
-answers-ok bytes d (Ok x) le is h = answered bytes (Some d) (Ok (document_parts x)) le is h
-answers-ok bytes d (Err e) le is h = tt
+-- of a form, as it is judged
+pub answers-ok : (bytes : List ℕ) (f : Form) (r : Result Document DocumentFault) → length bytes ≤ most_bytes → Spells bytes f → IfOk r (λ x. judged (Some f) ≡ Ok (document_parts x)) → IfOk r (λ x. IsAnswer bytes (Ok (document_parts x)))
+answers-ok bytes f (Ok x) le is h = answered bytes (Some is.0) (Ok (document_parts x)) le is.1 (ap judged is.2 ∙ h)
+answers-ok bytes f (Err e) le is h = tt
 
-pub answers-err : (bytes : List ℕ) (d : Data) (r : Result Document DocumentFault) → length bytes ≤ most_bytes → IsJson bytes (Some d) → IfErr r (λ e. e ≢ Memory → judged (form_of d) ≡ Err e) → IfErr r (λ e. e ≢ Memory → IsAnswer bytes (Err e))
-answers-err bytes d (Ok x) le is h = tt
-answers-err bytes d (Err e) le is h = λ other. answered bytes (Some d) (Err e) le is (h other)
+pub answers-err : (bytes : List ℕ) (f : Form) (r : Result Document DocumentFault) → length bytes ≤ most_bytes → Spells bytes f → IfErr r (λ e. e ≢ Memory → judged (Some f) ≡ Err e) → IfErr r (λ e. e ≢ Memory → IsAnswer bytes (Err e))
+answers-err bytes f (Ok x) le is h = tt
+answers-err bytes f (Err e) le is h = λ other. answered bytes (Some is.0) (Err e) le is.1 (ap judged is.2 ∙ h other)
+
+-- a value that spells no form, as the program tells it
+pub not_spelled : (bytes : List ℕ) (d : Data) (f : ReadFault) (e : DocumentFault) → IsJson bytes (Some d) → Fails f (form_of d) → e ≡ unread f → e ≢ Memory → IsRefused bytes e
+not_spelled bytes d reading.Memory e is none same other = absurd (other same)
+not_spelled bytes d reading.Shape e is none same other = (Some d, is, ap judged none ∙ ap Err (sym same))
+
+-- where there is no form
+pub refused : (bytes : List ℕ) (e : DocumentFault) → length bytes ≤ most_bytes → IsRefused bytes e → IsAnswer bytes (Err e)
+refused bytes e le is = answered bytes is.0 (Err e) le is.1 is.2
 
 same_value : (bytes : List ℕ) (o p : Option Data) → IsJson bytes o → IsJson bytes p → o ≡ p
 same_value bytes None None g h = refl

@@ -29,6 +29,14 @@ abbrev pub answer : Option Data → Result DocumentParts DocumentFault
 answer None = Err NotJson
 answer (Some d) = judged (form_of d)
 
+-- the form that bytes spell
+abbrev pub Spells : List ℕ → Form → Type 0
+Spells bytes f = (d : Data) × IsJson bytes (Some d) × (form_of d ≡ Some f)
+
+-- the bytes are refused before there is a form
+abbrev pub IsRefused : List ℕ → DocumentFault → Type 0
+IsRefused bytes e = (o : Option Data) × IsJson bytes o × (answer o ≡ Err e)
+
 -- the length of the longest document
 abbrev pub most_bytes : ℕ
 most_bytes = MOST_BYTES

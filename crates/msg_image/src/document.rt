@@ -5,10 +5,9 @@ ghost use Rattle.msg_json.specs.View.{view};
 ghost use Rattle.msg_form.specs.Faults.{fault_of};
 ghost use Rattle.msg_form.specs.Form.{Form};
 ghost use Rattle.msg_form.specs.FormNames.{AreNamesOf};
-ghost use Rattle.msg_form.specs.Shape.{form_of};
 ghost use Rattle.msg_form.specs.Views.{form_view};
 ghost use Rattle.msg_form.specs.declared.faults.DocumentFault.{DocumentFault};
-ghost use Rattle.msg_image.specs.Answer.{IsAnswer, IsJson, judged};
+ghost use Rattle.msg_image.specs.Answer.{IsAnswer, IsJson, IsRefused, Spells, judged};
 ghost use Rattle.msg_image.specs.Document.{document_of};
 ghost use Rattle.msg_image.specs.DocumentParts.{document_parts};
 ghost use Rattle.msg_image.specs.Items.{DocumentParts};
@@ -20,7 +19,7 @@ use crate::image::Image;
 use crate::numbers::Numbers;
 use crate::resolve::each;
 use msg_form::{DocumentFault, Form, FormNames, MAX_ITEMS};
-use msg_json::{JsonFault, Scratch, Value};
+use msg_json::{Bump, JsonFault, Scratch, Tree};
 use std::alloc::{AllocError, Global};
 
 /// The longest document, in bytes.
@@ -33,15 +32,15 @@ pub struct Document {
     pub items: Vec<Item>,
 }
 
-fn parsed<'t>(
-    alloc: Global,
+fn parsed<'t, 'b>(
+    bump: &'b Bump,
     bytes: &'t [u8],
     scratch: &'t mut Scratch,
-) -> Result<Value<'t>, DocumentFault>
+) -> Result<Tree<'t, 'b>, DocumentFault>
     ensures ok { IfOk result (λ v. IsJson bytes.now (Some (view v))) }
     ensures err { IfErr result (λ e. e ≢ DocumentFault.Memory → (e ≡ DocumentFault.NotJson) × IsJson bytes.now None) }
 {
-    match msg_json::read(alloc, bytes, scratch) {
+    match msg_json::read(bump, bytes, scratch) {
         Ok(value) => Ok(value),
         Err(JsonFault::Memory) => Err(DocumentFault::Memory),
         Err(JsonFault::NotJson) => Err(DocumentFault::NotJson),
@@ -77,16 +76,18 @@ fn of_form(alloc: Global, form: &Form) -> Result<Document, DocumentFault>
     }
 }
 
-// The tree isn't kept beside what is made of the form.
-fn judged(alloc: Global, value: Value) -> Result<Document, DocumentFault>
-    ensures ok { IfOk result (λ d. judged (form_of (view value.entry)) ≡ Ok (document_parts d)) }
-    ensures err { IfErr result (λ e. e ≢ DocumentFault.Memory → judged (form_of (view value.entry)) ≡ Err e) }
-    ensures sound { IfOk result (λ d. All (IsSoundItem d.image) (map item_parts d.items.items)) }
-    ensures few { IfOk result (λ d. length d.items.items ≤ MAX_ITEMS) }
+// The form that a text spells. Its tree lies in a bump arena, and neither is kept beside what is made of the form.
+fn spelled<'t>(
+    alloc: Global,
+    bytes: &'t [u8],
+    scratch: &'t mut Scratch,
+) -> Result<Form<'t>, DocumentFault>
+    ensures ok { IfOk result (λ f. Spells bytes.now (form_view f)) }
+    ensures err { IfErr result (λ e. e ≢ DocumentFault.Memory → IsRefused bytes.now e) }
 {
-    let form = Form::read(alloc, &value)?;
-    drop(value);
-    of_form(alloc, &form)
+    let bump = Bump::new(alloc);
+    let value = parsed(&bump, bytes, scratch)?;
+    Ok(Form::read(alloc, &value)?)
 }
 
 /// Reads a document: the image and the items that the bytes spell, or the first fault in the order of [`DocumentFault`].
@@ -103,8 +104,8 @@ pub fn read_document(alloc: Global, bytes: &[u8]) -> Result<Document, DocumentFa
         return Err(DocumentFault::Limit);
     }
     let mut scratch = Scratch::new(alloc);
-    let value = parsed(alloc, bytes, &mut scratch)?;
-    judged(alloc, value)
+    let form = spelled(alloc, bytes, &mut scratch)?;
+    of_form(alloc, &form)
 }
 
 /// Bytes have one answer.

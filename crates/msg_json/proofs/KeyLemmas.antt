@@ -1,5 +1,5 @@
 -- How many keys there are, where some come twice.
-use Rattle.std.proofs.Common.{◌≡◌, ℕ, suc, ◌+◌, ◌<◌, ◌≤◌, List, ◌∷◌, length, drop, take, get_or, Bool, true, false, ◌||◌, cond, Bor, Option, Some, None, is_some, Ordering, Less, Equal, Greater, nat_cmp, bytes_eq, ne_eqb, ◌==◌, Global, drop-cons, add-one, refl, sym, ap, ◌∙◌, arith}
+use Rattle.std.proofs.Common.{◌≡◌, ℕ, suc, ◌+◌, ◌<◌, ◌≤◌, List, ◌∷◌, length, drop, take, get_or, Bool, true, false, ◌||◌, cond, Bor, Option, Some, None, is_some, Ordering, Less, Equal, Greater, nat_cmp, bytes_eq, ne_eqb, ◌==◌, drop-cons, add-one, refl, sym, ap, ◌∙◌, arith}
 use Rattle.std.proofs.lemmas.Cmp.{nat_list_cmp_total}
 use Rattle.std.proofs.lemmas.List.Folds.{list_any_more}
 use Rattle.std.specs.Cmp.Lexicographic.{slice_cmp}
@@ -92,14 +92,14 @@ members_data-grows (json.member k j ms) found h =
 
 -- ---- keys that are counted as they come
 
-abbrev pub Entry : Type 0
-Entry = Bor (List ℕ) × Value Global
+abbrev pub Entry : Type 0 → Type 0
+Entry A = Bor (List ℕ) × Value A
 
-abbrev pub among : List ℕ → List Entry → Bool
+abbrev pub among : {A : Type 0} → List ℕ → List (Entry A) → Bool
 among k ms = list_any (λ m. bytes_eq m.0.now k) ms
 
 -- the members have n keys, which are those found
-abbrev pub AreKeysOf : List Entry → ℕ → Members → Type 0
+abbrev pub AreKeysOf : {A : Type 0} → List (Entry A) → ℕ → Members → Type 0
 AreKeysOf ms n found = IsInOrder found × (members_len found ≡ n) × ((k : List ℕ) → is_some (get_member k found) ≡ among k ms)
 
 either : (b : Bool) (d : Data) (o : Option Data) → is_some (cond b (Some d) o) ≡ is_some o || b
@@ -112,21 +112,21 @@ here_or : (k l : List ℕ) (d : Data) (found : Members) → is_some (get_member 
 here_or k l d found = ap is_some (put_found (bytes_eq l k) k l d found refl) ∙ either (bytes_eq l k) d (get_member k found)
 
 -- one more member is put
-answers : (ms : List Entry) (i : ℕ) (m : Entry) (n : ℕ) (found : Members) → i < length ms → m ≡ get_or ms i m → AreKeysOf (take i ms) n found
+answers : {A : Type 0} (ms : List (Entry A)) (i : ℕ) (m : Entry A) (n : ℕ) (found : Members) → i < length ms → m ≡ get_or ms i m → AreKeysOf (take i ms) n found
     → (k : List ℕ) → is_some (get_member k (put m.0.now (view m.1) found)) ≡ among k (take (i + 1) ms)
-answers ms i m n found lt at h k =
+answers {A} ms i m n found lt at h k =
     let last = list_any_more (λ m. bytes_eq m.0.now k) ms i m lt in
-    here_or k m.0.now (view m.1) found ∙ ap (λ b. b || bytes_eq m.0.now k) (h.2 k) ∙ ap (λ (l : Entry). among k (take i ms) || bytes_eq l.0.now k) at ∙ sym last
+    here_or k m.0.now (view m.1) found ∙ ap (λ b. b || bytes_eq m.0.now k) (h.2 k) ∙ ap (λ (l : Entry A). among k (take i ms) || bytes_eq l.0.now k) at ∙ sym last
 
 -- a key that was there
-pub put_old : (ms : List Entry) (i : ℕ) (m : Entry) (n : ℕ) (found : Members) → i < length ms → m ≡ get_or ms i m → AreKeysOf (take i ms) n found → among m.0.now (take i ms) ≡ true
+pub put_old : {A : Type 0} (ms : List (Entry A)) (i : ℕ) (m : Entry A) (n : ℕ) (found : Members) → i < length ms → m ≡ get_or ms i m → AreKeysOf (take i ms) n found → among m.0.now (take i ms) ≡ true
     → AreKeysOf (take (i + 1) ms) n (put m.0.now (view m.1) found)
 put_old ms i m n found lt at h old =
     let len = members_len-put m.0.now (view m.1) found h.0 ∙ ap (λ b. count_after b (members_len found)) (h.2 m.0.now ∙ old) ∙ h.1 in
     (IsInOrder-put m.0.now (view m.1) found h.0, len, answers ms i m n found lt at h)
 
 -- a key that is new
-pub put_new : (ms : List Entry) (i : ℕ) (m : Entry) (n : ℕ) (found : Members) → i < length ms → m ≡ get_or ms i m → AreKeysOf (take i ms) n found → among m.0.now (take i ms) ≡ false
+pub put_new : {A : Type 0} (ms : List (Entry A)) (i : ℕ) (m : Entry A) (n : ℕ) (found : Members) → i < length ms → m ≡ get_or ms i m → AreKeysOf (take i ms) n found → among m.0.now (take i ms) ≡ false
     → AreKeysOf (take (i + 1) ms) (n + 1) (put m.0.now (view m.1) found)
 put_new ms i m n found lt at h new =
     let len = members_len-put m.0.now (view m.1) found h.0 ∙ ap (λ b. count_after b (members_len found)) (h.2 m.0.now ∙ new) ∙ ap suc h.1 ∙ sym (add-one n) in
@@ -139,7 +139,7 @@ too_many ms n found h len =
     ne_eqb _ n (λ e. omega (arith, more, len, e))
 
 -- a turn of a loop over the members, in which one is put into those found
-pub turn : (ms : List Entry) (i : ℕ) (m : Entry) (found whole : Members) → i < length ms → m ≡ get_or ms i m
+pub turn : {A : Type 0} (ms : List (Entry A)) (i : ℕ) (m : Entry A) (found whole : Members) → i < length ms → m ≡ get_or ms i m
     → members_data (members_view (drop i ms)) found ≡ whole → members_data (members_view (drop (i + 1) ms)) (put m.0.now (view m.1) found) ≡ whole
 turn ms i m found whole lt at so_far =
     let left : drop i ms ≡ m ∷ drop (i + 1) ms = rw add-one (drop-cons ms i m lt ∙ ap (λ y. y ∷ drop (suc i) ms) (sym at)) in

@@ -1,5 +1,5 @@
 -- A tree's data, level by level.
-use Rattle.std.proofs.Common.{◌≡◌, ℕ, List, Bool, true, false, cond, Option, Some, None, option_map, Vec, Bor, Global, bytes_eq, true≢false, refl, sym, ap, ◌∙◌}
+use Rattle.std.proofs.Common.{◌≡◌, ℕ, List, Bool, true, false, cond, Option, Some, None, option_map, Vec, Bor, bytes_eq, true≢false, refl, sym, ap, ◌∙◌}
 use Rattle.std.proofs.lemmas.Slice.Eq.{bytes_eq-Decides}
 use Rattle.json.specs.Find as look
 use Rattle.json.specs.Json as json
@@ -11,10 +11,10 @@ use Rattle.serde_json.specs.Find.{get, get_member}
 use Rattle.serde_json.proofs.Views.{get_member-put, get_member-put_other}
 use Rattle.msg_json.specs.View.{view, data_of, items_data, members_data}
 
-pub view-Array : (v : Vec (Value Global) Global) → view (Array v) ≡ array (items_data (items_view v.items))
+pub view-Array : {A : Type 0} (v : Vec (Value A) A) → view (Array v) ≡ array (items_data (items_view v.items))
 view-Array v = ap data_of (trees.view-Array v)
 
-pub view-Object : (v : Vec (Bor (List ℕ) × Value Global) Global) → view (Object v) ≡ object (members_data (members_view v.items) no_members)
+pub view-Object : {A : Type 0} (v : Vec (Bor (List ℕ) × Value A) A) → view (Object v) ≡ object (members_data (members_view v.items) no_members)
 view-Object v = ap data_of (trees.view-Object v)
 
 -- what was found later, or what was there
@@ -52,6 +52,6 @@ get-data_of k (json.string s) = refl
 get-data_of k (json.array js) = refl
 get-data_of k (json.object ms) = sym (get_member-members_data k ms no_members ∙ nothing_before (option_map data_of (look.get_member k ms)))
 
-pub view_of_ref : (r : Option (Bor (Value Global))) → option_map (λ x. view x.now) r ≡ option_map data_of (option_map (λ x. value_view x.now) r)
+pub view_of_ref : {A : Type 0} (r : Option (Bor (Value A))) → option_map (λ x. view x.now) r ≡ option_map data_of (option_map (λ x. value_view x.now) r)
 view_of_ref None = refl
 view_of_ref (Some x) = refl

@@ -1,7 +1,6 @@
 -- The data that a tree stands for.
 use Rattle.std.specs.Prelude.{ℕ, List, false, unwrap_or}
 use Rattle.std.specs.Float.{binary64}
-use Rattle.std.specs.declared.alloc.Global.{Global}
 use Rattle.fast_float.specs.Text.{scan, nearest}
 use Rattle.json.specs.Json as json
 use Rattle.json.specs.Value.{value_view}
@@ -31,6 +30,6 @@ abbrev mutual
   members_data json.no_members found = found
   members_data (json.member k j ms) found = members_data ms (put k (data_of j) found)
 
--- a value of the reader's tree as serde_json has it
-abbrev pub view : Value Global → Data
+-- a value of the reader's tree as serde_json has it, wherever the tree lies
+abbrev pub view : {A : Type 0} → Value A → Data
 view v = data_of (value_view v)

@@ -8,6 +8,7 @@ mod look;
 mod numbers;
 mod reading;
 
+pub use bumpalo::Bump;
 pub use json::{Scratch, Value};
 pub use look::{get, has_keys, whole};
-pub use reading::{JsonFault, read};
+pub use reading::{JsonFault, Tree, read};

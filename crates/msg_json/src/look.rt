@@ -12,23 +12,24 @@ ghost use Rattle.msg_json.specs.Keys.{has_keys};
 
 use crate::numbers::number;
 use json::Value;
+use std::alloc::Allocator;
 
 /// The value of a key, in time that grows with the members.
-pub fn get<'v, 't>(value: &'v Value<'t>, key: &str) -> Option<&'v Value<'t>>
+pub fn get<'v, 't, A: Allocator>(value: &'v Value<'t, A>, key: &str) -> Option<&'v Value<'t, A>>
     ensures { option_map (λ v. view v.now) result ≡ get key.now (view value.now) }
 {
     value.get(key)
 }
 
 /// The number, where it is an integer that fits and is written without a point or an exponent.
-pub fn whole(value: &Value) -> Option<i64>
+pub fn whole<A: Allocator>(value: &Value<'_, A>) -> Option<i64>
     ensures { result ≡ option_and_then as_i64 (as_number (view value.now)) }
 {
     number(value.as_number()?)?.as_i64()
 }
 
 /// Whether this is an object with so many keys, where a key that comes twice counts once.
-pub fn has_keys(value: &Value, count: usize) -> bool
+pub fn has_keys<A: Allocator>(value: &Value<'_, A>, count: usize) -> bool
     ensures { result ≡ has_keys count (view value.now) }
 {
     match value {
@@ -37,7 +38,7 @@ pub fn has_keys(value: &Value, count: usize) -> bool
     }
 }
 
-fn are_keys(members: &[(&str, Value)], count: usize) -> bool
+fn are_keys<A: Allocator>(members: &[(&str, Value<'_, A>)], count: usize) -> bool
     ensures { result ≡ (members_len (members_data (members_view members.now) no_members) == count) }
 {
     let mut keys = 0;
@@ -54,7 +55,7 @@ fn are_keys(members: &[(&str, Value)], count: usize) -> bool
 
 // From the last to the first, so that a key is found where it came last: all searches of an object together take as many steps as it has members and
 // keys, multiplied.
-fn is_among(members: &[(&str, Value)], key: &str) -> bool
+fn is_among<A: Allocator>(members: &[(&str, Value<'_, A>)], key: &str) -> bool
     ensures { result ≡ list_any (λ m. bytes_eq m.0.now key.now) members.now }
 {
     members.iter().rev().any(|member| member.0 == key)

@@ -8,10 +8,14 @@ ghost use Rattle.msg_json.specs.Readable.{is_readable, are_readable, have_readab
 ghost use Rattle.msg_json.specs.View.{view};
 ghost use Rattle.msg_json.specs.declared.reading.JsonFault.TheVariants as JsonFault;
 
-use crate::numbers::number;
+use crate::numbers::is_number;
+use bumpalo::Bump;
 use json::{Reader, Scratch, Value};
-use std::alloc::Global;
+use std::alloc::Allocator;
 use thiserror::Error;
+
+/// A tree whose lists and objects lie in an arena.
+pub type Tree<'t, 'b> = Value<'t, &'b Bump>;
 
 /// How deep lists and objects may nest, as in serde_json.
 const MAX_DEPTH: usize = 127;
@@ -25,15 +29,16 @@ pub enum JsonFault {
     Memory,
 }
 
-/// Reads a text: no string is copied but one with an escape, which stands in `scratch`.
+/// Reads a text: no string is copied but one with an escape, which stands in `scratch`. The lists and objects of the tree
+/// lie in `alloc`. An arena serves well, since they go together.
 ///
 /// `NotJson` comes for bytes that aren't UTF-8 or no JSON text (RFC 8259), for lists and objects that nest deeper than 127, for a lone
 /// surrogate and for a number too large for a float; `Memory` wherever a growth is refused.
-pub fn read<'t>(
-    alloc: Global,
+pub fn read<'t, A: Allocator + Copy>(
+    alloc: A,
     bytes: &'t [u8],
     scratch: &'t mut Scratch,
-) -> Result<Value<'t>, JsonFault>
+) -> Result<Value<'t, A>, JsonFault>
     ensures ok { IfOk result (λ v. IsUtf8 bytes.now × (read_text bytes.now ≡ Some (view v))) }
     ensures err { IfErr result (λ e. e ≢ JsonFault.Memory → IsUtf8 bytes.now → read_text bytes.now ≡ None) }
 {
@@ -43,11 +48,11 @@ pub fn read<'t>(
     }
 }
 
-fn read_str<'t>(
-    alloc: Global,
+fn read_str<'t, A: Allocator + Copy>(
+    alloc: A,
     text: &'t str,
     scratch: &'t mut Scratch,
-) -> Result<Value<'t>, JsonFault>
+) -> Result<Value<'t, A>, JsonFault>
     ensures ok { IfOk result (λ v. read_text text.now ≡ Some (view v)) }
     ensures err { IfErr result (λ e. e ≢ JsonFault.Memory → read_text text.now ≡ None) }
 {
@@ -62,7 +67,10 @@ fn read_str<'t>(
     Ok(value)
 }
 
-fn next_value<'t>(alloc: Global, reader: &mut Reader<'t>) -> Result<Value<'t>, JsonFault>
+fn next_value<'t, A: Allocator + Copy>(
+    alloc: A,
+    reader: &mut Reader<'t>,
+) -> Result<Value<'t, A>, JsonFault>
     ensures ok { IfOk result (λ v. json.value max_depth reader.old ≡ Some (value_view v, reader.new)) }
     ensures err { IfErr result (λ e. e ≢ JsonFault.Memory → json.value max_depth reader.old ≡ None) }
 {
@@ -75,19 +83,19 @@ fn next_value<'t>(alloc: Global, reader: &mut Reader<'t>) -> Result<Value<'t>, J
 
 /// Whether each number in the tree has a value.
 #[cycle(is_readable)]
-fn is_readable(value: &Value) -> bool
+fn is_readable<A: Allocator>(value: &Value<'_, A>) -> bool
     ensures { result ≡ is_readable (value_view value.now) }
 {
     match value {
         Value::Null | Value::Bool(_) | Value::String(_) => true,
-        Value::Number(text) => number(text).is_some(),
+        Value::Number(text) => is_number(text),
         Value::Array(values) => are_readable(values),
         Value::Object(members) => have_readable(members),
     }
 }
 
 #[cycle(is_readable)]
-fn are_readable(values: &[Value]) -> bool
+fn are_readable<A: Allocator>(values: &[Value<'_, A>]) -> bool
     ensures { result ≡ are_readable (items_view values.now) }
 {
     for value in values {
@@ -99,7 +107,7 @@ fn are_readable(values: &[Value]) -> bool
 }
 
 #[cycle(is_readable)]
-fn have_readable(members: &[(&str, Value)]) -> bool
+fn have_readable<A: Allocator>(members: &[(&str, Value<'_, A>)]) -> bool
     ensures { result ≡ have_readable (members_view members.now) }
 {
     for member in members {

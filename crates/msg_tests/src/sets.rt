@@ -3,14 +3,15 @@
 use crate::documents::FULL;
 use crate::same::{same, same_at};
 use msg_form::{DocumentFault, FORWARDING, Form, NameSet, ReadFault};
-use msg_json::{Scratch, read};
+use msg_json::{Bump, Scratch, read};
 use std::test::Fail;
 
 #[test]
 fn selectors_come_in_the_order_of_the_walk(rt: HostRuntime) -> Result<(), Fail> {
     let alloc = rt.alloc();
     let mut scratch = Scratch::new(alloc);
-    let value = read(alloc, FULL.as_bytes(), &mut scratch)?;
+    let bump = Bump::new(alloc);
+    let value = read(&bump, FULL.as_bytes(), &mut scratch)?;
     let form = Form::read(alloc, &value)?;
     let texts = form.selector_texts(alloc)?;
     let want = [

@@ -12,12 +12,12 @@ use super::values::{field, keys, list, name, text, truth};
 use super::{FromValue, each, list_of};
 use crate::faults::ReadFault;
 use crate::form::{Change, Constant, Item, MethodName};
-use msg_json::Value;
+use msg_json::Tree;
 use std::alloc::Global;
 
 /// A method's name, which takes three values from a place on.
-#[tactic(auto, unfolding(crate::specs::Shape::method_form_of))]
-fn method<'v>(values: &[Value<'v>], place: usize) -> Result<MethodName<'v>, ReadFault>
+#[tactic(auto, using(crate::proofs::JsonLemmas::value_there), unfolding(crate::specs::Shape::method_form_of))]
+fn method<'v>(values: &[Tree<'v, '_>], place: usize) -> Result<MethodName<'v>, ReadFault>
     requires { place + 3 ≤ length values.now }
     ensures { Gives method_view result (spec.method_form_of place (map view values.now)) }
 {
@@ -30,7 +30,7 @@ fn method<'v>(values: &[Value<'v>], place: usize) -> Result<MethodName<'v>, Read
 
 /// What `add`, `replace` and `set` say of a method.
 #[tactic(auto, unfolding(crate::specs::Shape::edit_of))]
-fn edit<'v>(values: &[Value<'v>]) -> Result<(MethodName<'v>, &'v str), ReadFault>
+fn edit<'v>(values: &[Tree<'v, '_>]) -> Result<(MethodName<'v>, &'v str), ReadFault>
     ensures { Gives (λ e. (method_view e.0, e.1.now)) result (spec.edit_of (map view values.now)) }
 {
     if values.len() != 5 {
@@ -42,7 +42,7 @@ fn edit<'v>(values: &[Value<'v>]) -> Result<(MethodName<'v>, &'v str), ReadFault
 }
 
 #[tactic(auto, unfolding(crate::specs::Shape::exchange_of))]
-fn exchange<'v>(values: &[Value<'v>]) -> Result<Change<'v>, ReadFault>
+fn exchange<'v>(values: &[Tree<'v, '_>]) -> Result<Change<'v>, ReadFault>
     ensures { Gives change_view result (spec.exchange_of (map view values.now)) }
 {
     if values.len() != 7 {
@@ -55,7 +55,7 @@ fn exchange<'v>(values: &[Value<'v>]) -> Result<Change<'v>, ReadFault>
 }
 
 #[tactic(auto, unfolding(crate::specs::Shape::attach_of))]
-fn attach<'v>(alloc: Global, values: &[Value<'v>]) -> Result<Change<'v>, ReadFault>
+fn attach<'v>(alloc: Global, values: &[Tree<'v, '_>]) -> Result<Change<'v>, ReadFault>
     ensures { Gives change_view result (spec.attach_of (map view values.now)) }
 {
     if values.len() != 4 {
@@ -69,7 +69,7 @@ fn attach<'v>(alloc: Global, values: &[Value<'v>]) -> Result<Change<'v>, ReadFau
 }
 
 #[tactic(auto, unfolding(crate::specs::Shape::make_of))]
-fn make<'v>(values: &[Value<'v>]) -> Result<Change<'v>, ReadFault>
+fn make<'v>(values: &[Tree<'v, '_>]) -> Result<Change<'v>, ReadFault>
     ensures { Gives change_view result (spec.make_of (map view values.now)) }
 {
     if values.len() != 3 {
@@ -85,7 +85,7 @@ fn make<'v>(values: &[Value<'v>]) -> Result<Change<'v>, ReadFault>
 fn worded_change<'v>(
     alloc: Global,
     word: &str,
-    values: &[Value<'v>],
+    values: &[Tree<'v, '_>],
 ) -> Result<Change<'v>, ReadFault>
     ensures { Gives change_view result (spec.worded_change_of word.now (map view values.now)) }
 {
@@ -109,8 +109,8 @@ fn worded_change<'v>(
     }
 }
 
-#[tactic(auto, unfolding(crate::specs::Shape::change_form_of))]
-fn change<'v>(alloc: Global, value: &Value<'v>) -> Result<Change<'v>, ReadFault>
+#[tactic(auto, using(crate::proofs::JsonLemmas::value_there), unfolding(crate::specs::Shape::change_form_of))]
+fn change<'v>(alloc: Global, value: &Tree<'v, '_>) -> Result<Change<'v>, ReadFault>
     ensures { Gives change_view result (spec.change_form_of (view value.now)) }
 {
     let values = list(value)?;
@@ -121,7 +121,7 @@ fn change<'v>(alloc: Global, value: &Value<'v>) -> Result<Change<'v>, ReadFault>
 }
 
 #[tactic(auto, unfolding(crate::specs::Shape::send_item_of))]
-fn send_item<'v>(alloc: Global, value: &Value<'v>) -> Result<Item<'v>, ReadFault>
+fn send_item<'v>(alloc: Global, value: &Tree<'v, '_>) -> Result<Item<'v>, ReadFault>
     ensures { Gives item_view result (spec.send_item_of (view value.now)) }
 {
     let values = list(value)?;
@@ -143,7 +143,7 @@ impl<'v> FromValue<'v> for Item<'v> {
     ghost spelled = { spec.item_form_of };
 
     #[tactic(auto, unfolding(crate::specs::Shape::item_form_of))]
-    fn from_value(alloc: Global, value: &Value<'v>) -> Result<Item<'v>, ReadFault> {
+    fn from_value(alloc: Global, value: &Tree<'v, '_>) -> Result<Item<'v>, ReadFault> {
         keys(value, 1)?;
         match msg_json::get(value, "send") {
             Some(send) => send_item(alloc, send),

@@ -13,7 +13,7 @@ use super::FromValue;
 use super::values::{name, text, whole};
 use crate::faults::ReadFault;
 use crate::form::{BinaryExpr, Constant, Expr, IfExpr, Operator, SendExpr, SuperExpr};
-use msg_json::Value;
+use msg_json::{Tree, Value};
 use std::alloc::Global;
 
 impl<'v> FromValue<'v> for Constant<'v> {
@@ -23,13 +23,13 @@ impl<'v> FromValue<'v> for Constant<'v> {
 
     ghost spelled = { spec.constant_of };
 
-    fn from_value(_alloc: Global, value: &Value<'v>) -> Result<Constant<'v>, ReadFault> {
+    fn from_value(_alloc: Global, value: &Tree<'v, '_>) -> Result<Constant<'v>, ReadFault> {
         constant(value)
     }
 }
 
 #[tactic(auto, unfolding(crate::specs::ExprShape::constant_of, crate::specs::ExprShape::whole_constant_of))]
-fn constant<'v>(value: &Value<'v>) -> Result<Constant<'v>, ReadFault>
+fn constant<'v>(value: &Tree<'v, '_>) -> Result<Constant<'v>, ReadFault>
     ensures { Gives constant_view result (spec.constant_of (view value.now)) }
 {
     match value {
@@ -41,7 +41,7 @@ fn constant<'v>(value: &Value<'v>) -> Result<Constant<'v>, ReadFault>
 }
 
 #[tactic(auto, unfolding(crate::specs::ExprShape::listed_constant_of))]
-fn listed_constant<'v>(values: &[Value<'v>]) -> Result<Constant<'v>, ReadFault>
+fn listed_constant<'v>(values: &[Tree<'v, '_>]) -> Result<Constant<'v>, ReadFault>
     ensures { Gives constant_view result (spec.listed_constant_of (map view values.now)) }
 {
     if values.is_empty() {
@@ -51,7 +51,7 @@ fn listed_constant<'v>(values: &[Value<'v>]) -> Result<Constant<'v>, ReadFault>
 }
 
 #[tactic(auto, unfolding(crate::specs::ExprShape::named_of))]
-fn named<'v>(word: &str, values: &[Value<'v>]) -> Result<Constant<'v>, ReadFault>
+fn named<'v>(word: &str, values: &[Tree<'v, '_>]) -> Result<Constant<'v>, ReadFault>
     ensures { Gives constant_view result (spec.named_of word.now (map view values.now)) }
 {
     if values.len() != 2 {
@@ -80,7 +80,7 @@ fn operator(word: &str) -> Option<Operator>
 }
 
 #[tactic(auto, unfolding(crate::specs::ExprShape::arg_of))]
-fn arg<'v>(values: &[Value<'v>]) -> Result<Expr<'v>, ReadFault>
+fn arg<'v>(values: &[Tree<'v, '_>]) -> Result<Expr<'v>, ReadFault>
     ensures { Gives expr_view result (spec.arg_of (map view values.now)) }
 {
     if values.len() != 2 {
@@ -100,13 +100,13 @@ impl<'v> FromValue<'v> for Expr<'v> {
 
     ghost spelled = { expression_of };
 
-    fn from_value(alloc: Global, value: &Value<'v>) -> Result<Expr<'v>, ReadFault> {
+    fn from_value(alloc: Global, value: &Tree<'v, '_>) -> Result<Expr<'v>, ReadFault> {
         expr(alloc, value)
     }
 }
 
 #[cycle(expr)]
-fn expr<'v>(alloc: Global, value: &Value<'v>) -> Result<Expr<'v>, ReadFault>
+fn expr<'v>(alloc: Global, value: &Tree<'v, '_>) -> Result<Expr<'v>, ReadFault>
     ensures { Gives expr_view result (expression_of (view value.now)) }
 {
     match value {
@@ -117,7 +117,7 @@ fn expr<'v>(alloc: Global, value: &Value<'v>) -> Result<Expr<'v>, ReadFault>
 
 #[cycle(expr)]
 #[tactic(auto, unfolding(crate::specs::ExprShape::listed_of, crate::specs::ExprShape::worded_of, crate::specs::ExprShape::me_of))]
-fn listed<'v>(alloc: Global, values: &[Value<'v>]) -> Result<Expr<'v>, ReadFault>
+fn listed<'v>(alloc: Global, values: &[Tree<'v, '_>]) -> Result<Expr<'v>, ReadFault>
     ensures { Gives expr_view result (spec.listed_of (map view values.now) (readings values.now)) }
 {
     if values.is_empty() {
@@ -144,11 +144,11 @@ fn listed<'v>(alloc: Global, values: &[Value<'v>]) -> Result<Expr<'v>, ReadFault
 }
 
 #[cycle(expr)]
-#[tactic(auto, unfolding(crate::specs::ExprShape::binary_of))]
+#[tactic(auto, using(crate::proofs::ExprShapeLemmas::reading_there), unfolding(crate::specs::ExprShape::binary_of))]
 fn binary<'v>(
     alloc: Global,
     operator: Operator,
-    values: &[Value<'v>],
+    values: &[Tree<'v, '_>],
 ) -> Result<Expr<'v>, ReadFault>
     ensures { Gives expr_view result (spec.binary_of operator (readings values.now)) }
 {
@@ -166,8 +166,8 @@ fn binary<'v>(
 }
 
 #[cycle(expr)]
-#[tactic(auto, unfolding(crate::specs::ExprShape::choice_of))]
-fn choice<'v>(alloc: Global, values: &[Value<'v>]) -> Result<Expr<'v>, ReadFault>
+#[tactic(auto, using(crate::proofs::ExprShapeLemmas::reading_there), unfolding(crate::specs::ExprShape::choice_of))]
+fn choice<'v>(alloc: Global, values: &[Tree<'v, '_>]) -> Result<Expr<'v>, ReadFault>
     ensures { Gives expr_view result (spec.choice_of (readings values.now)) }
 {
     if values.len() != 4 {
@@ -185,8 +185,8 @@ fn choice<'v>(alloc: Global, values: &[Value<'v>]) -> Result<Expr<'v>, ReadFault
 }
 
 #[cycle(expr)]
-#[tactic(auto, unfolding(crate::specs::ExprShape::send_expression_of))]
-fn send<'v>(alloc: Global, values: &[Value<'v>]) -> Result<Expr<'v>, ReadFault>
+#[tactic(auto, using(crate::proofs::JsonLemmas::value_there, crate::proofs::ExprShapeLemmas::reading_there), unfolding(crate::specs::ExprShape::send_expression_of))]
+fn send<'v>(alloc: Global, values: &[Tree<'v, '_>]) -> Result<Expr<'v>, ReadFault>
     ensures { Gives expr_view result (spec.send_expression_of (map view values.now) (readings values.now)) }
 {
     if values.len() < 3 {
@@ -205,7 +205,7 @@ fn send<'v>(alloc: Global, values: &[Value<'v>]) -> Result<Expr<'v>, ReadFault>
 
 #[cycle(expr)]
 #[tactic(auto, unfolding(crate::specs::ExprShape::super_expression_of))]
-fn super_send<'v>(alloc: Global, values: &[Value<'v>]) -> Result<Expr<'v>, ReadFault>
+fn super_send<'v>(alloc: Global, values: &[Tree<'v, '_>]) -> Result<Expr<'v>, ReadFault>
     ensures { Gives expr_view result (spec.super_expression_of (map view values.now) (readings values.now)) }
 {
     if values.len() < 2 {
@@ -219,7 +219,11 @@ fn super_send<'v>(alloc: Global, values: &[Value<'v>]) -> Result<Expr<'v>, ReadF
 
 /// The expressions from a place on.
 #[cycle(expr)]
-fn exprs<'v>(alloc: Global, values: &[Value<'v>], from: usize) -> Result<Vec<Expr<'v>>, ReadFault>
+fn exprs<'v>(
+    alloc: Global,
+    values: &[Tree<'v, '_>],
+    from: usize,
+) -> Result<Vec<Expr<'v>>, ReadFault>
     requires { from ≤ length values.now }
     ensures { Gives (λ v. map expr_view v.items) result (spec.all_from from (readings values.now)) }
 {

@@ -15,7 +15,7 @@ use super::values::{field, keys, list, name, text, truth, whole};
 use super::{FromValue, list_of};
 use crate::faults::ReadFault;
 use crate::form::{Category, Change, Class, Expr, Form, Imp, Item, Object, Pair, is_second};
-use msg_json::Value;
+use msg_json::{Tree, Value};
 use std::alloc::Global;
 
 impl<'v> FromValue<'v> for Pair<'v> {
@@ -26,7 +26,7 @@ impl<'v> FromValue<'v> for Pair<'v> {
     ghost spelled = { spec.pair_form_of };
 
     #[tactic(auto, unfolding(crate::specs::Shape::pair_form_of))]
-    fn from_value(_alloc: Global, value: &Value<'v>) -> Result<Pair<'v>, ReadFault> {
+    fn from_value(_alloc: Global, value: &Tree<'v, '_>) -> Result<Pair<'v>, ReadFault> {
         let values = list(value)?;
         if values.len() != 2 {
             return Err(ReadFault::Shape);
@@ -38,7 +38,7 @@ impl<'v> FromValue<'v> for Pair<'v> {
 }
 
 #[tactic(auto, unfolding(crate::specs::Shape::superclass_of))]
-pub(super) fn superclass<'v>(value: &Value<'v>) -> Result<Option<&'v str>, ReadFault>
+pub(super) fn superclass<'v>(value: &Tree<'v, '_>) -> Result<Option<&'v str>, ReadFault>
     ensures { Gives (λ o. option_map (λ s. s.now) o) result
         (spec.superclass_of (view value.now)) }
 {
@@ -57,7 +57,7 @@ impl<'v> FromValue<'v> for Class<'v> {
     ghost spelled = { spec.class_form_of };
 
     #[tactic(auto, unfolding(crate::specs::Shape::class_form_of))]
-    fn from_value(alloc: Global, value: &Value<'v>) -> Result<Class<'v>, ReadFault> {
+    fn from_value(alloc: Global, value: &Tree<'v, '_>) -> Result<Class<'v>, ReadFault> {
         keys(value, 4)?;
         Ok(Class {
             name: name(field(value, "name")?)?,
@@ -76,7 +76,7 @@ impl<'v> FromValue<'v> for Category<'v> {
     ghost spelled = { spec.category_form_of };
 
     #[tactic(auto, unfolding(crate::specs::Shape::category_form_of))]
-    fn from_value(alloc: Global, value: &Value<'v>) -> Result<Category<'v>, ReadFault> {
+    fn from_value(alloc: Global, value: &Tree<'v, '_>) -> Result<Category<'v>, ReadFault> {
         keys(value, 3)?;
         Ok(Category {
             class: name(field(value, "class")?)?,
@@ -94,7 +94,7 @@ impl<'v> FromValue<'v> for Object<'v> {
     ghost spelled = { spec.object_form_of };
 
     #[tactic(auto, unfolding(crate::specs::Shape::object_form_of))]
-    fn from_value(_alloc: Global, value: &Value<'v>) -> Result<Object<'v>, ReadFault> {
+    fn from_value(_alloc: Global, value: &Tree<'v, '_>) -> Result<Object<'v>, ReadFault> {
         keys(value, 2)?;
         Ok(Object {
             name: name(field(value, "name")?)?,
@@ -105,7 +105,7 @@ impl<'v> FromValue<'v> for Object<'v> {
 
 /// How many arguments an implementation takes.
 #[tactic(auto, unfolding(crate::specs::Shape::args_of))]
-fn args<'v>(value: &Value<'v>) -> Result<u8, ReadFault>
+fn args<'v>(value: &Tree<'v, '_>) -> Result<u8, ReadFault>
     ensures number { Gives (λ n. n) result (spec.args_of (view value.now)) }
     ensures few { IfOk result (λ n. n ≤ 4) }
 {
@@ -123,7 +123,7 @@ impl<'v> FromValue<'v> for Imp<'v> {
     ghost spelled = { spec.imp_form_of };
 
     #[tactic(auto, unfolding(crate::specs::Shape::imp_form_of))]
-    fn from_value(alloc: Global, value: &Value<'v>) -> Result<Imp<'v>, ReadFault> {
+    fn from_value(alloc: Global, value: &Tree<'v, '_>) -> Result<Imp<'v>, ReadFault> {
         keys(value, 5)?;
         Ok(Imp {
             name: name(field(value, "name")?)?,
@@ -142,7 +142,7 @@ impl<'v> FromValue<'v> for &'v str {
 
     ghost spelled = { name_of };
 
-    fn from_value(_alloc: Global, value: &Value<'v>) -> Result<&'v str, ReadFault> {
+    fn from_value(_alloc: Global, value: &Tree<'v, '_>) -> Result<&'v str, ReadFault> {
         name(value)
     }
 }
@@ -162,7 +162,7 @@ fn makes_class(items: &[Item]) -> bool
 impl<'v> Form<'v> {
     /// The form that a JSON value spells.
     #[tactic(auto, unfolding(crate::specs::Shape::form_of))]
-    pub fn read(alloc: Global, value: &Value<'v>) -> Result<Form<'v>, ReadFault>
+    pub fn read(alloc: Global, value: &Tree<'v, '_>) -> Result<Form<'v>, ReadFault>
         ensures { Gives form_view result (spec.form_of (view value.now)) }
     {
         let version = whole(field(value, "version")?)?;
@@ -175,7 +175,7 @@ impl<'v> Form<'v> {
 
     /// A form of version 1, which makes no classes.
     #[tactic(auto, using(crate::proofs::AnyLemmas::anys), unfolding(crate::specs::Shape::first_form_of))]
-    fn first(alloc: Global, version: i64, value: &Value<'v>) -> Result<Form<'v>, ReadFault>
+    fn first(alloc: Global, version: i64, value: &Tree<'v, '_>) -> Result<Form<'v>, ReadFault>
         ensures { Gives form_view result (spec.first_form_of version (view value.now)) }
     {
         keys(value, 6)?;
@@ -188,7 +188,7 @@ impl<'v> Form<'v> {
 
     /// A form of version 2, which names the classes that may be made.
     #[tactic(auto, unfolding(crate::specs::Shape::second_form_of))]
-    fn second(alloc: Global, version: i64, value: &Value<'v>) -> Result<Form<'v>, ReadFault>
+    fn second(alloc: Global, version: i64, value: &Tree<'v, '_>) -> Result<Form<'v>, ReadFault>
         ensures { Gives form_view result (spec.second_form_of version (view value.now)) }
     {
         keys(value, 7)?;
@@ -202,7 +202,7 @@ impl<'v> Form<'v> {
         alloc: Global,
         version: i64,
         made: Vec<&'v str>,
-        value: &Value<'v>,
+        value: &Tree<'v, '_>,
     ) -> Result<Form<'v>, ReadFault>
         ensures { Gives form_view result (spec.parts_of version (texts_view made.entry.items) (view value.now)) }
     {

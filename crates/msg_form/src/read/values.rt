@@ -8,10 +8,10 @@ ghost use Rattle.msg_form.specs.Gives.{Gives};
 ghost use Rattle.msg_form.specs.Json as spec;
 
 use crate::faults::ReadFault;
-use msg_json::Value;
+use msg_json::{Tree, Value};
 
 /// Asks for an object with so many keys.
-pub(super) fn keys(value: &Value, count: usize) -> Result<(), ReadFault>
+pub(super) fn keys(value: &Tree<'_, '_>, count: usize) -> Result<(), ReadFault>
     ensures { Gives (λ x. x) result (spec.only_if (has_keys count (view value.now))) }
 {
     if msg_json::has_keys(value, count) {
@@ -22,14 +22,17 @@ pub(super) fn keys(value: &Value, count: usize) -> Result<(), ReadFault>
 }
 
 /// The value at a key.
-pub(super) fn field<'a, 'v>(value: &'a Value<'v>, key: &str) -> Result<&'a Value<'v>, ReadFault>
+pub(super) fn field<'a, 'v, 'b>(
+    value: &'a Tree<'v, 'b>,
+    key: &str,
+) -> Result<&'a Tree<'v, 'b>, ReadFault>
     ensures { Gives (λ v. view v.now) result (get key.now (view value.now)) }
 {
     msg_json::get(value, key).ok_or(ReadFault::Shape)
 }
 
 /// The values of a list.
-pub(super) fn list<'a, 'v>(value: &'a Value<'v>) -> Result<&'a [Value<'v>], ReadFault>
+pub(super) fn list<'a, 'v, 'b>(value: &'a Tree<'v, 'b>) -> Result<&'a [Tree<'v, 'b>], ReadFault>
     ensures { Gives (λ vs. map view vs.now) result (spec.list_at (view value.now)) }
 {
     match value {
@@ -38,7 +41,7 @@ pub(super) fn list<'a, 'v>(value: &'a Value<'v>) -> Result<&'a [Value<'v>], Read
     }
 }
 
-pub(super) fn text<'v>(value: &Value<'v>) -> Result<&'v str, ReadFault>
+pub(super) fn text<'v>(value: &Tree<'v, '_>) -> Result<&'v str, ReadFault>
     ensures { Gives (λ s. s.now) result (as_str (view value.now)) }
 {
     match value {
@@ -49,7 +52,7 @@ pub(super) fn text<'v>(value: &Value<'v>) -> Result<&'v str, ReadFault>
 
 /// The name of a class, an object or an implementation.
 #[tactic(auto, unfolding(crate::specs::Json::name_of))]
-pub(super) fn name<'v>(value: &Value<'v>) -> Result<&'v str, ReadFault>
+pub(super) fn name<'v>(value: &Tree<'v, '_>) -> Result<&'v str, ReadFault>
     ensures { Gives (λ s. s.now) result (spec.name_of (view value.now)) }
 {
     match value {
@@ -59,13 +62,13 @@ pub(super) fn name<'v>(value: &Value<'v>) -> Result<&'v str, ReadFault>
 }
 
 #[tactic(auto, unfolding(crate::specs::Json::whole_of))]
-pub(super) fn whole(value: &Value) -> Result<i64, ReadFault>
+pub(super) fn whole(value: &Tree<'_, '_>) -> Result<i64, ReadFault>
     ensures { Gives (λ n. n) result (spec.whole_of (view value.now)) }
 {
     msg_json::whole(value).ok_or(ReadFault::Shape)
 }
 
-pub(super) fn truth(value: &Value) -> Result<bool, ReadFault>
+pub(super) fn truth(value: &Tree<'_, '_>) -> Result<bool, ReadFault>
     ensures { Gives (λ b. b) result (as_bool (view value.now)) }
 {
     match value {

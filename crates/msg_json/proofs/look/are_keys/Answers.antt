@@ -8,10 +8,10 @@ use Rattle.msg_json.proofs.look.are_keys.Goals as goal
 use Rattle.msg_json.proofs.look.are_keys.Goals.{then-not-is_among+else-keys-count, else-not-is_among}
 
 pub loop-index-init : goal.loop-index-init
-loop-index-init c = (no_members, (tt, refl, λ k. refl), omega arith, refl)
+loop-index-init g c = (no_members, (tt, refl, λ k. refl), omega arith, refl)
 
 pub returns-then-keys-count : goal.returns-then-keys-count
-returns-then-keys-count c =
+returns-then-keys-count g c =
     let members = c.args.members.now in
     let i = c.loop-index.index in
     let member = c.index-members-index.result in
@@ -26,12 +26,12 @@ below : {m n : ℕ} → m ≤ n → (m ≡ n → ⊥) → m + 1 ≤ n
 below le other = omega (arith, le, other)
 
 pub overflow_add-keys : goal.overflow_add-keys
-overflow_add-keys c =
+overflow_add-keys g c =
     let more = below c.loop-index.invariant.2 c.if-keys-count.false in
     omega (arith, more, c.ranges.count.fits)
 
 pub loop-index-preserved : goal.loop-index-preserved
-loop-index-preserved c =
+loop-index-preserved g c =
     let members = c.args.members.now in
     let i = c.loop-index.index in
     let member = c.index-members-index.result in

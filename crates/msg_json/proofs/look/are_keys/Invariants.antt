@@ -7,5 +7,5 @@ use Rattle.msg_json.proofs.look.are_keys.Given as goal
 
 -- the members so far have so many keys
 abbrev pub invariant-loop-index : goal.invariant-loop-index
-invariant-loop-index l =
+invariant-loop-index g l =
     (found : Members) × AreKeysOf (take l.index l.members) l.keys found × (l.keys ≤ l.count) × (members_data (members_view (drop l.index l.members)) found ≡ members_data (members_view l.members) no_members)

@@ -5,4 +5,4 @@ use Rattle.msg_json.proofs.ViewLemmas.{get-data_of, view_of_ref}
 use Rattle.msg_json.proofs.look.get.Goals as goal
 
 pub returns : goal.returns
-returns c = view_of_ref c.get.result ∙ ap (option_map data_of) c.get.ensures ∙ get-data_of c.args.key.now (value_view c.args.value.now)
+returns g c = view_of_ref c.get.result ∙ ap (option_map data_of) c.get.ensures ∙ get-data_of c.args.key.now (value_view c.args.value.now)
