@@ -65,7 +65,21 @@ impl BitSet {
         Some(from + rest.trailing_zeros() as usize)
     }
 
-    // The lowest number of the set from one up to another.
+    // The first word from one up to another that has a number of the set, or that other.
+    fn first_word(&self, from: usize, until: usize) -> usize
+        requires { (from ≤ until) × (64 * until < length self.now + 64) }
+        ensures within { (from ≤ result) × (result ≤ until) }
+        ensures empty { (a : ℕ) → 64 * from ≤ a → a < 64 * result → slice_index_or self.now a false ≡ false }
+    {
+        for word in from..until {
+            if self.words[word] != 0 {
+                return word;
+            }
+        }
+        until
+    }
+
+    // The lowest number of the set from one up to another. Past its first word, a word without one takes a load and a compare.
     pub(crate) fn first(&self, from: usize, until: usize) -> Option<usize>
         requires { until ≤ length self.now }
         ensures none { IfNone result ((a : ℕ) → from ≤ a → a < until → slice_index_or self.now a false ≡ false) }
@@ -76,7 +90,7 @@ impl BitSet {
             if let Some(found) = self.first_in_word(at) {
                 return if found < until { Some(found) } else { None };
             }
-            at = 64 * (at / 64 + 1);
+            at = 64 * self.first_word(at / 64 + 1, (until + 63) / 64);
         }
         None
     }

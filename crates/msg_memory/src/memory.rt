@@ -53,17 +53,16 @@ impl Noted {
         }
     }
 
-    // The implementation's number, where this is a note of that lookup; else 0. It is compared at once, without a jump: calls for C are short, and what a jump costs
-    // there depends on where the linker puts it.
+    // The implementation's number, where this is a note of that lookup; else 0. It is a product, so that LLVM makes no jump of it: calls for C are short, and what a
+    // jump costs there depends on where the linker puts it.
     #[inline(always)]
     #[tactic(auto, using(crate::proofs::MemoryLemmas::method_noted))]
     fn method(&self, count: u64, slot: usize, sel: u32) -> u32
         ensures recalled { result ≢ 0 → (h : History) → IsNoteOf h self.now → IsRecalled h count slot sel result }
         ensures answer { result ≡ found_by self.now count slot sel }
     {
-        let imp = self.imp;
         let is_of = (self.sel == sel) & (self.slot == slot) & (self.count == count);
-        if is_of { imp } else { 0 }
+        u32::from(is_of) * self.imp
     }
 
     // A note of a lookup after so many changes.
