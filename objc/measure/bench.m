@@ -8,7 +8,8 @@
 #include <string.h>
 #include <time.h>
 
-enum { MOST_WINDOWS = 51, STEPS = 20000, REPLACEMENTS = 200, MOST_THREADS = 16, OBJECTS = 64, CLASSES = 8, ORDER = 1024 };
+/* A thread sends for some tens of milliseconds: in less the kernel hasn't spread the threads over the processors. */
+enum { MOST_WINDOWS = 1001, CHANGE_WINDOWS = 51, STEPS = 20000, REPLACEMENTS = 200, MOST_THREADS = 16, OBJECTS = 64, CLASSES = 8, ORDER = 1024 };
 
 __attribute__((objc_root_class)) @interface Level0 { Class isa; }
 + (void)initialize;
@@ -135,6 +136,7 @@ int main(int count, char **words)
     pthread_t ids[MOST_THREADS];
     double least = 1e18;
     load = words[1];
+    if (!strncmp(load, "replace", 7)) windows = CHANGE_WINDOWS;
     if (count > 3) windows = atoi(words[3]);
     prepare();
     pthread_barrier_init(&barrier, NULL, (unsigned)threads);

@@ -27,12 +27,6 @@ module _ (words : List ℕ) (limit : ℕ) where
   pub are_members : (l : List Bool) → length l ≡ limit → ((a : ℕ) → a < limit → slice_index_or l a false ≡ (bit_of words a == 1)) → l ≡ members words limit
   are_members l long each = fill_by_all (λ a. bit_of words a == 1) l limit false long each
 
-  -- a word of no member
-  pub word_empty : (word : ℕ) → slice_index words word ≡ 0 → (a : ℕ) → 64 * word ≤ a → a < 64 * (word + 1) → slice_index_or (members words limit) a false ≡ false
-  word_empty word zero a low high =
-      let same : a / 64 ≡ word = omega arith in
-      member_not a ((λ i. bit_at (slice_index words (same i)) (a % 64)) ∙ ap (λ w. bit_at w (a % 64)) zero ∙ bit_at-zero (a % 64))
-
 -- all bits are 1
 pub all_members : (n limit : ℕ) → limit ≤ 64 * n → members (replicate n (2 ^ 64 - 1)) limit ≡ replicate limit true
 all_members n limit room = sym (are_members (replicate n (2 ^ 64 - 1)) limit (replicate limit true) (length-replicate limit true) (λ a lt.

@@ -15,6 +15,7 @@ use Rattle.atomic_table.specs.contracts.shared.Shared as Shared
 use Rattle.msg_cache.specs.contracts.arena.Arena as Arena
 use Rattle.msg_cache.specs.contracts.bit_set.BitSet as BitSet
 use Rattle.msg_cache.specs.contracts.keeper.Keeper as Keeper
+use Rattle.msg_cache.specs.contracts.layered_set.LayeredSet as LayeredSet
 use Rattle.msg_cache.specs.contracts.prober.Prober as Prober
 use Rattle.msg_cache.specs.contracts.standings.Standings as Standings
 
@@ -35,8 +36,11 @@ Right-sync T A g s f = record { shared = λ d b o ν q. part_keyless (Right.the_
 BitSet-send : IsSend BitSet.the_row
 BitSet-send = search (sendable, crosses) depth 20
 
+LayeredSet-send : IsSend LayeredSet.the_row
+LayeredSet-send = let b : IsSend BitSet.the_field.row = BitSet-send in search (sendable, crosses) depth 20
+
 Standings-send : IsSend Standings.the_row
-Standings-send = let b : IsSend BitSet.the_field.row = BitSet-send in search (sendable, crosses) depth 20
+Standings-send = let l : IsSend LayeredSet.the_field.row = LayeredSet-send in search (sendable, crosses) depth 20
 
 pub Keeper-send : IsSend Keeper.the_field.row
 Keeper-send = let s : IsSend Standings.the_field.row = Standings-send in search (sendable, crosses, Seat-send) depth 20

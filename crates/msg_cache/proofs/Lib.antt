@@ -10,6 +10,7 @@ pub mod FillLemmas
 pub mod GroupLemmas
 pub mod KeeperLemmas
 pub mod LawLemmas
+pub mod LayeredLemmas
 pub mod LayoutLemmas
 pub mod NoteLemmas
 pub mod OpeningLemmas

@@ -1,5 +1,5 @@
 -- What contracts see of a set of numbers.
-use Rattle.std.specs.Prelude.{ℕ, ◌*◌, ◌^◌, ◌/◌, ◌%◌, ◌==◌, ◌<◌, ◌≤◌, List, Bool, length, map, slice_index}
+use Rattle.std.specs.Prelude.{◌≡◌, ℕ, ◌*◌, ◌^◌, ◌/◌, ◌%◌, ◌==◌, ◌<◌, ◌≤◌, List, Bool, true, false, length, map, slice_index, slice_index_or}
 use Rattle.std.specs.Int.{bit_at}
 use Rattle.std.specs.List.{range_with_len}
 use Rattle.msg_cache.specs.declared.bit_set.BitSet.TheInside.{Inside}
@@ -20,3 +20,14 @@ set_view s = members s.words.items s.limit
 pub record IsBitSet (s : Inside) : Type 0 where
   pub room : s.limit ≤ 64 * length s.words.items
   pub few : s.limit < 2 ^ 32
+
+-- no number of the set from one up to another
+abbrev pub HasNone : List Bool → ℕ → ℕ → Type 0
+HasNone flags from until = (a : ℕ) → from ≤ a → a < until → slice_index_or flags a false ≡ false
+
+-- the lowest number of the set from one on
+pub record IsFirst (flags : List Bool) (from found : ℕ) : Type 0 where
+  pub low : from ≤ found
+  pub inside : found < length flags
+  pub is : slice_index_or flags found false ≡ true
+  pub none : HasNone flags from found

@@ -2,6 +2,7 @@ pub mod BitSet
 pub mod Config
 pub mod Inside
 pub mod Keeping
+pub mod LayeredSet
 pub mod Laws
 pub mod Layout
 pub mod Notes

@@ -1,6 +1,7 @@
 //! A set of numbers, as words of bits.
 
 ghost use Rattle.std.specs.Prelude.{◌≡◌, ◌/◌, ◌+◌, ◌*◌, ◌^◌, ◌<◌, ◌≤◌, ℕ, length, replicate, slice_index_or, slice_set, true, false, IfOk, IfSome, IfNone};
+ghost use Rattle.msg_cache.specs.BitSet.{HasNone, IsFirst};
 
 use std::alloc::{AllocError, Global};
 use std::marker::Model;
@@ -35,6 +36,13 @@ impl BitSet {
         Ok(BitSet { words, limit })
     }
 
+    // A number that it could have is below this.
+    pub(crate) fn limit(&self) -> usize
+        ensures { result ≡ length self.now }
+    {
+        self.limit
+    }
+
     // A number comes in.
     pub(crate) fn insert(&mut self, number: usize)
         requires { number < length self.old }
@@ -51,46 +59,37 @@ impl BitSet {
         self.words[number / 64] &= !(1 << (number % 64));
     }
 
-    // The lowest number of the set from one on, as far as its word goes. Past the limit it says nothing.
-    fn first_in_word(&self, from: usize) -> Option<usize>
+    // The lowest number of the set from one on, as far as its word goes.
+    pub(crate) fn first_in_word(&self, from: usize) -> Option<usize>
         requires { from < length self.now }
-        ensures none { IfNone result ((a : ℕ) → from ≤ a → a < 64 * (from / 64 + 1) → slice_index_or self.now a false ≡ false) }
-        ensures some { IfSome result (λ found. (from ≤ found) × (found < length self.now → slice_index_or self.now found false ≡ true) × ((a : ℕ) → from ≤ a → a < found → slice_index_or self.now a false ≡ false)) }
+        ensures none { IfNone result (HasNone self.now from (64 * (from / 64 + 1))) }
+        ensures some { IfSome result (IsFirst self.now from) }
+        ensures word { IfSome result (λ found. found / 64 ≡ from / 64) }
         ensures few { length self.now < 2 ^ 32 }
     {
         let rest = self.words[from / 64] >> (from % 64);
         if rest == 0 {
             return None;
         }
-        Some(from + rest.trailing_zeros() as usize)
-    }
-
-    // The first word from one up to another that has a number of the set, or that other.
-    fn first_word(&self, from: usize, until: usize) -> usize
-        requires { (from ≤ until) × (64 * until < length self.now + 64) }
-        ensures within { (from ≤ result) × (result ≤ until) }
-        ensures empty { (a : ℕ) → 64 * from ≤ a → a < 64 * result → slice_index_or self.now a false ≡ false }
-    {
-        for word in from..until {
-            if self.words[word] != 0 {
-                return word;
-            }
+        let found = from + rest.trailing_zeros() as usize;
+        if found < self.limit {
+            Some(found)
+        } else {
+            None
         }
-        until
     }
 
-    // The lowest number of the set from one up to another. Past its first word, a word without one takes a load and a compare.
-    pub(crate) fn first(&self, from: usize, until: usize) -> Option<usize>
-        requires { until ≤ length self.now }
-        ensures none { IfNone result ((a : ℕ) → from ≤ a → a < until → slice_index_or self.now a false ≡ false) }
-        ensures some { IfSome result (λ found. (from ≤ found) × (found < until) × (slice_index_or self.now found false ≡ true) × ((a : ℕ) → from ≤ a → a < found → slice_index_or self.now a false ≡ false)) }
+    // The lowest number of the set from one on. It looks at one word after another.
+    pub(crate) fn first_from(&self, from: usize) -> Option<usize>
+        ensures none { IfNone result (HasNone self.now from (length self.now)) }
+        ensures some { IfSome result (IsFirst self.now from) }
     {
         let mut at = from;
-        while at < until {
+        while at < self.limit {
             if let Some(found) = self.first_in_word(at) {
-                return if found < until { Some(found) } else { None };
+                return Some(found);
             }
-            at = 64 * self.first_word(at / 64 + 1, (until + 63) / 64);
+            at = 64 * (at / 64 + 1);
         }
         None
     }

@@ -10,6 +10,7 @@ mod filling;
 mod keeper;
 mod law;
 pub mod laws;
+mod layered_set;
 mod plays;
 mod prober;
 mod setting;

@@ -9,7 +9,7 @@ ghost use Rattle.msg_core.specs.Steps.{everyone};
 ghost use Rattle.msg_cache.specs.Keeping.{looked_by};
 ghost use Rattle.msg_cache.specs.Notes.{StandingsView, free, live, waiting, note_of, note_at, is_free_note, newly_freed};
 
-use crate::bit_set::BitSet;
+use crate::layered_set::LayeredSet;
 use msg_core::MAX_SENDERS;
 use std::alloc::{AllocError, Global};
 use std::collections::VecDeque;
@@ -22,7 +22,7 @@ use std::marker::Model;
 #[derive(Drop)]
 pub(crate) struct Standings {
     // which arrays are free
-    free: BitSet,
+    free: LayeredSet,
     // the retired arrays, oldest first
     queue: VecDeque<usize>,
     // how many of them, from the oldest on, are free and are to be taken out
@@ -97,7 +97,7 @@ impl Standings {
         ensures { IfOk result (λ s. s ≡ record { senders = senders; notes = replicate arrays free; ready = [] }) }
     {
         Ok(Standings {
-            free: BitSet::all(alloc, arrays)?,
+            free: LayeredSet::all(alloc, arrays)?,
             queue: VecDeque::with_capacity(alloc, arrays)?,
             ready: 0,
             cursors: [0; MAX_SENDERS],

@@ -14,7 +14,7 @@ use Rattle.msg_form.specs.Gives.{Fails}
 use Rattle.msg_form.specs.Shape.{form_of}
 use Rattle.msg_form.specs.Unread.{unread}
 use Rattle.msg_form.specs.Form.{Form}
-use Rattle.msg_image.specs.Answer.{IsJson, IsAnswer, IsRefused, Spells, judged, answer, most_bytes}
+use Rattle.msg_image.specs.Answer.{IsJson, IsAnswer, IsJudged, Spells, judged, answer, most_bytes}
 use Rattle.msg_image.specs.Items.{DocumentParts}
 
 pub answered : (bytes : List ℕ) (o : Option Data) (r : Result DocumentParts DocumentFault) → length bytes ≤ most_bytes → IsJson bytes o → answer o ≡ r → IsAnswer bytes r
@@ -30,13 +30,13 @@ answers-err bytes f (Ok x) le is h = tt
 answers-err bytes f (Err e) le is h = λ other. answered bytes (Some is.0) (Err e) le is.1 (ap judged is.2 ∙ h other)
 
 -- a value that spells no form, as the program tells it
-pub not_spelled : (bytes : List ℕ) (d : Data) (f : ReadFault) (e : DocumentFault) → IsJson bytes (Some d) → Fails f (form_of d) → e ≡ unread f → e ≢ Memory → IsRefused bytes e
+pub not_spelled : (bytes : List ℕ) (d : Data) (f : ReadFault) (e : DocumentFault) → IsJson bytes (Some d) → Fails f (form_of d) → e ≡ unread f → e ≢ Memory → IsJudged bytes (Err e)
 not_spelled bytes d reading.Memory e is none same other = absurd (other same)
-not_spelled bytes d reading.Shape e is none same other = (Some d, is, ap judged none ∙ ap Err (sym same))
+not_spelled bytes d reading.Shape e is none same other = (Some d, is, ap Err same ∙ sym (ap judged none))
 
 -- where there is no form
-pub refused : (bytes : List ℕ) (e : DocumentFault) → length bytes ≤ most_bytes → IsRefused bytes e → IsAnswer bytes (Err e)
-refused bytes e le is = answered bytes is.0 (Err e) le is.1 is.2
+pub refused : (bytes : List ℕ) (e : DocumentFault) → length bytes ≤ most_bytes → IsJudged bytes (Err e) → IsAnswer bytes (Err e)
+refused bytes e le is = answered bytes is.0 (Err e) le is.1 (sym is.2)
 
 same_value : (bytes : List ℕ) (o p : Option Data) → IsJson bytes o → IsJson bytes p → o ≡ p
 same_value bytes None None g h = refl

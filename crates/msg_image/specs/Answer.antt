@@ -33,9 +33,9 @@ answer (Some d) = judged (form_of d)
 abbrev pub Spells : List ℕ → Form → Type 0
 Spells bytes f = (d : Data) × IsJson bytes (Some d) × (form_of d ≡ Some f)
 
--- the bytes are refused before there is a form
-abbrev pub IsRefused : List ℕ → DocumentFault → Type 0
-IsRefused bytes e = (o : Option Data) × IsJson bytes o × (answer o ≡ Err e)
+-- the answer to bytes of any length
+abbrev pub IsJudged : List ℕ → Result DocumentParts DocumentFault → Type 0
+IsJudged bytes r = (o : Option Data) × IsJson bytes o × (r ≡ answer o)
 
 -- the length of the longest document
 abbrev pub most_bytes : ℕ
@@ -43,4 +43,4 @@ most_bytes = MOST_BYTES
 
 -- a text of more than the most bytes is too long, whatever it says
 abbrev pub IsAnswer : List ℕ → Result DocumentParts DocumentFault → Type 0
-IsAnswer bytes r = MatchBool (nat_lt most_bytes (length bytes)) (r ≡ Err Limit) ((o : Option Data) × IsJson bytes o × (r ≡ answer o))
+IsAnswer bytes r = MatchBool (nat_lt most_bytes (length bytes)) (r ≡ Err Limit) (IsJudged bytes r)

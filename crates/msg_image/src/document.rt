@@ -7,7 +7,7 @@ ghost use Rattle.msg_form.specs.Form.{Form};
 ghost use Rattle.msg_form.specs.FormNames.{AreNamesOf};
 ghost use Rattle.msg_form.specs.Views.{form_view};
 ghost use Rattle.msg_form.specs.declared.faults.DocumentFault.{DocumentFault};
-ghost use Rattle.msg_image.specs.Answer.{IsAnswer, IsJson, IsRefused, Spells, judged};
+ghost use Rattle.msg_image.specs.Answer.{IsAnswer, IsJson, IsJudged, Spells, judged};
 ghost use Rattle.msg_image.specs.Document.{document_of};
 ghost use Rattle.msg_image.specs.DocumentParts.{document_parts};
 ghost use Rattle.msg_image.specs.Items.{DocumentParts};
@@ -24,6 +24,9 @@ use std::alloc::{AllocError, Global};
 
 /// The longest document, in bytes.
 pub const MOST_BYTES: usize = 16_777_216;
+
+// So many bytes for each of a text hold the trees of most texts.
+const TREE_BYTES: usize = 16;
 
 /// An image, and what is to be sent and changed.
 #[derive(Drop)]
@@ -76,6 +79,14 @@ fn of_form(alloc: Global, form: &Form) -> Result<Document, DocumentFault>
     }
 }
 
+// Room for the tree of most texts, taken at once: then the list that grows last grows in place. Where so much can't be had, the arena begins small.
+fn arena(alloc: Global, bytes: &[u8]) -> Bump {
+    match Bump::try_with_capacity(alloc, bytes.len().saturating_mul(TREE_BYTES)) {
+        Ok(bump) => bump,
+        Err(_) => Bump::new(alloc),
+    }
+}
+
 // The form that a text spells. Its tree lies in a bump arena, and neither is kept beside what is made of the form.
 fn spelled<'t>(
     alloc: Global,
@@ -83,9 +94,9 @@ fn spelled<'t>(
     scratch: &'t mut Scratch,
 ) -> Result<Form<'t>, DocumentFault>
     ensures ok { IfOk result (λ f. Spells bytes.now (form_view f)) }
-    ensures err { IfErr result (λ e. e ≢ DocumentFault.Memory → IsRefused bytes.now e) }
+    ensures err { IfErr result (λ e. e ≢ DocumentFault.Memory → IsJudged bytes.now (Err e)) }
 {
-    let bump = Bump::new(alloc);
+    let bump = arena(alloc, bytes);
     let value = parsed(&bump, bytes, scratch)?;
     Ok(Form::read(alloc, &value)?)
 }

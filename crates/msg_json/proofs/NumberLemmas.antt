@@ -10,6 +10,7 @@ use Rattle.std.proofs.lemmas.Str.Parse.{IsNumeralModel, numerals_by_value, tells
 use Rattle.fast_float.specs.Text.{Parts, scan, text_of, IsWellFormed}
 use Rattle.serde_json.specs.Data.{unsigned}
 use Rattle.serde_json.specs.Read.{number_from, number_of}
+use Rattle.msg_json.specs.declared.numbers.TheConstants.{MOST_DIGITS}
 
 -- a numeral that is all of its whole part
 abbrev whole_alone : List ℕ → Parts
@@ -40,12 +41,12 @@ not_minus : (b : ℕ) → digit_value b < 10 → (b == 45) ≡ false
 not_minus b digit = ne_eqb b 45 (λ e. omega (arith, ap digit_value e, digit))
 
 -- a few digits always fit
-pub few_digits : (bs : List ℕ) → 0 < length bs → length bs ≤ 19 → all_ascii_digits bs ≡ true → is_some (number_of bs) ≡ true
+pub few_digits : (bs : List ℕ) → 0 < length bs → length bs ≤ MOST_DIGITS → all_ascii_digits bs ≡ true → is_some (number_of bs) ≡ true
 unfolding number_of
 few_digits [] some few all = absurd (omega arith)
 few_digits (b ∷ bs) some few all =
     let digits : AllDigits 10 (b ∷ bs) = model.to (b ∷ bs) all in
-    let small : digits_value 10 (b ∷ bs) < 10 ^ 19 = digits_value_short model (b ∷ bs) 19 all few in
+    let small : digits_value 10 (b ∷ bs) < 10 ^ MOST_DIGITS = digits_value_short model (b ∷ bs) MOST_DIGITS all few in
     let plain : (b == 45) ≡ false = not_minus b digits.0 in
     let is = number_from-digits (b ∷ bs) digits some (omega (arith, small)) in
     rw (plain, is) refl

@@ -29,10 +29,10 @@ returns-clause-some c = IfSome_then c.first.result c.first.ensures.some (λ foun
     let s = c.self.inside in
     let zero_ready : s.ready ≡ 0 = none_ready s.ready s.queue.items (ap (λ (v : StandingsView). v.ready) c.self.view_is ∙ c.requires.ready) c.self.invariant.ends in
     let long : c.args.until ≤ length s.free = omega (arith, c.requires.until, notes_length s.free s.queue.items s.ready s.senders s.cursors, ap (λ (v : StandingsView). length v.notes) c.self.view_is) in (
+      is.1.low,
       is.0,
-      is.1,
       ap (λ (v : StandingsView). is_free_note (note_at v.notes found)) (sym c.self.view_is)
-          ∙ ap is_free_note (notes_at s.free s.queue.items s.ready s.senders s.cursors found ∙ marked s.free s.queue.items s.ready s.senders s.cursors found (get_or_default s.free found true false (omega (arith, is.1)) ∙ is.2)),
+          ∙ ap is_free_note (notes_at s.free s.queue.items s.ready s.senders s.cursors found ∙ marked s.free s.queue.items s.ready s.senders s.cursors found (get_or_default s.free found true false (omega (arith, is.0)) ∙ is.1.is)),
       λ a low high. ap (λ (v : StandingsView). is_free_note (note_at v.notes a)) (sym c.self.view_is) ∙ ap is_free_note (notes_at s.free s.queue.items s.ready s.senders s.cursors a) ∙ ap (λ (p : ℕ). is_free_note (note_for s.free s.queue.items p s.senders s.cursors a)) zero_ready
-          ∙ unmarked_busy s.free s.queue.items s.senders s.cursors a (get_or_default s.free a true false (omega (arith, is.1)) ∙ is.3 a low high),
+          ∙ unmarked_busy s.free s.queue.items s.senders s.cursors a (get_or_default s.free a true false (omega (arith, is.0)) ∙ is.1.none a low high),
     ))
