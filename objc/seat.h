@@ -24,7 +24,11 @@ struct life {
 /* `life` is never NULL. */
 struct seat { _Alignas(LINE) msg_sender sender; struct life *life; };
 
-extern _Thread_local __attribute__((tls_model("initial-exec"))) struct seat *shim_seat;
+/* What is linked into programs alone may say local-exec, which takes an instruction less. */
+#ifndef SHIM_TLS
+#define SHIM_TLS "initial-exec"
+#endif
+extern _Thread_local __attribute__((tls_model(SHIM_TLS))) struct seat *shim_seat;
 
 /* What the calling thread's sender finds, by all changes that returned before; NULL is forwarding. */
 IMP shim_find(struct record *record, uint32_t sel);
