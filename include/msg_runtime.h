@@ -122,7 +122,7 @@ uint32_t msg_refresh(msg_sender *sender, uint64_t *count);
 }
 #endif
 
-/* ---- finding: a probe, and after a miss a fill under the lock ----
+/* ---- inline: recalling, and finding: a probe, and after a miss a fill under the lock ----
  *
  * The lock is a pthread mutex, or what MSG_LOCK, MSG_UNLOCK and MSG_LOCK_TYPE are defined as before this header is included.
  * With MSG_CHECK defined what can be tested of the trusted list is tested, by assert. */
@@ -139,6 +139,16 @@ uint32_t msg_refresh(msg_sender *sender, uint64_t *count);
 #else
 #define MSG_TEST(what) ((void)0)
 #endif
+
+/* msg_recall without a call, for where each instruction counts: what the note at the one place of slot and selector says. Trusted: this code. With MSG_CHECK
+ * each answer is compared with the proved one. */
+static inline uint32_t msg_recall_inline(const msg_sender *sender, size_t slot, uint32_t sel, uint64_t count)
+{
+    const msg_note *note = &sender->notes[((uint32_t)slot * 32 + sel) % MSG_NOTES];
+    bool is_of = note->sel == sel && note->slot == slot && note->count == count;
+    MSG_TEST((is_of ? note->imp : 0) == msg_recall(sender, slot, sel, count));
+    return is_of ? note->imp : 0;
+}
 
 /* objc_msg_lookup: the implementation's number, which is what a lookup finds at a point not before what the sender had seen. Trusted: this code, and the lock. */
 static inline uint32_t msg_find(msg_runtime *runtime, MSG_LOCK_TYPE *lock, msg_sender *sender, uint32_t number, bool meta, uint32_t sel, uint32_t *imp)

@@ -11,7 +11,7 @@ enum { MOST_IMPS = 4095, IMP_PLACES = 16384 };
 #define OVER UINT64_MAX
 
 /* `count`: how many changes were made or begun; sends go by it.
- * `classes`, `selectors` and `imps` are how many its document has, with those to spare; `functions` are numbered as it needs them.
+ * `classes`, `selectors` and `imps` are how many its document has, with those to spare; `functions` are numbered as it needs them; number 0 is forwarding, and NULL.
  * `users`: the senders of it that are out, and one while it is the current. */
 struct life {
     _Alignas(LINE) _Atomic(IMP) functions[MOST_IMPS + 1];
@@ -40,11 +40,11 @@ static inline IMP shim_function(struct life *life, uint32_t imp) { return atomic
 static inline bool shim_recall(Class class_, SEL sel, IMP *imp)
 {
     struct seat *seat = shim_seat;
-    struct life *life = seat->life, *volatile kept = life; /* on the stack, so that no register is saved for it; as in the callers */
+    struct life *life = seat->life;
     uint64_t count = atomic_load_explicit(&life->count, memory_order_acquire);
-    size_t number = msg_recall(&seat->sender, __atomic_load_n(&class_->slot, __ATOMIC_ACQUIRE), (uint32_t)sel->name.number, count);
+    uint32_t number = msg_recall_inline(&seat->sender, __atomic_load_n(&class_->slot, __ATOMIC_ACQUIRE), (uint32_t)sel->name.number, count);
     if (__builtin_expect(!number, 0)) return false;
-    *imp = atomic_load_explicit(&kept->functions[number], memory_order_acquire);
+    *imp = shim_function(life, number);
     return true;
 }
 

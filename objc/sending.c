@@ -75,11 +75,9 @@ static __attribute__((noinline, cold)) IMP find_slowly(id receiver, SEL sel) { r
 
 IMP objc_msg_lookup(id receiver, SEL sel)
 {
-    if (__builtin_expect(!receiver, 0)) return answer_nil;
-    id volatile asked = receiver;
-    SEL volatile with = sel;
     IMP imp;
-    return shim_recall(receiver->isa, sel, &imp) ? imp : find_slowly(asked, with);
+    if (__builtin_expect(!receiver, 0)) return answer_nil;
+    return shim_recall(receiver->isa, sel, &imp) ? imp : find_slowly(receiver, sel);
 }
 
 IMP objc_msg_lookup_super(struct objc_super *super_, SEL sel)

@@ -1,15 +1,16 @@
-/* bench LOAD THREADS [WINDOWS]: nanoseconds of one step, the least of the windows, each that of its slowest thread.
+/* bench LOAD THREADS: for each line of standard input a window, and how many nanoseconds one of its steps took on its slowest thread; so two programs take turns.
+ * bench LOAD THREADS WINDOWS: so many windows at once, of which nothing is told, for a count of instructions.
  * LOAD: own, inherited, mixed (objc_msg_lookup); class (a send to a class by name); on one thread, class_replaceMethod with the next send: replace, in a
  * class without subclasses, and replace_above, in one that has two. */
 #include "../calls.h"
 #include <pthread.h>
+#include <stdbool.h>
 #include <stdio.h>
 #include <stdlib.h>
 #include <string.h>
 #include <time.h>
 
-/* A thread sends for some tens of milliseconds: in less the kernel hasn't spread the threads over the processors. */
-enum { MOST_WINDOWS = 1001, CHANGE_WINDOWS = 51, STEPS = 20000, REPLACEMENTS = 200, MOST_THREADS = 16, OBJECTS = 64, CLASSES = 8, ORDER = 1024 };
+enum { STEPS = 20000, REPLACEMENTS = 200, MOST_THREADS = 16, OBJECTS = 64, CLASSES = 8, ORDER = 1024 };
 
 __attribute__((objc_root_class)) @interface Level0 { Class isa; }
 + (void)initialize;
@@ -41,8 +42,8 @@ LEVEL(Level7, Level2, fourth)
 static id objects[OBJECTS];
 static SEL sels[4];
 static struct { id object; SEL sel; } order[ORDER];
-static double times[MOST_THREADS][MOST_WINDOWS];
-static int windows = MOST_WINDOWS;
+static double times[MOST_THREADS];
+static bool over;
 static pthread_barrier_t barrier;
 static const char *load;
 
@@ -98,17 +99,29 @@ static uintptr_t step(void)
     return replace(strcmp(load, "replace") ? object : objects[5]);
 }
 
+/* What comes before a window wakes the thread, its processor and its caches. */
 static void *work(void *number)
 {
-    double *mine = times[(intptr_t)number];
-    uintptr_t sum = step();
-    for (int window = 0; window < windows; window++) {
+    uintptr_t sum = 0;
+    for (;;) {
+        pthread_barrier_wait(&barrier);
+        if (over) return (void *)sum;
+        sum += step();
         pthread_barrier_wait(&barrier);
         double begun = now();
         sum += step();
-        mine[window] = now() - begun;
+        times[(intptr_t)number] = now() - begun;
+        pthread_barrier_wait(&barrier);
     }
-    return (void *)sum;
+}
+
+static double window(int threads)
+{
+    double slowest = 0;
+    for (int i = 0; i < 3; i++) pthread_barrier_wait(&barrier);
+    for (int i = 0; i < threads; i++)
+        if (times[i] > slowest) slowest = times[i];
+    return slowest / (strncmp(load, "replace", 7) ? STEPS : REPLACEMENTS);
 }
 
 static void prepare(void)
@@ -133,21 +146,19 @@ static void prepare(void)
 int main(int count, char **words)
 {
     int threads = count > 2 ? atoi(words[2]) : 1;
+    int windows = count > 3 ? atoi(words[3]) : -1;
     pthread_t ids[MOST_THREADS];
-    double least = 1e18;
     load = words[1];
-    if (!strncmp(load, "replace", 7)) windows = CHANGE_WINDOWS;
-    if (count > 3) windows = atoi(words[3]);
     prepare();
-    pthread_barrier_init(&barrier, NULL, (unsigned)threads);
+    pthread_barrier_init(&barrier, NULL, (unsigned)threads + 1);
     for (intptr_t i = 0; i < threads; i++) pthread_create(&ids[i], NULL, work, (void *)i);
-    for (int i = 0; i < threads; i++) pthread_join(ids[i], NULL);
-    for (int window = 0; window < windows; window++) {
-        double slowest = 0;
-        for (int i = 0; i < threads; i++)
-            if (times[i][window] > slowest) slowest = times[i][window];
-        if (slowest < least) least = slowest;
+    while (windows > 0) window(threads), windows--;
+    while (windows < 0 && getchar() != EOF) {
+        printf("%.3f\n", window(threads));
+        fflush(stdout);
     }
-    printf("%.3f\n", least / (strncmp(load, "replace", 7) ? STEPS : REPLACEMENTS));
+    over = true;
+    pthread_barrier_wait(&barrier);
+    for (int i = 0; i < threads; i++) pthread_join(ids[i], NULL);
     return 0;
 }

@@ -56,7 +56,7 @@ static _Atomic(uint64_t) changes;
 static uint32_t send_recalled(msg_sender *sender, object *self, uint32_t sel)
 {
     uint64_t seen;
-    uint32_t imp = (uint32_t)msg_recall(sender, 2 * self->class_, sel, changes);
+    uint32_t imp = msg_recall_inline(sender, 2 * self->class_, sel, changes);
     if (imp) return methods[imp](self);
     want(msg_refresh(sender, &seen));
     return send(sender, self, sel);
