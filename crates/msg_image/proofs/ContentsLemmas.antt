@@ -15,8 +15,7 @@ use Rattle.msg_form.specs.Text.{Text}
 use Rattle.msg_form.specs.Walk.{texts_in, all_texts_in}
 use Rattle.msg_image.specs.Contents.{own_selector, selectors_in, all_selectors_in, arguments_in, all_arguments_in, has_super_send, have_super_send}
 use Rattle.msg_image.specs.Document.{constant, expression, expressions}
-use Rattle.msg_image.specs.Numbers.{selector_named}
-use Rattle.msg_image.specs.declared.numbers.Numbers.{Numbers}
+use Rattle.msg_image.specs.Numbers.{Numbers, selector_named}
 use Rattle.msg_image.proofs.NoneLemmas.{each-none}
 
 -- ---- selectors

@@ -11,8 +11,7 @@ use Rattle.msg_form.specs.Parts as inner
 use Rattle.msg_form.specs.Text.{Text, is_unknown}
 use Rattle.msg_form.specs.Walk.{texts_in, all_texts_in}
 use Rattle.msg_image.specs.Document.{constant, expression, expressions}
-use Rattle.msg_image.specs.Numbers.{class_named, object_named}
-use Rattle.msg_image.specs.declared.numbers.Numbers.{Numbers}
+use Rattle.msg_image.specs.Numbers.{Numbers, class_named, object_named}
 use Rattle.msg_image.specs.Parts.{class_total, ImageParts}
 use Rattle.msg_image.specs.Sizes.{count, count_all, depth, depth_all, arity}
 use Rattle.msg_image.specs.Sound.{IsOf, IsExpressionOf, AreExpressionsOf}

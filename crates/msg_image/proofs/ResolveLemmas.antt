@@ -3,8 +3,8 @@ use Rattle.std.proofs.Common.{◌≡◌, ◌≤◌, ◌++◌, ℕ, List, [], ◌
 use Rattle.std.proofs.lemmas.List.{drop_all, append-nil}
 use Rattle.std.proofs.lemmas.Simd.{map-map}
 use Rattle.msg_form.specs.Expression as form
+use Rattle.msg_image.specs.Numbers.{Numbers}
 use Rattle.msg_image.specs.Document.{expression, expressions}
-use Rattle.msg_image.specs.declared.numbers.Numbers.{Numbers}
 use Rattle.msg_image.specs.Parts.{Expression, More, in_row}
 
 pub expressions-row : (n : Numbers) (es : List form.Expression) → expressions n (form.expressions es) ≡ in_row (map (expression n) es)

@@ -28,8 +28,7 @@ use Rattle.msg_image.specs.Contents.{selectors_in, arguments_in, has_super_send}
 use Rattle.msg_image.specs.Document as spec
 use Rattle.msg_image.specs.Document.{expression}
 use Rattle.msg_image.specs.declared.image.Category.{Category}
-use Rattle.msg_image.specs.declared.numbers.Numbers.{Numbers}
-use Rattle.msg_image.specs.Numbers.{numbers_of, selector_named, class_named, object_named, imp_named}
+use Rattle.msg_image.specs.Numbers.{Numbers, numbers_of, selector_named, class_named, object_named, imp_named}
 use Rattle.msg_image.specs.Parts.{class_total, ImageParts, ClassParts, ObjectParts, superclass_in, superclasses}
 use Rattle.msg_image.specs.Sound.{IsSound, IsSoundClass, IsSoundCategory, IsSoundImp, IsMethodOf, AreListed, HasSelector, row_count}
 use Rattle.msg_image.proofs.ExpressionLemmas.{AreGood, names_unknown_class, names_unknown_object, sends_miscounted, is_bad, count-expression, depth-expression, expression_of_image}

@@ -11,9 +11,8 @@ use Rattle.msg_form.specs.Form.{PairForm, ClassForm, CategoryForm, ObjectForm, I
 use Rattle.msg_image.specs.declared.change.Change.{Change}
 use Rattle.msg_image.specs.declared.change.Change.TheVariants as changes
 use Rattle.msg_image.specs.declared.image.Category.{Category}
-use Rattle.msg_image.specs.declared.numbers.Numbers.{Numbers}
 use Rattle.msg_image.specs.Items.{ItemParts, SendItem, ChangeItem, DocumentParts}
-use Rattle.msg_image.specs.Numbers.{numbers_of, selector_named, class_named, object_named, imp_named}
+use Rattle.msg_image.specs.Numbers.{Numbers, numbers_of, selector_named, class_named, object_named, imp_named}
 use Rattle.msg_image.specs.Parts.{Op, Add, Sub, Mul, Eq, Lt, Expression, Expressions, Const, Me, Arg, Two, If, Send, Super, NoMore, More, ClassParts, ObjectParts, ImpParts, ImageParts}
 
 -- ---- expressions

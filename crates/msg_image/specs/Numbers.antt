@@ -1,5 +1,5 @@
 -- The numbers that a document's names get, and what the names stand for.
-use Rattle.std.specs.Prelude.{ℕ, ◌-◌, unwrap_or}
+use Rattle.std.specs.Prelude.{ℕ, ◌-◌, List, unwrap_or}
 use Rattle.msg_names.specs.Number.{selector_of, imp_ref_of}
 use Rattle.msg_names.specs.Numbering.{number_of}
 use Rattle.msg_names.specs.declared.value.ImpRef.{ImpRef}
@@ -10,7 +10,14 @@ use Rattle.msg_form.specs.declared.form_names.FormNames.{FormNames}
 use Rattle.msg_form.specs.Lists.{class_names, object_names, imp_names}
 use Rattle.msg_form.specs.Text.{Text, distinct}
 use Rattle.msg_form.specs.Walk.{selector_texts}
-use Rattle.msg_image.specs.declared.numbers.Numbers.{Numbers}
+
+-- Names in the order of their numbers, each once.
+pub record Numbers : Type 0 where
+  pub selectors : List Text
+  -- the listed classes, and after them those that may be made
+  pub classes : List Text
+  pub objects : List Text
+  pub imps : List Text
 
 -- Selectors are numbered as the walk meets them. Where no two classes, objects or implementations have one name, they are numbered as they are listed, and the classes that may be made after the listed ones.
 abbrev pub numbers_of : Form → Numbers
@@ -23,7 +30,7 @@ numbers_of f = record {
 
 -- the numbers that a form's names have
 abbrev pub numbers_by : FormNames → Numbers
-numbers_by n = record { selectors = distinct n.selectors; classes = n.classes; objects = n.objects; imps = n.imps }
+numbers_by n = record { selectors = n.selectors; classes = n.classes; objects = n.objects; imps = n.imps }
 
 -- A name that is none of the names would stand for the first, or for forwarding; a document without fault has no such name.
 unfoldable pub selector_named : Numbers → Text → Selector

@@ -16,7 +16,6 @@ ghost use Rattle.msg_image.specs.Sound.{IsSoundItem};
 
 use crate::change::Item;
 use crate::image::Image;
-use crate::numbers::Numbers;
 use crate::resolve::each;
 use msg_form::{DocumentFault, Form, FormNames, MAX_ITEMS};
 use msg_json::{Bump, JsonFault, Scratch, Tree};
@@ -51,17 +50,30 @@ fn parsed<'t, 'b>(
 }
 
 // The document of a form without fault.
-fn numbered(alloc: Global, form: &Form, names: FormNames) -> Result<Document, AllocError>
+fn numbered(alloc: Global, form: &Form, names: &FormNames) -> Result<Document, AllocError>
     requires fault { fault_of (form_view form.now) ≡ None }
-    requires names { AreNamesOf names (form_view form.now) }
+    requires names { AreNamesOf names.now (form_view form.now) }
     ensures document { IfOk result (λ d. document_parts d ≡ document_of (form_view form.now)) }
     ensures sound { IfOk result (λ d. All (IsSoundItem d.image) (map item_parts d.items.items)) }
     ensures few { IfOk result (λ d. length d.items.items ≤ MAX_ITEMS) }
 {
-    let numbers = Numbers::of(alloc, names)?;
-    let items = each(alloc, &numbers, &form.items)?;
-    let image = Image::of(alloc, form, numbers)?;
+    let items = each(alloc, names, &form.items)?;
+    let image = Image::of(alloc, form, names)?;
     Ok(Document { image, items })
+}
+
+// The document of a form, or the form's least fault, by the form's names.
+fn by_names(alloc: Global, form: &Form, names: &FormNames) -> Result<Document, DocumentFault>
+    requires { AreNamesOf names.now (form_view form.now) }
+    ensures ok { IfOk result (λ d. judged (Some (form_view form.now)) ≡ Ok (document_parts d)) }
+    ensures err { IfErr result (λ e. e ≢ DocumentFault.Memory → judged (Some (form_view form.now)) ≡ Err e) }
+    ensures sound { IfOk result (λ d. All (IsSoundItem d.image) (map item_parts d.items.items)) }
+    ensures few { IfOk result (λ d. length d.items.items ≤ MAX_ITEMS) }
+{
+    match msg_form::fault_by(alloc, form, names)? {
+        Some(fault) => Err(fault),
+        None => Ok(numbered(alloc, form, names)?),
+    }
 }
 
 // The document of a form, or the form's least fault.
@@ -72,11 +84,7 @@ fn of_form(alloc: Global, form: &Form) -> Result<Document, DocumentFault>
     ensures few { IfOk result (λ d. length d.items.items ≤ MAX_ITEMS) }
 {
     let names = FormNames::of(alloc, form)?;
-    let least = msg_form::fault_by(alloc, form, &names)?;
-    match least {
-        Some(fault) => Err(fault),
-        None => Ok(numbered(alloc, form, names)?),
-    }
+    by_names(alloc, form, &names)
 }
 
 // Room for the tree of most texts, taken at once: then the list that grows last grows in place. Where so much can't be had, the arena begins small.

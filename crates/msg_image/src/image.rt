@@ -1,19 +1,23 @@
 //! The image.
 
-ghost use Rattle.std.specs.Prelude.{◌≡◌, ◌<◌, ◌≤◌, ◌-◌, false, length, map, suc, slice_get, slice_index_or, All, None, Some, IfSome, IfOk, option_map};
+ghost use Rattle.std.specs.Prelude.{◌≡◌, ◌<◌, ◌≤◌, ◌-◌, false, length, map, suc, slice_get, slice_index_or, string_bytes, All, None, Some, IfSome, IfOk, option_map};
 ghost use Rattle.std.specs.Option.{option_map_or};
 ghost use Rattle.msg_order.specs.Superclasses.{AreListed as AreClasses, depth_of, has_cycle};
 ghost use Rattle.msg_form.specs.Faults.{fault_of};
-ghost use Rattle.msg_form.specs.Views.{form_view};
+ghost use Rattle.msg_form.specs.FormNames.{AreNamesOf};
+ghost use Rattle.msg_form.specs.Text.{texts_view};
+ghost use Rattle.msg_form.specs.Views.{category_view, class_view, form_view, imp_view, object_view};
+ghost use Rattle.msg_image.specs.Document as spec;
 ghost use Rattle.msg_image.specs.Document.{image_of};
-ghost use Rattle.msg_image.specs.Numbers.{numbers_of};
+ghost use Rattle.msg_image.specs.Numbers.{numbers_by};
+ghost use Rattle.msg_image.specs.Plain.{class_parts, imp_parts, object_parts};
 ghost use Rattle.msg_names.specs.Number.{selector_number, imp_number};
 
 use crate::expr::Expr;
 use crate::methods::MethodList;
-use crate::numbers::{Numbers, forwarding_selector};
+use crate::numbers::{forwarding_selector, selector_names};
 use crate::resolve::each;
-use msg_form::{Form, MAX_CLASSES};
+use msg_form::{Form, FormNames, MAX_CLASSES};
 use msg_names::{ClassRef, ImpRef, Names, ObjectRef, Selector};
 use std::alloc::{AllocError, Global};
 use std::marker::Model;
@@ -97,20 +101,61 @@ fn superclass_count(classes: &[Class], class: u32) -> u32
     depth
 }
 
+// The classes of an image: a part of it that is made by itself, as is what stands for the rest, since where memory is wanted each function gives back what it has made.
+#[derive(Drop)]
+struct Classes {
+    listed: Vec<Class>,
+    made: Vec<String>,
+}
+
+fn classes_of(alloc: Global, form: &Form, names: &FormNames) -> Result<Classes, AllocError>
+    ensures listed { IfOk result (λ c. map class_parts c.listed.items ≡ map (λ c. spec.class (numbers_by names.now) (class_view c)) form.now.classes.items) }
+    ensures made { IfOk result (λ c. map string_bytes c.made.items ≡ texts_view form.now.made.items) }
+{
+    let listed = each(alloc, names, &form.classes)?;
+    let made = each(alloc, names, &form.made)?;
+    Ok(Classes { listed, made })
+}
+
+#[derive(Drop)]
+struct Members {
+    categories: Vec<Category>,
+    objects: Vec<Object>,
+    imps: Vec<Imp>,
+}
+
+fn members_of(alloc: Global, form: &Form, names: &FormNames) -> Result<Members, AllocError>
+    ensures categories { IfOk result (λ m. m.categories.items ≡ map (λ c. spec.category (numbers_by names.now) (category_view c)) form.now.categories.items) }
+    ensures objects { IfOk result (λ m. map object_parts m.objects.items ≡ map (λ o. spec.object (numbers_by names.now) (object_view o)) form.now.objects.items) }
+    ensures imps { IfOk result (λ m. map imp_parts m.imps.items ≡ map (λ i. spec.imp (numbers_by names.now) (imp_view i)) form.now.imps.items) }
+{
+    let categories = each(alloc, names, &form.categories)?;
+    let objects = each(alloc, names, &form.objects)?;
+    let imps = each(alloc, names, &form.imps)?;
+    Ok(Members {
+        categories,
+        objects,
+        imps,
+    })
+}
+
 impl Image {
     // The image of a form without fault.
-    pub(crate) fn of(alloc: Global, form: &Form, numbers: Numbers) -> Result<Image, AllocError>
+    pub(crate) fn of(alloc: Global, form: &Form, names: &FormNames) -> Result<Image, AllocError>
         requires fault { fault_of (form_view form.now) ≡ None }
-        requires numbers { numbers ≡ numbers_of (form_view form.now) }
+        requires names { AreNamesOf names.now (form_view form.now) }
         ensures { IfOk result (λ i. i ≡ image_of (form_view form.now)) }
     {
+        let classes = classes_of(alloc, form, names)?;
+        let members = members_of(alloc, form, names)?;
+        let selectors = selector_names(alloc, names.selectors.as_slice())?;
         Ok(Image {
-            classes: each(alloc, &numbers, &form.classes)?,
-            made: each(alloc, &numbers, &form.made)?,
-            categories: each(alloc, &numbers, &form.categories)?,
-            objects: each(alloc, &numbers, &form.objects)?,
-            imps: each(alloc, &numbers, &form.imps)?,
-            names: numbers.selectors,
+            names: selectors,
+            classes: classes.listed,
+            made: classes.made,
+            categories: members.categories,
+            objects: members.objects,
+            imps: members.imps,
         })
     }
 

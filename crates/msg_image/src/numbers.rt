@@ -5,7 +5,7 @@ ghost use Rattle.msg_form.specs.Text.{distinct, texts_view};
 ghost use Rattle.msg_image.specs.Numbers as spec;
 ghost use Rattle.msg_image.specs.Parts.{forwarding_selector};
 
-use msg_form::{FormNames, NameSet};
+use msg_form::FormNames;
 use msg_names::{ImpRef, Names, ObjectRef, Selector};
 use std::alloc::{AllocError, Global};
 
@@ -16,17 +16,8 @@ pub(crate) fn forwarding_selector() -> Selector
     Selector::of(1).unwrap()
 }
 
-// Names in the order of their numbers.
-#[derive(Drop)]
-pub(crate) struct Numbers<'v> {
-    pub(crate) selectors: Names,
-    pub(crate) classes: NameSet<'v>,
-    pub(crate) objects: NameSet<'v>,
-    pub(crate) imps: NameSet<'v>,
-}
-
-// The names of selectors, numbered.
-fn selector_names(alloc: Global, texts: &[&str]) -> Result<Names, AllocError>
+// The names of selectors, numbered. They are copied, since they stay; those of a form without fault are few enough, and good.
+pub(crate) fn selector_names(alloc: Global, texts: &[&str]) -> Result<Names, AllocError>
     ensures { IfOk result (λ names. names ≡ distinct (texts_view texts.now)) }
 {
     let mut names = Names::new(alloc);
@@ -38,46 +29,33 @@ fn selector_names(alloc: Global, texts: &[&str]) -> Result<Names, AllocError>
     Ok(names)
 }
 
-impl<'v> Numbers<'v> {
-    // The names of selectors are copied, since they stay. Those of a form without fault are few enough, and good.
-    pub(crate) fn of(alloc: Global, names: FormNames<'v>) -> Result<Numbers<'v>, AllocError>
-        ensures { IfOk result (λ numbers. numbers ≡ spec.numbers_by names.entry) }
-    {
-        Ok(Numbers {
-            selectors: selector_names(alloc, names.selectors.as_slice())?,
-            classes: names.classes,
-            objects: names.objects,
-            imps: names.imps,
-        })
-    }
+#[tactic(auto, unfolding(crate::specs::Numbers::selector_named))]
+pub(crate) fn selector_named(names: &FormNames, text: &str) -> Selector
+    ensures { result ≡ spec.selector_named (spec.numbers_by names.now) text.now }
+{
+    let number = names.selectors.number(text).unwrap_or(1);
+    Selector::of(number).unwrap_or(forwarding_selector())
+}
 
-    #[tactic(auto, unfolding(crate::specs::Numbers::selector_named))]
-    pub(crate) fn selector(&self, text: &str) -> Selector
-        ensures { result ≡ spec.selector_named self.now text.now }
-    {
-        self.selectors.find(text).unwrap_or(forwarding_selector())
-    }
+#[tactic(auto, unfolding(crate::specs::Numbers::class_named))]
+pub(crate) fn class_named(names: &FormNames, name: &str) -> u32
+    ensures { result ≡ spec.class_named (spec.numbers_by names.now) name.now }
+{
+    names.classes.number(name).unwrap_or(1).saturating_sub(1)
+}
 
-    #[tactic(auto, unfolding(crate::specs::Numbers::class_named))]
-    pub(crate) fn class(&self, name: &str) -> u32
-        ensures { result ≡ spec.class_named self.now name.now }
-    {
-        self.classes.number(name).unwrap_or(1).saturating_sub(1)
+#[tactic(auto, unfolding(crate::specs::Numbers::object_named))]
+pub(crate) fn object_named(names: &FormNames, name: &str) -> ObjectRef
+    ensures { result ≡ spec.object_named (spec.numbers_by names.now) name.now }
+{
+    ObjectRef {
+        object: names.objects.number(name).unwrap_or(1).saturating_sub(1),
     }
+}
 
-    #[tactic(auto, unfolding(crate::specs::Numbers::object_named))]
-    pub(crate) fn object(&self, name: &str) -> ObjectRef
-        ensures { result ≡ spec.object_named self.now name.now }
-    {
-        ObjectRef {
-            object: self.objects.number(name).unwrap_or(1).saturating_sub(1),
-        }
-    }
-
-    #[tactic(auto, unfolding(crate::specs::Numbers::imp_named))]
-    pub(crate) fn imp(&self, name: &str) -> ImpRef
-        ensures { result ≡ spec.imp_named self.now name.now }
-    {
-        ImpRef::of(self.imps.number(name).unwrap_or(0))
-    }
+#[tactic(auto, unfolding(crate::specs::Numbers::imp_named))]
+pub(crate) fn imp_named(names: &FormNames, name: &str) -> ImpRef
+    ensures { result ≡ spec.imp_named (spec.numbers_by names.now) name.now }
+{
+    ImpRef::of(names.imps.number(name).unwrap_or(0))
 }

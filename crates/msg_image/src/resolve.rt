@@ -6,19 +6,19 @@ ghost use Rattle.msg_form.specs.ExprView.{constant_view, expr_view};
 ghost use Rattle.msg_form.specs.Views.{pairs_view, class_view, category_view, object_view, imp_view, method_view, change_view, item_view};
 ghost use Rattle.msg_image.specs.Document as spec;
 ghost use Rattle.msg_image.specs.Numbers as named;
+ghost use Rattle.msg_image.specs.Numbers.{Numbers, numbers_by};
 ghost use Rattle.msg_image.specs.Items.{ItemParts};
 ghost use Rattle.msg_image.specs.Parts.{Two, ClassParts, ObjectParts, ImpParts};
 ghost use Rattle.msg_image.specs.Plain.{plain, plain_all, class_parts, object_parts, imp_parts, item_parts};
 ghost use Rattle.msg_image.specs.declared.image.Category.{Category};
-ghost use Rattle.msg_image.specs.declared.numbers.Numbers.{Numbers};
 
 use crate::change::{Change, Item};
 use crate::expr::Expr;
 use crate::image::{Category, Class, Imp, Object};
 use crate::methods::MethodList;
-use crate::numbers::Numbers;
+use crate::numbers::{class_named, imp_named, object_named, selector_named};
 use arrayvec::ArrayVec;
-use msg_form::{self as form, Constant, MethodName, Operator, Pair};
+use msg_form::{self as form, Constant, FormNames, MethodName, Operator, Pair};
 use msg_names::{ClassRef, Value};
 use std::alloc::{AllocError, Global};
 
@@ -32,33 +32,33 @@ trait Resolve<F>: Sized + Drop {
     // What a part of a form stands for.
     ghost meaning: { Numbers → F → Plain };
 
-    fn resolve(alloc: Global, numbers: &Numbers, form: &F) -> Result<Self, AllocError>
-        ensures { IfOk result (λ part. parts part ≡ meaning numbers.now form.now) };
+    fn resolve(alloc: Global, names: &FormNames, form: &F) -> Result<Self, AllocError>
+        ensures { IfOk result (λ part. parts part ≡ meaning (numbers_by names.now) form.now) };
 }
 
 pub(crate) fn each<F, T: Resolve<F>>(
     alloc: Global,
-    numbers: &Numbers,
+    names: &FormNames,
     forms: &[F],
 ) -> Result<Vec<T>, AllocError>
-    ensures { IfOk result (λ found. map T.parts found.items ≡ map (T.meaning numbers.now) forms.now) }
+    ensures { IfOk result (λ found. map T.parts found.items ≡ map (T.meaning (numbers_by names.now)) forms.now) }
 {
     let mut found = Vec::with_capacity(alloc, forms.len())?;
     for form in forms {
-        found.push(T::resolve(alloc, numbers, form)?)?;
+        found.push(T::resolve(alloc, names, form)?)?;
     }
     Ok(found)
 }
 
-fn value(numbers: &Numbers, constant: &Constant) -> Value
-    ensures { result ≡ spec.constant numbers.now (constant_view constant.now) }
+fn value(names: &FormNames, constant: &Constant) -> Value
+    ensures { result ≡ spec.constant (numbers_by names.now) (constant_view constant.now) }
 {
     match constant {
         Constant::Whole(number) => Value::Number(*number),
         Constant::Nil => Value::Nil,
-        Constant::Object(name) => Value::Object(numbers.object(name)),
-        Constant::Class(name) => Value::Class(numbers.class(name)),
-        Constant::Selector(text) => Value::Sel(numbers.selector(text)),
+        Constant::Object(name) => Value::Object(object_named(names, name)),
+        Constant::Class(name) => Value::Class(class_named(names, name)),
+        Constant::Selector(text) => Value::Sel(selector_named(names, text)),
     }
 }
 
@@ -75,61 +75,64 @@ fn binary(operator: Operator, left: Box<Expr>, right: Box<Expr>) -> Expr
 }
 
 #[cycle(expr)]
-fn expr(alloc: Global, numbers: &Numbers, form: &form::Expr) -> Result<Expr, AllocError>
-    ensures { IfOk result (λ e. plain e ≡ spec.expression numbers.now (expr_view form.now)) }
+fn expr(alloc: Global, names: &FormNames, form: &form::Expr) -> Result<Expr, AllocError>
+    ensures { IfOk result (λ e. plain e ≡ spec.expression (numbers_by names.now) (expr_view form.now)) }
 {
     match form {
-        form::Expr::Const(constant) => Ok(Expr::Const(value(numbers, constant))),
+        form::Expr::Const(constant) => Ok(Expr::Const(value(names, constant))),
         form::Expr::Me => Ok(Expr::Me),
         form::Expr::Arg(place) => Ok(Expr::Arg((*place).min(255) as u8)),
         form::Expr::Binary(parts) => {
-            let left = Box::new(alloc, expr(alloc, numbers, &parts.left)?)?;
-            let right = Box::new(alloc, expr(alloc, numbers, &parts.right)?)?;
+            let left = Box::new(alloc, expr(alloc, names, &parts.left)?)?;
+            let right = Box::new(alloc, expr(alloc, names, &parts.right)?)?;
             Ok(binary(parts.operator, left, right))
         }
         form::Expr::If(parts) => {
-            let condition = Box::new(alloc, expr(alloc, numbers, &parts.condition)?)?;
-            let then = Box::new(alloc, expr(alloc, numbers, &parts.then)?)?;
-            let otherwise = Box::new(alloc, expr(alloc, numbers, &parts.otherwise)?)?;
+            let condition = Box::new(alloc, expr(alloc, names, &parts.condition)?)?;
+            let then = Box::new(alloc, expr(alloc, names, &parts.then)?)?;
+            let otherwise = Box::new(alloc, expr(alloc, names, &parts.otherwise)?)?;
             Ok(Expr::If(condition, then, otherwise))
         }
         form::Expr::Send(send) => {
-            let receiver = Box::new(alloc, expr(alloc, numbers, &send.receiver)?)?;
-            let args = exprs(alloc, numbers, &send.args)?;
-            Ok(Expr::Send(receiver, numbers.selector(send.selector), args))
+            let receiver = Box::new(alloc, expr(alloc, names, &send.receiver)?)?;
+            let args = exprs(alloc, names, &send.args)?;
+            Ok(Expr::Send(receiver, selector_named(names, send.selector), args))
         }
         form::Expr::Super(send) => {
-            let args = exprs(alloc, numbers, &send.args)?;
-            Ok(Expr::Super(numbers.selector(send.selector), args))
+            let args = exprs(alloc, names, &send.args)?;
+            Ok(Expr::Super(selector_named(names, send.selector), args))
         }
     }
 }
 
 #[cycle(expr)]
-fn exprs(alloc: Global, numbers: &Numbers, forms: &[form::Expr]) -> Result<Vec<Expr>, AllocError>
-    ensures { IfOk result (λ found. plain_all found.items ≡ spec.expressions numbers.now (form.expressions (map expr_view forms.now))) }
+fn exprs(alloc: Global, names: &FormNames, forms: &[form::Expr]) -> Result<Vec<Expr>, AllocError>
+    ensures { IfOk result (λ found. plain_all found.items ≡ spec.expressions (numbers_by names.now) (form.expressions (map expr_view forms.now))) }
 {
     let mut found = Vec::with_capacity(alloc, forms.len())?;
     for form in forms {
-        found.push(expr(alloc, numbers, form)?)?;
+        found.push(expr(alloc, names, form)?)?;
     }
     Ok(found)
 }
 
-fn methods(alloc: Global, numbers: &Numbers, pairs: &[Pair]) -> Result<MethodList, AllocError>
-    ensures { IfOk result (λ list. list ≡ spec.methods numbers.now (pairs_view pairs.now)) }
+fn methods(alloc: Global, names: &FormNames, pairs: &[Pair]) -> Result<MethodList, AllocError>
+    ensures { IfOk result (λ list. list ≡ spec.methods (numbers_by names.now) (pairs_view pairs.now)) }
 {
     let mut found = Vec::with_capacity(alloc, pairs.len())?;
     for pair in pairs {
-        found.push((numbers.selector(pair.selector), numbers.imp(pair.imp)))?;
+        found.push((
+            selector_named(names, pair.selector),
+            imp_named(names, pair.imp),
+        ))?;
     }
     Ok(MethodList::new(found))
 }
 
-fn superclass(numbers: &Numbers, name: Option<&str>) -> Option<u32>
-    ensures { result ≡ option_map (named.class_named numbers.now) (option_map (λ s. s.now) name.entry) }
+fn superclass(names: &FormNames, name: Option<&str>) -> Option<u32>
+    ensures { result ≡ option_map (named.class_named (numbers_by names.now)) (option_map (λ s. s.now) name.entry) }
 {
-    Some(numbers.class(name?))
+    Some(class_named(names, name?))
 }
 
 impl<'v> Resolve<&'v str> for String {
@@ -139,7 +142,7 @@ impl<'v> Resolve<&'v str> for String {
 
     ghost meaning = { λ _ name. name.now };
 
-    fn resolve(alloc: Global, _numbers: &Numbers, name: &&'v str) -> Result<String, AllocError> {
+    fn resolve(alloc: Global, _names: &FormNames, name: &&'v str) -> Result<String, AllocError> {
         String::from_str(alloc, *name)
     }
 }
@@ -153,14 +156,14 @@ impl<'v> Resolve<form::Class<'v>> for Class {
 
     fn resolve(
         alloc: Global,
-        numbers: &Numbers,
+        names: &FormNames,
         class: &form::Class<'v>,
     ) -> Result<Class, AllocError> {
         Ok(Class {
             name: String::from_str(alloc, class.name)?,
-            superclass: superclass(numbers, class.superclass),
-            methods: methods(alloc, numbers, &class.methods)?,
-            class_methods: methods(alloc, numbers, &class.class_methods)?,
+            superclass: superclass(names, class.superclass),
+            methods: methods(alloc, names, &class.methods)?,
+            class_methods: methods(alloc, names, &class.class_methods)?,
         })
     }
 }
@@ -174,13 +177,13 @@ impl<'v> Resolve<form::Category<'v>> for Category {
 
     fn resolve(
         alloc: Global,
-        numbers: &Numbers,
+        names: &FormNames,
         category: &form::Category<'v>,
     ) -> Result<Category, AllocError> {
         Ok(Category {
-            class: numbers.class(category.class),
-            methods: methods(alloc, numbers, &category.methods)?,
-            class_methods: methods(alloc, numbers, &category.class_methods)?,
+            class: class_named(names, category.class),
+            methods: methods(alloc, names, &category.methods)?,
+            class_methods: methods(alloc, names, &category.class_methods)?,
         })
     }
 }
@@ -194,12 +197,12 @@ impl<'v> Resolve<form::Object<'v>> for Object {
 
     fn resolve(
         alloc: Global,
-        numbers: &Numbers,
+        names: &FormNames,
         object: &form::Object<'v>,
     ) -> Result<Object, AllocError> {
         Ok(Object {
             name: String::from_str(alloc, object.name)?,
-            class: numbers.class(object.class),
+            class: class_named(names, object.class),
         })
     }
 }
@@ -211,78 +214,78 @@ impl<'v> Resolve<form::Imp<'v>> for Imp {
 
     ghost meaning = { λ numbers imp. spec.imp numbers (imp_view imp) };
 
-    fn resolve(alloc: Global, numbers: &Numbers, imp: &form::Imp<'v>) -> Result<Imp, AllocError> {
+    fn resolve(alloc: Global, names: &FormNames, imp: &form::Imp<'v>) -> Result<Imp, AllocError> {
         Ok(Imp {
             home: ClassRef {
-                class: numbers.class(imp.class),
+                class: class_named(names, imp.class),
                 meta: imp.meta,
             },
             args: imp.args,
-            body: expr(alloc, numbers, &imp.body)?,
+            body: expr(alloc, names, &imp.body)?,
         })
     }
 }
 
-fn class_ref(numbers: &Numbers, method: &MethodName) -> ClassRef
-    ensures { result ≡ spec.class_ref numbers.now (method_view method.now) }
+fn class_ref(names: &FormNames, method: &MethodName) -> ClassRef
+    ensures { result ≡ spec.class_ref (numbers_by names.now) (method_view method.now) }
 {
     ClassRef {
-        class: numbers.class(method.class),
+        class: class_named(names, method.class),
         meta: method.meta,
     }
 }
 
-fn change(alloc: Global, numbers: &Numbers, change: &form::Change) -> Result<Change, AllocError>
-    ensures { IfOk result (λ x. x ≡ spec.change numbers.now (change_view change.now)) }
+fn change(alloc: Global, names: &FormNames, change: &form::Change) -> Result<Change, AllocError>
+    ensures { IfOk result (λ x. x ≡ spec.change (numbers_by names.now) (change_view change.now)) }
 {
     match change {
         form::Change::Add { method, imp } => Ok(Change::Add {
-            class: class_ref(numbers, method),
-            sel: numbers.selector(method.selector),
-            imp: numbers.imp(imp),
+            class: class_ref(names, method),
+            sel: selector_named(names, method.selector),
+            imp: imp_named(names, imp),
         }),
         form::Change::Replace { method, imp } => Ok(Change::Replace {
-            class: class_ref(numbers, method),
-            sel: numbers.selector(method.selector),
-            imp: numbers.imp(imp),
+            class: class_ref(names, method),
+            sel: selector_named(names, method.selector),
+            imp: imp_named(names, imp),
         }),
         form::Change::SetImp { method, imp } => Ok(Change::SetImp {
-            class: class_ref(numbers, method),
-            sel: numbers.selector(method.selector),
-            imp: numbers.imp(imp),
+            class: class_ref(names, method),
+            sel: selector_named(names, method.selector),
+            imp: imp_named(names, imp),
         }),
         form::Change::Exchange { method, other } => Ok(Change::Exchange {
-            class: class_ref(numbers, method),
-            sel: numbers.selector(method.selector),
-            other: class_ref(numbers, other),
-            other_sel: numbers.selector(other.selector),
+            class: class_ref(names, method),
+            sel: selector_named(names, method.selector),
+            other: class_ref(names, other),
+            other_sel: selector_named(names, other.selector),
         }),
         form::Change::Attach {
             class,
             methods: own,
             class_methods,
         } => Ok(Change::Attach {
-            class: numbers.class(class),
-            methods: methods(alloc, numbers, own)?,
-            class_methods: methods(alloc, numbers, class_methods)?,
+            class: class_named(names, class),
+            methods: methods(alloc, names, own)?,
+            class_methods: methods(alloc, names, class_methods)?,
         }),
         form::Change::Make {
             class,
             superclass: above,
         } => Ok(Change::AddClass {
-            class: numbers.class(class),
-            superclass: superclass(numbers, *above),
+            class: class_named(names, class),
+            superclass: superclass(names, *above),
         }),
     }
 }
 
 // The arguments of a send, which are four at most.
-fn arguments(numbers: &Numbers, forms: &[Constant]) -> ArrayVec<Value, 4>
-    ensures { result.items ≡ map (spec.constant numbers.now) (take 4 (map constant_view forms.now)) }
+fn arguments(names: &FormNames, forms: &[Constant]) -> ArrayVec<Value, 4>
+    ensures { result.items ≡ map (spec.constant (numbers_by names.now)) (take 4 (map constant_view forms.now)) }
 {
     let mut args = ArrayVec::new();
     for form in &forms[..forms.len().min(4)] {
-        args.push(value(numbers, form));
+        args.push(value(names, form));
     }
     args
 }
@@ -296,7 +299,7 @@ impl<'v> Resolve<form::Item<'v>> for Item {
 
     fn resolve(
         alloc: Global,
-        numbers: &Numbers,
+        names: &FormNames,
         item: &form::Item<'v>,
     ) -> Result<Item, AllocError> {
         match item {
@@ -305,11 +308,11 @@ impl<'v> Resolve<form::Item<'v>> for Item {
                 selector,
                 args,
             } => Ok(Item::Send {
-                receiver: value(numbers, receiver),
-                sel: numbers.selector(selector),
-                args: arguments(numbers, args),
+                receiver: value(names, receiver),
+                sel: selector_named(names, selector),
+                args: arguments(names, args),
             }),
-            form::Item::Change(form) => Ok(Item::Change(change(alloc, numbers, form)?)),
+            form::Item::Change(form) => Ok(Item::Change(change(alloc, names, form)?)),
         }
     }
 }

@@ -2,7 +2,8 @@ use Rattle.std.proofs.Common.{◌≡◌, ◌++◌, drop}
 use Rattle.msg_form.specs.Views.{pairs_view}
 use Rattle.msg_image.specs.Document.{methods}
 use Rattle.msg_image.specs.Methods.{method_numbers}
+use Rattle.msg_image.specs.Numbers.{numbers_by}
 use Rattle.msg_image.proofs.resolve.methods.Given as goal
 
 abbrev pub invariant-loop-pair : goal.invariant-loop-pair
-invariant-loop-pair l = method_numbers l.found.items ++ methods l.numbers (pairs_view (drop l.pair-index l.pairs)) ≡ methods l.numbers (pairs_view l.pairs)
+invariant-loop-pair l = method_numbers l.found.items ++ methods (numbers_by l.names) (pairs_view (drop l.pair-index l.pairs)) ≡ methods (numbers_by l.names) (pairs_view l.pairs)
