@@ -18,7 +18,7 @@ ghost use Rattle.msg_cache.specs.Layout.{layout_of, header_at};
 ghost use Rattle.msg_cache.specs.Plays.{kept, keeper_of, flushed, installed, committed, lent, turn_in, turn_view, is_lent, sender_in, given_out, taken_in, newcomer};
 ghost use Rattle.msg_cache.specs.Keeping.{header as header_of, standing_of, array_words, remember, way_of, OnUse, OnTake, CanUse, lowest_free, filled, grown, Fills, Collects};
 ghost use Rattle.msg_cache.specs.Rule.{live_in};
-ghost use Rattle.msg_cache.specs.Notes.{settled};
+ghost use Rattle.msg_cache.specs.Notes.{free, settled};
 ghost use Rattle.msg_cache.specs.Views.{layout, classes, IsSenderOf};
 ghost use Rattle.msg_image.specs.Parts.{class_total};
 
@@ -67,6 +67,66 @@ pub struct Keeper {
     pub ghost lent_is: { lent ≡ is_lent (keeper_of seat.me.0).turn },
 }
 
+// What a keeper notes of arrays: a part of it that is made by itself, as is the other, since where memory is wanted each function gives back what it has made.
+#[derive(Drop)]
+struct ArrayNotes {
+    standings: Standings,
+    occupied: Vec<u32>,
+    used: Vec<bool>,
+}
+
+impl ArrayNotes {
+    // Of so many arrays, which are free.
+    fn blank(alloc: Global, arrays: usize, senders: usize) -> Result<ArrayNotes, AllocError>
+        requires arrays { arrays < 2 ^ 32 }
+        requires senders { senders ≤ MAX_SENDERS }
+        ensures standings { IfOk result (λ n. n.standings ≡ record { senders = senders; notes = replicate arrays free; ready = [] }) }
+        ensures occupied { IfOk result (λ n. n.occupied.items ≡ replicate arrays 0) }
+        ensures used { IfOk result (λ n. length n.used.items ≡ arrays) }
+    {
+        let standings = Standings::all_free(alloc, arrays, senders)?;
+        let occupied = vec![in alloc; 0; arrays]?;
+        let used = vec![in alloc; false; arrays]?;
+        Ok(ArrayNotes {
+            standings,
+            occupied,
+            used,
+        })
+    }
+}
+
+// The words of an arena, the capacity that each class reference comes to, and which senders are out.
+#[derive(Drop)]
+struct Copies {
+    words: Vec<u64>,
+    remembered: Vec<u32>,
+    given: Vec<bool>,
+}
+
+impl Copies {
+    // Of so many words that are 0.
+    fn blank(
+        alloc: Global,
+        words: usize,
+        classes: usize,
+        senders: usize,
+    ) -> Result<Copies, AllocError>
+        requires { classes < 2 ^ 32 }
+        ensures words { IfOk result (λ c. c.words.items ≡ replicate words 0) }
+        ensures remembered { IfOk result (λ c. c.remembered.items ≡ replicate (2 * classes) 0) }
+        ensures given { IfOk result (λ c. c.given.items ≡ replicate senders false) }
+    {
+        let words = vec![in alloc; 0; words]?;
+        let remembered = vec![in alloc; 0; 2 * classes]?;
+        let given = vec![in alloc; false; senders]?;
+        Ok(Copies {
+            words,
+            remembered,
+            given,
+        })
+    }
+}
+
 /// The right to change the history.
 #[derive(Drop)]
 pub struct Turn {
@@ -113,13 +173,15 @@ impl Keeper {
         ensures seat { IfOk result (λ keeper. (keeper.seat.table_id ≡ seat.table_id) × (keeper.seat.me ≡ seat.me)) }
         ensures counts { IfOk result (λ keeper. (keeper.occupied.items ≡ replicate arrays 0) × (keeper.remembered.items ≡ replicate (2 * classes) 0) × (length keeper.used.items ≡ arrays)) }
     {
+        let arrays = ArrayNotes::blank(alloc, arrays, senders)?;
+        let copies = Copies::blank(alloc, words, classes, senders)?;
         Ok(Keeper {
-            words: vec![in alloc; 0; words]?,
-            standings: Standings::all_free(alloc, arrays, senders)?,
-            occupied: vec![in alloc; 0; arrays]?,
-            remembered: vec![in alloc; 0; 2 * classes]?,
-            given: vec![in alloc; false; senders]?,
-            used: vec![in alloc; false; arrays]?,
+            words: copies.words,
+            standings: arrays.standings,
+            occupied: arrays.occupied,
+            remembered: copies.remembered,
+            given: copies.given,
+            used: arrays.used,
             count: 0,
             lent: false,
             report: Report::default(),

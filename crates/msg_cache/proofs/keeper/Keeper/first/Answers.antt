@@ -8,10 +8,10 @@ use Rattle.msg_cache.proofs.keeper.Keeper.first.Goals as goal
 
 pub invariant_of-result-clause-standings_are : goal.invariant_of-result-clause-standings_are
 invariant_of-result-clause-standings_are c =
-    let e = c.in_ok-all_free.ensures in
+    let e = c.in_ok-arrays.ensures.standings in
     let senders = ap (λ (v : StandingsView). v.senders) e in
     let notes = all_noted c.args.arrays ∙ ap (λ (l : List Standing). map note_of l) (sym c.requires.arrays) in
     e ∙ (λ i. record { senders = sym senders i; notes = notes i; ready = [] })
 
 pub invariant_of-result-clause-senders_are : goal.invariant_of-result-clause-senders_are
-invariant_of-result-clause-senders_are c = ap (λ (v : StandingsView). v.senders) c.in_ok-all_free.ensures ∙ sym (ap (λ (l : List Bool). length l) c.requires.senders ∙ length-replicate c.args.senders false)
+invariant_of-result-clause-senders_are c = ap (λ (v : StandingsView). v.senders) c.in_ok-arrays.ensures.standings ∙ sym (ap (λ (l : List Bool). length l) c.requires.senders ∙ length-replicate c.args.senders false)
