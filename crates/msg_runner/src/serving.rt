@@ -12,7 +12,7 @@ ghost use Rattle.msg_runner.specs.Text.{text_of, output_of};
 
 use crate::alone::{answer_change, answer_sends};
 use crate::arrays::arrays_for;
-use crate::batch::{After, answer_batch};
+use crate::batch::{After, Crew, answer_batch};
 use crate::deal::Deal;
 use crate::gate::Gate;
 use msg_cache::{Arena, Config, Keeper};
@@ -40,37 +40,33 @@ fn part_len(items: &[Item]) -> usize
     count
 }
 
-// Answers sends on the calling thread.
+// Answers sends on the calling thread, and says how many pieces there were.
 fn answer_alone<'d, N: ArenaName, G: Gate, R: Wait>(
     rt: &R,
     alloc: Global,
-    changer: Changer<'d, N>,
-    senders: Vec<Sender<'d, N>>,
+    crew: &mut Crew<'d, N>,
     gate: &G,
     deal: Deal,
     image: &Image,
     part: &[Item],
     text: &mut Vec<u8>,
-) -> Result<After<'d, N>, AllocError>
-    requires image { changer.image ≡ image.now }
+) -> Result<u32, AllocError>
+    requires image { crew.old.changer.image ≡ image.now }
     requires sound { All (IsSoundItem image.now) (map item_parts part.now) }
     requires places { deal.first + length part.now < 2 ^ 32 }
     requires sends { AllSends (map item_parts part.now) }
-    ensures text { OnOk result (text.new.items ≡ text.old.items ++ text_of image.now (serial_from changer.entry (map item_parts part.now))) }
-    ensures history { IfOk result (λ a. a.changer ≡ history_of changer.entry (map item_parts part.now)) }
-    ensures senders { IfOk result (λ a. vec_len a.senders ≡ vec_len senders.entry) }
-    ensures pieces { IfOk result (λ a. a.pieces ≤ length part.now) }
-    ensures changes { IfOk result (λ a. a.changes ≡ 0) }
+    ensures text { OnOk result (text.new.items ≡ text.old.items ++ text_of image.now (serial_from crew.old.changer (map item_parts part.now))) }
+    ensures same { crew.new.changer ≡ crew.old.changer }
+    ensures senders { OnOk result (vec_len crew.new.senders ≡ vec_len crew.old.senders) }
+    ensures pieces { IfOk result (λ pieces. pieces ≤ length part.now) }
 {
-    let mut changer = changer;
-    let mut senders = senders;
-    let Some(sender) = senders.pop() else {
+    let Some(sender) = crew.senders.pop() else {
         return Err(AllocError);
     };
     let (sender, pieces) = answer_sends(
         rt,
         alloc,
-        &mut changer,
+        &mut crew.changer,
         sender,
         gate,
         deal,
@@ -78,13 +74,54 @@ fn answer_alone<'d, N: ArenaName, G: Gate, R: Wait>(
         part,
         text,
     )?;
-    senders.push(sender)?;
-    Ok(After {
-        changer,
-        senders,
-        pieces,
-        changes: 0,
-    })
+    crew.senders.push(sender)?;
+    Ok(pieces)
+}
+
+// Answers a part that is one change or that the calling thread answers by itself, and says how many pieces and changes there were.
+fn answer_here<'d, N: ArenaName, G: Gate, R: Wait>(
+    rt: &R,
+    alloc: Global,
+    crew: &mut Crew<'d, N>,
+    gate: &G,
+    deal: Deal,
+    first_change: u32,
+    image: &Image,
+    part: &[Item],
+    text: &mut Vec<u8>,
+) -> Result<(u32, u32), AllocError>
+    requires image { crew.old.changer.image ≡ image.now }
+    requires sound { All (IsSoundItem image.now) (map item_parts part.now) }
+    requires places { deal.first + length part.now < 2 ^ 32 }
+    requires changes { first_change + length part.now < 2 ^ 32 }
+    requires part { AllSends (map item_parts part.now) ⊎ IsOneChange (map item_parts part.now) }
+    ensures text { OnOk result (text.new.items ≡ text.old.items ++ text_of image.now (serial_from crew.old.changer (map item_parts part.now))) }
+    ensures history { OnOk result (crew.new.changer ≡ history_of crew.old.changer (map item_parts part.now)) }
+    ensures senders { OnOk result (vec_len crew.new.senders ≡ vec_len crew.old.senders) }
+    ensures few { IfOk result (λ r. (r.0 ≤ length part.now) × (r.1 ≤ length part.now)) }
+{
+    if let Some(Item::Change(change)) = part.first() {
+        answer_change(
+            rt,
+            &mut crew.changer,
+            gate,
+            first_change,
+            image,
+            change,
+            text,
+        )?;
+        return Ok((0, 1));
+    }
+    let pieces = answer_alone(rt, alloc, crew, gate, deal, image, part, text)?;
+    Ok((pieces, 0))
+}
+
+// Whether a part has something for a second worker: more than one piece of sends.
+fn is_shared(deal: Deal, part: &[Item]) -> bool {
+    if let Some(Item::Change(_)) = part.first() {
+        return false;
+    }
+    deal.workers != 1 && part.len() > deal.cut as usize
 }
 
 // Answers a part: the sends before the next change, or one change. The calling thread does so by itself where it is a change, one worker takes part, or there
@@ -92,8 +129,7 @@ fn answer_alone<'d, N: ArenaName, G: Gate, R: Wait>(
 fn answer_part<'d, N: ArenaName + Send + Sync + 'd, G: Gate, R: Threads + Wait + Sync>(
     rt: &'d R,
     alloc: Global,
-    changer: Changer<'d, N>,
-    senders: Vec<Sender<'d, N>>,
+    crew: Crew<'d, N>,
     gate: &'d G,
     deal: Deal,
     first_change: u32,
@@ -101,36 +137,27 @@ fn answer_part<'d, N: ArenaName + Send + Sync + 'd, G: Gate, R: Threads + Wait +
     part: &'d [Item],
     text: &mut Vec<u8>,
 ) -> Result<After<'d, N>, AllocError>
-    requires image { changer.image ≡ image.now }
+    requires image { crew.changer.image ≡ image.now }
     requires sound { All (IsSoundItem image.now) (map item_parts part.now) }
     requires places { deal.first + length part.now < 2 ^ 32 }
     requires changes { first_change + length part.now < 2 ^ 32 }
-    requires enough { deal.workers ≤ vec_len senders }
+    requires enough { deal.workers ≤ vec_len crew.senders }
     requires part { AllSends (map item_parts part.now) ⊎ IsOneChange (map item_parts part.now) }
-    ensures text { OnOk result (text.new.items ≡ text.old.items ++ text_of image.now (serial_from changer.entry (map item_parts part.now))) }
-    ensures history { IfOk result (λ a. a.changer ≡ history_of changer.entry (map item_parts part.now)) }
-    ensures senders { IfOk result (λ a. vec_len a.senders ≡ vec_len senders.entry) }
+    ensures text { OnOk result (text.new.items ≡ text.old.items ++ text_of image.now (serial_from crew.entry.changer (map item_parts part.now))) }
+    ensures history { IfOk result (λ a. a.crew.changer ≡ history_of crew.entry.changer (map item_parts part.now)) }
+    ensures senders { IfOk result (λ a. vec_len a.crew.senders ≡ vec_len crew.entry.senders) }
     ensures pieces { IfOk result (λ a. a.pieces ≤ length part.now) }
     ensures few_changes { IfOk result (λ a. a.changes ≤ length part.now) }
 {
-    if let Some(Item::Change(change)) = part.first() {
-        let mut changer = changer;
-        answer_change(rt, &mut changer, gate, first_change, image, change, text)?;
-        return Ok(After {
-            changer,
-            senders,
-            pieces: 0,
-            changes: 1,
-        });
+    if is_shared(deal, part) {
+        let after = answer_batch(rt, alloc, crew, gate, deal, first_change, image, part, text)?;
+        return Ok(after);
     }
-    if deal.workers == 1 || part.len() <= deal.cut as usize {
-        return answer_alone(rt, alloc, changer, senders, gate, deal, image, part, text);
-    }
-    let after = answer_batch(
+    let mut crew = crew;
+    let (pieces, changes) = answer_here(
         rt,
         alloc,
-        changer,
-        senders,
+        &mut crew,
         gate,
         deal,
         first_change,
@@ -138,30 +165,32 @@ fn answer_part<'d, N: ArenaName + Send + Sync + 'd, G: Gate, R: Threads + Wait +
         part,
         text,
     )?;
-    Ok(after)
+    Ok(After {
+        crew,
+        pieces,
+        changes,
+    })
 }
 
 // The text of all items, part by part.
 fn answer_parts<'d, N: ArenaName + Send + Sync + 'd, G: Gate, R: Threads + Wait + Sync>(
     rt: &'d R,
     alloc: Global,
-    changer: Changer<'d, N>,
-    senders: Vec<Sender<'d, N>>,
+    crew: Crew<'d, N>,
     gate: &'d G,
     deal: Deal,
     image: &'d Image,
     items: &'d [Item],
 ) -> Result<Vec<u8>, AllocError>
-    requires image { changer.image ≡ image.now }
+    requires image { crew.changer.image ≡ image.now }
     requires sound { All (IsSoundItem image.now) (map item_parts items.now) }
     requires few { length items.now ≤ MAX_ITEMS }
     requires first { deal.first ≡ 0 }
-    requires enough { deal.workers ≤ vec_len senders }
-    ensures { IfOk result (λ text. text.items ≡ text_of image.now (serial_from changer.entry (map item_parts items.now))) }
+    requires enough { deal.workers ≤ vec_len crew.senders }
+    ensures { IfOk result (λ text. text.items ≡ text_of image.now (serial_from crew.entry.changer (map item_parts items.now))) }
 {
     let mut text = Vec::new(alloc);
-    let mut changer = changer;
-    let mut senders = senders;
+    let mut crew = crew;
     let mut deal = deal;
     let mut first_change = 0;
     let mut rest = items;
@@ -170,8 +199,7 @@ fn answer_parts<'d, N: ArenaName + Send + Sync + 'd, G: Gate, R: Threads + Wait 
         let after = answer_part(
             rt,
             alloc,
-            changer,
-            senders,
+            crew,
             gate,
             deal,
             first_change,
@@ -181,7 +209,7 @@ fn answer_parts<'d, N: ArenaName + Send + Sync + 'd, G: Gate, R: Threads + Wait 
         )?;
         deal = deal.after(after.pieces);
         first_change += after.changes;
-        (changer, senders) = (after.changer, after.senders);
+        crew = after.crew;
         rest = later;
     }
     Ok(text)
@@ -206,6 +234,54 @@ fn senders_of<'d, N: ArenaName, R: Wait>(
     Ok(senders)
 }
 
+// A changer, and so many senders.
+fn crew_of<'d, N: ArenaName, R: Wait>(
+    rt: &R,
+    alloc: Global,
+    dispatcher: &'d Dispatcher<N>,
+    workers: u32,
+) -> Result<Crew<'d, N>, AllocError>
+    ensures changer { IfOk result (λ crew. crew.changer ≡ empty N.arena.key.image) }
+    ensures senders { IfOk result (λ crew. vec_len crew.senders ≡ workers) }
+{
+    let Ok(changer) = dispatcher.changer(rt) else {
+        return Err(AllocError);
+    };
+    let senders = senders_of(rt, alloc, dispatcher, workers)?;
+    Ok(Crew { changer, senders })
+}
+
+// The text of a document whose sends are all one batch.
+fn answer_all<'d, N: ArenaName + Send + Sync + 'd, G: Gate, R: Threads + Wait + Sync>(
+    rt: &'d R,
+    alloc: Global,
+    crew: Crew<'d, N>,
+    gate: &'d G,
+    deal: Deal,
+    document: &'d Document,
+) -> Result<Vec<u8>, AllocError>
+    requires changer { crew.changer ≡ empty document.now.image }
+    requires sound { All (IsSoundItem document.now.image) (map item_parts document.now.items.items) }
+    requires few { length document.now.items.items ≤ MAX_ITEMS }
+    requires first { deal.first ≡ 0 }
+    requires enough { deal.workers ≤ vec_len crew.senders }
+    ensures { IfOk result (λ text. AreAnswered document.now.image deal.workers deal.cut (empty document.now.image) (map item_parts document.now.items.items) [] text.items) }
+{
+    let mut text = Vec::new(alloc);
+    let _after = answer_batch(
+        rt,
+        alloc,
+        crew,
+        gate,
+        deal,
+        0,
+        &document.image,
+        &document.items,
+        &mut text,
+    )?;
+    Ok(text)
+}
+
 // The text of a document, over its arena.
 fn text_in<N: ArenaName + Send + Sync, G: Gate, R: Threads + Wait + Sync>(
     rt: &R,
@@ -226,15 +302,11 @@ fn text_in<N: ArenaName + Send + Sync, G: Gate, R: Threads + Wait + Sync>(
     ensures { IfOk result (λ text. text.items ≡ text_of document.now.image (serial_from (empty document.now.image) (map item_parts document.now.items.items))) }
 {
     let dispatcher: Dispatcher<N> = Dispatcher::open(alloc, arena, keeper, &document.image)?;
-    let Ok(changer) = dispatcher.changer(rt) else {
-        return Err(AllocError);
-    };
-    let senders = senders_of(rt, alloc, &dispatcher, deal.workers)?;
+    let crew = crew_of(rt, alloc, &dispatcher, deal.workers)?;
     answer_parts(
         rt,
         alloc,
-        changer,
-        senders,
+        crew,
         gate,
         deal,
         &document.image,
@@ -262,24 +334,8 @@ fn text_beside_in<N: ArenaName + Send + Sync, G: Gate, R: Threads + Wait + Sync>
     ensures { IfOk result (λ text. AreAnswered document.now.image deal.workers deal.cut (empty document.now.image) (map item_parts document.now.items.items) [] text.items) }
 {
     let dispatcher: Dispatcher<N> = Dispatcher::open(alloc, arena, keeper, &document.image)?;
-    let Ok(changer) = dispatcher.changer(rt) else {
-        return Err(AllocError);
-    };
-    let senders = senders_of(rt, alloc, &dispatcher, deal.workers)?;
-    let mut text = Vec::new(alloc);
-    let _after = answer_batch(
-        rt,
-        alloc,
-        changer,
-        senders,
-        gate,
-        deal,
-        0,
-        &document.image,
-        &document.items,
-        &mut text,
-    )?;
-    Ok(text)
+    let crew = crew_of(rt, alloc, &dispatcher, deal.workers)?;
+    answer_all(rt, alloc, crew, gate, deal, document)
 }
 
 // The arena of a run.
