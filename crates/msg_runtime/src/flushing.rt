@@ -1,6 +1,6 @@
 //! The caches that a change flushes.
 
-ghost use Rattle.std.specs.Prelude.{◌≡◌, ◌<◌, ◌*◌, ◌||◌, None, true, length};
+ghost use Rattle.std.specs.Prelude.{◌≡◌, ◌<◌, ◌*◌, ◌||◌, [], ◌∷◌, None, true, length};
 ghost use Rattle.msg_names.specs.declared.value.ClassRef.{ClassRef};
 ghost use Rattle.msg_image.specs.Parts.{class_total};
 ghost use Rattle.msg_tables.specs.Affected.{if_any};
@@ -16,12 +16,30 @@ use msg_image::{Change, MethodList};
 use msg_names::ClassRef;
 use msg_tables::{Marks, Tables};
 
-// The caches that a change flushes: all, those of the class references that are marked, or those of a class that was just made and its metaclass.
+// The caches that a change flushes: all, those of the class references that are marked, that of one class reference, or those of a class that was just made and
+// its metaclass.
 #[derive(Clone, Copy)]
 pub(crate) enum Reach {
     All,
     Marked,
+    Only(ClassRef),
     Made(u32),
+}
+
+// Of a class reference and all below it. Where nothing is below it no other class is looked at again.
+fn reach_below(tables: &Tables, class: ClassRef, marks: &mut Marks) -> Reach
+    requires class { class.class < length tables.now.supers }
+    requires room { length marks.old ≡ 2 * length tables.now.supers }
+    ensures room { length marks.new ≡ length marks.old }
+    ensures inside { IsOneOf (length tables.now.supers) result }
+    ensures reach { (h : History) → StandsAt tables.now h → (c : ClassRef) → c.class < length tables.now.supers → is_reached result marks.new c ≡ is_below h c (class ∷ []) }
+{
+    if tables.is_leaf(class) {
+        return Reach::Only(class);
+    }
+    marks.clear();
+    tables.descendants(class, marks);
+    Reach::Marked
 }
 
 // Marks a class reference and all below it, where a list of its methods isn't empty.
@@ -50,9 +68,7 @@ pub(crate) fn mark_reach(tables: &Tables, change: &Change, marks: &mut Marks) ->
 {
     match change {
         Change::Add { class, .. } | Change::Replace { class, .. } => {
-            marks.clear();
-            tables.descendants(*class, marks);
-            Reach::Marked
+            reach_below(tables, *class, marks)
         }
         Change::SetImp { .. } | Change::Exchange { .. } => Reach::All,
         Change::Attach {
@@ -84,6 +100,7 @@ fn flush_reached(keeper: &mut Keeper, arena: &Arena, class: ClassRef, reach: Rea
     let reached = match reach {
         Reach::All => true,
         Reach::Marked => marks.has(class),
+        Reach::Only(only) => class == only,
         Reach::Made(made) => class.class == made,
     };
     if reached {
@@ -106,7 +123,21 @@ fn flush_both_reached(keeper: &mut Keeper, arena: &Arena, class: u32, reach: Rea
     flush_reached(keeper, arena, ClassRef { class, meta: true }, reach, marks);
 }
 
-// Flushes all caches that a change reaches. Where a class was made these are two, however many there are.
+// Flushes the caches that a change reaches, with a look at each class.
+fn flush_each_reached(keeper: &mut Keeper, arena: &Arena, classes: u32, reach: Reach, marks: &Marks)
+    requires arena { IsKeeperOf arena.now keeper.old }
+    requires classes { classes ≡ class_total (keeper_history keeper.old).image }
+    requires room { length marks.now ≡ 2 * classes }
+    ensures arena { IsKeeperOf arena.now keeper.new }
+    ensures history { keeper_history keeper.new ≡ keeper_history keeper.old }
+    ensures flushed { (c : ClassRef) → c.class < classes → is_reached reach marks.now c ≡ true → HasNoArray arena.now keeper.new c }
+{
+    for class in 0..classes {
+        flush_both_reached(keeper, arena, class, reach, marks);
+    }
+}
+
+// Flushes all caches that a change reaches. Where a class was made these are two, and where nothing is below the class that is changed one, however many there are.
 pub(crate) fn flush_all_reached(
     keeper: &mut Keeper,
     arena: &Arena,
@@ -122,11 +153,9 @@ pub(crate) fn flush_all_reached(
     ensures history { keeper_history keeper.new ≡ keeper_history keeper.old }
     ensures flushed { (c : ClassRef) → c.class < classes → is_reached reach marks.now c ≡ true → HasNoArray arena.now keeper.new c }
 {
-    if let Reach::Made(made) = reach {
-        flush_both_reached(keeper, arena, made, reach, marks);
-        return;
-    }
-    for class in 0..classes {
-        flush_both_reached(keeper, arena, class, reach, marks);
+    match reach {
+        Reach::Made(made) => flush_both_reached(keeper, arena, made, reach, marks),
+        Reach::Only(class) => flush_reached(keeper, arena, class, reach, marks),
+        Reach::All | Reach::Marked => flush_each_reached(keeper, arena, classes, reach, marks),
     }
 }

@@ -1,11 +1,10 @@
 -- What is found after a change, by what it writes.
-use Rattle.std.proofs.Common.{◌≡◌, ◌≢◌, ◌<◌, ◌≤◌, ℕ, zero, suc, ◌+◌, List, [], ◌∷◌, ◌++◌, length, reverse, take, get_or, Option, Some, None, option_map, Bool, true, false, cond, refl, sym, ap, ◌∙◌, subst, arith}
+use Rattle.std.proofs.Common.{◌≡◌, ◌<◌, ◌≤◌, ℕ, zero, suc, ◌+◌, List, [], ◌∷◌, ◌++◌, length, reverse, take, get_or, Option, Some, None, option_map, Bool, true, false, cond, refl, sym, ap, ◌∙◌, subst, arith}
 use Rattle.std.specs.Prelude.{◌==◌, ◌&&◌, is_some}
 use Rattle.msg_tables.proofs.OrElseLemmas.{or_else_none, or_else-assoc}
-use Rattle.msg_names.proofs.TestLemmas.{both, equal, same_number}
+use Rattle.msg_names.proofs.TestLemmas.{both, same_number}
 use Rattle.msg_names.specs.declared.value.ClassRef.{ClassRef}
 use Rattle.std.proofs.lemmas.List.{reverse-append}
-use Rattle.std.proofs.lemmas.Option.{same_Some}
 use Rattle.msg_names.specs.declared.value.Selector.{Selector}
 use Rattle.msg_names.specs.declared.value.ImpRef.{ImpRef}
 use Rattle.msg_image.specs.Methods.{method_numbers}
@@ -18,10 +17,10 @@ use Rattle.msg_tables.specs.declared.presence.Presence.{Presence}
 use Rattle.msg_tables.specs.Rows.{Row, own, or_else, chain, holder_in, lookup_in, holder_at, lookup_at}
 use Rattle.msg_tables.specs.RowList.{own_in}
 use Rattle.msg_tables.specs.After.{of_class, of_meta, row, rows_at, set_own, set_method, rows_after, supers_after}
-use Rattle.msg_tables.specs.History.{History, and_then, table, lookup, holder, superclass}
-use Rattle.msg_tables.proofs.LawLemmas.{lookup-after, held, some-set_method}
-use Rattle.msg_tables.proofs.OwnLemmas.{own-append, own-rows_at, own-rows_other, own-set_same, own-set_other, some-set_own, lookup-holder, lookup-own}
-use Rattle.msg_names.proofs.ClassRefLemmas.{same_class-is, same_class-refl}
+use Rattle.msg_tables.specs.History.{History, and_then, table, lookup, holder}
+use Rattle.msg_tables.proofs.LawLemmas.{lookup-after, some-set_method}
+use Rattle.msg_tables.proofs.OwnLemmas.{own-append, own-rows_at, own-rows_other, own-set_same, own-set_other, lookup-holder, lookup-own}
+use Rattle.msg_names.proofs.ClassRefLemmas.{same_class-is}
 use Rattle.msg_tables.specs.Written.{written, at_ref}
 
 pub own_in-append : (s : ℕ) (xs ys : List (ℕ × ℕ)) → own_in s (xs ++ ys) ≡ or_else (own_in s ys) (own_in s xs)

@@ -1,6 +1,6 @@
 -- Descendants of a class reference.
 use Rattle.std.proofs.Common.{◌≡◌, ◌≢◌, ◌<◌, ◌≤◌, ◌+◌, ◌*◌, ◌⊎◌, inl, inr, ℕ, zero, suc, length, List, [], ◌∷◌, Option, Some, None, Bool, true, false, cond, slice_get, get_or-set_same, refl, sym, ◌∙◌, ap, subst, arith}
-use Rattle.std.specs.Prelude.{◌||◌, replicate, slice_set, slice_index_or}
+use Rattle.std.specs.Prelude.{◌||◌, is_some, replicate, slice_set, slice_index_or}
 use Rattle.std.specs.Option.{option_map_or}
 use Rattle.std.proofs.lemmas.Bool.{cases_lt}
 use Rattle.std.proofs.lemmas.List.{get_or-set_other}
@@ -8,6 +8,7 @@ use Rattle.std.proofs.lemmas.Option.{same_Some}
 use Rattle.std.proofs.Math.ListN.{length-set}
 use Rattle.msg_names.specs.declared.value.ClassRef.{ClassRef}
 use Rattle.msg_names.specs.ClassRef.{above, same_class, slot_of}
+use Rattle.msg_names.proofs.ClassRefLemmas.{same_class-is, same_class-refl}
 use Rattle.msg_tables.specs.Chain.{chain_up, chain_of, super_of, steps_of, is_member, is_present, presence_of}
 use Rattle.msg_tables.specs.After.{of_class, of_meta}
 use Rattle.msg_tables.specs.History.{History, table, chain_at}
@@ -167,6 +168,84 @@ noted-class t origin k noted p q own meta before room here there is is-meta plac
     right : (c : ClassRef) → is_marked after c ≡ true → descends supers origin c ≡ true
     right c marked = by_class c (λ same. sym (last c c.meta same refl) ∙ marked) (λ other. known.right c (sym (other-after c other) ∙ marked))
 
+-- descendants at a history
+pub descends-at : (h : History) (supers : List (Option Presence)) (origin c : ClassRef) → supers ≡ (table h).supers → descends supers origin c ≡ is_member origin (chain_at h c)
+unfolding descends chain_at
+descends-at h supers origin c e = ap (λ ss. is_member origin (chain_of ss c)) e
+
+-- ---- a class reference with nothing below it
+
+-- what descends from another class reference has a superclass that does
+up : (supers : List (Option Presence)) (order : List ℕ) (origin c : ClassRef) → IsOrder supers order → descends supers origin c ≡ true → (same_class origin c ≡ true) ⊎ ((d : ClassRef) × (super_of supers c ≡ Some d) × (descends supers origin d ≡ true))
+unfolding descends chain_of
+up supers order origin c before down = present (is_present supers c.class) refl
+  where
+    Answer : Type 0
+    Answer = (same_class origin c ≡ true) ⊎ ((d : ClassRef) × (super_of supers c ≡ Some d) × (descends supers origin d ≡ true))
+
+    further : (o : Option ClassRef) → super_of supers c ≡ o → option_map_or (descends supers origin) o false ≡ true → Answer
+    further None e h = absurd (clash h)
+      where
+        clash : false ≡ true → ⊥
+        clash h = cc
+    further (Some d) e h = inr (d, e, h)
+
+    own : (b : Bool) → same_class origin c ≡ b → (b || option_map_or (descends supers origin) (super_of supers c) false) ≡ true → Answer
+    own true e h = inl e
+    own false e h = further (super_of supers c) refl h
+
+    present : (b : Bool) → is_present supers c.class ≡ b → Answer
+    present true e = own (same_class origin c) refl (sym (descends-step supers order origin c before e) ∙ down)
+    present false e =
+        let none : descends supers origin c ≡ false = rw e refl in
+        absurd (clash (sym none ∙ down))
+      where
+        clash : false ≡ true → ⊥
+        clash h = cc
+
+-- from one that stands right above none, none but itself descends
+leaf-itself : (n : ℕ) (supers : List (Option Presence)) (order : List ℕ) (origin : ClassRef) → IsOrder supers order → ((c : ClassRef) → super_of supers c ≢ Some origin) → (c : ClassRef) → steps_of order c < n → descends supers origin c ≡ true → same_class origin c ≡ true
+leaf-itself zero supers order origin before leaf c less down = absurd (omega (arith, less))
+leaf-itself (suc n) supers order origin before leaf c less down = at (leaf-itself n supers order origin before leaf) (up supers order origin c before down)
+  where
+    at : ((d : ClassRef) → steps_of order d < n → descends supers origin d ≡ true → same_class origin d ≡ true) → (same_class origin c ≡ true) ⊎ ((d : ClassRef) × (super_of supers c ≡ Some d) × (descends supers origin d ≡ true)) → same_class origin c ≡ true
+    at rest (inl e) = e
+    at rest (inr (d, e, down')) =
+        let fewer = super-fewer supers order before c d e in
+        let itself : same_class origin d ≡ true = rest d (omega (arith, fewer, less)) down' in
+        absurd (leaf c (e ∙ ap Some (sym (same_class-is origin d itself))))
+
+pub leaf-alone : (supers : List (Option Presence)) (order : List ℕ) (origin : ClassRef) → IsOrder supers order → is_present supers origin.class ≡ true → ((c : ClassRef) → super_of supers c ≢ Some origin) → (c : ClassRef) → descends supers origin c ≡ same_class origin c
+leaf-alone supers order origin before there leaf c = at (descends supers origin c) refl (same_class origin c) refl
+  where
+    from : same_class origin c ≡ true → descends supers origin c ≡ true
+    from e =
+        let same = same_class-is origin c e in
+        let step = descends-step supers order origin origin before there ∙ ap (λ b. b || option_map_or (descends supers origin) (super_of supers origin) false) (same_class-refl origin) in
+        subst (λ z. descends supers origin z ≡ true) same step
+
+    at : (a : Bool) → descends supers origin c ≡ a → (b : Bool) → same_class origin c ≡ b → a ≡ b
+    at true d true s = refl
+    at false d false s = refl
+    at true d false s = sym (leaf-itself (suc (steps_of order c)) supers order origin before leaf c (omega arith) d) ∙ s
+    at false d true s = sym d ∙ from s
+
+-- what has something above it is a class with a number
+pub super-inside : (supers : List (Option Presence)) (c d : ClassRef) → super_of supers c ≡ Some d → c.class < length supers
+super-inside supers c d e = at (super-is supers c d e)
+  where
+    at : ((p : Presence) × (presence_of supers c.class ≡ Some p) × (p.superclass ≡ Some d.class) × (d.meta ≡ c.meta)) ⊎ ((d ≡ of_class c.class) × (c.meta ≡ true) × (is_present supers c.class ≡ true)) → c.class < length supers
+    at (inl (p, here, up', m)) = present-inside supers c.class (ap is_some here)
+    at (inr (same, m, there)) = present-inside supers c.class there
+
+-- what stands right above a class with a superclass, or its metaclass
+pub right-above : (supers : List (Option Presence)) (k : ℕ) (origin : ClassRef) (p : Presence) (a : ℕ) → presence_of supers k ≡ Some p → p.superclass ≡ Some a → a ≡ origin.class → super_of supers (record { class = k; meta = origin.meta }) ≡ Some origin
+right-above supers k origin p a here up same = rw (here, up) (λ i. Some (record { class = same i; meta = origin.meta }))
+
+-- at a history
+pub leaf-at : (h : History) (supers : List (Option Presence)) (order : List ℕ) (origin : ClassRef) → supers ≡ (table h).supers → IsOrder supers order → is_present supers origin.class ≡ true → ((c : ClassRef) → super_of supers c ≢ Some origin) → (c : ClassRef) → is_member origin (chain_at h c) ≡ same_class origin c
+leaf-at h supers order origin same before there leaf c = sym (descends-at h supers origin c same) ∙ leaf-alone supers order origin before there leaf c
+
 -- nothing is noted at first
 unmarked-at : (n k : ℕ) → slice_index_or (replicate n false) k false ≡ false
 unmarked-at zero k = refl
@@ -193,8 +272,3 @@ noted-all t origin noted before known c = at (is_present t.supers c.class) refl
     at false e =
         let none : descends t.supers origin c ≡ false = rw e refl in
         unmarked (is_marked noted c) refl none ∙ sym none
-
--- descendants at a history
-pub descends-at : (h : History) (supers : List (Option Presence)) (origin c : ClassRef) → supers ≡ (table h).supers → descends supers origin c ≡ is_member origin (chain_at h c)
-unfolding descends chain_at
-descends-at h supers origin c e = ap (λ ss. is_member origin (chain_of ss c)) e

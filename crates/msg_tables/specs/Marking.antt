@@ -1,5 +1,5 @@
 -- Marks on class references.
-use Rattle.std.specs.Prelude.{◌≡◌, ◌<◌, ℕ, Some, slice_get, List, Bool, false, true, length, Option, slice_index_or}
+use Rattle.std.specs.Prelude.{◌≡◌, ℕ, List, Bool, false, true, length, Option, slice_index_or}
 use Rattle.msg_names.specs.declared.value.ClassRef.{ClassRef}
 use Rattle.msg_tables.specs.Chain.{chain_of, is_member}
 use Rattle.msg_names.specs.ClassRef.{slot_of}

@@ -1,5 +1,5 @@
 -- What contracts see of `Tables`.
-use Rattle.std.specs.Prelude.{ℕ, ◌+◌, ◌-◌, ◌*◌, ◌==◌, ◌||◌, nat_lt, length, slice_get, nat_le, List, [], ◌∷◌, Option, Some, None, Bool, slice_index_or, if◌then◌else◌}
+use Rattle.std.specs.Prelude.{ℕ, ◌-◌, ◌==◌, ◌||◌, nat_lt, length, slice_get, nat_le, List, [], ◌∷◌, Option, Some, None, Bool, slice_index_or}
 use Rattle.std.specs.List.{list_all}
 use Rattle.std.specs.Option.{option_map_or}
 use Rattle.msg_names.specs.ClassRef.{slot_of}

@@ -1,15 +1,16 @@
 //! Marks on class references, and the descendants of one.
 
 ghost use Rattle.std.specs.Option.{option_map_or};
-ghost use Rattle.std.specs.Prelude.{◌≡◌, ◌<◌, ◌+◌, ◌*◌, ◌||◌, ℕ, IfOk, length, count_by, replicate, slice_index_or, slice_get, Some, false};
+ghost use Rattle.std.specs.Prelude.{◌≡◌, ◌≢◌, ◌<◌, ◌+◌, ◌*◌, ◌||◌, ℕ, Bool, IfOk, length, count_by, replicate, slice_index_or, slice_get, Some, false, true};
 ghost use Rattle.msg_names.specs.declared.value.ClassRef.{ClassRef};
 ghost use Rattle.msg_names.specs.ClassRef.{same_class, slot_of};
-ghost use Rattle.msg_tables.specs.Chain.{super_of, is_member};
+ghost use Rattle.msg_tables.specs.Chain.{super_of, is_member, is_present};
 ghost use Rattle.msg_tables.specs.History.{History, chain_at};
 ghost use Rattle.msg_tables.specs.Order.{IsOrder};
 ghost use Rattle.msg_tables.specs.Marking.{is_marked, descends, AreNoted};
 ghost use Rattle.msg_tables.specs.Stands.{StandsAt};
 
+use crate::presence::Presence;
 use crate::tables::Tables;
 use msg_names::ClassRef;
 use std::alloc::{AllocError, Global};
@@ -103,6 +104,42 @@ impl Tables {
             Some(above) => noted[above.slot()],
             None => false,
         }
+    }
+
+    // Whether a class reference stands right above a class or its metaclass.
+    fn is_right_above(&self, origin: ClassRef, class: u32) -> bool
+        requires { class < length self.now.supers }
+        ensures some { result ≡ true → (m : Bool) × (super_of self.now.supers (record { class = class; meta = m }) ≡ Some origin) }
+        ensures none { result ≡ false → (c : ClassRef) → c.class ≡ class → super_of self.now.supers c ≢ Some origin }
+    {
+        match self.supers[class as usize] {
+            Some(
+                Presence {
+                    superclass: Some(above),
+                },
+            ) => above == origin.class,
+            Some(Presence { superclass: None }) => class == origin.class && !origin.meta,
+            None => false,
+        }
+    }
+
+    /// Whether a class reference is there and nothing stands below it: no subclass, nor the metaclass that stands below a root class.
+    ///
+    /// Each class is looked at once, with a compare or two.
+    pub fn is_leaf(&self, class: ClassRef) -> bool
+        requires class { class.class < length self.now.supers }
+        ensures alone { result ≡ true → (h : History) → StandsAt self.now h → (c : ClassRef) → is_member class (chain_at h c) ≡ same_class class c }
+        ensures some { result ≡ false → is_present self.now.supers class.class ≡ true → (c : ClassRef) × (super_of self.now.supers c ≡ Some class) }
+    {
+        if self.supers[class.class as usize].is_none() {
+            return false;
+        }
+        for below in 0..self.supers.len() {
+            if self.is_right_above(class, below as u32) {
+                return false;
+            }
+        }
+        true
     }
 
     // Notes a class and its metaclass, where they descend from the origin. Those before them in the order are noted already.

@@ -28,8 +28,8 @@ returns-in-AddClass-clause-made c =
     let count = class_count c.args.tables.now (and_then h c.args.change.now) stands in
     omega (arith, inside, count)
 
-pub descendants-requires-clause-class : goal.descendants-requires-clause-class
-descendants-requires-clause-class c =
+pub reach_below-requires-clause-class : goal.reach_below-requires-clause-class
+reach_below-requires-clause-class c =
     let (h, stands, accepted) = c.requires.made in
     let inside : c.in-Add.class.class < class_total h.image = ⊎_elim
     (λ (s, i, is). of_image-add h c.in-Add.class s i (ap (refusal h) (sym is) ∙ accepted))

@@ -1,12 +1,11 @@
 -- each step of the lookup
-use Rattle.std.proofs.Common.{◌≡◌, ◌<◌, ◌≤◌, ℕ, suc, length, option_map, Option, true, subst, sym, ◌∙◌, ap, arith}
+use Rattle.std.proofs.Common.{◌≡◌, ◌<◌, ◌≤◌, ℕ, suc, length, option_map, true, subst, sym, ◌∙◌, ap, arith}
 use Rattle.msg_names.specs.Number.{selector_number, imp_number}
 use Rattle.msg_tables.specs.After.{supers_after}
 use Rattle.msg_tables.specs.Chain.{is_present, super_of}
-use Rattle.msg_tables.specs.Stands.{StandsAt}
-use Rattle.msg_tables.specs.History.{History, table}
+use Rattle.msg_tables.specs.History.{table}
 use Rattle.msg_tables.proofs.HistoryLemmas.{length-supers_after}
-use Rattle.msg_tables.proofs.ForeseeLemmas.{supers_then, comes_first, way_stop, way_end, way_up, way_over}
+use Rattle.msg_tables.proofs.ForeseeLemmas.{supers_then, comes_first, way_stop, way_end, way_up}
 use Rattle.msg_tables.proofs.foresee.found_from.Goals as goal
 
 at_most : (k n m : ℕ) → n ≡ m → k < n → k ≤ m

@@ -1,10 +1,9 @@
 -- the class above is present, and earlier in the order
-use Rattle.std.proofs.Common.{◌≡◌, ◌<◌, length, Some, None, IfSome, ap, sym, ◌∙◌}
+use Rattle.std.proofs.Common.{◌≡◌, None, ap, sym, ◌∙◌}
 use Rattle.std.specs.Option.{option_map_or}
-use Rattle.msg_names.specs.declared.value.ClassRef.{ClassRef}
 use Rattle.msg_names.specs.ClassRef.{above}
 use Rattle.msg_tables.specs.declared.presence.Presence.{Presence}
-use Rattle.msg_tables.specs.Chain.{super_of, steps_of}
+use Rattle.msg_tables.specs.Chain.{super_of}
 use Rattle.msg_tables.proofs.OrderLemmas.{read-presence, above-listed, above-fewer}
 use Rattle.msg_tables.proofs.tables.Tables.above.Goals as goal
 

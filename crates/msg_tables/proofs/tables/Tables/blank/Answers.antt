@@ -1,6 +1,5 @@
-use Rattle.std.proofs.Common.{◌≡◌, ◌*◌, length, [], sym, ap, ◌∙◌, subst, arith}
+use Rattle.std.proofs.Common.{◌*◌, length, [], sym, ap, ◌∙◌, subst, arith}
 use Rattle.std.proofs.lemmas.List.{length-replicate}
-use Rattle.msg_tables.specs.After.{opened_supers}
 use Rattle.msg_tables.specs.Order.{IsOrder}
 use Rattle.msg_tables.proofs.ListedOrderLemmas.{length-opened}
 use Rattle.msg_tables.proofs.OpeningLemmas.{listed-blank}

@@ -1,5 +1,5 @@
-use Rattle.std.proofs.Common.{◌≡◌, ap, sym, ◌∙◌, refl, true, false, None, Some}
-use Rattle.std.specs.Prelude.{◌||◌, not}
+use Rattle.std.proofs.Common.{◌≡◌, ap, sym, ◌∙◌, refl, true, false}
+use Rattle.std.specs.Prelude.{◌||◌}
 use Rattle.msg_tables.specs.After.{of_class}
 use Rattle.msg_tables.specs.Refusal.{no_number, no_superclass, no_class, is_full}
 use Rattle.msg_tables.proofs.JudgeLemmas.{refusal-make}

@@ -1,6 +1,5 @@
-use Rattle.std.proofs.Common.{◌≡◌, ◌<◌, ◌≤◌, ◌++◌, [], ◌∷◌, length, Some, cond, is_ok, ap, ◌∙◌, sym, subst, arith}
-use Rattle.std.specs.Prelude.{slice_set, vec_len}
-use Rattle.std.specs.Vec.{vec_capacity}
+use Rattle.std.proofs.Common.{◌≡◌, ◌++◌, [], ◌∷◌, Some, cond, is_ok, ap, ◌∙◌, sym, subst, arith}
+use Rattle.std.specs.Prelude.{slice_set}
 use Rattle.std.proofs.lemmas.List.{length-set}
 use Rattle.msg_tables.specs.declared.presence.Presence.{Presence}
 use Rattle.msg_tables.specs.Order.{IsOrder}

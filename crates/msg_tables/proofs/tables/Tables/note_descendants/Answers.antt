@@ -1,6 +1,5 @@
 -- each class of the order is noted in its turn
-use Rattle.std.proofs.Common.{◌≡◌, ◌<◌, ℕ, length, slice_get, Some, refl, sym, ap, ◌∙◌, subst, arith}
-use Rattle.msg_tables.specs.Order.{IsOrder}
+use Rattle.std.proofs.Common.{◌≡◌, ◌<◌, length, slice_get, Some, refl, ◌∙◌, subst, arith}
 use Rattle.msg_tables.specs.Marking.{AreNoted}
 use Rattle.msg_tables.proofs.MarkLemmas.{noted-none, noted-all}
 use Rattle.msg_tables.proofs.OrderLemmas.{present-inside, read-element}

@@ -2,7 +2,7 @@ use Rattle.std.proofs.Common.{◌≡◌, ◌<◌, true}
 use Rattle.msg_names.specs.declared.value.ClassRef.{ClassRef}
 use Rattle.msg_runtime.specs.Parts.{IsKeeperOf, keeper_history, HasNoArray}
 use Rattle.msg_runtime.specs.Reach.{is_reached}
-use Rattle.msg_runtime.proofs.flushing.flush_all_reached.Given as goal
+use Rattle.msg_runtime.proofs.flushing.flush_each_reached.Given as goal
 
 abbrev pub invariant-loop-class : goal.invariant-loop-class
 invariant-loop-class l =
