@@ -10,7 +10,7 @@
 #include <string.h>
 #include <time.h>
 
-enum { STEPS = 20000, REPLACEMENTS = 200, MOST_THREADS = 16, OBJECTS = 64, CLASSES = 8, ORDER = 1024 };
+enum { STEPS = 100000, REPLACEMENTS = 2000, MOST_THREADS = 16, OBJECTS = 64, CLASSES = 8, ORDER = 1024 };
 
 __attribute__((objc_root_class)) @interface Level0 { Class isa; }
 + (void)initialize;
