@@ -4,7 +4,7 @@ use Rattle.std.specs.Prelude.{fold}
 use Rattle.std.specs.List.{list_any}
 use Rattle.std.proofs.lemmas.Simd.{map-map}
 use Rattle.msg_names.specs.Numbering.{with_name}
-use Rattle.msg_form.specs.Faults.{is_outside, has_late_superclass, has_duplicate_class}
+use Rattle.msg_form.specs.Faults.{is_outside, has_late_superclass}
 use Rattle.msg_form.specs.Form.{ClassForm}
 use Rattle.msg_form.specs.Lists.{listed_names, class_names}
 use Rattle.msg_form.specs.Text.{Text, is_among, distinct, repeats, texts_view}
@@ -12,33 +12,29 @@ use Rattle.msg_form.specs.Views.{class_view, form_view}
 use Rattle.msg_form.specs.declared.form.Form.{Form}
 use Rattle.msg_form.specs.declared.form.Class.{Class}
 use Rattle.msg_form.proofs.AnyLemmas.{list_any-map}
-use Rattle.msg_form.proofs.TextLemmas.{among_last, is_among-with_name, is_among-distinct, distinct-more, repeats-append, repeats-none}
+use Rattle.msg_form.proofs.TextLemmas.{among_last, is_among-with_name, is_among-distinct, fold-append, repeats-append}
 
 -- ---- the names of classes
 
-same_names : (f : Form) (cs : List Class) → cs ≡ f.classes.items → map (λ c. c.name.now) cs ≡ listed_names (form_view f)
+pub same_names : (f : Form) (cs : List Class) → cs ≡ f.classes.items → map (λ c. c.name.now) cs ≡ listed_names (form_view f)
 same_names f cs same = ap (map (λ c. c.name.now)) same ∙ sym (map-map (λ (c : ClassForm). c.name) class_view f.classes.items)
 
-pub listed_names-are : (f : Form) (cs : List Class) (first : List Text) → cs ≡ f.classes.items → first ≡ distinct (map (λ c. c.name.now) cs) → first ≡ distinct (listed_names (form_view f))
-listed_names-are f cs first listed e = e ∙ ap distinct (same_names f cs listed)
+-- the names of the listed classes are added, and then those of the classes that may be made
+pub class_names-added : (f : Form) (cs : List Class) (made : List (Bor Text)) (old first all : List Text) → cs ≡ f.classes.items → made ≡ f.made.items → first ≡ fold with_name old (map (λ c. c.name.now) cs)
+    → all ≡ fold with_name first (texts_view made) → all ≡ fold with_name old (class_names (form_view f))
+class_names-added f cs made old first all listed rest e g =
+    let grown : first ≡ fold with_name old (listed_names (form_view f)) = e ∙ ap (fold with_name old) (same_names f cs listed) in
+    g ∙ (λ i. fold with_name (grown i) (texts_view (rest i))) ∙ sym (fold-append old (listed_names (form_view f)) (texts_view f.made.items))
 
--- the names of the listed classes, and then of those that may be made
-pub class_names-are : (f : Form) (cs : List Class) (made : List (Bor Text)) (first all : List Text) → cs ≡ f.classes.items → made ≡ f.made.items → first ≡ distinct (map (λ c. c.name.now) cs)
-    → all ≡ fold with_name first (texts_view made) → all ≡ distinct (class_names (form_view f))
-class_names-are f cs made first all listed rest e g =
-    distinct-more (listed_names (form_view f)) (texts_view f.made.items) first all (listed_names-are f cs first listed e) (g ∙ ap (λ ns. fold with_name first (texts_view ns)) rest)
-
--- a name stands twice among both
-pub repeated_names : (f : Form) (cs : List Class) (made : List (Bor Text)) (none first : List Text) (a b : Bool) → cs ≡ f.classes.items → made ≡ f.made.items → none ≡ [] → a ≡ repeats none (map (λ c. c.name.now) cs)
-    → first ≡ fold with_name none (map (λ c. c.name.now) cs) → b ≡ repeats first (texts_view made) → (a || b) ≡ has_duplicate_class (form_view f)
-unfolding has_duplicate_class
-repeated_names f cs made none first a b listed rest empty e put g =
+-- a name stands twice among both, or is one of those before
+pub repeated_names : (f : Form) (cs : List Class) (made : List (Bor Text)) (old first : List Text) (a b : Bool) → cs ≡ f.classes.items → made ≡ f.made.items → a ≡ repeats old (map (λ c. c.name.now) cs)
+    → first ≡ fold with_name old (map (λ c. c.name.now) cs) → b ≡ repeats first (texts_view made) → (a || b) ≡ repeats old (class_names (form_view f))
+repeated_names f cs made old first a b listed rest e put g =
     let names = listed_names (form_view f) in
-    let more = texts_view f.made.items in
-    let is : a ≡ repeats [] names = e ∙ (λ i. repeats (empty i) (same_names f cs listed i)) in
-    let grown : first ≡ fold with_name [] names = put ∙ (λ i. fold with_name (empty i) (same_names f cs listed i)) in
-    let later : b ≡ repeats (fold with_name [] names) more = g ∙ (λ i. repeats (grown i) (texts_view (rest i))) in
-    (λ i. is i || later i) ∙ sym (repeats-append [] names more) ∙ repeats-none (names ++ more)
+    let is : a ≡ repeats old names = e ∙ ap (repeats old) (same_names f cs listed) in
+    let grown : first ≡ fold with_name old names = put ∙ ap (fold with_name old) (same_names f cs listed) in
+    let later : b ≡ repeats (fold with_name old names) (texts_view f.made.items) = g ∙ (λ i. repeats (grown i) (texts_view (rest i))) in
+    (λ i. is i || later i) ∙ sym (repeats-append old names (texts_view f.made.items))
 
 -- ---- superclasses
 

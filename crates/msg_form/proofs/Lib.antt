@@ -5,6 +5,7 @@ pub mod TextLemmas
 pub mod WalkLemmas
 pub mod ListsLemmas
 pub mod AnyLemmas
+pub mod FormNamesLemmas
 pub mod CitedLemmas
 pub mod ClassLemmas
 pub mod CycleLemmas

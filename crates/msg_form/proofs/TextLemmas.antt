@@ -1,15 +1,12 @@
 -- Texts among texts.
-use Rattle.std.proofs.Common.{◌≡◌, ℕ, suc, ◌+◌, ◌<◌, ◌≤◌, Bool, true, false, cond, not, ◌||◌, List, [], ◌∷◌, ◌++◌, length, map, drop, get_or, bytes_eq, Bor, refl, sym, ap, ◌∙◌, drop-cons, add-one, length-append, arith}
-use Rattle.std.specs.Prelude.{fold, nat_lt}
-use Rattle.std.proofs.lemmas.Bool.Decides.{nat_tests}
+use Rattle.std.proofs.Common.{◌≡◌, ℕ, suc, ◌+◌, ◌<◌, ◌≤◌, Bool, true, false, cond, not, ◌||◌, List, [], ◌∷◌, ◌++◌, length, map, drop, get_or, bytes_eq, refl, sym, ap, ◌∙◌, drop-cons, add-one, length-append, arith}
+use Rattle.std.specs.Prelude.{fold}
 use Rattle.std.specs.List.{list_any}
-use Rattle.std.proofs.lemmas.List.{drop_all}
 use Rattle.std.proofs.lemmas.List.Folds.{list_any-append}
 use Rattle.std.proofs.lemmas.Simd.{map-map}
 use Rattle.std.proofs.lemmas.Slice.Eq.{bytes_eq-Decides}
 use Rattle.msg_names.specs.Numbering.{with_name}
-use Rattle.msg_names.specs.declared.names.TheConstants.{MAX_NAMES}
-use Rattle.msg_form.specs.Text.{repeats, AreDistinct, Text, is_among, is_unknown, has_duplicate, distinct, texts_view}
+use Rattle.msg_form.specs.Text.{repeats, Text, is_among, is_unknown, has_duplicate, distinct, texts_view}
 
 pub or-false : (b : Bool) → (b || false) ≡ b
 or-false true = refl
@@ -78,14 +75,10 @@ repeats-none texts = ap (λ b. b || has_duplicate texts) (none texts)
     none [] = refl
     none (t ∷ ts) = none ts
 
--- the different texts of two lists, one after the other
-pub distinct-more : (xs ys first all : List Text) → first ≡ distinct xs → all ≡ fold with_name first ys → all ≡ distinct (xs ++ ys)
-unfolding distinct
-distinct-more xs ys first all e f = f ∙ ap (λ names. fold with_name names ys) e ∙ sym (on [] xs)
-  where
-    on : (names ts : List Text) → fold with_name names (ts ++ ys) ≡ fold with_name (fold with_name names ts) ys
-    on names [] = refl
-    on names (t ∷ ts) = on (with_name names t) ts
+-- the names of two lists are added, one after the other
+pub fold-append : (names xs ys : List Text) → fold with_name names (xs ++ ys) ≡ fold with_name (fold with_name names xs) ys
+fold-append names [] ys = refl
+fold-append names (x ∷ xs) ys = fold-append (with_name names x) xs ys
 
 -- a text of two lists repeats in the first, or in the other after the first's
 pub repeats-append : (seen xs ys : List Text) → repeats seen (xs ++ ys) ≡ (repeats seen xs || repeats (fold with_name seen xs) ys)
@@ -144,31 +137,6 @@ fold_grows names (t ∷ texts) = let more : length names ≤ length (with_name n
     at_test : (b : Bool) → length names ≤ length (cond b names (names ++ t ∷ []))
     at_test true = omega arith
     at_test false = simp length-append (omega arith)
-
--- the loop that puts texts into a set, and stops at more than 4,096
-module _ (ts : List (Bor Text)) (i : ℕ) (d : Bor Text) (old new : List Text) (lt : i < length ts) (grown : new ≡ with_name old (get_or ts i d).now) where
-  gathered : (all : List Text) → fold with_name old (texts_view (drop i ts)) ≡ all → fold with_name new (texts_view (drop (i + 1) ts)) ≡ all
-  gathered all is =
-      let left : drop i ts ≡ get_or ts i d ∷ drop (i + 1) ts = rw add-one (drop-cons ts i d lt) in
-      ap (λ ns. fold with_name ns (texts_view (drop (i + 1) ts))) grown ∙ sym (ap (λ xs. fold with_name old (texts_view xs)) left) ∙ is
-
-  pub many_so_far : (n : ℕ) → n ≡ length new → MAX_NAMES < n → fold with_name old (texts_view (drop i ts)) ≡ fold with_name [] (texts_view ts) → AreDistinct new (texts_view ts)
-  unfolding distinct
-  many_so_far n len many is =
-      let more : MAX_NAMES < length (fold with_name [] (texts_view ts)) = omega (arith, fold_grows new (texts_view (drop (i + 1) ts)), ap length (gathered (fold with_name [] (texts_view ts)) is)) in
-      record {
-        many = grind (arith, nat_tests);
-        all = λ few. absurd (omega arith);
-      }
-
-pub few_gathered : (ts : List (Bor Text)) (i : ℕ) (names : List Text) → length ts ≤ i → fold with_name names (texts_view (drop i ts)) ≡ fold with_name [] (texts_view ts) → AreDistinct names (texts_view ts)
-unfolding distinct
-few_gathered ts i names le is =
-    let same : names ≡ fold with_name [] (texts_view ts) = sym (ap (λ xs. fold with_name names (texts_view xs)) (drop_all i ts le)) ∙ is in
-    record {
-      many = ap (λ ns. nat_lt MAX_NAMES (length ns)) same;
-      all = λ few. same;
-    }
 
 -- ---- a test of texts is a test of the different ones
 

@@ -1,12 +1,12 @@
 //! The names of a form, looked at once: the form is judged by them, and then they are numbers.
 
-ghost use Rattle.std.specs.Prelude.{◌≡◌, fold, filter, is_none, map, IfOk};
+ghost use Rattle.std.specs.Prelude.{◌≡◌, fold, filter, is_none, map, IfOk, OnOk};
 ghost use Rattle.msg_names.specs.Numbering.{with_name};
-ghost use Rattle.msg_form.specs.Faults.{has_duplicate_class};
-ghost use Rattle.msg_form.specs.FormNames.{AreNamesOf};
+ghost use Rattle.msg_form.specs.FormNames.{AreAddedWhileFew, AreClassesAdded, AreMembersAdded, AreNamesOf, HasNone};
 ghost use Rattle.msg_form.specs.Lists.{class_names};
-ghost use Rattle.msg_form.specs.Text.{AreDistinct, Text, distinct, has_duplicate, repeats, texts_view};
+ghost use Rattle.msg_form.specs.Text.{Text, has_duplicate, repeats, texts_view};
 ghost use Rattle.msg_form.specs.Views.{classes_view, form_view};
+ghost use Rattle.msg_form.specs.Walk.{selector_texts};
 
 use crate::form::{Class, Form, Imp, Object, Pair};
 use crate::name_set::NameSet;
@@ -36,24 +36,51 @@ impl<'v> FormNames<'v> {
     pub fn of(alloc: Global, form: &Form<'v>) -> Result<FormNames<'v>, AllocError>
         ensures { IfOk result (λ n. AreNamesOf n (form_view form.now)) }
     {
-        let texts = form.selector_texts(alloc)?;
-        let selectors = selector_set(alloc, &texts)?;
-        let (listed, _) = names_of(alloc, &form.classes)?;
-        let (classes, class_twice) = class_names(alloc, form)?;
-        let roots = root_set(alloc, &form.classes)?;
-        let (objects, object_twice) = names_of(alloc, &form.objects)?;
-        let (imps, imp_twice) = names_of(alloc, &form.imps)?;
-        Ok(FormNames {
-            selectors,
-            listed,
-            classes,
-            roots,
-            objects,
-            imps,
-            class_twice,
-            object_twice,
-            imp_twice,
-        })
+        let mut names = FormNames::none(alloc);
+        names.add(alloc, form)?;
+        Ok(names)
+    }
+
+    fn none(alloc: Global) -> FormNames<'v>
+        ensures { HasNone result }
+    {
+        FormNames {
+            selectors: NameSet::new(alloc),
+            listed: NameSet::new(alloc),
+            classes: NameSet::new(alloc),
+            roots: NameSet::new(alloc),
+            objects: NameSet::new(alloc),
+            imps: NameSet::new(alloc),
+            class_twice: false,
+            object_twice: false,
+            imp_twice: false,
+        }
+    }
+
+    // The sets stay where they are, so that none is dropped where there is no memory for another.
+    fn add(&mut self, alloc: Global, form: &Form<'v>) -> Result<(), AllocError>
+        ensures { OnOk result (HasNone self.old → AreNamesOf self.new (form_view form.now)) }
+    {
+        add_selectors(&mut self.selectors, alloc, form)?;
+        self.add_classes(form)?;
+        self.add_members(form)
+    }
+
+    fn add_classes(&mut self, form: &Form<'v>) -> Result<(), AllocError>
+        ensures { OnOk result (AreClassesAdded self.old self.new (form_view form.now)) }
+    {
+        add_names(&mut self.listed, &form.classes)?;
+        self.class_twice = add_class_names(&mut self.classes, form)?;
+        add_roots(&mut self.roots, &form.classes)
+    }
+
+    /// The names of objects and implementations.
+    fn add_members(&mut self, form: &Form<'v>) -> Result<(), AllocError>
+        ensures { OnOk result (AreMembersAdded self.old self.new (form_view form.now)) }
+    {
+        self.object_twice = add_names(&mut self.objects, &form.objects)?;
+        self.imp_twice = add_names(&mut self.imps, &form.imps)?;
+        Ok(())
     }
 }
 
@@ -106,70 +133,71 @@ impl<'v> Named<'v> for &'v str {
     }
 }
 
-/// The names with those of the parts, and whether one of these is among the names or stands twice.
-fn gather<'v, T: Named<'v>>(
-    mut names: NameSet<'v>,
-    parts: &[T],
-) -> Result<(NameSet<'v>, bool), AllocError>
-    ensures names { IfOk result (λ r. r.0 ≡ fold with_name names.entry (map T.named parts.now)) }
-    ensures twice { IfOk result (λ r. r.1 ≡ repeats names.entry (map T.named parts.now)) }
+/// Adds the names of the parts. Whether one of them is among the names or stands twice.
+fn add_names<'v, T: Named<'v>>(names: &mut NameSet<'v>, parts: &[T]) -> Result<bool, AllocError>
+    ensures names { OnOk result (names.new ≡ fold with_name names.old (map T.named parts.now)) }
+    ensures twice { IfOk result (λ b. b ≡ repeats names.old (map T.named parts.now)) }
 {
     let mut twice = false;
     for part in parts {
         let new = names.insert(part.name())?;
         twice = twice | !new;
     }
-    Ok((names, twice))
+    Ok(twice)
 }
 
-/// The names of the parts, and whether two of them are alike.
-#[tactic(auto, unfolding(crate::specs::Text::distinct))]
-pub(crate) fn names_of<'v, T: Named<'v>>(
-    alloc: Global,
-    parts: &[T],
-) -> Result<(NameSet<'v>, bool), AllocError>
-    ensures names { IfOk result (λ r. r.0 ≡ distinct (map T.named parts.now)) }
-    ensures twice { IfOk result (λ r. r.1 ≡ has_duplicate (map T.named parts.now)) }
+/// Whether two of the parts have one name.
+pub(crate) fn are_alike<'v, T: Named<'v>>(alloc: Global, parts: &[T]) -> Result<bool, AllocError>
+    ensures { IfOk result (λ b. b ≡ has_duplicate (map T.named parts.now)) }
 {
-    let (names, twice) = gather(NameSet::new(alloc), parts)?;
-    Ok((names, twice))
+    let mut names = NameSet::new(alloc);
+    add_names(&mut names, parts)
 }
 
-/// The names of the listed classes and of those that may be made, and whether two of them are alike.
-fn class_names<'v>(alloc: Global, form: &Form<'v>) -> Result<(NameSet<'v>, bool), AllocError>
-    ensures names { IfOk result (λ r. r.0 ≡ distinct (class_names (form_view form.now))) }
-    ensures twice { IfOk result (λ r. r.1 ≡ has_duplicate_class (form_view form.now)) }
+/// Adds the names of the listed classes and of those that may be made. Whether one of them is among the names or stands twice.
+fn add_class_names<'v>(names: &mut NameSet<'v>, form: &Form<'v>) -> Result<bool, AllocError>
+    ensures names { OnOk result (names.new ≡ fold with_name names.old (class_names (form_view form.now))) }
+    ensures twice { IfOk result (λ b. b ≡ repeats names.old (class_names (form_view form.now))) }
 {
-    let (listed, listed_twice) = gather(NameSet::new(alloc), &form.classes)?;
-    let (names, made_twice) = gather(listed, &form.made)?;
-    Ok((names, listed_twice | made_twice))
+    let listed_twice = add_names(names, &form.classes)?;
+    let made_twice = add_names(names, &form.made)?;
+    Ok(listed_twice | made_twice)
 }
 
-/// The names of the classes that have no superclass.
-#[tactic(auto, unfolding(crate::specs::Text::distinct))]
-fn root_set<'v>(alloc: Global, classes: &[Class<'v>]) -> Result<NameSet<'v>, AllocError>
-    ensures { IfOk result
-        (λ s. s ≡ distinct (map (λ c. c.name) (filter (λ c. is_none c.superclass) (classes_view classes.now)))) }
+/// Adds the names of the classes that have no superclass.
+fn add_roots<'v>(roots: &mut NameSet<'v>, classes: &[Class<'v>]) -> Result<(), AllocError>
+    ensures { OnOk result
+        (roots.new ≡ fold with_name roots.old (map (λ c. c.name) (filter (λ c. is_none c.superclass) (classes_view classes.now)))) }
 {
-    let mut roots = NameSet::new(alloc);
     for class in classes {
         if class.superclass.is_none() {
             roots.insert(class.name)?;
         }
     }
-    Ok(roots)
+    Ok(())
 }
 
-/// The different texts, or some of them that are too many to have numbers.
-fn selector_set<'v>(alloc: Global, texts: &[&'v str]) -> Result<NameSet<'v>, AllocError>
-    ensures { IfOk result (λ s. AreDistinct s (texts_view texts.now)) }
+/// Adds the texts at places of selectors, as long as those of the set can have numbers.
+fn add_selectors<'v>(
+    selectors: &mut NameSet<'v>,
+    alloc: Global,
+    form: &Form<'v>,
+) -> Result<(), AllocError>
+    ensures { OnOk result (AreAddedWhileFew selectors.old selectors.new (selector_texts (form_view form.now))) }
 {
-    let mut selectors = NameSet::new(alloc);
+    let texts = form.selector_texts(alloc)?;
+    add_while_few(selectors, &texts)
+}
+
+/// Adds the texts, as long as those of the set can have numbers.
+fn add_while_few<'v>(selectors: &mut NameSet<'v>, texts: &[&'v str]) -> Result<(), AllocError>
+    ensures { OnOk result (AreAddedWhileFew selectors.old selectors.new (texts_view texts.now)) }
+{
     for text in texts {
-        selectors.insert(*text)?;
         if selectors.len() > MAX_NAMES {
-            return Ok(selectors);
+            return Ok(());
         }
+        selectors.insert(*text)?;
     }
-    Ok(selectors)
+    Ok(())
 }

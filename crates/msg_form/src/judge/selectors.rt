@@ -9,7 +9,7 @@ ghost use Rattle.msg_form.specs.Views.{form_view};
 
 use super::lists::all_lists;
 use crate::form::{Form, Pair};
-use crate::form_names::names_of;
+use crate::form_names::are_alike;
 use crate::name_set::NameSet;
 use msg_names::is_selector_name;
 use std::alloc::{AllocError, Global};
@@ -38,7 +38,7 @@ fn any_repeats(alloc: Global, lists: &[&[Pair]]) -> Result<bool, AllocError>
         (λ b. b ≡ list_any (λ l. has_duplicate (map (λ p. p.selector.now) l.now)) lists.now) }
 {
     for list in lists {
-        if names_of(alloc, list)?.1 {
+        if are_alike(alloc, list)? {
             return Ok(true);
         }
     }

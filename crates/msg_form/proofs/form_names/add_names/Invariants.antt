@@ -2,7 +2,7 @@ use Rattle.std.proofs.Common.{◌≡◌, ◌||◌, map, drop}
 use Rattle.std.specs.Prelude.{fold}
 use Rattle.msg_names.specs.Numbering.{with_name}
 use Rattle.msg_form.specs.Text.{repeats}
-use Rattle.msg_form.proofs.form_names.gather.Given as goal
+use Rattle.msg_form.proofs.form_names.add_names.Given as goal
 
 abbrev pub invariant-loop-part : goal.invariant-loop-part
 invariant-loop-part g l = record {
