@@ -1,9 +1,9 @@
 -- What the values of a list spell as constants and expressions.
-use Rattle.std.proofs.Common.{◌≡◌, ℕ, ◌-◌, ◌<◌, ◌≤◌, List, [], ◌∷◌, map, take, drop, get_or, length, slice_get, Option, Some, option_map, Vec, ◌==◌, true, eq-eqb, refl, sym, ap, ◌∙◌, arith, length-drop}
+use Rattle.std.proofs.Common.{◌≡◌, ℕ, ◌-◌, ◌<◌, ◌≤◌, List, [], ◌∷◌, map, take, drop, get_or, length, slice_get, Option, None, Some, option_map, Vec, ◌==◌, true, eq-eqb, refl, sym, ap, ◌∙◌, arith, length-drop}
 use Rattle.std.proofs.lemmas.List.{drop-map, length-map, take_all}
-use Rattle.std.proofs.lemmas.Option.{slice_get-map}
+use Rattle.std.proofs.lemmas.Option.{slice_get-map, slice_get_past}
 use Rattle.serde_json.specs.Find.{as_str}
-use Rattle.serde_json.specs.Data.{Items, no_items, item, array}
+use Rattle.serde_json.specs.Data.{Data, Items, no_items, item, array}
 use Rattle.json.specs.Value.{items_view}
 use Rattle.json.specs.declared.value.Value.{Value, Array}
 use Rattle.msg_json.proofs.ViewLemmas.{view-Array}
@@ -11,8 +11,8 @@ use Rattle.msg_json.specs.View.{view, items_data}
 use Rattle.msg_form.specs.Text.{Text}
 use Rattle.msg_form.specs.declared.form.Operator.{Operator}
 use Rattle.msg_form.specs.Expression.{Expression, binary, choice, send, expressions}
-use Rattle.msg_form.specs.ExprShape.{constant_of, listed_constant_of, expression_of, readings_of, listed_of, all_from, binary_of, choice_of, send_expression_of}
-use Rattle.msg_form.specs.Json.{◌>>=◌, each, values_of}
+use Rattle.msg_form.specs.ExprShape.{at, two_at, constant_of, listed_constant_of, expression_of, readings_of, listed_of, all_from, binary_of, choice_of, send_expression_of}
+use Rattle.msg_form.specs.Json.{◌>>=◌, each, value_of, values_of}
 use Rattle.msg_form.specs.ExprView.{expr_view}
 use Rattle.msg_form.specs.declared.form.Expr.{Expr}
 use Rattle.msg_form.proofs.JsonLemmas.{values_of-items_view, value_there, with_front, starts}
@@ -38,30 +38,45 @@ expression_of-array v values is = ap (λ w. expression_of (view w)) is ∙ ap ex
 pub reading_there : {A : Type 0} (vs : List (Value A)) (i : ℕ) (v : Value A) → i < length vs → v ≡ get_or vs i v → slice_get (map expression_of (map view vs)) i ≡ Some (expression_of (view v))
 reading_there vs i v lt at = slice_get-map expression_of (map view vs) i ∙ ap (option_map expression_of) (value_there vs i v lt at)
 
-expression_at : {A : Type 0} (vs : List (Value A)) (i : ℕ) (v : Value A) (e : Expression) → i < length vs → v ≡ get_or vs i v → expression_of (view v) ≡ Some e → slice_get (map expression_of (map view vs)) i ≡ Some (Some e)
-expression_at vs i v e lt at is = reading_there vs i v lt at ∙ ap Some is
+-- there is no expression past the end
+pub no_reading : {A : Type 0} (vs : List (Value A)) (i : ℕ) → length vs ≤ i → at i (map expression_of (map view vs)) ≡ None
+no_reading vs i past = ap (λ o. o >>= λ e. e) (slice_get_past (map expression_of (map view vs)) i (omega (arith, length-map (map view vs) expression_of, length-map vs view)))
+
+pub reading_is : {A : Type 0} (vs : List (Value A)) (i : ℕ) (v : Value A) → i < length vs → v ≡ get_or vs i v → at i (map expression_of (map view vs)) ≡ expression_of (view v)
+reading_is vs i v lt there = ap (λ o. o >>= λ e. e) (reading_there vs i v lt there)
 
 so_many : {A : Type 0} (vs : List (Value A)) (n : ℕ) → length vs ≡ n → (length (map expression_of (map view vs)) == n) ≡ true
 so_many vs n e = eq-eqb (length (map expression_of (map view vs))) n (length-map (map view vs) expression_of ∙ length-map vs view ∙ e)
 
-pub binary_read : {A : Type 0} (operator : Operator) (vs : List (Value A)) (a b : Value A) (left right : Expression) → length vs ≡ 3 → a ≡ get_or vs 1 a → b ≡ get_or vs 2 b
-    → expression_of (view a) ≡ Some left → expression_of (view b) ≡ Some right → binary_of operator (map expression_of (map view vs)) ≡ Some (binary operator left right)
+-- where there are so many values, and the first expression was read, what is left to read decides
+pub binary_left : {A : Type 0} (operator : Operator) (vs : List (Value A)) (left : Expression) → length vs ≡ 3 → at 1 (map expression_of (map view vs)) ≡ Some left
+    → binary_of operator (map expression_of (map view vs)) ≡ (at 2 (map expression_of (map view vs)) >>= λ right. Some (binary operator left right))
 unfolding binary_of
-binary_read operator vs a b left right len at_a at_b is_a is_b =
-    rw (so_many vs 3 len, expression_at vs 1 a left (omega (arith, len)) at_a is_a, expression_at vs 2 b right (omega (arith, len)) at_b is_b) refl
+binary_left operator vs left len is = rw (so_many vs 3 len, is) refl
 
-pub choice_read : {A : Type 0} (vs : List (Value A)) (a b d : Value A) (condition yes' no' : Expression) → length vs ≡ 4 → a ≡ get_or vs 1 a → b ≡ get_or vs 2 b → d ≡ get_or vs 3 d
-    → expression_of (view a) ≡ Some condition → expression_of (view b) ≡ Some yes' → expression_of (view d) ≡ Some no' → choice_of (map expression_of (map view vs)) ≡ Some (choice condition yes' no')
+pub choice_left : {A : Type 0} (vs : List (Value A)) (condition : Expression) → length vs ≡ 4 → at 1 (map expression_of (map view vs)) ≡ Some condition
+    → choice_of (map expression_of (map view vs)) ≡ (two_at 2 3 (map expression_of (map view vs)) >>= λ es. Some (choice condition es.0 es.1))
 unfolding choice_of
-choice_read vs a b d condition yes' no' len at_a at_b at_d is_a is_b is_d =
-    rw (so_many vs 4 len, expression_at vs 1 a condition (omega (arith, len)) at_a is_a, expression_at vs 2 b yes' (omega (arith, len)) at_b is_b, expression_at vs 3 d no' (omega (arith, len)) at_d is_d) refl
+choice_left vs condition len is = rw (so_many vs 4 len, is) (branches (at 2 (map expression_of (map view vs))) (at 3 (map expression_of (map view vs))))
+  where
+    branches : (a b : Option Expression) → (a >>= λ y. b >>= λ n. Some (choice condition y n)) ≡ ◌>>=◌ {A = Expression × Expression} (a >>= λ y. b >>= λ n. Some (y, n)) (λ es. Some (choice condition es.0 es.1))
+    branches None b = refl
+    branches (Some y) None = refl
+    branches (Some y) (Some n) = refl
 
-pub send_read : {A : Type 0} (vs : List (Value A)) (a b : Value A) (receiver : Expression) (selector : Text) (args : List Expression) → 3 ≤ length vs → a ≡ get_or vs 1 a → b ≡ get_or vs 2 b
-    → expression_of (view a) ≡ Some receiver → as_str (view b) ≡ Some selector → all_from 3 (map expression_of (map view vs)) ≡ Some args
-    → send_expression_of (map view vs) (map expression_of (map view vs)) ≡ Some (send receiver selector (expressions args))
+pub send_left : {A : Type 0} (vs : List (Value A)) (receiver : Expression) (selector : Text) → value_of as_str 2 (map view vs) ≡ Some selector → at 1 (map expression_of (map view vs)) ≡ Some receiver
+    → send_expression_of (map view vs) (map expression_of (map view vs)) ≡ (all_from 3 (map expression_of (map view vs)) >>= λ args. Some (send receiver selector (expressions args)))
 unfolding send_expression_of
-send_read vs a b receiver selector args len at_a at_b is_a is_b rest =
-    rw (expression_at vs 1 a receiver (omega (arith, len)) at_a is_a, value_there vs 2 b (omega (arith, len)) at_b, is_b, rest) refl
+send_left vs receiver selector is_selector is = rw (is, is_selector) refl
+
+-- without a selector there is no send
+pub unselected : (ds : List Data) (es : List (Option Expression)) → value_of as_str 2 ds ≡ None → send_expression_of ds es ≡ None
+unfolding send_expression_of
+unselected ds es none = rw none (nowhere (at 1 es) (λ r. None) (λ r. refl))
+  where
+    nowhere : (o : Option Expression) (f : Expression → Option Expression) → ((r : Expression) → f r ≡ None) → (o >>= f) ≡ None
+    nowhere None f none = refl
+    nowhere (Some r) f none = none r
 
 each-map : {A B : Type 0} (f : A → Option B) (xs : List A) → each (λ o. o) (map f xs) ≡ each f xs
 each-map f [] = refl

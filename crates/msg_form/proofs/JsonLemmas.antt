@@ -1,6 +1,6 @@
 -- Going over the values of a list.
-use Rattle.std.proofs.Common.{◌≡◌, ℕ, zero, suc, ◌+◌, ◌<◌, List, [], ◌∷◌, ◌++◌, map, drop, get_or, length, slice_get, Option, None, Some, option_map, refl, sym, ap, ◌∙◌, append_assoc, drop-cons, add-one, arith}
-use Rattle.std.proofs.lemmas.List.{map_push}
+use Rattle.std.proofs.Common.{◌≡◌, ℕ, zero, suc, ◌+◌, ◌<◌, ◌≤◌, List, [], ◌∷◌, ◌++◌, map, drop, get_or, length, slice_get, Option, None, Some, option_map, refl, sym, ap, ◌∙◌, append_assoc, drop-cons, add-one, arith, append-nil}
+use Rattle.std.proofs.lemmas.List.{drop_all, map_push}
 use Rattle.serde_json.specs.Data.{Data}
 use Rattle.json.specs.Value.{items_view}
 use Rattle.json.specs.declared.value.Value.{Value}
@@ -37,3 +37,7 @@ each_on g f vs i v old new x whole lt at read pushed so_far =
     let here : with_front (map g old) (each f (map view (drop i vs))) ≡ with_front (map g old ++ g x ∷ []) (each f (map view (drop (i + 1) vs))) = rw (left, read) (regroup (map g old) (g x) (each f (map view (drop (i + 1) vs)))) in
     let grown : map g new ≡ map g old ++ g x ∷ [] = rw pushed (map_push g old x) in
     rw grown (sym here ∙ so_far)
+
+-- after the loop all values are read
+pub each_done : {A B L : Type 0} (g : A → B) (f : Data → Option B) (vs : List (Value L)) (i : ℕ) (read : List A) (whole : Option (List B)) → length vs ≤ i → with_front (map g read) (each f (map view (drop i vs))) ≡ whole → whole ≡ Some (map g read)
+each_done g f vs i read whole past so_far = sym so_far ∙ ap (λ ds. with_front (map g read) (each f (map view ds))) (drop_all i vs past) ∙ ap Some (append-nil (map g read))

@@ -44,6 +44,13 @@ constant_of (object ms) = None
 abbrev pub at : ℕ → List (Option Expression) → Option Expression
 at i es = slice_get es i >>= λ e. e
 
+-- the expressions at two places
+abbrev pub two_at : ℕ → ℕ → List (Option Expression) → Option (Expression × Expression)
+two_at i j es = do
+  first ← at i es
+  second ← at j es
+  Some (first, second)
+
 -- the expressions from a place on
 abbrev pub all_from : ℕ → List (Option Expression) → Option (List Expression)
 all_from i es = each (λ e. e) (drop i es)

@@ -4,7 +4,7 @@ ghost use Rattle.std.specs.Prelude.{◌≡◌, Option, map};
 ghost use Rattle.serde_json.specs.Data.{Data};
 ghost use Rattle.msg_json.specs.View.{view};
 ghost use Rattle.msg_form.specs.Gives.{Gives};
-ghost use Rattle.msg_form.specs.Json.{each, list_of};
+ghost use Rattle.msg_form.specs.Json.{each, field_of, list_of, value_of};
 
 mod change;
 mod expr;
@@ -14,7 +14,7 @@ mod values;
 use crate::faults::ReadFault;
 use msg_json::Tree;
 use std::alloc::Global;
-use values::list;
+use values::{field, list, value_in};
 
 /// What a JSON value may spell.
 trait FromValue<'v>: Sized + Drop {
@@ -35,6 +35,28 @@ fn list_of<'v, T: FromValue<'v>>(alloc: Global, value: &Tree<'v, '_>) -> Result<
     ensures { Gives (λ v. map T.plain v.items) result (list_of T.spelled (view value.now)) }
 {
     each(alloc, list(value)?)
+}
+
+/// What the values of the list at a key spell.
+fn list_at<'v, T: FromValue<'v>>(
+    alloc: Global,
+    value: &Tree<'v, '_>,
+    key: &str,
+) -> Result<Vec<T>, ReadFault>
+    ensures { Gives (λ v. map T.plain v.items) result (field_of (list_of T.spelled) key.now (view value.now)) }
+{
+    list_of(alloc, field(value, key)?)
+}
+
+/// What the values of the list at a place spell.
+fn list_in<'v, T: FromValue<'v>>(
+    alloc: Global,
+    values: &[Tree<'v, '_>],
+    place: usize,
+) -> Result<Vec<T>, ReadFault>
+    ensures { Gives (λ v. map T.plain v.items) result (value_of (list_of T.spelled) place (map view values.now)) }
+{
+    list_of(alloc, value_in(values, place)?)
 }
 
 /// What each of the values spells.

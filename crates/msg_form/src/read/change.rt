@@ -7,24 +7,25 @@ ghost use Rattle.msg_form.specs.Gives.{Gives};
 ghost use Rattle.msg_form.specs.Shape as spec;
 ghost use Rattle.msg_form.specs.Views.{method_view, change_view, item_view};
 
+use super::expr::constant;
 use super::parts::superclass;
-use super::values::{field, keys, list, name, text, truth};
-use super::{FromValue, each, list_of};
+use super::values::{field, keys, list, name_in, text_in, truth, value_in};
+use super::{FromValue, each, list_in};
 use crate::faults::ReadFault;
-use crate::form::{Change, Constant, Item, MethodName};
+use crate::form::{Change, Item, MethodName};
 use msg_json::Tree;
 use std::alloc::Global;
 
 /// A method's name, which takes three values from a place on.
-#[tactic(auto, using(crate::proofs::JsonLemmas::value_there), unfolding(crate::specs::Shape::method_form_of))]
+#[tactic(auto, unfolding(crate::specs::Shape::method_form_of))]
 fn method<'v>(values: &[Tree<'v, '_>], place: usize) -> Result<MethodName<'v>, ReadFault>
     requires { place + 3 ≤ length values.now }
     ensures { Gives method_view result (spec.method_form_of place (map view values.now)) }
 {
     Ok(MethodName {
-        class: name(&values[place])?,
-        meta: truth(&values[place + 1])?,
-        selector: text(&values[place + 2])?,
+        class: name_in(values, place)?,
+        meta: truth(value_in(values, place + 1)?)?,
+        selector: text_in(values, place + 2)?,
     })
 }
 
@@ -37,7 +38,7 @@ fn edit<'v>(values: &[Tree<'v, '_>]) -> Result<(MethodName<'v>, &'v str), ReadFa
         return Err(ReadFault::Shape);
     }
     let method = method(values, 1)?;
-    let imp = name(&values[4])?;
+    let imp = name_in(values, 4)?;
     Ok((method, imp))
 }
 
@@ -62,9 +63,9 @@ fn attach<'v>(alloc: Global, values: &[Tree<'v, '_>]) -> Result<Change<'v>, Read
         return Err(ReadFault::Shape);
     }
     Ok(Change::Attach {
-        class: name(&values[1])?,
-        methods: list_of(alloc, &values[2])?,
-        class_methods: list_of(alloc, &values[3])?,
+        class: name_in(values, 1)?,
+        methods: list_in(alloc, values, 2)?,
+        class_methods: list_in(alloc, values, 3)?,
     })
 }
 
@@ -76,8 +77,8 @@ fn make<'v>(values: &[Tree<'v, '_>]) -> Result<Change<'v>, ReadFault>
         return Err(ReadFault::Shape);
     }
     Ok(Change::Make {
-        class: name(&values[1])?,
-        superclass: superclass(&values[2])?,
+        class: name_in(values, 1)?,
+        superclass: superclass(value_in(values, 2)?)?,
     })
 }
 
@@ -109,15 +110,12 @@ fn worded_change<'v>(
     }
 }
 
-#[tactic(auto, using(crate::proofs::JsonLemmas::value_there), unfolding(crate::specs::Shape::change_form_of))]
+#[tactic(auto, unfolding(crate::specs::Shape::change_form_of))]
 fn change<'v>(alloc: Global, value: &Tree<'v, '_>) -> Result<Change<'v>, ReadFault>
     ensures { Gives change_view result (spec.change_form_of (view value.now)) }
 {
     let values = list(value)?;
-    if values.is_empty() {
-        return Err(ReadFault::Shape);
-    }
-    worded_change(alloc, text(&values[0])?, values)
+    worded_change(alloc, text_in(values, 0)?, values)
 }
 
 #[tactic(auto, unfolding(crate::specs::Shape::send_item_of))]
@@ -129,8 +127,8 @@ fn send_item<'v>(alloc: Global, value: &Tree<'v, '_>) -> Result<Item<'v>, ReadFa
         return Err(ReadFault::Shape);
     }
     Ok(Item::Send {
-        receiver: Constant::from_value(alloc, &values[0])?,
-        selector: text(&values[1])?,
+        receiver: constant(value_in(values, 0)?)?,
+        selector: text_in(values, 1)?,
         args: each(alloc, &values[2..])?,
     })
 }

@@ -1,6 +1,6 @@
 //! Reading constants and expressions. A body is read once, from the outside in.
 
-ghost use Rattle.std.specs.Prelude.{◌≡◌, ◌≤◌, map, length};
+ghost use Rattle.std.specs.Prelude.{◌≡◌, ◌≤◌, List, Option, Some, map, length, option_and_then};
 ghost use Rattle.msg_json.specs.View.{view};
 ghost use Rattle.msg_form.specs.Expression as plain;
 ghost use Rattle.msg_form.specs.ExprShape as spec;
@@ -10,7 +10,7 @@ ghost use Rattle.msg_form.specs.Gives.{Gives};
 ghost use Rattle.msg_form.specs.Readings.{readings};
 
 use super::FromValue;
-use super::values::{name, text, whole};
+use super::values::{name_in, text_in, value_in, whole};
 use crate::faults::ReadFault;
 use crate::form::{BinaryExpr, Constant, Expr, IfExpr, Operator, SendExpr, SuperExpr};
 use msg_json::{Tree, Value};
@@ -29,7 +29,7 @@ impl<'v> FromValue<'v> for Constant<'v> {
 }
 
 #[tactic(auto, unfolding(crate::specs::ExprShape::constant_of, crate::specs::ExprShape::whole_constant_of))]
-fn constant<'v>(value: &Tree<'v, '_>) -> Result<Constant<'v>, ReadFault>
+pub(super) fn constant<'v>(value: &Tree<'v, '_>) -> Result<Constant<'v>, ReadFault>
     ensures { Gives constant_view result (spec.constant_of (view value.now)) }
 {
     match value {
@@ -44,10 +44,7 @@ fn constant<'v>(value: &Tree<'v, '_>) -> Result<Constant<'v>, ReadFault>
 fn listed_constant<'v>(values: &[Tree<'v, '_>]) -> Result<Constant<'v>, ReadFault>
     ensures { Gives constant_view result (spec.listed_constant_of (map view values.now)) }
 {
-    if values.is_empty() {
-        return Err(ReadFault::Shape);
-    }
-    named(text(&values[0])?, values)
+    named(text_in(values, 0)?, values)
 }
 
 #[tactic(auto, unfolding(crate::specs::ExprShape::named_of))]
@@ -58,9 +55,9 @@ fn named<'v>(word: &str, values: &[Tree<'v, '_>]) -> Result<Constant<'v>, ReadFa
         return Err(ReadFault::Shape);
     }
     match word {
-        "obj" => Ok(Constant::Object(name(&values[1])?)),
-        "class" => Ok(Constant::Class(name(&values[1])?)),
-        "sel" => Ok(Constant::Selector(text(&values[1])?)),
+        "obj" => Ok(Constant::Object(name_in(values, 1)?)),
+        "class" => Ok(Constant::Class(name_in(values, 1)?)),
+        "sel" => Ok(Constant::Selector(text_in(values, 1)?)),
         _ => Err(ReadFault::Shape),
     }
 }
@@ -86,7 +83,7 @@ fn arg<'v>(values: &[Tree<'v, '_>]) -> Result<Expr<'v>, ReadFault>
     if values.len() != 2 {
         return Err(ReadFault::Shape);
     }
-    let number = whole(&values[1])?;
+    let number = whole(value_in(values, 1)?)?;
     if number < 0 {
         return Err(ReadFault::Shape);
     }
@@ -115,15 +112,24 @@ fn expr<'v>(alloc: Global, value: &Tree<'v, '_>) -> Result<Expr<'v>, ReadFault>
     }
 }
 
+/// The expression at a place.
+#[cycle(expr)]
+#[tactic(auto, using(crate::proofs::ExprShapeLemmas::reading_there))]
+fn expr_in<'v>(alloc: Global, values: &[Tree<'v, '_>], place: usize) -> Result<Expr<'v>, ReadFault>
+    ensures { Gives expr_view result (spec.at place (readings values.now)) }
+{
+    if place >= values.len() {
+        return Err(ReadFault::Shape);
+    }
+    expr(alloc, &values[place])
+}
+
 #[cycle(expr)]
 #[tactic(auto, unfolding(crate::specs::ExprShape::listed_of, crate::specs::ExprShape::worded_of, crate::specs::ExprShape::me_of))]
 fn listed<'v>(alloc: Global, values: &[Tree<'v, '_>]) -> Result<Expr<'v>, ReadFault>
     ensures { Gives expr_view result (spec.listed_of (map view values.now) (readings values.now)) }
 {
-    if values.is_empty() {
-        return Err(ReadFault::Shape);
-    }
-    let word = text(&values[0])?;
+    let word = text_in(values, 0)?;
     match word {
         "self" => {
             if values.len() == 1 {
@@ -143,8 +149,22 @@ fn listed<'v>(alloc: Global, values: &[Tree<'v, '_>]) -> Result<Expr<'v>, ReadFa
     }
 }
 
+/// The expressions at two places.
 #[cycle(expr)]
-#[tactic(auto, using(crate::proofs::ExprShapeLemmas::reading_there), unfolding(crate::specs::ExprShape::binary_of))]
+fn two<'v>(
+    alloc: Global,
+    values: &[Tree<'v, '_>],
+    first: usize,
+    second: usize,
+) -> Result<(Expr<'v>, Expr<'v>), ReadFault>
+    ensures { Gives (λ es. (expr_view es.0, expr_view es.1)) result (spec.two_at first second (readings values.now)) }
+{
+    let left = expr_in(alloc, values, first)?;
+    beside(left, expr_in(alloc, values, second))
+}
+
+#[cycle(expr)]
+#[tactic(auto, unfolding(crate::specs::ExprShape::binary_of))]
 fn binary<'v>(
     alloc: Global,
     operator: Operator,
@@ -155,52 +175,33 @@ fn binary<'v>(
     if values.len() != 3 {
         return Err(ReadFault::Shape);
     }
-    let left = expr(alloc, &values[1])?;
-    let right = expr(alloc, &values[2])?;
-    let binary = BinaryExpr {
-        operator,
-        left,
-        right,
-    };
-    Ok(Expr::Binary(Box::new(alloc, binary)?))
+    let left = expr_in(alloc, values, 1)?;
+    boxed_binary(alloc, operator, left, expr_in(alloc, values, 2))
 }
 
 #[cycle(expr)]
-#[tactic(auto, using(crate::proofs::ExprShapeLemmas::reading_there), unfolding(crate::specs::ExprShape::choice_of))]
+#[tactic(auto, unfolding(crate::specs::ExprShape::choice_of))]
 fn choice<'v>(alloc: Global, values: &[Tree<'v, '_>]) -> Result<Expr<'v>, ReadFault>
     ensures { Gives expr_view result (spec.choice_of (readings values.now)) }
 {
     if values.len() != 4 {
         return Err(ReadFault::Shape);
     }
-    let condition = expr(alloc, &values[1])?;
-    let then = expr(alloc, &values[2])?;
-    let otherwise = expr(alloc, &values[3])?;
-    let choice = IfExpr {
-        condition,
-        then,
-        otherwise,
-    };
-    Ok(Expr::If(Box::new(alloc, choice)?))
+    let condition = expr_in(alloc, values, 1)?;
+    boxed_choice(alloc, condition, two(alloc, values, 2, 3))
 }
 
 #[cycle(expr)]
-#[tactic(auto, using(crate::proofs::JsonLemmas::value_there, crate::proofs::ExprShapeLemmas::reading_there), unfolding(crate::specs::ExprShape::send_expression_of))]
+#[tactic(auto, using(crate::proofs::ExprShapeLemmas::unselected), unfolding(crate::specs::ExprShape::send_expression_of))]
 fn send<'v>(alloc: Global, values: &[Tree<'v, '_>]) -> Result<Expr<'v>, ReadFault>
     ensures { Gives expr_view result (spec.send_expression_of (map view values.now) (readings values.now)) }
 {
     if values.len() < 3 {
         return Err(ReadFault::Shape);
     }
-    let receiver = expr(alloc, &values[1])?;
-    let selector = text(&values[2])?;
-    let args = exprs(alloc, values, 3)?;
-    let send = SendExpr {
-        receiver,
-        selector,
-        args,
-    };
-    Ok(Expr::Send(Box::new(alloc, send)?))
+    let selector = text_in(values, 2)?;
+    let receiver = expr_in(alloc, values, 1)?;
+    boxed_send(alloc, receiver, selector, exprs(alloc, values, 3))
 }
 
 #[cycle(expr)]
@@ -211,7 +212,7 @@ fn super_send<'v>(alloc: Global, values: &[Tree<'v, '_>]) -> Result<Expr<'v>, Re
     if values.len() < 2 {
         return Err(ReadFault::Shape);
     }
-    let selector = text(&values[1])?;
+    let selector = text_in(values, 1)?;
     let args = exprs(alloc, values, 2)?;
     let send = SuperExpr { selector, args };
     Ok(Expr::Super(Box::new(alloc, send)?))
@@ -232,4 +233,67 @@ fn exprs<'v>(
         exprs.push(expr(alloc, value)?)?;
     }
     Ok(exprs)
+}
+
+// An expression is dropped by a jump for each of its variants. So those that were read before one that failed are dropped in few places.
+
+fn beside<'v>(
+    first: Expr<'v>,
+    second: Result<Expr<'v>, ReadFault>,
+) -> Result<(Expr<'v>, Expr<'v>), ReadFault>
+    ensures { (o : Option plain.Expression) → Gives expr_view second.entry o
+        → Gives {Y = plain.Expression × plain.Expression} (λ es. (expr_view es.0, expr_view es.1)) result (option_and_then (λ e. Some (expr_view first.entry, e)) o) }
+{
+    Ok((first, second?))
+}
+
+fn boxed_binary<'v>(
+    alloc: Global,
+    operator: Operator,
+    left: Expr<'v>,
+    right: Result<Expr<'v>, ReadFault>,
+) -> Result<Expr<'v>, ReadFault>
+    ensures { (o : Option plain.Expression) → Gives expr_view right.entry o
+        → Gives expr_view result (option_and_then (λ r. Some (plain.binary operator (expr_view left.entry) r)) o) }
+{
+    let binary = BinaryExpr {
+        operator,
+        left,
+        right: right?,
+    };
+    Ok(Expr::Binary(Box::new(alloc, binary)?))
+}
+
+fn boxed_choice<'v>(
+    alloc: Global,
+    condition: Expr<'v>,
+    branches: Result<(Expr<'v>, Expr<'v>), ReadFault>,
+) -> Result<Expr<'v>, ReadFault>
+    ensures { (o : Option (plain.Expression × plain.Expression)) → Gives (λ es. (expr_view es.0, expr_view es.1)) branches.entry o
+        → Gives expr_view result (option_and_then (λ es. Some (plain.choice (expr_view condition.entry) es.0 es.1)) o) }
+{
+    let (then, otherwise) = branches?;
+    let choice = IfExpr {
+        condition,
+        then,
+        otherwise,
+    };
+    Ok(Expr::If(Box::new(alloc, choice)?))
+}
+
+fn boxed_send<'v>(
+    alloc: Global,
+    receiver: Expr<'v>,
+    selector: &'v str,
+    args: Result<Vec<Expr<'v>>, ReadFault>,
+) -> Result<Expr<'v>, ReadFault>
+    ensures { (o : Option (List plain.Expression)) → Gives (λ v. map expr_view v.items) args.entry o
+        → Gives expr_view result (option_and_then (λ es. Some (plain.send (expr_view receiver.entry) selector.now (plain.expressions es))) o) }
+{
+    let send = SendExpr {
+        receiver,
+        selector,
+        args: args?,
+    };
+    Ok(Expr::Send(Box::new(alloc, send)?))
 }

@@ -11,8 +11,8 @@ ghost use Rattle.std.specs.List.{list_any};
 ghost use Rattle.msg_form.specs.Views.{pair_view, class_view, category_view, object_view};
 ghost use Rattle.msg_form.specs.Views.{imp_view, item_view, form_view};
 
-use super::values::{field, keys, list, name, text, truth, whole};
-use super::{FromValue, list_of};
+use super::values::{field, keys, list, name, name_at, name_in, text_in, truth, whole};
+use super::{FromValue, list_at};
 use crate::faults::ReadFault;
 use crate::form::{Category, Change, Class, Expr, Form, Imp, Item, Object, Pair, is_second};
 use msg_json::{Tree, Value};
@@ -31,9 +31,10 @@ impl<'v> FromValue<'v> for Pair<'v> {
         if values.len() != 2 {
             return Err(ReadFault::Shape);
         }
-        let selector = text(&values[0])?;
-        let imp = name(&values[1])?;
-        Ok(Pair { selector, imp })
+        Ok(Pair {
+            selector: text_in(values, 0)?,
+            imp: name_in(values, 1)?,
+        })
     }
 }
 
@@ -60,10 +61,10 @@ impl<'v> FromValue<'v> for Class<'v> {
     fn from_value(alloc: Global, value: &Tree<'v, '_>) -> Result<Class<'v>, ReadFault> {
         keys(value, 4)?;
         Ok(Class {
-            name: name(field(value, "name")?)?,
+            name: name_at(value, "name")?,
             superclass: superclass(field(value, "super")?)?,
-            methods: list_of(alloc, field(value, "methods")?)?,
-            class_methods: list_of(alloc, field(value, "class_methods")?)?,
+            methods: list_at(alloc, value, "methods")?,
+            class_methods: list_at(alloc, value, "class_methods")?,
         })
     }
 }
@@ -79,9 +80,9 @@ impl<'v> FromValue<'v> for Category<'v> {
     fn from_value(alloc: Global, value: &Tree<'v, '_>) -> Result<Category<'v>, ReadFault> {
         keys(value, 3)?;
         Ok(Category {
-            class: name(field(value, "class")?)?,
-            methods: list_of(alloc, field(value, "methods")?)?,
-            class_methods: list_of(alloc, field(value, "class_methods")?)?,
+            class: name_at(value, "class")?,
+            methods: list_at(alloc, value, "methods")?,
+            class_methods: list_at(alloc, value, "class_methods")?,
         })
     }
 }
@@ -97,8 +98,8 @@ impl<'v> FromValue<'v> for Object<'v> {
     fn from_value(_alloc: Global, value: &Tree<'v, '_>) -> Result<Object<'v>, ReadFault> {
         keys(value, 2)?;
         Ok(Object {
-            name: name(field(value, "name")?)?,
-            class: name(field(value, "class")?)?,
+            name: name_at(value, "name")?,
+            class: name_at(value, "class")?,
         })
     }
 }
@@ -126,8 +127,8 @@ impl<'v> FromValue<'v> for Imp<'v> {
     fn from_value(alloc: Global, value: &Tree<'v, '_>) -> Result<Imp<'v>, ReadFault> {
         keys(value, 5)?;
         Ok(Imp {
-            name: name(field(value, "name")?)?,
-            class: name(field(value, "class")?)?,
+            name: name_at(value, "name")?,
+            class: name_at(value, "class")?,
             meta: truth(field(value, "meta")?)?,
             args: args(field(value, "args")?)?,
             body: Expr::from_value(alloc, field(value, "body")?)?,
@@ -192,7 +193,7 @@ impl<'v> Form<'v> {
         ensures { Gives form_view result (spec.second_form_of version (view value.now)) }
     {
         keys(value, 7)?;
-        let made = list_of(alloc, field(value, "made")?)?;
+        let made = list_at(alloc, value, "made")?;
         Form::parts(alloc, version, made, value)
     }
 
@@ -209,11 +210,11 @@ impl<'v> Form<'v> {
         Ok(Form {
             version,
             made,
-            classes: list_of(alloc, field(value, "classes")?)?,
-            categories: list_of(alloc, field(value, "categories")?)?,
-            objects: list_of(alloc, field(value, "objects")?)?,
-            imps: list_of(alloc, field(value, "imps")?)?,
-            items: list_of(alloc, field(value, "items")?)?,
+            classes: list_at(alloc, value, "classes")?,
+            categories: list_at(alloc, value, "categories")?,
+            objects: list_at(alloc, value, "objects")?,
+            imps: list_at(alloc, value, "imps")?,
+            items: list_at(alloc, value, "items")?,
         })
     }
 }

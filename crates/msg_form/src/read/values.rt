@@ -1,6 +1,6 @@
 //! Looking into a JSON value for what it spells.
 
-ghost use Rattle.std.specs.Prelude.{◌≡◌, map};
+ghost use Rattle.std.specs.Prelude.{◌≡◌, map, slice_get};
 ghost use Rattle.serde_json.specs.Find.{get, as_bool, as_str};
 ghost use Rattle.msg_json.specs.Keys.{has_keys};
 ghost use Rattle.msg_json.specs.View.{view};
@@ -29,6 +29,40 @@ pub(super) fn field<'a, 'v, 'b>(
     ensures { Gives (λ v. view v.now) result (get key.now (view value.now)) }
 {
     msg_json::get(value, key).ok_or(ReadFault::Shape)
+}
+
+/// The name at a key.
+pub(super) fn name_at<'v>(value: &Tree<'v, '_>, key: &str) -> Result<&'v str, ReadFault>
+    ensures { Gives (λ s. s.now) result (spec.field_of spec.name_of key.now (view value.now)) }
+{
+    name(field(value, key)?)
+}
+
+/// The value at a place.
+pub(super) fn value_in<'a, 'v, 'b>(
+    values: &'a [Tree<'v, 'b>],
+    place: usize,
+) -> Result<&'a Tree<'v, 'b>, ReadFault>
+    ensures { Gives (λ v. view v.now) result (slice_get (map view values.now) place) }
+{
+    if place >= values.len() {
+        return Err(ReadFault::Shape);
+    }
+    Ok(&values[place])
+}
+
+/// The text at a place.
+pub(super) fn text_in<'v>(values: &[Tree<'v, '_>], place: usize) -> Result<&'v str, ReadFault>
+    ensures { Gives (λ s. s.now) result (spec.value_of as_str place (map view values.now)) }
+{
+    text(value_in(values, place)?)
+}
+
+/// The name at a place.
+pub(super) fn name_in<'v>(values: &[Tree<'v, '_>], place: usize) -> Result<&'v str, ReadFault>
+    ensures { Gives (λ s. s.now) result (spec.value_of spec.name_of place (map view values.now)) }
+{
+    name(value_in(values, place)?)
 }
 
 /// The values of a list.
