@@ -1,22 +1,23 @@
 -- A body of which no part has a fault of its own.
-use Rattle.std.proofs.Common.{◌≡◌, ◌+◌, ℕ, Bool, true, false, not, ◌||◌, ◌&&◌, List, [], ◌∷◌, length, map, Option, None, Some, is_some, Box, Global, vec_len, refl, sym, ap, ◌∙◌, arith, rules}
-use Rattle.std.specs.Prelude.{◌==◌, IfSome, nat_lt, nat_le}
+use Rattle.std.proofs.Common.{◌≡◌, ℕ, Bool, true, false, not, ◌||◌, ◌&&◌, List, [], ◌∷◌, length, map, Option, None, Some, is_some, Box, Global, vec_len, refl, sym, ap, ◌∙◌, rules}
+use Rattle.std.specs.Prelude.{◌==◌, nat_lt, nat_le}
 use Rattle.std.specs.List.{flat_map, list_any}
-use Rattle.std.proofs.lemmas.Bool.Decides.{nat_tests}
 use Rattle.msg_form.specs.declared.limits.TheConstants.{MAX_DEPTH, MAX_EXPRESSIONS}
 use Rattle.msg_form.specs.BodyFaults.{HasNoBodyFault, has_own_fault}
 use Rattle.msg_form.specs.Expression.{Constant, whole, nil, object_named, class_named, selector_named, Expression, constant, me, arg, binary, choice, send, super_send, count_of, expressions}
 use Rattle.msg_names.specs.Name.{colons_of}
 use Rattle.msg_form.specs.ExprView.{expr_view}
-use Rattle.msg_form.specs.Faults.{sends_above, is_miscounted_send, reads_beyond, is_too_deep}
+use Rattle.msg_form.specs.Faults.{is_miscounted_send}
 use Rattle.msg_form.specs.Form.{ImpForm}
-use Rattle.msg_form.specs.Parts.{parts, depth, own_constants, own_indices, own_sends, own_class, own_object, is_super_send, constants_in, classes_in, objects_in}
+use Rattle.msg_form.specs.Parts.{parts, depth, own_constants, own_indices, own_sends, own_class, own_object, is_super_send, constants_in}
+use Rattle.msg_form.specs.Room.{room_left}
 use Rattle.msg_form.specs.Text.{Text, is_among, is_unknown}
 use Rattle.msg_form.specs.declared.form.Expr.{Expr, Send, Super, the_lemmas}
 use Rattle.msg_form.specs.declared.form.SendExpr.{SendExpr, out-SendExpr}
 use Rattle.msg_form.specs.declared.form.SuperExpr.{SuperExpr, out-SuperExpr}
 use Rattle.msg_form.proofs.AnyLemmas.{list_any-flat_map}
 use Rattle.msg_form.proofs.CountLemmas.{counted as arguments}
+use Rattle.msg_form.proofs.RoomLemmas.{room_tells}
 use Rattle.msg_form.proofs.TextLemmas.{or-false}
 
 neither : (a b : Bool) → (a || b) ≡ false → (a ≡ false) × (b ≡ false)
@@ -93,11 +94,10 @@ any_constant : (p : Text → Bool) (own : Constant → List Text) (e : Expressio
 any_constant p own e = list_any-flat_map p own (constants_in e) ∙ list_any-flat_map (λ c. list_any p (own c)) own_constants (parts e)
 
 -- a walk that found no part with a fault, nor too many or too deep ones
-pub has_none : (roots classes objects : List Text) (i : ImpForm) (above : Bool) (left : ℕ) → above ≡ (not i.meta && is_among i.class roots) → list_any (has_own_fault above classes objects i.args) (parts i.body) ≡ false
-    → nat_lt MAX_DEPTH (depth i.body) ≡ false → left + length (parts i.body) ≡ MAX_EXPRESSIONS → HasNoBodyFault roots classes objects i
-has_none roots classes objects i above left is clean shallow few =
+pub has_none : (roots classes objects : List Text) (i : ImpForm) (above : Bool) → above ≡ (not i.meta && is_among i.class roots) → list_any (has_own_fault above classes objects i.args) (parts i.body) ≡ false
+    → nat_lt MAX_DEPTH (depth i.body) ≡ false → nat_lt MAX_EXPRESSIONS (length (parts i.body)) ≡ false → HasNoBodyFault roots classes objects i
+has_none roots classes objects i above is clean shallow room =
     let fault = has_own_fault above classes objects i.args in
-    let room : nat_lt MAX_EXPRESSIONS (length (parts i.body)) ≡ false = grind (arith, nat_tests) in
     record {
       sends_above = both_or_third (not i.meta) (is_among i.class roots) (list_any is_super_send (parts i.body)) (λ h. none_weaker fault is_super_send (no_super above classes objects i.args (is ∙ h)) (parts i.body) clean);
       unknown_class = any_constant (is_unknown classes) own_class i.body ∙ none_weaker fault (λ e. list_any (λ c. list_any (is_unknown classes) (own_class c)) (own_constants e)) (class_known above classes objects i.args) (parts i.body) clean;
@@ -107,11 +107,12 @@ has_none roots classes objects i above left is clean shallow few =
       too_deep = ap (λ b. b || nat_lt MAX_EXPRESSIONS (length (parts i.body))) shallow ∙ room;
     }
 
-pub found_none : (roots classes objects : List Text) (i : ImpForm) (above : Bool) (args : ℕ) (r : Option ℕ) → above ≡ (not i.meta && is_among i.class roots) → args ≡ i.args → IfSome r (λ _. list_any (has_own_fault above classes objects args) (parts i.body) ≡ false)
-    → IfSome r (λ _. nat_lt MAX_DEPTH (depth i.body) ≡ false) → IfSome r (λ left. left + length (parts i.body) ≡ MAX_EXPRESSIONS) → is_some r ≡ true → HasNoBodyFault roots classes objects i
-found_none roots classes objects i above args None is count clean shallow few e = cc
-found_none roots classes objects i above args (Some left) is count clean shallow few e =
-    has_none roots classes objects i above left is (ap (λ n. list_any (has_own_fault above classes objects n) (parts i.body)) (sym count) ∙ clean) shallow few
+pub found_none : (roots classes objects : List Text) (i : ImpForm) (above : Bool) (args : ℕ) (r : Option ℕ) → above ≡ (not i.meta && is_among i.class roots) → args ≡ i.args
+    → r ≡ room_left (has_own_fault above classes objects args) MAX_DEPTH MAX_EXPRESSIONS i.body → is_some r ≡ true → HasNoBodyFault roots classes objects i
+found_none roots classes objects i above args None is count room e = cc
+found_none roots classes objects i above args (Some left) is count room e =
+    let told = room_tells (has_own_fault above classes objects args) MAX_DEPTH MAX_EXPRESSIONS left i.body (sym room) in
+    has_none roots classes objects i above is (ap (λ n. list_any (has_own_fault above classes objects n) (parts i.body)) (sym count) ∙ told.0) told.1 told.2
 
 -- ---- the fault of a send, as the program counts its arguments
 

@@ -3,6 +3,7 @@ pub mod ExprShapeLemmas
 pub mod NameSetLemmas
 pub mod TextLemmas
 pub mod WalkLemmas
+pub mod BodyWalkLemmas
 pub mod ListsLemmas
 pub mod AnyLemmas
 pub mod FormNamesLemmas
@@ -14,4 +15,5 @@ pub mod SelectorLemmas
 pub mod BodyLemmas
 pub mod LeastLemmas
 pub mod LimitLemmas
+pub mod RoomLemmas
 pub mod CleanLemmas

@@ -18,4 +18,5 @@ pub mod Faults
 pub mod FormNames
 pub mod BodyFaults
 pub mod ImpArgs
+pub mod Room
 pub mod Unread

@@ -1,9 +1,8 @@
-//! One walk over a body that is without fault, as most are. It takes no memory.
+//! One walk over a body. It takes no memory.
 
-ghost use Rattle.std.specs.Prelude.{◌≡◌, ◌+◌, false, length, nat_lt, IfSome};
-ghost use Rattle.std.specs.List.{list_any};
+ghost use Rattle.std.specs.Prelude.{◌≡◌};
 ghost use Rattle.msg_form.specs.ExprView.{expr_view, exprs_view};
-ghost use Rattle.msg_form.specs.Parts.{all_parts, depth, greatest_depth, parts};
+ghost use Rattle.msg_form.specs.Room as spec;
 
 use super::part::PartTest;
 use crate::form::Expr;
@@ -17,43 +16,45 @@ pub(super) fn room_if_clean<T: PartTest>(
     levels: u32,
     room: u32,
 ) -> Option<u32>
-    ensures clean { IfSome result (λ _. list_any (T.passes test.now) (parts (expr_view expr.now)) ≡ false) }
-    ensures shallow { IfSome result (λ _. nat_lt levels (depth (expr_view expr.now)) ≡ false) }
-    ensures few { IfSome result (λ left. left + length (parts (expr_view expr.now)) ≡ room) }
+    ensures { result ≡ spec.room_left (T.passes test.now) levels room (expr_view expr.now) }
 {
-    if test.passes(expr) {
-        return None;
-    }
-    let inside = levels.checked_sub(1)?;
-    let room = room.checked_sub(1)?;
+    let within = beyond_one(test, expr, levels, room)?;
     match expr {
-        Expr::Const(_) | Expr::Me | Expr::Arg(_) => Some(room),
+        Expr::Const(_) | Expr::Me | Expr::Arg(_) => Some(within.1),
         Expr::Binary(binary) => {
-            let room = room_if_clean(test, &binary.left, inside, room)?;
-            room_if_clean(test, &binary.right, inside, room)
+            let room = room_if_clean(test, &binary.left, within.0, within.1)?;
+            room_if_clean(test, &binary.right, within.0, room)
         }
         Expr::If(choice) => {
-            let room = room_if_clean(test, &choice.condition, inside, room)?;
-            let room = room_if_clean(test, &choice.then, inside, room)?;
-            room_if_clean(test, &choice.otherwise, inside, room)
+            let room = room_if_clean(test, &choice.condition, within.0, within.1)?;
+            let room = room_if_clean(test, &choice.then, within.0, room)?;
+            room_if_clean(test, &choice.otherwise, within.0, room)
         }
         Expr::Send(send) => {
-            let room = room_if_clean(test, &send.receiver, inside, room)?;
-            room_if_all_clean(test, &send.args, inside, room)
+            let room = room_if_clean(test, &send.receiver, within.0, within.1)?;
+            room_if_all_clean(test, &send.args, within.0, room)
         }
-        Expr::Super(send) => room_if_all_clean(test, &send.args, inside, room),
+        Expr::Super(send) => room_if_all_clean(test, &send.args, within.0, within.1),
     }
 }
 
 #[cycle(room_if_clean)]
 fn room_if_all_clean<T: PartTest>(test: &T, exprs: &[Expr], levels: u32, room: u32) -> Option<u32>
-    ensures clean { IfSome result (λ _. list_any (T.passes test.now) (all_parts (exprs_view exprs.now)) ≡ false) }
-    ensures shallow { IfSome result (λ _. nat_lt levels (greatest_depth (exprs_view exprs.now)) ≡ false) }
-    ensures few { IfSome result (λ left. left + length (all_parts (exprs_view exprs.now)) ≡ room) }
+    ensures { result ≡ spec.room_left_by_all (T.passes test.now) levels room (exprs_view exprs.now) }
 {
     let mut room = room;
     for expr in exprs {
         room = room_if_clean(test, expr, levels, room)?;
     }
     Some(room)
+}
+
+/// Levels and room beyond one expression, but for those inside it.
+fn beyond_one<T: PartTest>(test: &T, expr: &Expr, levels: u32, room: u32) -> Option<(u32, u32)>
+    ensures { result ≡ spec.beyond_one (T.passes test.now (expr_view expr.now)) levels room }
+{
+    if test.passes(expr) || levels == 0 || room == 0 {
+        return None;
+    }
+    Some((levels - 1, room - 1))
 }

@@ -1,4 +1,4 @@
-use Rattle.std.proofs.Common.{◌≡◌, Bool, ap, map, ◌∙◌}
+use Rattle.std.proofs.Common.{◌≡◌, ap, map, ◌∙◌}
 use Rattle.std.proofs.lemmas.Result.{IfOk-weaker}
 use Rattle.msg_form.specs.Text.{has_duplicate, repeats}
 use Rattle.msg_form.proofs.TextLemmas.{repeats-none}

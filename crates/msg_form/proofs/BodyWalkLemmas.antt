@@ -1,0 +1,85 @@
+-- The texts that a walk over a body pushes, step by step.
+use Rattle.std.proofs.Common.{◌≡◌, ℕ, suc, ◌+◌, ◌<◌, ◌≤◌, List, [], ◌∷◌, ◌++◌, length, map, drop, get_or, Bor, Box, Global, ◌⊎◌, inl, inr, sym, ap, ◌∙◌, append_assoc, append-nil, drop-cons, add-one, rules}
+use Rattle.std.proofs.lemmas.List.{drop_all, map_push}
+use Rattle.msg_form.specs.Expression.{constant, me, arg, binary, choice, send, super_send, expressions}
+use Rattle.msg_form.specs.ExprView.{constant_view, expr_view}
+use Rattle.msg_form.specs.Parts.{own_selector}
+use Rattle.msg_form.specs.Text.{Text, texts_view}
+use Rattle.msg_form.specs.Walk.{texts_in, all_texts_in}
+use Rattle.msg_form.specs.declared.form.BinaryExpr.{BinaryExpr, out-BinaryExpr}
+use Rattle.msg_form.specs.declared.form.Constant.{Constant}
+use Rattle.msg_form.specs.declared.form.Expr.{Expr, Const, Me, Arg, Binary, If, Send, Super, the_lemmas}
+use Rattle.msg_form.specs.declared.form.IfExpr.{IfExpr, out-IfExpr}
+use Rattle.msg_form.specs.declared.form.SendExpr.{SendExpr, out-SendExpr}
+use Rattle.msg_form.specs.declared.form.SuperExpr.{SuperExpr, out-SuperExpr}
+
+-- ---- the texts of an expression of the program
+
+pub texts-Const : (x : Expr) (c : Constant) → x ≡ Const c → texts_in (expr_view x) ≡ own_selector (constant_view c)
+texts-Const x c at = let seen : expr_view x ≡ constant (constant_view c) = ap expr_view at ∙ search (rules, the_lemmas) in ap texts_in seen
+
+texts-leaf : (x : Expr) → (x ≡ Me) ⊎ ((k : ℕ) × (x ≡ Arg k)) → texts_in (expr_view x) ≡ []
+texts-leaf x (inl at) = let seen : expr_view x ≡ me = ap expr_view at ∙ search (rules, the_lemmas) in ap texts_in seen
+texts-leaf x (inr k) = let seen : expr_view x ≡ arg k.0 = ap expr_view k.1 ∙ search (rules, the_lemmas) in ap texts_in seen
+
+pub texts-Binary : (x : Expr) (b : Box BinaryExpr Global) → x ≡ Binary b → texts_in (expr_view x) ≡ texts_in (expr_view (out-BinaryExpr b.value).left) ++ texts_in (expr_view (out-BinaryExpr b.value).right)
+texts-Binary x b at =
+    let fields = out-BinaryExpr b.value in
+    let seen : expr_view x ≡ binary fields.operator (expr_view fields.left) (expr_view fields.right) = ap expr_view at ∙ search (rules, the_lemmas) in
+    ap texts_in seen
+
+pub texts-If : (x : Expr) (b : Box IfExpr Global) → x ≡ If b
+    → texts_in (expr_view x) ≡ texts_in (expr_view (out-IfExpr b.value).condition) ++ (texts_in (expr_view (out-IfExpr b.value).then) ++ texts_in (expr_view (out-IfExpr b.value).otherwise))
+texts-If x b at =
+    let fields = out-IfExpr b.value in
+    let seen : expr_view x ≡ choice (expr_view fields.condition) (expr_view fields.then) (expr_view fields.otherwise) = ap expr_view at ∙ search (rules, the_lemmas) in
+    ap texts_in seen
+
+pub texts-Send : (x : Expr) (b : Box SendExpr Global) → x ≡ Send b
+    → texts_in (expr_view x) ≡ texts_in (expr_view (out-SendExpr b.value).receiver) ++ ((out-SendExpr b.value).selector.now ∷ all_texts_in (expressions (map expr_view (out-SendExpr b.value).args.items)))
+texts-Send x b at =
+    let fields = out-SendExpr b.value in
+    let seen : expr_view x ≡ send (expr_view fields.receiver) fields.selector.now (expressions (map expr_view fields.args.items)) = ap expr_view at ∙ search (rules, the_lemmas) in
+    ap texts_in seen
+
+pub texts-Super : (x : Expr) (b : Box SuperExpr Global) → x ≡ Super b → texts_in (expr_view x) ≡ (out-SuperExpr b.value).selector.now ∷ all_texts_in (expressions (map expr_view (out-SuperExpr b.value).args.items))
+texts-Super x b at =
+    let fields = out-SuperExpr b.value in
+    let seen : expr_view x ≡ super_send fields.selector.now (expressions (map expr_view fields.args.items)) = ap expr_view at ∙ search (rules, the_lemmas) in
+    ap texts_in seen
+
+-- ---- pushes
+
+pub leaf_pushed : (x : Expr) (old : List Text) → (x ≡ Me) ⊎ ((k : ℕ) × (x ≡ Arg k)) → old ≡ old ++ texts_in (expr_view x)
+leaf_pushed x old is = sym (ap (λ ts. old ++ ts) (texts-leaf x is) ∙ append-nil old)
+
+pub one_pushed : (old new all a : List Text) → all ≡ a → new ≡ old ++ a → new ≡ old ++ all
+one_pushed old new all a is e = e ∙ ap (λ ts. old ++ ts) (sym is)
+
+pub two_pushed : (old mid new all a b : List Text) → all ≡ a ++ b → mid ≡ old ++ a → new ≡ mid ++ b → new ≡ old ++ all
+two_pushed old mid new all a b is e f = f ∙ ap (λ ts. ts ++ b) e ∙ append_assoc old a b ∙ ap (λ ts. old ++ ts) (sym is)
+
+pub three_pushed : (old mid more new all a b c : List Text) → all ≡ a ++ (b ++ c) → mid ≡ old ++ a → more ≡ mid ++ b → new ≡ more ++ c → new ≡ old ++ all
+three_pushed old mid more new all a b c is e f g = two_pushed old mid new all a (b ++ c) is e (two_pushed mid more new (b ++ c) b c (λ i. b ++ c) f g)
+
+-- a selector, and what comes after it
+pub selector_pushed : (old mid : List (Bor Text)) (selector : Bor Text) (new all rest : List Text) → all ≡ selector.now ∷ rest → mid ≡ old ++ selector ∷ [] → new ≡ texts_view mid ++ rest → new ≡ texts_view old ++ all
+selector_pushed old mid selector new all rest is e f =
+    two_pushed (texts_view old) (texts_view mid) new all (selector.now ∷ []) rest is (ap texts_view e ∙ map_push (λ t. t.now) old selector) f
+
+-- the same after a receiver
+pub send_pushed : (old : List Text) (first mid : List (Bor Text)) (selector : Bor Text) (new all a rest : List Text) → all ≡ a ++ (selector.now ∷ rest) → texts_view first ≡ old ++ a → mid ≡ first ++ selector ∷ [] → new ≡ texts_view mid ++ rest → new ≡ old ++ all
+send_pushed old first mid selector new all a rest is e f g =
+    two_pushed old (texts_view first) new all a (selector.now ∷ rest) is e (selector_pushed first mid selector new (selector.now ∷ rest) rest (λ i. selector.now ∷ rest) f g)
+
+-- ---- the loop over expressions
+
+pub pushed_on : (xs : List Expr) (i : ℕ) (x : Expr) (old new whole : List Text) → i < length xs → x ≡ get_or xs i x → new ≡ old ++ texts_in (expr_view x)
+    → old ++ all_texts_in (expressions (map expr_view (drop i xs))) ≡ whole → new ++ all_texts_in (expressions (map expr_view (drop (i + 1) xs))) ≡ whole
+pushed_on xs i x old new whole lt at e so_far =
+    let first : drop i xs ≡ x ∷ drop (i + 1) xs = rw add-one (drop-cons xs i x lt ∙ ap (λ y. y ∷ drop (suc i) xs) (sym at)) in
+    let rest = all_texts_in (expressions (map expr_view (drop (i + 1) xs))) in
+    ap (λ ts. ts ++ rest) e ∙ append_assoc old (texts_in (expr_view x)) rest ∙ sym (ap (λ ys. old ++ all_texts_in (expressions (map expr_view ys))) first) ∙ so_far
+
+pub pushed_all : (xs : List Expr) (i : ℕ) (old whole : List Text) → length xs ≤ i → old ++ all_texts_in (expressions (map expr_view (drop i xs))) ≡ whole → old ≡ whole
+pushed_all xs i old whole past so_far = sym (append-nil old) ∙ sym (ap (λ ys. old ++ all_texts_in (expressions (map expr_view ys))) (drop_all i xs past)) ∙ so_far
