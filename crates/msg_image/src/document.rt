@@ -76,8 +76,10 @@ fn by_names(alloc: Global, form: &Form, names: &FormNames) -> Result<Document, D
     }
 }
 
-// The document of a form, or the form's least fault.
-fn of_form(alloc: Global, form: &Form) -> Result<Document, DocumentFault>
+/// Judges a form, whoever made it: the document that it is, or its least fault, as [`read_document`] answers for a text that spells it.
+///
+/// Takes time and memory in the order of the form. `Memory` may be answered wherever a growth is refused; every other fault says of the form what its name says.
+pub fn judge_form(alloc: Global, form: &Form) -> Result<Document, DocumentFault>
     ensures ok { IfOk result (λ d. judged (Some (form_view form.now)) ≡ Ok (document_parts d)) }
     ensures err { IfErr result (λ e. e ≢ DocumentFault.Memory → judged (Some (form_view form.now)) ≡ Err e) }
     ensures sound { IfOk result (λ d. All (IsSoundItem d.image) (map item_parts d.items.items)) }
@@ -124,7 +126,7 @@ pub fn read_document(alloc: Global, bytes: &[u8]) -> Result<Document, DocumentFa
     }
     let mut scratch = Scratch::new(alloc);
     let form = spelled(alloc, bytes, &mut scratch)?;
-    of_form(alloc, &form)
+    judge_form(alloc, &form)
 }
 
 /// Bytes have one answer.

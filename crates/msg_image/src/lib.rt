@@ -11,7 +11,7 @@ mod numbers;
 mod resolve;
 
 pub use change::{Change, Item};
-pub use document::{Document, MOST_BYTES, one_answer, read_document};
+pub use document::{Document, MOST_BYTES, judge_form, one_answer, read_document};
 pub use expr::Expr;
 pub use image::{Category, Image, Imp};
 pub use methods::MethodList;
