@@ -1,5 +1,6 @@
 pub mod BitSet
 pub mod Config
+pub mod Counts
 pub mod Inside
 pub mod Keeping
 pub mod LayeredSet

@@ -14,6 +14,7 @@ ghost use Rattle.msg_core.specs.State.{capacity as capacity_of, size, awaits};
 ghost use Rattle.msg_core.specs.Steps.{is_free};
 ghost use Rattle.msg_core.specs.declared.state.Standing.TheVariants.{Free, Live};
 ghost use Rattle.msg_cache.specs.declared.view.TurnAt.TheVariants.{Never};
+ghost use Rattle.msg_cache.specs.Counts.{AreCounts};
 ghost use Rattle.msg_cache.specs.Layout.{layout_of, header_at};
 ghost use Rattle.msg_cache.specs.Plays.{kept, keeper_of, flushed, installed, committed, lent, turn_in, turn_view, is_lent, sender_in, given_out, taken_in, newcomer};
 ghost use Rattle.msg_cache.specs.Keeping.{header as header_of, standing_of, array_words, remember, way_of, OnUse, OnTake, CanUse, lowest_free, filled, grown, Fills, Collects};
@@ -65,6 +66,7 @@ pub struct Keeper {
     pub ghost given_are: { given.items ≡ (keeper_of seat.me.0).given },
     pub ghost count_is: { count ≡ size (keeper_of seat.me.0).history },
     pub ghost lent_is: { lent ≡ is_lent (keeper_of seat.me.0).turn },
+    pub ghost counts: { AreCounts report },
 }
 
 // What a keeper notes of arrays: a part of it that is made by itself, as is the other, since where memory is wanted each function gives back what it has made.
@@ -366,7 +368,8 @@ impl Keeper {
 
     /// What was done so far.
     pub fn report(&self) -> Report
-        ensures { result ≡ self.now.report }
+        ensures value { result ≡ self.now.report }
+        ensures counts { AreCounts result }
     {
         self.report
     }

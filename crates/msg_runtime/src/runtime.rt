@@ -5,6 +5,7 @@ ghost use Rattle.msg_names.specs.Number.{selector_number, imp_number};
 ghost use Rattle.msg_tables.specs.History.{BeginsWith, and_then, empty, holder, lookup, superclass};
 ghost use Rattle.msg_tables.specs.Refusal.{refusal};
 ghost use Rattle.msg_tables.specs.declared.fault.ChangeFault.{ChangeFault};
+ghost use Rattle.msg_cache.specs.Counts.{AreCounts};
 ghost use Rattle.msg_cache.specs.Plays.{given_out, taken_in, lent, is_lent};
 ghost use Rattle.msg_cache.specs.Views.{classes, layout, IsSenderOf};
 ghost use Rattle.msg_runtime.specs.Parts.{IsKeeperOf, AnswersMiss, IsNew, AreOut, keeper_history, keeper_view, keeper_remembered, keeper_report};
@@ -239,7 +240,8 @@ impl Runtime {
 
     /// What was done to caches so far.
     pub fn report(&self) -> Report
-        ensures { result ≡ self.now.report }
+        ensures value { result ≡ self.now.report }
+        ensures counts { AreCounts result }
     {
         self.keeper.report()
     }
