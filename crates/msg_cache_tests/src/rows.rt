@@ -3,10 +3,16 @@
 use crate::desk::{CHILD, Desk, Reader, image, open, selector};
 use crate::same::{same, same_at};
 use msg_cache::{Arena, ArenaFault, Config, Filled, Report};
-use msg_image::Change;
+use msg_image::{Change, Image};
 use msg_names::ImpRef;
+use std::alloc::Global;
 use std::process::Abort;
 use std::test::Fail;
+
+// Why an arena is refused, if it is.
+fn refusal(alloc: Global, image: &Image, senders: u32, arrays: [u16; 9]) -> Option<ArenaFault> {
+    Arena::open(alloc, image, Config { senders, arrays }).err()
+}
 
 #[test]
 fn an_arena_is_refused(rt: HostRuntime) -> Result<(), Fail> {
@@ -25,30 +31,38 @@ fn an_arena_is_refused(rt: HostRuntime) -> Result<(), Fail> {
         (1, [254, 0, 0, 0, 0, 0, 0, 0, 1023], None),
         (64, [0; 9], None),
     ] {
-        let opened = Arena::open(rt.alloc(), &image, Config { senders, arrays });
-        same_at(&rt, &senders, opened.err(), fault);
+        same_at(
+            &rt,
+            &senders,
+            refusal(rt.alloc(), &image, senders, arrays),
+            fault,
+        );
     }
     Ok(())
 }
 
+// Neither a second sender nor a second turn is there.
+fn has_no_more(rt: &impl Abort, desk: &mut Desk) {
+    assert!(rt; !desk.gives_out(0));
+    assert!(rt; !desk.gives_out(1));
+    assert!(rt; !desk.has_turn());
+}
+
 #[test]
 fn a_number_is_given_once(rt: HostRuntime) -> Result<(), Fail> {
-    let (arena, keeper, tables) = open(rt.alloc(), 1, [0; 9])?;
-    let mut desk = Desk::at(&arena, keeper, tables)?;
-    let reader = desk.give_out(0).ok_or("no sender")?;
+    let mut desk = open(rt.alloc(), 1, [0; 9])?;
+    let reader = desk.give_out(0)?;
     same(&rt, reader.number(), 0);
     same(&rt, reader.loads(), 0);
-    assert!(rt; desk.give_out(0).is_none());
-    assert!(rt; desk.give_out(1).is_none());
-    assert!(rt; !desk.has_turn());
+    has_no_more(&rt, &mut desk);
     Ok(())
 }
 
 // Caches a selector in Child, where it is then found with this implementation after so many loads.
 fn caches(
     rt: &impl Abort,
-    desk: &mut Desk<'_>,
-    reader: &mut Reader<'_>,
+    desk: &mut Desk,
+    reader: &mut Reader,
     entry: (u32, Filled, u32, u32),
 ) -> Result<(), Fail> {
     let (number, filled, found, loads) = entry;
@@ -65,7 +79,7 @@ fn caches(
 }
 
 // Makes the first change, which the sender then sees.
-fn changes(rt: &impl Abort, desk: &mut Desk<'_>, reader: &mut Reader<'_>) -> Result<(), Fail> {
+fn changes(rt: &impl Abort, desk: &mut Desk, reader: &mut Reader) -> Result<(), Fail> {
     let change = Change::Add {
         class: CHILD,
         sel: selector(2)?,
@@ -78,7 +92,7 @@ fn changes(rt: &impl Abort, desk: &mut Desk<'_>, reader: &mut Reader<'_>) -> Res
 }
 
 // Caches Child's selectors: the larger array has the last entry alone.
-fn fills(rt: &impl Abort, desk: &mut Desk<'_>, reader: &mut Reader<'_>) -> Result<(), Fail> {
+fn fills(rt: &impl Abort, desk: &mut Desk, reader: &mut Reader) -> Result<(), Fail> {
     for entry in [
         (2, Filled::Grown, 1, 1),
         (2, Filled::Present, 1, 1),
@@ -94,18 +108,14 @@ fn fills(rt: &impl Abort, desk: &mut Desk<'_>, reader: &mut Reader<'_>) -> Resul
 }
 
 // Takes Child's cache away, makes a change, and fills it again.
-fn flushes(rt: &impl Abort, desk: &mut Desk<'_>, reader: &mut Reader<'_>) -> Result<(), Fail> {
+fn flushes(rt: &impl Abort, desk: &mut Desk, reader: &mut Reader) -> Result<(), Fail> {
     assert!(rt; desk.flush(CHILD));
     assert!(rt; !desk.flush(CHILD));
     changes(rt, desk, reader)?;
     caches(rt, desk, reader, (2, Filled::Grown, 1, 1))
 }
 
-fn fills_and_flushes(
-    rt: &impl Abort,
-    desk: &mut Desk<'_>,
-    reader: &mut Reader<'_>,
-) -> Result<(), Fail> {
+fn fills_and_flushes(rt: &impl Abort, desk: &mut Desk, reader: &mut Reader) -> Result<(), Fail> {
     fills(rt, desk, reader)?;
     flushes(rt, desk, reader)?;
     let report = Report {
@@ -121,63 +131,70 @@ fn fills_and_flushes(
 
 #[test]
 fn a_cache_is_filled_flushed_and_filled(rt: HostRuntime) -> Result<(), Fail> {
-    let (arena, keeper, tables) = open(rt.alloc(), 1, [2, 1, 0, 0, 0, 0, 0, 0, 0])?;
-    let mut desk = Desk::at(&arena, keeper, tables)?;
-    let mut reader = desk.give_out(0).ok_or("no sender")?;
+    let mut desk = open(rt.alloc(), 1, [2, 1, 0, 0, 0, 0, 0, 0, 0])?;
+    let mut reader = desk.give_out(0)?;
     fills_and_flushes(&rt, &mut desk, &mut reader)
 }
 
 #[test]
 fn a_number_comes_back(rt: HostRuntime) -> Result<(), Fail> {
-    let (arena, mut keeper, _tables) = open(rt.alloc(), 2, [0; 9])?;
-    let mut prober = keeper.give_out(&arena, 1).ok_or("no sender")?;
-    assert!(rt; prober.probe(&arena, CHILD, selector(2)?).is_none());
-    keeper.take_in(&arena, prober);
-    assert!(rt; keeper.give_out(&arena, 1).is_some());
-    assert!(rt; keeper.give_out(&arena, 1).is_none());
+    let mut desk = open(rt.alloc(), 2, [0; 9])?;
+    same(&rt, desk.find_once(1, CHILD, selector(2)?), Some(None));
+    assert!(rt; desk.gives_out(1));
+    assert!(rt; !desk.gives_out(1));
     Ok(())
+}
+
+// How often no array is free for one of 1,534 selectors.
+fn refusals(desk: &mut Desk) -> Result<u32, Fail> {
+    let mut refused = 0u32;
+    for number in 1..1535 {
+        if desk.fill(CHILD, selector(number)?) == Filled::NoArray {
+            refused = refused.saturating_add(1);
+        }
+    }
+    Ok(refused)
+}
+
+// Fills Child's cache, where so many entries find no array, and the last one is cached if there is none of these.
+fn grows(
+    rt: &impl Abort,
+    desk: &mut Desk,
+    reader: &mut Reader,
+    none: u32,
+    report: Report,
+) -> Result<(), Fail> {
+    same(rt, refusals(desk)?, none);
+    same(rt, desk.report(), report);
+    let last = reader.find(CHILD, selector(1534)?);
+    same(rt, last.is_some(), none == 0);
+    Ok(())
+}
+
+// The same where so many of the largest arrays are there. An array is cleared only when it is free, so nothing that was retired is given again.
+fn grows_to(
+    rt: &impl Abort,
+    alloc: Global,
+    largest: u16,
+    none: u32,
+    report: Report,
+) -> Result<(), Fail> {
+    let mut desk = open(alloc, 64, [1, 1, 1, 1, 1, 1, 1, 1, largest])?;
+    let mut reader = desk.give_out(63)?;
+    grows(rt, &mut desk, &mut reader, none, report)
 }
 
 #[test]
 fn a_cache_grows_to_the_largest(rt: HostRuntime) -> Result<(), Fail> {
-    for (largest, none, report) in [
-        (
-            1,
-            1,
-            Report {
-                fills: 1533,
-                growths: 9,
-                flushes: 0,
-                retired: 8,
-                given_again: 0,
-            },
-        ),
-        (
-            2,
-            0,
-            Report {
-                fills: 1534,
-                growths: 10,
-                flushes: 0,
-                retired: 9,
-                given_again: 0,
-            },
-        ),
-    ] {
-        let (arena, keeper, tables) = open(rt.alloc(), 64, [1, 1, 1, 1, 1, 1, 1, 1, largest])?;
-        let mut desk = Desk::at(&arena, keeper, tables)?;
-        // An array is cleared only when it is free, so nothing that was retired is given again.
-        let mut reader = desk.give_out(63).ok_or("no sender")?;
-        let mut refused = 0u32;
-        for number in 1..1535 {
-            if desk.fill(CHILD, selector(number)?) == Filled::NoArray {
-                refused = refused.saturating_add(1);
-            }
-        }
-        same(&rt, refused, none);
-        same(&rt, desk.report(), report);
-        let last = reader.find(CHILD, selector(1534)?);
-        same(&rt, last.is_some(), none == 0);
+    for (largest, none, fills, growths, retired) in [(1, 1, 1533, 9, 8), (2, 0, 1534, 10, 9)] {
+        let report = Report {
+            fills,
+            growths,
+            flushes: 0,
+            retired,
+            given_again: 0,
+        };
+        grows_to(&rt, rt.alloc(), largest, none, report)?;
     }
     Ok(())
 }

@@ -8,8 +8,8 @@ use std::test::Fail;
 
 // Before one load Child's cache is flushed, and a cache for Root is asked for.
 #[derive(Drop)]
-struct Stop<'a> {
-    desk: Desk<'a>,
+struct Stop<'d> {
+    desk: &'d mut Desk,
     before: u32,
     sel: Selector,
     calls: u32,
@@ -58,7 +58,7 @@ struct Case {
 }
 
 // Child's three entries.
-fn fill_three(desk: &mut Desk<'_>) -> Result<(), Fail> {
+fn fill_three(desk: &mut Desk) -> Result<(), Fail> {
     for entry in [2, 6, 10] {
         desk.fill(CHILD, selector(entry)?);
     }
@@ -66,12 +66,7 @@ fn fill_three(desk: &mut Desk<'_>) -> Result<(), Fail> {
 }
 
 // The array is free when the sender is out, and is then Root's.
-fn is_given_again(
-    desk: &mut Desk<'_>,
-    reader: &mut Reader<'_>,
-    sought: Selector,
-    value: Selector,
-) -> bool {
+fn is_given_again(desk: &mut Desk, reader: &mut Reader, sought: Selector, value: Selector) -> bool {
     desk.collect() == 1
         && desk.fill(ROOT, value) == Filled::Grown
         && reader.find(CHILD, sought).is_none()
@@ -80,7 +75,7 @@ fn is_given_again(
 }
 
 // A sender stops once, and then the array is given again.
-fn is_right(desk: Desk<'_>, reader: &mut Reader<'_>, case: Case) -> Result<bool, Fail> {
+fn is_right(desk: &mut Desk, reader: &mut Reader, case: Case) -> Result<bool, Fail> {
     let value = selector(2)?;
     let mut stop = Stop {
         desk,
@@ -96,17 +91,16 @@ fn is_right(desk: Desk<'_>, reader: &mut Reader<'_>, case: Case) -> Result<bool,
             && reader.loads() == case.loads
             && stop.calls == case.loads.saturating_add(1)
             && stop.answers == Some((true, 0, Filled::NoArray))
-            && is_given_again(&mut stop.desk, reader, case.sought, value),
+            && is_given_again(stop.desk, reader, case.sought, value),
     )
 }
 
 // Of 64 senders this one stops.
 fn stop_once(alloc: Global, number: u32, case: Case) -> Result<bool, Fail> {
-    let (arena, keeper, tables) = open(alloc, 64, [1, 0, 0, 0, 0, 0, 0, 0, 0])?;
-    let mut desk = Desk::at(&arena, keeper, tables)?;
-    let mut reader = desk.give_out(number).ok_or("no sender")?;
+    let mut desk = open(alloc, 64, [1, 0, 0, 0, 0, 0, 0, 0, 0])?;
+    let mut reader = desk.give_out(number)?;
     fill_three(&mut desk)?;
-    is_right(desk, &mut reader, case)
+    is_right(&mut desk, &mut reader, case)
 }
 
 #[test]
