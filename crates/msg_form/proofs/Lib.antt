@@ -15,5 +15,6 @@ pub mod SelectorLemmas
 pub mod BodyLemmas
 pub mod LeastLemmas
 pub mod LimitLemmas
+pub mod PartLemmas
 pub mod RoomLemmas
 pub mod CleanLemmas

@@ -60,8 +60,15 @@ fn has_late_superclass(alloc: Global, classes: &[Class]) -> Result<bool, AllocEr
     ensures { IfOk result (λ b. b ≡ spec.has_late_superclass [] (classes_view classes.now)) }
 {
     let mut earlier = NameSet::new(alloc);
+    any_late(&mut earlier, classes)
+}
+
+/// Whether a class has a superclass that is none of the earlier ones, to which the classes are added.
+fn any_late<'v>(earlier: &mut NameSet<'v>, classes: &[Class<'v>]) -> Result<bool, AllocError>
+    ensures { IfOk result (λ b. b ≡ spec.has_late_superclass earlier.old (classes_view classes.now)) }
+{
     for class in classes {
-        if is_outside(&earlier, class.superclass) {
+        if is_outside(earlier, class.superclass) {
             return Ok(true);
         }
         earlier.insert(class.name)?;

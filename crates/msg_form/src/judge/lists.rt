@@ -1,10 +1,10 @@
 //! The lists of pairs in a document.
 
-ghost use Rattle.std.specs.Prelude.{◌≡◌, ◌++◌, List, IfOk, OnOk};
+ghost use Rattle.std.specs.Prelude.{◌≡◌, ◌++◌, ◌∷◌, [], List, IfOk, OnOk};
 ghost use Rattle.std.specs.List.{flat_map};
 ghost use Rattle.msg_form.specs.Form.{PairForm};
 ghost use Rattle.msg_form.specs.Lists as spec;
-ghost use Rattle.msg_form.specs.Views.{lists_view, class_view, category_view};
+ghost use Rattle.msg_form.specs.Views.{lists_view, pairs_view, class_view, category_view};
 ghost use Rattle.msg_form.specs.Views.{item_view, form_view};
 
 use crate::form::{Category, Change, Class, Form, Item, Pair};
@@ -57,13 +57,24 @@ fn push_all<'f, 'v, T: HasLists<'v>>(
     Ok(())
 }
 
+fn push_both<'f, 'v>(
+    methods: &'f [Pair<'v>],
+    class_methods: &'f [Pair<'v>],
+    all: &mut Vec<&'f [Pair<'v>]>,
+) -> Result<(), AllocError>
+    ensures { OnOk result
+        (lists_view all.new.items ≡ lists_view all.old.items ++ pairs_view methods.now ∷ pairs_view class_methods.now ∷ []) }
+{
+    all.push(methods)?;
+    all.push(class_methods)?;
+    Ok(())
+}
+
 impl<'v> HasLists<'v> for Class<'v> {
     ghost lists = { λ c. spec.class_lists (class_view c) };
 
     fn push_lists<'f>(&'f self, all: &mut Vec<&'f [Pair<'v>]>) -> Result<(), AllocError> {
-        all.push(&self.methods)?;
-        all.push(&self.class_methods)?;
-        Ok(())
+        push_both(&self.methods, &self.class_methods, all)
     }
 }
 
@@ -71,9 +82,7 @@ impl<'v> HasLists<'v> for Category<'v> {
     ghost lists = { λ c. spec.category_lists (category_view c) };
 
     fn push_lists<'f>(&'f self, all: &mut Vec<&'f [Pair<'v>]>) -> Result<(), AllocError> {
-        all.push(&self.methods)?;
-        all.push(&self.class_methods)?;
-        Ok(())
+        push_both(&self.methods, &self.class_methods, all)
     }
 }
 
@@ -81,17 +90,15 @@ impl<'v> HasLists<'v> for Item<'v> {
     ghost lists = { λ i. spec.item_lists (item_view i) };
 
     fn push_lists<'f>(&'f self, all: &mut Vec<&'f [Pair<'v>]>) -> Result<(), AllocError> {
-        if let Item::Change(
-            Change::Attach {
-                methods,
-                class_methods,
-                ..
-            },
-        ) = self
-        {
-            all.push(methods)?;
-            all.push(class_methods)?;
+        match self {
+            Item::Change(
+                Change::Attach {
+                    methods,
+                    class_methods,
+                    ..
+                },
+            ) => push_both(methods, class_methods, all),
+            _ => Ok(()),
         }
-        Ok(())
     }
 }
