@@ -4,27 +4,31 @@ ghost use Rattle.std.specs.Prelude.{◌≡◌, ◌≢◌, ℕ, ◌<◌, ◌≤�
 ghost use Rattle.msg_names.specs.Number.{selector_number, imp_number};
 ghost use Rattle.msg_names.specs.Numbering.{number_of};
 ghost use Rattle.msg_form.specs.declared.faults.DocumentFault.{DocumentFault};
-ghost use Rattle.msg_image.specs.Answer.{IsAnswer};
+ghost use Rattle.msg_image.specs.Answer.{IsAnswer, judged};
 ghost use Rattle.msg_image.specs.Parts.{class_names};
+ghost use Rattle.msg_rows.specs.Given.{form_of};
+ghost use Rattle.msg_rows.specs.View.{rows_view};
 ghost use Rattle.msg_tables.specs.History.{History, BeginsWith, and_then, empty, holder, lookup, superclass};
 ghost use Rattle.msg_tables.specs.Refusal.{refusal};
 ghost use Rattle.msg_tables.specs.declared.fault.ChangeFault.{ChangeFault};
+ghost use Rattle.msg_cache.specs.Counts.{AreCounts};
 ghost use Rattle.msg_cache.specs.Views.{classes};
 ghost use Rattle.std.specs.Arc.{arc_value};
 ghost use Rattle.msg_names.specs.ClassRef.{slot_of};
 ghost use Rattle.msg_memory.specs.Remembered.{IsMemoryOf, recalled};
-ghost use Rattle.msg_host.specs.Opening.{OpensAs};
+ghost use Rattle.msg_host.specs.Opening.{OpensAs, OpensFrom};
 
 use crate::fault::SenderFault;
 use crate::named::class_named;
-use crate::opening::arena_of;
+use crate::opening::{arena_of, document_of};
 use crate::sender::HostedSender;
-use msg_cache::{Arena, Turn};
+use msg_cache::{Arena, Report, Turn};
 use msg_form::DocumentFault;
 use msg_image::{Change, Image, read_document};
 use msg_memory::Memory;
 use msg_memory::laws::a_longer_history_has_what_is_remembered;
 use msg_names::{ClassRef, ImpRef, Selector};
+use msg_rows::Rows;
 use msg_runtime::Runtime;
 use msg_tables::ChangeFault;
 use std::alloc::{AllocError, Global};
@@ -97,6 +101,17 @@ impl HostedRuntime {
         Ok(opened(alloc, document.image)?)
     }
 
+    /// Opens the image of the form that rows stand for, with no change made yet.
+    ///
+    /// `Shape` says that the rows stand for no form. `Memory` may be answered wherever a growth is refused; every other fault is the form's least.
+    pub fn open_rows(alloc: Global, rows: &Rows) -> Result<HostedRuntime, DocumentFault>
+        ensures ok { IfOk result (λ r. OpensFrom (rows_view rows.now) r.history) }
+        ensures fault { IfErr result (λ f. f ≢ DocumentFault.Memory → judged (form_of (rows_view rows.now)) ≡ Err f) }
+    {
+        let document = document_of(alloc, rows)?;
+        Ok(opened(alloc, document.image)?)
+    }
+
     /// How many classes have numbers: the listed ones, and after them those that may be made.
     pub fn class_count(&self) -> u32
         ensures { result ≡ classes self.now.arena }
@@ -160,6 +175,13 @@ impl HostedRuntime {
         ensures { result ≡ length self.now.history.changes }
     {
         self.runtime.count()
+    }
+
+    /// What was done to caches so far.
+    pub fn report(&self) -> Report
+        ensures { AreCounts result }
+    {
+        self.runtime.report()
     }
 
     /// A sender, which has seen the whole history. There is none where 64 are out.
