@@ -3,7 +3,7 @@
  * What a call answers is proved of the Rattle code in crates/msg_c, clause by clause. Nothing checks a C program, so a host is TRUSTED with this:
  *
  *   - this header says what crates/msg_c exports;
- *   - pointers are not NULL, also of a slice of length 0, and point to as much as is said; a bool is 0 or 1;
+ *   - pointers are not NULL, also of a slice of length 0 (but see msg_open_arrays), and point to as much as is said; a bool is 0 or 1;
  *   - a handle starts as MSG_RUNTIME_INIT or MSG_SENDER_INIT (zero bytes), its bytes are then left alone, and it is not copied: it is moved at most;
  *   - a handle is in one call at a time. Calls that take a msg_runtime are made under one lock of the host's, its runtime lock (a pthread mutex, a GIL).
  *     Calls that take a msg_sender alone want no lock: any number of senders may be in them at once, beside one that has the lock;
@@ -14,8 +14,8 @@
  * Not trusted, since it is refused by a number: a handle that is closed, or opened twice; numbers of classes, selectors and implementations that are nobody's.
  *
  * Every call answers MSG_DONE or the number of a fault. After a fault nothing has changed and nothing was written to what a pointer points to.
- * No call blocks, panics or aborts. Classes are numbered from 0, selectors and implementations from 1, all as the document lists them.
- * An implementation's number is at most the document's count of implementations, so a host's array of so many pointers and one needs no test:
+ * No call blocks, panics or aborts. Classes are numbered from 0, selectors and implementations from 1, all as the document or the rows list them.
+ * An implementation's number is at most the document's or the rows' count of implementations, so a host's array of so many pointers and one needs no test:
  * number 0 is _objc_msgForward, which is the host's to write.
  */
 #ifndef MSG_RUNTIME_H
@@ -44,9 +44,31 @@ typedef struct { uint32_t number; bool meta; } msg_class;
 /* A method of a category. */
 typedef struct { uint32_t sel; uint32_t imp; } msg_method;
 
+/* Classes in arrays, for msg_open_rows. A name is `length` bytes from the byte `at` of one text of all names, of which names may share bytes. */
+typedef struct { uint32_t at, length; } msg_name;
+/* The class's number is its place, from 0. superclass is a class's number, before it or after it, or MSG_ROOT. The class has the next `methods` rows of methods as its
+ * methods, and the next `class_methods` after those as its class methods. */
+typedef struct { msg_name name; uint32_t superclass, methods, class_methods; } msg_class_row;
+/* imp is an implementation's number. Selectors are numbered by where they first stand among the rows: 1 is forwardingTargetForSelector:, 2 the first other. */
+typedef struct { msg_name selector; uint32_t imp; } msg_method_row;
+/* The implementation's number is its place, from 1. home is the class in whose source it stands, or with meta that of the metaclass; args is the count of colons of the
+ * selectors that it is listed for. */
+typedef struct { msg_name name; uint32_t home; bool meta; uint8_t args; } msg_imp_row;
+#define MSG_ROOT UINT32_MAX
+
+/* What was done to caches since the runtime was opened. A count stays at its greatest value once it is there. */
+struct msg_report_row {
+    uint64_t fills;       /* entries that were stored in caches */
+    uint64_t growths;     /* arrays that were installed for an entry */
+    uint64_t flushes;     /* class references whose live array a change took away */
+    uint64_t retired;     /* arrays that were taken away, by a change or by a growth */
+    uint64_t given_again; /* installs of an array that was installed before */
+};
+
 enum {
     MSG_DONE = 0,
-    /* msg_open answers 1 to 18, the least fault of the text by docs/FORMAT.md; 17 is want of memory. */
+    /* msg_open answers 1 to 18, the least fault of the text by docs/FORMAT.md; 17 is want of memory. msg_open_rows answers MSG_BAD_ROW or 4 to 18, the least of the
+     * form that the rows stand for. */
     /* Changes answer these; the first that holds. */
     MSG_NO_SUCH_CLASS = 1,      /* no class of the number, or it isn't made */
     MSG_NO_SUCH_IMP = 2,        /* forwarding, or no implementation of the number */
@@ -64,17 +86,25 @@ enum {
     MSG_NO_SENDER = 68,         /* 64 senders are out */
     MSG_NO_MEMORY = 69,
     MSG_NONE = 70,              /* there is none: no such name, no superclass, no method */
-    MSG_MISSED = 71             /* of msg_probe: not cached. Ask msg_fill under the lock */
+    MSG_MISSED = 71,            /* of msg_probe: not cached. Ask msg_fill under the lock */
+    MSG_BAD_ROW = 72            /* of msg_open_rows: the rows stand for no form */
 };
 
 /* ---- under the host's lock ---- */
 
 /* map_images: opens the image that the document's text spells, version 1 or 2. Its sends and changes are left aside. */
 uint32_t msg_open(msg_runtime *runtime, const uint8_t *text, size_t length);
+/* map_images, of classes in arrays: the image of the document of version 2 that the rows stand for. Nothing of the arrays is kept. `made` has the names of the classes that
+ * may be made later, which are numbered after the rows'. MSG_BAD_ROW where a name lies outside the text of names, has more than 64 bytes or isn't UTF-8; where a class's or an
+ * implementation's isn't letters, digits and _ with no digit first; where a number is no row's (a superclass, a home, an implementation from 1); where an implementation has
+ * more than 4 arguments; and where the classes' counts together aren't the count of rows of methods. */
+uint32_t msg_open_rows(msg_runtime *runtime, const uint8_t *names, size_t length, const msg_class_row *classes, size_t class_count, const msg_method_row *methods,
+                       size_t method_count, const msg_imp_row *imps, size_t imp_count, const msg_name *made, size_t made_count);
 uint32_t msg_close(msg_runtime *runtime);
 
 uint32_t msg_class_count(msg_runtime *runtime, uint32_t *count);
 uint32_t msg_change_count(msg_runtime *runtime, uint64_t *count);
+uint32_t msg_report(msg_runtime *runtime, struct msg_report_row *report);
 /* objc_lookUpClass, sel_getUid: UTF-8, of the image's names alone. MSG_NONE where there is no such name. */
 uint32_t msg_find_class(msg_runtime *runtime, const uint8_t *name, size_t length, uint32_t *number);
 uint32_t msg_find_selector(msg_runtime *runtime, const uint8_t *name, size_t length, uint32_t *sel);
@@ -121,6 +151,27 @@ uint32_t msg_refresh(msg_sender *sender, uint64_t *count);
 #ifdef __cplusplus
 }
 #endif
+
+/* ---- inline: opening arrays that are named one by one ---- */
+
+/* The arrays of msg_open_rows, each with its count. A pointer may be NULL where its count is 0. */
+typedef struct {
+    const uint8_t *names; size_t length;
+    const msg_class_row *classes; size_t class_count;
+    const msg_method_row *methods; size_t method_count;
+    const msg_imp_row *imps; size_t imp_count;
+    const msg_name *made; size_t made_count;
+} msg_arrays;
+
+static inline const void *msg_not_null(const void *at, const void *instead) { return at ? at : instead; }
+
+/* msg_open_rows. Trusted: this code, which gives each NULL's place to some pointer that isn't. */
+static inline uint32_t msg_open_arrays(msg_runtime *runtime, const msg_arrays *a)
+{
+    return msg_open_rows(runtime, (const uint8_t *)msg_not_null(a->names, a), a->length, (const msg_class_row *)msg_not_null(a->classes, a), a->class_count,
+                         (const msg_method_row *)msg_not_null(a->methods, a), a->method_count, (const msg_imp_row *)msg_not_null(a->imps, a), a->imp_count,
+                         (const msg_name *)msg_not_null(a->made, a), a->made_count);
+}
 
 /* ---- inline: recalling, and finding: a probe, and after a miss a fill under the lock ----
  *

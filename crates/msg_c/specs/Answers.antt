@@ -1,5 +1,8 @@
 -- What calls answer.
 use Rattle.std.specs.Prelude.{◌≡◌, ◌≢◌, ℕ, Option, Some, None, option_map}
+use Rattle.msg_form.specs.FaultNumber.{document_fault_number}
+use Rattle.msg_form.specs.declared.faults.DocumentFault.{DocumentFault}
+use Rattle.msg_form.specs.declared.faults.DocumentFault.TheVariants.{Shape}
 use Rattle.msg_image.specs.declared.change.Change.{Change}
 use Rattle.msg_tables.specs.History.{History, BeginsWith}
 use Rattle.msg_cache.specs.Views.{ArenaView, classes}
@@ -11,6 +14,11 @@ use Rattle.msg_host.specs.declared.fault.AskFault.{AskFault}
 abbrev pub number_of_fault : Option AskFault → ℕ
 number_of_fault None = 0
 number_of_fault (Some f) = ask_fault_number f
+
+-- the number of why rows aren't opened: of their form's fault as of a document's, but for rows that stand for no form
+abbrev pub rows_fault_number : DocumentFault → ℕ
+rows_fault_number Shape = 72
+rows_fault_number f = document_fault_number f
 
 -- A change took a handle's state from was to is with the answer n.
 abbrev pub Changes : Option RuntimeView → Option RuntimeView → Change → ℕ → Type 0

@@ -21,5 +21,8 @@ pub const NONE: u32 = 70;
 /// The cache has no such entry: ask under the lock.
 pub const MISSED: u32 = 71;
 
+/// The rows stand for no form.
+pub const BAD_ROW: u32 = 72;
+
 /// Of `msg_recall`: the sender has no implementation noted.
 pub const NOT_NOTED: usize = 0;

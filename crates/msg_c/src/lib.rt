@@ -8,7 +8,13 @@ mod answer;
 mod asking;
 mod changing;
 mod opening;
+mod opening_rows;
 mod parts;
+#[cfg(test)]
+mod report_tests;
+mod reporting;
+#[cfg(test)]
+mod row_tests;
 mod runtime_handle;
 mod sender_handle;
 mod sending;

@@ -12,16 +12,26 @@ use msg_form::DocumentFault;
 use msg_host::HostedRuntime;
 use std::alloc::Global;
 
+// An open handle of a runtime. The one error is want of memory.
+pub(crate) fn handle_of(
+    alloc: Global,
+    runtime: HostedRuntime,
+) -> Result<RuntimeHandle, DocumentFault>
+    ensures ok { IfOk result (λ handle. handle.held.state ≡ Some runtime) }
+    ensures err { IfErr result (λ f. f ≡ DocumentFault.Memory) }
+{
+    match Box::new(alloc, runtime) {
+        Ok(runtime) => Ok(RuntimeHandle::of(runtime)),
+        Err(_) => Err(DocumentFault::Memory),
+    }
+}
+
 fn opened(alloc: Global, text: &[u8]) -> Result<RuntimeHandle, DocumentFault>
     ensures open { IfOk result (λ handle. is_some handle.held.state ≡ true) }
     ensures ok { IfOk result (λ handle. IfSome handle.held.state (λ v. OpensAs text.now v.history)) }
     ensures fault { IfErr result (λ f. f ≢ DocumentFault.Memory → IsAnswer text.now (Err f)) }
 {
-    let runtime = HostedRuntime::open(alloc, text)?;
-    match Box::new(alloc, runtime) {
-        Ok(runtime) => Ok(RuntimeHandle::of(runtime)),
-        Err(_) => Err(DocumentFault::Memory),
-    }
+    handle_of(alloc, HostedRuntime::open(alloc, text)?)
 }
 
 /// `map_images`: opens the image that a document's text spells, version 1 or 2, with no change made yet. What the document sends and changes is left aside.

@@ -34,13 +34,13 @@ const TEXT: &[u8] = br#"{"version":2,"classes":[
 {"name":"c_name","class":"Child","meta":false,"args":0,"body":11},
 {"name":"r_new","class":"Root","meta":true,"args":0,"body":["sel","take:"]}],"items":[]}"#;
 
-const ROOT: u32 = 0;
+pub(crate) const ROOT: u32 = 0;
 
-const CHILD: u32 = 1;
+pub(crate) const CHILD: u32 = 1;
 
 const MADE: u32 = 2;
 
-const VALUE: u32 = 2;
+pub(crate) const VALUE: u32 = 2;
 
 const NAME: u32 = 3;
 
@@ -48,7 +48,7 @@ const NEW: u32 = 4;
 
 const TAKE: u32 = 5;
 
-fn opened<R: Abort>(rt: &R, alloc: Global) -> RuntimeHandle {
+pub(crate) fn opened<R: Abort>(rt: &R, alloc: Global) -> RuntimeHandle {
     let mut runtime = RuntimeHandle::closed(alloc);
     assert_eq!(rt; msg_open(alloc, &mut runtime, TEXT), DONE);
     runtime
@@ -327,7 +327,7 @@ fn a_closed_runtime_answers_nothing(rt: HostRuntime) -> Result<(), Fail> {
 }
 
 // A sender of a runtime.
-fn sending<R: Abort>(rt: &R, alloc: Global, runtime: &mut RuntimeHandle) -> SenderHandle
+pub(crate) fn sending<R: Abort>(rt: &R, alloc: Global, runtime: &mut RuntimeHandle) -> SenderHandle
     ensures kept { runtime.new.held.state ≡ runtime.old.held.state }
     ensures together { AreOfOneArena runtime.new.held.state result.held.state }
 {
