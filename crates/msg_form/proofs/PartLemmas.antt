@@ -1,9 +1,9 @@
 -- Whether an expression or one inside it passes a test, step by step.
-use Rattle.std.proofs.Common.{◌≡◌, ℕ, suc, ◌+◌, ◌<◌, ◌≤◌, Bool, true, false, ◌||◌, List, [], ◌∷◌, ◌++◌, length, map, drop, get_or, Box, Global, ◌⊎◌, inl, inr, refl, sym, ap, ◌∙◌, drop-cons, add-one, rules}
+use Rattle.std.proofs.Common.{◌≡◌, ℕ, suc, ◌+◌, ◌<◌, ◌≤◌, Bool, true, false, ◌||◌, List, [], ◌∷◌, length, map, drop, get_or, Box, Global, ◌⊎◌, inl, inr, refl, sym, ap, ◌∙◌, drop-cons, add-one, rules}
 use Rattle.std.specs.List.{list_any}
 use Rattle.std.proofs.lemmas.List.{drop_all}
 use Rattle.std.proofs.lemmas.List.Folds.{list_any-append}
-use Rattle.msg_form.specs.Expression.{Expression, Expressions, constant, me, arg, binary, choice, send, super_send, expressions}
+use Rattle.msg_form.specs.Expression.{Expression, constant, me, arg, binary, choice, send, super_send, expressions}
 use Rattle.msg_form.specs.ExprView.{constant_view, expr_view}
 use Rattle.msg_form.specs.Parts.{parts, all_parts}
 use Rattle.msg_form.specs.declared.form.Constant.{Constant}
