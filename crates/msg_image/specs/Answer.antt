@@ -21,6 +21,7 @@ abbrev pub unless : Option DocumentFault → Form → Result DocumentParts Docum
 unless None f = Ok (document_of f)
 unless (Some e) f = Err e
 
+-- the answer to what spells a form, or spells none
 abbrev pub judged : Option Form → Result DocumentParts DocumentFault
 judged None = Err Shape
 judged (Some f) = unless (fault_of f) f
