@@ -8,6 +8,7 @@ same_truth true b = b
 same_truth false true = false
 same_truth false false = true
 
+-- a test of two class references
 abbrev pub same_class : ClassRef → ClassRef → Bool
 same_class c d = (c.class == d.class) && same_truth c.meta d.meta
 

@@ -10,6 +10,7 @@ use Rattle.msg_tables.specs.declared.presence.Presence.{Presence}
 abbrev pub presence_of : List (Option Presence) → ℕ → Option Presence
 presence_of supers k = slice_index_or supers k None
 
+-- a test of a class: it is listed in a class list or was made
 abbrev pub is_present : List (Option Presence) → ℕ → Bool
 is_present supers k = is_some (presence_of supers k)
 
