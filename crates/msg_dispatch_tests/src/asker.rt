@@ -26,6 +26,13 @@ impl<'d, N: ArenaName> Asker<'d, N> {
         Asker { sender, classes }
     }
 
+    // how many classes the image has
+    pub(crate) fn classes(&self) -> u32
+        ensures { result ≡ class_total N.arena.key.image }
+    {
+        self.classes
+    }
+
     pub(crate) fn find<R: Wait + Abort>(
         &mut self,
         rt: &R,

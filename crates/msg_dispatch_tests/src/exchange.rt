@@ -1,43 +1,39 @@
 //! Exchanges, seen from below.
 
-ghost use Rattle.std.specs.Prelude.{◌≡◌, IfOk};
-ghost use Rattle.msg_tables.specs.History.{empty};
-ghost use Rattle.msg_runtime.specs.Parts.{IsKeeperOf, keeper_history};
-
 use crate::asker::Asker;
-use crate::images::{CHAIN, CHILD, GRAND, ROOT, image, opened, selector};
-use msg_cache::{Arena, Keeper};
-use msg_dispatch::{ArenaName, Dispatcher};
-use msg_image::{Change, Image};
-use std::alloc::Global;
-use std::marker::Brand;
+use crate::images::{CHAIN, CHILD, GRAND, ROOT, selector};
+use crate::one_thread::Row;
+use crate::opening::{Steps, open};
+use crate::same::same;
+use msg_dispatch::{ArenaName, Changer};
+use msg_image::Change;
+use msg_names::Selector;
 use std::process::Abort;
 use std::sync::Wait;
-use std::test::Fail;
+
+// In each class the two selectors find these implementations.
+fn are_found<N: ArenaName, R: Wait + Abort>(
+    rt: &R,
+    sender: &mut Asker<'_, N>,
+    (value, value_is): (Selector, u32),
+    (name, name_is): (Selector, u32),
+) {
+    for (class, wanted) in [(ROOT, name_is), (CHILD, 3), (GRAND, 3)] {
+        same(rt, sender.find(rt, class, value).number(), value_is);
+        same(rt, sender.find(rt, class, name).number(), wanted);
+    }
+}
 
 // An exchange in a class: a subclass with a method of its own beside the exchanged ones answers anew for these, and as before for its own.
-fn an_exchange_is_seen_below<N: ArenaName, R: Wait + Abort>(
+pub(crate) fn an_exchange_is_seen_below<N: ArenaName, R: Wait + Abort>(
     rt: &R,
-    alloc: Global,
-    arena: Arena,
-    keeper: Keeper,
-    image: &Image,
-) -> Result<(), Fail>
-    requires arena { arena ≡ N.arena }
-    requires keeper { IsKeeperOf N.arena keeper }
-    requires image { image.now ≡ N.arena.key.image }
-    requires history { keeper_history keeper ≡ empty image.now }
-{
-    let value = selector(2)?;
-    let name = selector(3)?;
-    let dispatcher: Dispatcher<N> = Dispatcher::open(alloc, arena, keeper, image)?;
-    let mut changer = dispatcher.changer(rt)?;
-    let mut sender = Asker::of(dispatcher.sender(rt)?, image.class_count());
+    sender: &mut Asker<'_, N>,
+    changer: &mut Changer<'_, N>,
+    value: Selector,
+) {
+    let name = selector(rt, 3);
     for (value_is, name_is) in [(1, 2), (2, 1), (1, 2)] {
-        for (class, wanted) in [(ROOT, name_is), (CHILD, 3), (GRAND, 3)] {
-            assert_eq!(rt; sender.find(rt, class, value).number(), value_is);
-            assert_eq!(rt; sender.find(rt, class, name).number(), wanted);
-        }
+        are_found(rt, sender, (value, value_is), (name, name_is));
         let exchange = Change::Exchange {
             class: ROOT,
             sel: value,
@@ -46,13 +42,17 @@ fn an_exchange_is_seen_below<N: ArenaName, R: Wait + Abort>(
         };
         assert!(rt; changer.change(rt, &exchange).is_ok());
     }
-    Ok(())
 }
 
 #[test]
-fn an_exchange_in_a_class_is_seen_in_its_subclasses(rt: HostRuntime) -> Result<(), Fail> {
-    let alloc = rt.alloc();
-    let image = image(alloc, CHAIN)?;
-    let (arena, keeper) = opened(alloc, &image, 1, [4, 0, 0, 0, 0, 0, 0, 0, 0])?;
-    an_exchange_is_seen_below::<Brand, HostRuntime>(&rt, alloc, arena, keeper, &image)
+fn an_exchange_in_a_class_is_seen_in_its_subclasses(rt: HostRuntime) {
+    let arrays = [4, 0, 0, 0, 0, 0, 0, 0, 0];
+    open(
+        &rt,
+        rt.alloc(),
+        CHAIN,
+        1,
+        arrays,
+        Steps::InOneThread(Row::ExchangeAbove),
+    );
 }

@@ -12,6 +12,8 @@ mod memory;
 #[cfg(test)]
 mod one_thread;
 #[cfg(test)]
+mod opening;
+#[cfg(test)]
 mod remembering;
 #[cfg(test)]
 mod same;

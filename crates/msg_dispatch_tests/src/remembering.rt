@@ -4,29 +4,25 @@ ghost use Rattle.std.specs.Prelude.{◌≡◌};
 ghost use Rattle.std.specs.Coded.{codes};
 ghost use Rattle.msg_image.specs.Coding.{coded_expression};
 ghost use Rattle.msg_image.specs.Parts.{class_total};
-ghost use Rattle.msg_tables.specs.History.{empty};
-ghost use Rattle.msg_runtime.specs.Parts.{IsKeeperOf, keeper_history};
 
-use crate::images::{CHAIN, CHILD, GRAND, image, opened, selector};
+use crate::images::{CHAIN, CHILD, GRAND, selector};
+use crate::opening::{Steps, open};
 use crate::same::same;
-use msg_cache::{Arena, Keeper};
 use msg_dispatch::{ArenaName, Changer, Dispatcher, Recalling, Site};
 use msg_image::{Change, Image};
 use msg_memory::laws::a_longer_history_has_what_is_remembered;
 use msg_names::{ClassRef, ImpRef, Selector};
 use std::alloc::Global;
-use std::marker::Brand;
 use std::process::Abort;
 use std::sync::Wait;
-use std::test::Fail;
 
 // The change by which `Child` has a `value` of its own.
-fn addition() -> Result<Change, Fail> {
-    Ok(Change::Add {
+fn addition(sel: Selector) -> Change {
+    Change::Add {
         class: CHILD,
-        sel: selector(2)?,
+        sel,
         imp: ImpRef::of(2),
-    })
+    }
 }
 
 // A sender with a memory that is known to be of its dispatcher's image, and looks for its classes alone.
@@ -86,61 +82,55 @@ fn asks_anew<N: ArenaName, R: Wait + Abort>(rt: &R, sender: &mut Reminded<'_, N>
     same(rt, sender.lock_takings(), 2);
 }
 
-fn remembers<N: ArenaName, R: Wait + Abort>(
+// What is remembered is taken until a change is seen.
+fn remembers_until_a_change<N: ArenaName, R: Wait + Abort>(
+    rt: &R,
+    sender: &mut Reminded<'_, N>,
+    changer: &mut Changer<'_, N>,
+    value: Selector,
+) {
+    asks_twice(rt, sender, value);
+    assert!(rt; changer.change(rt, &addition(value)).is_ok());
+    asks_anew(rt, sender, value);
+    sender.meet(rt, changer);
+    same(rt, sender.recall(GRAND, value), Some(ImpRef::of(2)));
+}
+
+pub(crate) fn remembers<N: ArenaName, R: Wait + Abort>(
     rt: &R,
     alloc: Global,
-    arena: Arena,
-    keeper: Keeper,
+    dispatcher: &Dispatcher<N>,
     image: &Image,
-) -> Result<(), Fail>
-    requires arena { arena ≡ N.arena }
-    requires keeper { IsKeeperOf N.arena keeper }
-    requires image { image.now ≡ N.arena.key.image }
-    requires history { keeper_history keeper ≡ empty image.now }
+)
+    requires { image.now ≡ N.arena.key.image }
 {
-    let value = selector(2)?;
-    let dispatcher: Dispatcher<N> = Dispatcher::open(alloc, arena, keeper, image)?;
+    let sender = dispatcher.sender(rt).expect(rt, "a free number");
     let mut sender = Reminded {
-        sender: Recalling::new(alloc, dispatcher.sender(rt)?)
-            .ok()
-            .ok_or("memory")?,
+        sender: Recalling::new(alloc, sender).ok().expect(rt, "memory"),
         classes: image.class_count(),
     };
-    let mut changer = dispatcher.changer(rt)?;
-    asks_twice(rt, &mut sender, value);
-    let _receipt = changer.change(rt, &addition()?);
-    asks_anew(rt, &mut sender, value);
-    sender.meet(rt, &mut changer);
-    same(rt, sender.recall(GRAND, value), Some(ImpRef::of(2)));
+    let mut changer = dispatcher.changer(rt).expect(rt, "the turn");
+    remembers_until_a_change(rt, &mut sender, &mut changer, selector(rt, 2));
     sender.finish(rt);
-    Ok(())
 }
 
 #[test]
-fn a_memory_is_taken_until_a_change_is_seen(rt: HostRuntime) -> Result<(), Fail> {
-    let alloc = rt.alloc();
-    let image = image(alloc, CHAIN)?;
-    let (arena, keeper) = opened(alloc, &image, 1, [1, 0, 0, 0, 0, 0, 0, 0, 0])?;
-    remembers::<Brand, HostRuntime>(&rt, alloc, arena, keeper, &image)
+fn a_memory_is_taken_until_a_change_is_seen(rt: HostRuntime) {
+    let arrays = [1, 0, 0, 0, 0, 0, 0, 0, 0];
+    open(&rt, rt.alloc(), CHAIN, 1, arrays, Steps::RememberPlaces);
 }
 
-fn notes_at_a_site<N: ArenaName, R: Wait + Abort>(
+pub(crate) fn notes_at_a_site<N: ArenaName, R: Wait + Abort>(
     rt: &R,
-    alloc: Global,
-    arena: Arena,
-    keeper: Keeper,
+    dispatcher: &Dispatcher<N>,
     image: &Image,
-) -> Result<(), Fail>
-    requires arena { arena ≡ N.arena }
-    requires keeper { IsKeeperOf N.arena keeper }
-    requires image { image.now ≡ N.arena.key.image }
-    requires history { keeper_history keeper ≡ empty image.now }
+)
+    requires { image.now ≡ N.arena.key.image }
 {
     assert!(rt; image.class_count() > GRAND.class);
-    let value = selector(2)?;
-    let dispatcher: Dispatcher<N> = Dispatcher::open(alloc, arena, keeper, image)?;
-    let mut sender = dispatcher.sender(rt)?;
-    let mut changer = dispatcher.changer(rt)?;
+    let value = selector(rt, 2);
+    let mut sender = dispatcher.sender(rt).expect(rt, "a free number");
+    let mut changer = dispatcher.changer(rt).expect(rt, "the turn");
     let mut site = Site::new();
     a_longer_history_has_what_is_remembered();
     same(
@@ -154,7 +144,7 @@ fn notes_at_a_site<N: ArenaName, R: Wait + Abort>(
         Some(ImpRef::of(1)),
     );
     same(rt, sender.recall_at(&site, CHILD, value), None);
-    let _receipt = changer.change(rt, &addition()?);
+    assert!(rt; changer.change(rt, &addition(value)).is_ok());
     same(rt, sender.published(), 1);
     same(rt, sender.recall_at(&site, GRAND, value), None);
     same(
@@ -168,13 +158,10 @@ fn notes_at_a_site<N: ArenaName, R: Wait + Abort>(
         ImpRef::of(2),
     );
     same(rt, sender.lock_takings(), 2);
-    Ok(())
 }
 
 #[test]
-fn a_site_is_taken_until_a_change_is_seen(rt: HostRuntime) -> Result<(), Fail> {
-    let alloc = rt.alloc();
-    let image = image(alloc, CHAIN)?;
-    let (arena, keeper) = opened(alloc, &image, 1, [1, 0, 0, 0, 0, 0, 0, 0, 0])?;
-    notes_at_a_site::<Brand, HostRuntime>(&rt, alloc, arena, keeper, &image)
+fn a_site_is_taken_until_a_change_is_seen(rt: HostRuntime) {
+    let arrays = [1, 0, 0, 0, 0, 0, 0, 0, 0];
+    open(&rt, rt.alloc(), CHAIN, 1, arrays, Steps::RememberASite);
 }

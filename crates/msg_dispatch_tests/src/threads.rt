@@ -1,20 +1,17 @@
 //! Senders in threads of their own, beside changes.
 
-ghost use Rattle.std.specs.Prelude.{◌≡◌, ◌<◌, ◌≤◌, IfOk};
-ghost use Rattle.msg_tables.specs.History.{empty};
-ghost use Rattle.msg_runtime.specs.Parts.{IsKeeperOf, keeper_history};
+ghost use Rattle.std.specs.Prelude.{◌≡◌, ◌<◌};
 
 use crate::asker::{Asker, Opener};
-use crate::images::{CHAIN, GRAND, ROOT, grid, image, opened, selector};
-use msg_cache::{Arena, Keeper};
+use crate::images::{CHAIN, GRAND, ROOT, grid, selector};
+use crate::opening::{Steps, open};
+use crate::same::same;
 use msg_dispatch::{ArenaName, Changer, Dispatcher, NoSenderFree};
 use msg_image::{Change, Image};
 use msg_names::{ClassRef, ImpRef, Selector};
 use std::alloc::{AllocError, Global};
-use std::marker::Brand;
 use std::process::Abort;
 use std::sync::Wait;
-use std::test::Fail;
 use std::thread;
 use std::thread::Threads;
 
@@ -73,46 +70,58 @@ fn ask_in_threads<N: ArenaName + Send + Sync, R: Threads + Wait + Abort + Sync>(
     )
 }
 
-fn all_ask_beside_exchanges<N: ArenaName + Send + Sync, R: Threads + Wait + Abort + Sync>(
-    rt: &R,
-    alloc: Global,
-    arena: Arena,
-    keeper: Keeper,
-    image: &Image,
-) -> Result<(), Fail>
-    requires arena { arena ≡ N.arena }
-    requires keeper { IsKeeperOf N.arena keeper }
-    requires image { image.now ≡ N.arena.key.image }
-    requires history { keeper_history keeper ≡ empty image.now }
-{
-    let value = selector(2)?;
-    let name = selector(3)?;
-    let dispatcher: Dispatcher<N> = Dispatcher::open(alloc, arena, keeper, image)?;
-    let mut changer = dispatcher.changer(rt)?;
-    let opener = Opener::of(&dispatcher, image.class_count());
-    let mut first = opener.open(rt)?;
-    assert_eq!(rt; image.listed_count(), 3);
-    let (_changed, asked) = thread::join(
-        rt,
-        || exchange(rt, &mut changer, value, name, 100),
-        || ask_in_threads(rt, alloc, &opener, 63, GRAND, value),
-    );
-    for asked in asked? {
+// A sender was free for each thread.
+fn all_asked(rt: &impl Abort, asked: Result<Vec<bool>, AllocError>) {
+    for asked in asked.expect(rt, "memory") {
         assert!(rt; asked);
     }
+}
+
+// Sixty-three threads ask beside a hundred exchanges, and then no sender is free.
+fn ask_beside_exchanges<N: ArenaName + Send + Sync, R: Threads + Wait + Abort + Sync>(
+    rt: &R,
+    alloc: Global,
+    changer: &mut Changer<'_, N>,
+    opener: &Opener<'_, N>,
+) {
+    let value = selector(rt, 2);
+    let name = selector(rt, 3);
+    let (_changed, asked) = thread::join(
+        rt,
+        || exchange(rt, changer, value, name, 100),
+        || ask_in_threads(rt, alloc, opener, 63, GRAND, value),
+    );
+    all_asked(rt, asked);
     assert!(rt; matches!(opener.open(rt), Err(NoSenderFree)));
+}
+
+pub(crate) fn all_ask_beside_exchanges<
+    N: ArenaName + Send + Sync,
+    R: Threads + Wait + Abort + Sync,
+>(rt: &R, alloc: Global, dispatcher: &Dispatcher<N>, image: &Image)
+    requires { image.now ≡ N.arena.key.image }
+{
+    same(rt, image.listed_count(), 3);
+    let mut changer = dispatcher.changer(rt).expect(rt, "the turn");
+    let opener = Opener::of(dispatcher, image.class_count());
+    let mut first = opener.open(rt).expect(rt, "a free number");
+    ask_beside_exchanges(rt, alloc, &mut changer, &opener);
     first.meet(rt, &mut changer);
-    assert_eq!(rt; first.find(rt, GRAND, value).number(), 1);
-    assert_eq!(rt; first.published(), 100);
-    Ok(())
+    same(rt, first.find(rt, GRAND, selector(rt, 2)).number(), 1);
+    same(rt, first.published(), 100);
 }
 
 #[test]
-fn sixty_four_threads_ask_beside_exchanges(rt: HostRuntime) -> Result<(), Fail> {
-    let alloc = rt.alloc();
-    let image = image(alloc, CHAIN)?;
-    let (arena, keeper) = opened(alloc, &image, 64, [64, 16, 8, 4, 2, 1, 1, 1, 1])?;
-    all_ask_beside_exchanges::<Brand, HostRuntime>(&rt, alloc, arena, keeper, &image)
+fn sixty_four_threads_ask_beside_exchanges(rt: HostRuntime) {
+    let arrays = [64, 16, 8, 4, 2, 1, 1, 1, 1];
+    open(
+        &rt,
+        rt.alloc(),
+        CHAIN,
+        64,
+        arrays,
+        Steps::AskBesideExchanges,
+    );
 }
 
 const ADDED: u32 = 1000;
@@ -182,44 +191,54 @@ fn never_older_in_threads<N: ArenaName + Send + Sync, R: Threads + Wait + Abort 
     )
 }
 
-fn three_ask_beside_additions<N: ArenaName + Send + Sync, R: Threads + Wait + Abort + Sync>(
-    rt: &R,
-    alloc: Global,
-    arena: Arena,
-    keeper: Keeper,
-    image: &Image,
-) -> Result<(), Fail>
-    requires arena { arena ≡ N.arena }
-    requires keeper { IsKeeperOf N.arena keeper }
-    requires image { image.now ≡ N.arena.key.image }
-    requires history { keeper_history keeper ≡ empty image.now }
-{
-    let dispatcher: Dispatcher<N> = Dispatcher::open(alloc, arena, keeper, image)?;
-    let mut changer = dispatcher.changer(rt)?;
-    let opener = Opener::of(&dispatcher, image.class_count());
-    let mut first = opener.open(rt)?;
-    assert_eq!(rt; image.listed_count(), 33);
-    let (_changed, asked) = thread::join(
-        rt,
-        || add_all(rt, &mut changer),
-        || never_older_in_threads(rt, alloc, &opener, 3, 500_000),
-    );
-    for asked in asked? {
-        assert!(rt; asked);
-    }
-    first.meet(rt, &mut changer);
+// What was added is found.
+fn finds_all<N: ArenaName, R: Wait + Abort>(rt: &R, sender: &mut Asker<'_, N>) {
     for number in 0..ADDED {
         let (class, sel) = added(number);
-        assert_eq!(rt; first.find(rt, class, selector(sel)?).number(), 1);
+        same(rt, sender.find(rt, class, selector(rt, sel)).number(), 1);
     }
-    Ok(())
+}
+
+// Three threads ask beside a thousand additions.
+fn ask_beside_additions<N: ArenaName + Send + Sync, R: Threads + Wait + Abort + Sync>(
+    rt: &R,
+    alloc: Global,
+    changer: &mut Changer<'_, N>,
+    opener: &Opener<'_, N>,
+) {
+    let (_changed, asked) = thread::join(
+        rt,
+        || add_all(rt, changer),
+        || never_older_in_threads(rt, alloc, opener, 3, 500_000),
+    );
+    all_asked(rt, asked);
+}
+
+pub(crate) fn three_ask_beside_additions<
+    N: ArenaName + Send + Sync,
+    R: Threads + Wait + Abort + Sync,
+>(rt: &R, alloc: Global, dispatcher: &Dispatcher<N>, image: &Image)
+    requires { image.now ≡ N.arena.key.image }
+{
+    same(rt, image.listed_count(), 33);
+    let mut changer = dispatcher.changer(rt).expect(rt, "the turn");
+    let opener = Opener::of(dispatcher, image.class_count());
+    let mut first = opener.open(rt).expect(rt, "a free number");
+    ask_beside_additions(rt, alloc, &mut changer, &opener);
+    first.meet(rt, &mut changer);
+    finds_all(rt, &mut first);
 }
 
 #[test]
-fn no_answer_is_older_than_the_last(rt: HostRuntime) -> Result<(), Fail> {
-    let alloc = rt.alloc();
-    let document = grid(alloc, 33, 32)?;
-    let image = image(alloc, &document)?;
-    let (arena, keeper) = opened(alloc, &image, 4, [64, 16, 16, 16, 64, 64, 1, 1, 1])?;
-    three_ask_beside_additions::<Brand, HostRuntime>(&rt, alloc, arena, keeper, &image)
+fn no_answer_is_older_than_the_last(rt: HostRuntime) {
+    let document = grid(&rt, rt.alloc(), 33, 32);
+    let arrays = [64, 16, 16, 16, 64, 64, 1, 1, 1];
+    open(
+        &rt,
+        rt.alloc(),
+        &document,
+        4,
+        arrays,
+        Steps::AskBesideAdditions,
+    );
 }

@@ -1,7 +1,7 @@
 use Rattle.msg_dispatch_tests.proofs.remembering.notes_at_a_site.Goals as goal
 
 pub find_at-requires-clause-site : goal.find_at-requires-clause-site
-find_at-requires-clause-site g c = c.new-site.ensures c.in_ok-sender.sender.seen.front
+find_at-requires-clause-site g c = c.new-site.ensures c.expect-sender.result.seen.front
 
 pub recall_at-requires-3 : goal.recall_at-requires-3
 recall_at-requires-3 g c = record {
