@@ -1,10 +1,9 @@
-/* A life of the proved runtime: its document is written from the rows; when it can't hold more, the next is opened with the tables as they are. */
+/* A life of the proved runtime: its tables are opened from the rows of the classes; when it can't hold more, the next is opened with the tables as they are. */
 #include "seat.h"
-#include <stdarg.h>
 #include <stdio.h>
 #include <stdlib.h>
 
-enum { SPARE = 128, SPARE_CLASSES = 2 };
+enum { SPARE = 128, SPARE_CLASSES = 2, NAMES = MOST_IMPS + 1 };
 
 pthread_mutex_t shim_lock = PTHREAD_MUTEX_INITIALIZER;
 static _Atomic(struct life *) current;
@@ -14,8 +13,6 @@ static struct seat nobody = {MSG_SENDER_INIT, &nowhere}; /* its sender is closed
 _Thread_local struct seat *shim_seat = &nobody;          /* until the thread's first send */
 static pthread_key_t seats;
 static pthread_once_t once = PTHREAD_ONCE_INIT;
-
-static struct { char *text; size_t length, room; } document;
 
 /* The number of a function in this life, or 0 where there is no more room. */
 static uint32_t number_of(struct life *life, IMP imp)
@@ -34,61 +31,67 @@ static void number_functions(struct life *life, struct record *record)
         if (!number_of(life, record->rows[i].method->imp)) shim_stop("too many implementations", sel_getName(record->rows[i].method->name.sel));
 }
 
-static void put(const char *form, ...)
+/* Classes, selectors and implementations are named n0, n1, .. by their numbers, from one text. Selector 1 is forwardingTargetForSelector:, which no row has. */
+static struct { uint8_t text[NAMES * 5 + 1]; msg_name of[NAMES]; uint32_t length; } names;
+
+static void make_names(void)
 {
-    for (;;) {
-        va_list words;
-        va_start(words, form);
-        size_t room = document.room - document.length;
-        int wanted = vsnprintf(document.text ? document.text + document.length : NULL, room, form, words);
-        va_end(words);
-        if (wanted >= 0 && (size_t)wanted < room) { document.length += (size_t)wanted; return; }
-        document.room = document.room * 2 + 65536;
-        document.text = realloc(document.text, document.room);
-        if (!document.text) shim_stop("no memory", "document");
+    for (uint32_t i = names.length ? NAMES : 0; i < NAMES; i++) {
+        uint32_t length = (uint32_t)snprintf((char *)names.text + names.length, sizeof names.text - names.length, "n%u", i);
+        names.of[i] = (msg_name){names.length, length};
+        names.length += length;
     }
 }
 
-static void put_rows(struct life *life, struct record *record)
+static void put_rows(struct life *life, msg_arrays *arrays, msg_method_row *rows, struct record *record)
 {
-    for (uint32_t i = 0; i < record->count; i++) put("%s[\"s%u\",\"i%u\"]", i ? "," : "", record->rows[i].sel, number_of(life, record->rows[i].method->imp));
+    for (uint32_t i = 0; i < record->count; i++) rows[arrays->method_count++] = (msg_method_row){names.of[record->rows[i].sel], number_of(life, record->rows[i].method->imp)};
 }
 
-static void put_class(struct life *life, Class class_)
+/* The first class lists the selectors in order, which fixes their numbers. */
+static void put_classes(struct life *life, msg_arrays *arrays, msg_class_row *classes, msg_method_row *rows)
 {
-    Class above = class_->superclass.class_;
-    put(",{\"name\":\"c%u\",\"super\":", class_->record->number);
-    if (above) put("\"c%u\"", above->record->number); else put("null");
-    put(",\"methods\":[");
-    put_rows(life, class_->record);
-    put("],\"class_methods\":[");
-    put_rows(life, class_->isa->record);
-    put("]}");
+    for (uint32_t sel = 2; sel <= life->selectors; sel++) rows[arrays->method_count++] = (msg_method_row){names.of[sel], 1};
+    classes[arrays->class_count++] = (msg_class_row){names.of[0], MSG_ROOT, (uint32_t)arrays->method_count, 0};
+    for (uint32_t i = 1; i <= shim_class_count; i++) {
+        Class class_ = shim_classes[i], above = class_->superclass.class_;
+        put_rows(life, arrays, rows, class_->record);
+        put_rows(life, arrays, rows, class_->isa->record);
+        classes[arrays->class_count++] = (msg_class_row){names.of[i], above ? above->record->number : MSG_ROOT, class_->record->count, class_->isa->record->count};
+    }
 }
 
-/* Selector 1 is forwardingTargetForSelector:, which every image has and no class of the document; the first class lists the others, which fixes their numbers. */
-static void write_document(struct life *life)
+static uint32_t row_count(struct life *life)
 {
-    document.length = 0;
-    put("{\"version\":2,\"classes\":[{\"name\":\"c0\",\"super\":null,\"methods\":[");
-    for (uint32_t sel = 2; sel <= life->selectors; sel++) put("%s[\"s%u\",\"i1\"]", sel > 2 ? "," : "", sel);
-    put("],\"class_methods\":[]}");
-    for (uint32_t i = 1; i <= shim_class_count; i++) put_class(life, shim_classes[i]);
-    put("],\"made\":[");
-    for (uint32_t i = shim_class_count + 1; i <= life->classes; i++) put("%s\"c%u\"", i > shim_class_count + 1 ? "," : "", i);
-    put("],\"categories\":[],\"objects\":[],\"imps\":[");
-    for (uint32_t imp = 1; imp <= life->imps; imp++) put("%s{\"name\":\"i%u\",\"class\":\"c0\",\"meta\":false,\"args\":0,\"body\":0}", imp > 1 ? "," : "", imp);
-    put("],\"items\":[]}");
+    uint32_t count = life->selectors;
+    for (uint32_t i = 1; i <= shim_class_count; i++) count += shim_classes[i]->record->count + shim_classes[i]->isa->record->count;
+    return count;
+}
+
+/* Opens the tables of what the rows say; the classes that are to spare may be made. */
+static uint32_t open_tables(struct life *life)
+{
+    make_names();
+    msg_class_row *classes = shim_memory((shim_class_count + 1) * sizeof *classes);
+    msg_method_row *rows = shim_memory(row_count(life) * sizeof *rows);
+    msg_imp_row *imps = shim_memory(life->imps * sizeof *imps);
+    msg_arrays arrays = {names.text, names.length, classes, 0, rows, 0, imps, life->imps, names.of + shim_class_count + 1, life->classes - shim_class_count};
+    put_classes(life, &arrays, classes, rows);
+    for (uint32_t imp = 1; imp <= life->imps; imp++) imps[imp - 1].name = names.of[imp]; /* of class 0, without arguments */
+    uint32_t fault = msg_open_arrays(&life->runtime, &arrays);
+    free(classes);
+    free(rows);
+    free(imps);
+    return fault;
 }
 
 static uint32_t with_spare(uint32_t count, uint32_t spare, uint32_t most) { return count + spare < most ? count + spare : most; }
 
 static void check_numbers(struct life *life)
 {
-    char name[16];
+    msg_name last = names.of[life->selectors];
     uint32_t sel = 0;
-    int length = snprintf(name, sizeof name, "s%u", life->selectors);
-    if (msg_find_selector(&life->runtime, (const uint8_t *)name, (size_t)length, &sel) || sel != life->selectors) shim_stop("selectors are numbered otherwise", name);
+    if (msg_find_selector(&life->runtime, names.text + last.at, last.length, &sel) || sel != life->selectors) shim_stop("selectors are numbered otherwise", "shim");
 }
 
 static void leave(struct life *life) { if (!--life->users) free(life); }
@@ -117,8 +120,7 @@ static struct life *open_life(void)
         number_functions(life, shim_classes[i]->isa->record);
     }
     life->imps = with_spare(life->imp_count, SPARE, MOST_IMPS);
-    write_document(life);
-    uint32_t fault = msg_open(&life->runtime, (const uint8_t *)document.text, document.length);
+    uint32_t fault = open_tables(life);
     if (fault) {
         char number[16];
         snprintf(number, sizeof number, "%u", fault);

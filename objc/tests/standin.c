@@ -8,33 +8,30 @@
 enum { CLASSES = 1024, SELECTORS = 4096, CHANGES = 65536 };
 struct tables { uint16_t imps[CLASSES][2][SELECTORS]; int above[CLASSES]; uint32_t last; uint64_t changes; };
 
-/* The shim's own documents alone: classes c0 .. with rows ["s7","i3"]. */
-static void read_class(struct tables *tables, const char *text, const char *end)
+/* The shim's own rows alone, whose selectors and implementations are named by their numbers. */
+static uint32_t number_in(const uint8_t *names, msg_name name) { return (uint32_t)strtoul((const char *)names + name.at + 1, NULL, 10); }
+
+static const msg_method_row *put_rows(struct tables *tables, const uint8_t *names, uint16_t *imps, const msg_method_row *row, uint32_t count)
 {
-    unsigned number, above, sel, imp;
-    if (sscanf(text, "{\"name\":\"c%u\"", &number) != 1) return;
-    const char *up = strstr(text, "\"super\":") + 8, *meta = strstr(text, "\"class_methods\"");
-    tables->above[number] = sscanf(up, "\"c%u\"", &above) == 1 ? (int)above : -1;
-    for (const char *at = text; (at = strstr(at, "[\"s")) && at < end; at += 3)
-        if (sscanf(at, "[\"s%u\",\"i%u\"]", &sel, &imp) == 2) {
-            tables->imps[number][at > meta][sel] = (uint16_t)imp;
-            if (sel > tables->last) tables->last = sel;
-        }
+    for (; count; count--, row++) {
+        uint32_t sel = number_in(names, row->selector);
+        imps[sel] = (uint16_t)row->imp;
+        if (sel > tables->last) tables->last = sel;
+    }
+    return row;
 }
 
-uint32_t msg_open(msg_runtime *runtime, const uint8_t *text, size_t length)
+uint32_t msg_open_rows(msg_runtime *runtime, const uint8_t *names, size_t length, const msg_class_row *classes, size_t class_count, const msg_method_row *methods,
+                       size_t method_count, const msg_imp_row *imps, size_t imp_count, const msg_name *made, size_t made_count)
 {
+    (void)length, (void)method_count, (void)imps, (void)imp_count, (void)made, (void)made_count;
     if (runtime->open) return MSG_ALREADY_OPEN;
     struct tables *tables = calloc(1, sizeof *tables);
-    char *copy = calloc(1, length + 1);
-    memcpy(copy, text, length);
-    const char *end = strstr(copy, "\"made\""), *at = strstr(copy, "{\"name\":\"c");
-    while (at && at < end) {
-        const char *next = strstr(at + 1, "{\"name\":\"c");
-        read_class(tables, at, next && next < end ? next : end);
-        at = next;
+    for (size_t i = 0; i < class_count; i++) {
+        tables->above[i] = classes[i].superclass == MSG_ROOT ? -1 : (int)classes[i].superclass;
+        methods = put_rows(tables, names, tables->imps[i][0], methods, classes[i].methods);
+        methods = put_rows(tables, names, tables->imps[i][1], methods, classes[i].class_methods);
     }
-    free(copy);
     *runtime = (msg_runtime){tables, true};
     return MSG_DONE;
 }
