@@ -32,6 +32,7 @@ static void put_new(struct record *record, SEL sel, IMP imp, const char *types)
     method->imp = imp;
     shim_put_row(record, method, (uint32_t)sel->name.number);
     shim_replace(record, (uint32_t)sel->name.number, imp);
+    shim_fill_in(record, (uint32_t)sel->name.number);
 }
 
 static IMP set(struct record *record, struct row *row, IMP imp)
@@ -39,6 +40,7 @@ static IMP set(struct record *record, struct row *row, IMP imp)
     IMP before = row->method->imp;
     row->method->imp = imp;
     shim_replace(record, row->sel, imp);
+    shim_fill_in(record, row->sel);
     return before;
 }
 

@@ -223,6 +223,15 @@ void shim_replace(struct record *record, uint32_t sel, IMP imp)
     if (!number || msg_replace(&life->runtime, record->number, record->meta, sel, number)) shim_outdate();
 }
 
+/* Else each thread that sends the method next would wait for the lock that the change holds now. */
+void shim_fill_in(struct record *record, uint32_t sel)
+{
+    struct seat *seat = shim_seat;
+    uint32_t imp;
+    if (seat->life != atomic_load(&current) || sel > seat->life->selectors || !record->number) return;
+    msg_fill(&seat->life->runtime, &seat->sender, record->number, record->meta, sel, &imp);
+}
+
 void shim_exchange(struct record *one, uint32_t sel, struct record *other, uint32_t other_sel)
 {
     struct life *life = atomic_load(&current);

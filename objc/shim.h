@@ -63,6 +63,8 @@ IMP shim_forward(id receiver, SEL sel);
 void shim_outdate(void);
 /* One change of the tables, beside the rows; where this life can't hold it, they are outdated. */
 void shim_replace(struct record *record, uint32_t sel, IMP imp);
+/* What the tables now find is cached in this class, and noted by the thread's own sender, where it has one. */
+void shim_fill_in(struct record *record, uint32_t sel);
 void shim_make(Class class_);
 void shim_exchange(struct record *one, uint32_t sel, struct record *other, uint32_t other_sel);
 /* Where the method stands that the tables find, or NULL. */
