@@ -6,61 +6,64 @@ use msg_buckets::{
     pack, put, unpack,
 };
 use msg_names::{ImpRef, Selector};
-use std::test::Fail;
+use std::process::Abort;
 
-fn selector(number: u32) -> Result<Selector, Fail> {
-    Ok(Selector::of(number).ok_or("0")?)
+fn selector(rt: &impl Abort, number: u32) -> Selector {
+    Selector::of(number).expect(rt, "a number above 0")
 }
 
 #[test]
-fn a_probe_goes_on_to_the_next_place(rt: HostRuntime) -> Result<(), Fail> {
+fn a_probe_goes_on_to_the_next_place(rt: HostRuntime) {
     let mut words = [0; 4];
     for (number, place) in [(1, 1), (5, 2), (9, 3)] {
-        let placed = put(&mut words, selector(number)?, ImpRef::of(number + 1));
+        let placed = put(&mut words, selector(&rt, number), ImpRef::of(number + 1));
         same_at(&rt, &number, placed, Placed::At(place));
     }
     for number in [1, 5, 9] {
         same_at(
             &rt,
             &number,
-            find(&words, selector(number)?),
+            find(&words, selector(&rt, number)),
             Probe::Hit(ImpRef::of(number + 1)),
         );
     }
     let mut larger = [0; 8];
     same(
         &rt,
-        put(&mut larger, selector(13)?, ImpRef::FORWARD),
+        put(&mut larger, selector(&rt, 13), ImpRef::FORWARD),
         Placed::At(5),
     );
-    same(&rt, find(&larger, selector(1)?), Probe::Empty(1));
+    same(&rt, find(&larger, selector(&rt, 1)), Probe::Empty(1));
     same(
         &rt,
-        find(&larger, selector(13)?),
+        find(&larger, selector(&rt, 13)),
         Probe::Hit(ImpRef::FORWARD),
     );
-    Ok(())
 }
 
 #[test]
-fn a_probe_goes_round(rt: HostRuntime) -> Result<(), Fail> {
+fn a_probe_goes_round(rt: HostRuntime) {
     let mut words = [0; 4];
     same(
         &rt,
-        put(&mut words, selector(3)?, ImpRef::of(1)),
+        put(&mut words, selector(&rt, 3), ImpRef::of(1)),
         Placed::At(3),
     );
     same(
         &rt,
-        put(&mut words, selector(7)?, ImpRef::of(2)),
+        put(&mut words, selector(&rt, 7), ImpRef::of(2)),
         Placed::At(0),
     );
-    same(&rt, find(&words, selector(7)?), Probe::Hit(ImpRef::of(2)));
+    same(
+        &rt,
+        find(&words, selector(&rt, 7)),
+        Probe::Hit(ImpRef::of(2)),
+    );
     let mut full = [0; 4];
     for number in [1, 2, 3, 4] {
         let imp = ImpRef::of(10 * number);
         assert_ne!(rt;
-            put(&mut full, selector(number)?, imp),
+            put(&mut full, selector(&rt, number), imp),
             Placed::Full,
             "{number}"
         );
@@ -68,40 +71,42 @@ fn a_probe_goes_round(rt: HostRuntime) -> Result<(), Fail> {
     let before = full;
     same(
         &rt,
-        put(&mut full, selector(5)?, ImpRef::of(50)),
+        put(&mut full, selector(&rt, 5), ImpRef::of(50)),
         Placed::Full,
     );
-    same(&rt, find(&full, selector(5)?), Probe::Wrapped);
+    same(&rt, find(&full, selector(&rt, 5)), Probe::Wrapped);
     same(
         &rt,
-        put(&mut full, selector(2)?, ImpRef::of(50)),
+        put(&mut full, selector(&rt, 2), ImpRef::of(50)),
         Placed::Present,
     );
-    same(&rt, find(&full, selector(2)?), Probe::Hit(ImpRef::of(20)));
+    same(
+        &rt,
+        find(&full, selector(&rt, 2)),
+        Probe::Hit(ImpRef::of(20)),
+    );
     same(&rt, full.as_slice(), before.as_slice());
-    Ok(())
 }
 
 #[test]
-fn a_selector_is_compared_whole(rt: HostRuntime) -> Result<(), Fail> {
+fn a_selector_is_compared_whole(rt: HostRuntime) {
     let mut words = [0; 4];
     same(
         &rt,
-        put(&mut words, selector(1)?, ImpRef::of(1)),
+        put(&mut words, selector(&rt, 1), ImpRef::of(1)),
         Placed::At(1),
     );
-    same(&rt, find(&words, selector(65_537)?), Probe::Empty(2));
+    same(&rt, find(&words, selector(&rt, 65_537)), Probe::Empty(2));
     same(
         &rt,
-        put(&mut words, selector(65_537)?, ImpRef::of(2)),
+        put(&mut words, selector(&rt, 65_537), ImpRef::of(2)),
         Placed::At(2),
     );
     same(
         &rt,
-        find(&words, selector(65_537)?),
+        find(&words, selector(&rt, 65_537)),
         Probe::Hit(ImpRef::of(2)),
     );
-    Ok(())
 }
 
 #[test]
@@ -133,28 +138,31 @@ fn capacities_are_powers_of_two(rt: HostRuntime) {
 }
 
 #[test]
-fn places_and_words(rt: HostRuntime) -> Result<(), Fail> {
-    same(&rt, first_place(selector(13)?, 8), 5);
-    same(&rt, first_place(selector(1024)?, 1024), 0);
+fn places_and_words(rt: HostRuntime) {
+    same(&rt, first_place(selector(&rt, 13), 8), 5);
+    same(&rt, first_place(selector(&rt, 1024), 1024), 0);
     same(&rt, next_place(3, 4), 0);
     same(&rt, next_place(3, 8), 4);
-    let word = pack(selector(2)?, ImpRef::of(1));
+    let word = pack(selector(&rt, 2), ImpRef::of(1));
     same(&rt, word, 0x0000_0002_0000_0001);
-    same(&rt, unpack(word), Some((selector(2)?, ImpRef::of(1))));
+    same(&rt, unpack(word), Some((selector(&rt, 2), ImpRef::of(1))));
     same(
         &rt,
         unpack(0x0000_0001_0000_0000),
-        Some((selector(1)?, ImpRef::FORWARD)),
+        Some((selector(&rt, 1), ImpRef::FORWARD)),
     );
     same(
         &rt,
         unpack(0xffff_ffff_ffff_ffff),
-        Some((selector(4294967295)?, ImpRef::of(4294967295))),
+        Some((selector(&rt, 4294967295), ImpRef::of(4294967295))),
     );
     same(&rt, unpack(0xffff_ffff), None);
     same(&rt, unpack(0), None);
-    same(&rt, look_at(word, selector(2)?), Look::Hit(ImpRef::of(1)));
-    same(&rt, look_at(word, selector(1)?), Look::Other);
-    same(&rt, look_at(0, selector(1)?), Look::Empty);
-    Ok(())
+    same(
+        &rt,
+        look_at(word, selector(&rt, 2)),
+        Look::Hit(ImpRef::of(1)),
+    );
+    same(&rt, look_at(word, selector(&rt, 1)), Look::Other);
+    same(&rt, look_at(0, selector(&rt, 1)), Look::Empty);
 }

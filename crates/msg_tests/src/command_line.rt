@@ -5,14 +5,16 @@ use msg_form::DocumentFault;
 use msg_runner::{Program, RunFault, ToWriter, arguments, complain};
 use std::alloc::Global;
 use std::io;
-use std::test::Fail;
+use std::process::Abort;
 
-fn words(alloc: Global, texts: &[&str]) -> Result<Vec<String>, Fail> {
+// The words of the command line are read so.
+fn words_are(rt: &impl Abort, alloc: Global, texts: &[&str], want: Option<(u32, u32)>) {
     let mut words = Vec::new(alloc);
     for text in texts {
-        words.push(text.to_string(alloc)?)?;
+        let word = text.to_string(alloc).expect(rt, "memory");
+        words.push(word).expect(rt, "memory");
     }
-    Ok(words)
+    same_at(rt, &texts, arguments(&words), want);
 }
 
 const WORDS: [(&[&str], Option<(u32, u32)>); 27] = [
@@ -46,13 +48,10 @@ const WORDS: [(&[&str], Option<(u32, u32)>); 27] = [
 ];
 
 #[test]
-fn words_are_two_numbers_at_most(rt: HostRuntime) -> Result<(), Fail> {
-    let alloc = rt.alloc();
+fn words_are_two_numbers_at_most(rt: HostRuntime) {
     for (texts, want) in WORDS {
-        let words = words(alloc, texts)?;
-        same_at(&rt, &texts, arguments(&words), want);
+        words_are(&rt, rt.alloc(), texts, want);
     }
-    Ok(())
 }
 
 // What is said after the name of the program, which is PROGRAM here.
@@ -155,24 +154,39 @@ const PROGRAMS: [(Program, &str); 2] = [
     (Program::Msgbeside, "msgbeside"),
 ];
 
+// What is said of a fault, with the status.
+fn line_is(
+    rt: &impl Abort,
+    alloc: Global,
+    (program, name): (Program, &str),
+    fault: Option<&RunFault>,
+    said: &str,
+    status: u8,
+) {
+    let said = said.replace(alloc, "PROGRAM", name).expect(rt, "memory");
+    let line = format!(in alloc; "{name}: {said}").expect(rt, "memory");
+    let mut sink = ToWriter::new(Vec::new(alloc));
+    same_at(rt, &line, complain(&mut sink, program, fault), status);
+    same(rt, sink.writer.as_slice(), line.as_bytes());
+}
+
 #[test]
-fn each_fault_has_a_line_and_a_status(rt: HostRuntime) -> Result<(), Fail> {
-    let alloc = rt.alloc();
-    for (program, name) in PROGRAMS {
+fn each_fault_has_a_line_and_a_status(rt: HostRuntime) {
+    for program in PROGRAMS {
         for (fault, said, status) in LINES {
-            let said = said.replace(alloc, "PROGRAM", name)?;
-            let line = format!(in alloc; "{name}: {said}")?;
-            let mut sink = ToWriter::new(Vec::new(alloc));
-            same_at(
-                &rt,
-                &line,
-                complain(&mut sink, program, fault.as_ref()),
-                status,
-            );
-            same(&rt, sink.writer.as_slice(), line.as_bytes());
+            line_is(&rt, rt.alloc(), program, fault.as_ref(), said, status);
         }
     }
-    Ok(())
+}
+
+// A write fails after so many bytes, of which the first is there.
+fn write_fails(rt: &impl Abort, size: usize, fault: Option<&RunFault>, status: u8) {
+    let mut room = [0; 12];
+    let mut sink = ToWriter::new(io::Cursor::new(&mut room[..size.min(12)]));
+    same(rt, complain(&mut sink, Program::Msgrun, fault), status);
+    let failed = sink.failed;
+    assert!(rt; failed);
+    same(rt, room.as_slice().first(), Some(&b'm'));
 }
 
 #[test]
@@ -180,16 +194,7 @@ fn a_failed_write_leaves_the_status(rt: HostRuntime) {
     for (fault, _said, status) in LINES {
         // room for the name, and for a front of what is said
         for size in [3, 12] {
-            let mut room = [0; 12];
-            let mut sink = ToWriter::new(io::Cursor::new(&mut room[..size.min(12)]));
-            same(
-                &rt,
-                complain(&mut sink, Program::Msgrun, fault.as_ref()),
-                status,
-            );
-            let front = sink.failed;
-            assert!(rt; front);
-            same(&rt, room.as_slice().first(), Some(&b'm'));
+            write_fails(&rt, size, fault.as_ref(), status);
         }
     }
 }

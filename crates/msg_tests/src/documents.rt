@@ -1,10 +1,10 @@
-//! Documents, edits of them, and the number of the fault that one is refused with.
+//! Documents, edits of them, and the number of the fault that one is refused with. Want of memory ends a test where it comes: a `?` there would drop each text that
+//! the test owns once more.
 
 use crate::same::same_at;
 use msg_image::{DocumentFault, read_document};
 use std::alloc::Global;
 use std::process::Abort;
-use std::test::Fail;
 
 /// A small document.
 pub(crate) const SMALL: &str =
@@ -46,34 +46,35 @@ pub(crate) fn number(alloc: Global, text: &[u8]) -> Option<u32> {
 }
 
 /// The text with `new` where it first has `old`.
-pub(crate) fn edited(alloc: Global, text: &str, old: &str, new: &str) -> Result<String, Fail> {
-    let (before, after) = text.split_once(old).ok_or("nothing to edit")?;
-    Ok(format!(in alloc; "{before}{new}{after}")?)
+pub(crate) fn edited(rt: &impl Abort, alloc: Global, text: &str, old: &str, new: &str) -> String {
+    let (before, after) = text.split_once(old).expect(rt, "a text to edit");
+    format!(in alloc; "{before}{new}{after}").expect(rt, "memory")
 }
 
 /// The piece so many times, with commas.
-pub(crate) fn listed(alloc: Global, piece: &str, count: usize) -> Result<String, Fail> {
+pub(crate) fn listed(rt: &impl Abort, alloc: Global, piece: &str, count: usize) -> String {
     let mut text = String::new(alloc);
     for place in 0..count {
         if place > 0 {
-            text.push(',')?;
+            text.push(',').expect(rt, "memory");
         }
-        text.push_str(piece)?;
+        text.push_str(piece).expect(rt, "memory");
     }
-    Ok(text)
+    text
 }
 
 /// The middle inside so many of `before` and `after`.
 pub(crate) fn nested(
+    rt: &impl Abort,
     alloc: Global,
     before: &str,
     middle: &str,
     after: &str,
     count: usize,
-) -> Result<String, Fail> {
-    let opening = before.repeat(alloc, count)?;
-    let closing = after.repeat(alloc, count)?;
-    Ok(format!(in alloc; "{opening}{middle}{closing}")?)
+) -> String {
+    let opening = before.repeat(alloc, count).expect(rt, "memory");
+    let closing = after.repeat(alloc, count).expect(rt, "memory");
+    format!(in alloc; "{opening}{middle}{closing}").expect(rt, "memory")
 }
 
 /// The edit of the text gives the answer.
@@ -84,24 +85,16 @@ pub(crate) fn edit_is(
     want: Option<u32>,
     old: &str,
     new: &str,
-) -> Result<(), Fail> {
-    let text = edited(alloc, document, old, new)?;
+) {
+    let text = edited(rt, alloc, document, old, new);
     same_at(rt, &old, number(alloc, text.as_bytes()), want);
-    Ok(())
 }
 
 /// The document without parts, with this list in place of an empty one, gives the answer.
-pub(crate) fn list_is(
-    rt: &impl Abort,
-    alloc: Global,
-    want: Option<u32>,
-    key: &str,
-    values: &str,
-) -> Result<(), Fail> {
-    let old = format!(in alloc; "\"{key}\":[]")?;
-    let new = format!(in alloc; "\"{key}\":[{values}]")?;
-    let text = edited(alloc, EMPTY, old.as_str(), new.as_str())?;
+pub(crate) fn list_is(rt: &impl Abort, alloc: Global, want: Option<u32>, key: &str, values: &str) {
+    let old = format!(in alloc; "\"{key}\":[]").expect(rt, "memory");
+    let new = format!(in alloc; "\"{key}\":[{values}]").expect(rt, "memory");
+    let text = edited(rt, alloc, EMPTY, old.as_str(), new.as_str());
     let length = values.len();
     same_at(rt, &(key, length), number(alloc, text.as_bytes()), want);
-    Ok(())
 }

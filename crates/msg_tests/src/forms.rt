@@ -2,19 +2,19 @@
 
 use crate::documents::{BODY, EMPTY, FULL, SMALL, edit_is, nested, number};
 use crate::same::{same, same_at};
-use std::test::Fail;
+use std::alloc::Global;
+use std::process::Abort;
 
 #[test]
-fn documents_are_read(rt: HostRuntime) -> Result<(), Fail> {
+fn documents_are_read(rt: HostRuntime) {
     let alloc = rt.alloc();
     for text in [EMPTY, SMALL, FULL] {
         same_at(&rt, &text, number(alloc, text.as_bytes()), None);
     }
-    Ok(())
 }
 
 #[test]
-fn texts_that_are_not_json(rt: HostRuntime) -> Result<(), Fail> {
+fn texts_that_are_not_json(rt: HostRuntime) {
     let alloc = rt.alloc();
     for text in [
         "",
@@ -40,11 +40,10 @@ fn texts_that_are_not_json(rt: HostRuntime) -> Result<(), Fail> {
     ] {
         same_at(&rt, &text, number(alloc, text.as_bytes()), Some(1));
     }
-    Ok(())
 }
 
 #[test]
-fn what_stands_round_the_value(rt: HostRuntime) -> Result<(), Fail> {
+fn what_stands_round_the_value(rt: HostRuntime) {
     let alloc = rt.alloc();
     for (before, after, want) in [
         ("", "", None),
@@ -57,16 +56,24 @@ fn what_stands_round_the_value(rt: HostRuntime) -> Result<(), Fail> {
         ("", ",", Some(1)),
         ("[", "]", Some(2)),
     ] {
-        let text = format!(in alloc; "{before}{SMALL}{after}")?;
+        let text = format!(in alloc; "{before}{SMALL}{after}").expect(&rt, "memory");
         same_at(&rt, &(before, after), number(alloc, text.as_bytes()), want);
     }
-    Ok(())
+}
+
+// The small document with these bytes in place of its send's selector.
+fn with_selector(rt: &impl Abort, alloc: Global, bytes: &[u8]) -> Vec<u8> {
+    let (before, after) = SMALL.split_once(r#"value"]}"#).expect(rt, "a text to edit");
+    let mut text = before.as_bytes().to_vec(alloc).expect(rt, "memory");
+    for piece in [bytes, b"\"]}".as_slice(), after.as_bytes()] {
+        text.extend_from_slice(piece).expect(rt, "memory");
+    }
+    text
 }
 
 #[test]
-fn bytes_that_are_not_utf8(rt: HostRuntime) -> Result<(), Fail> {
+fn bytes_that_are_not_utf8(rt: HostRuntime) {
     let alloc = rt.alloc();
-    let (before, after) = SMALL.split_once(r#"value"]}"#).ok_or("nothing to edit")?;
     for (bytes, want) in [
         (b"val".as_slice(), None),
         (b"\xc3\xa9".as_slice(), Some(12)),
@@ -77,39 +84,45 @@ fn bytes_that_are_not_utf8(rt: HostRuntime) -> Result<(), Fail> {
         (b"\xed\xa0\x80".as_slice(), Some(1)),
         (b"\xf4\x90\x80\x80".as_slice(), Some(1)),
     ] {
-        let mut text = before.as_bytes().to_vec(alloc)?;
-        text.extend_from_slice(bytes)?;
-        text.extend_from_slice(b"\"]}")?;
-        text.extend_from_slice(after.as_bytes())?;
+        let text = with_selector(&rt, alloc, bytes);
         same_at(&rt, &bytes, number(alloc, &text), want);
     }
     same(&rt, number(alloc, b"\xef\xbb\xbf{}"), Some(1));
     same(&rt, number(alloc, b"[\"\xff\"]"), Some(1));
-    Ok(())
 }
 
 #[test]
-fn values_nest_127_deep(rt: HostRuntime) -> Result<(), Fail> {
+fn values_nest_127_deep(rt: HostRuntime) {
     let alloc = rt.alloc();
-    let lists = nested(alloc, "[", "", "]", 127)?;
-    same(&rt, number(alloc, lists.as_bytes()), Some(2));
-    let lists = nested(alloc, "[", "", "]", 128)?;
-    same(&rt, number(alloc, lists.as_bytes()), Some(1));
-    let objects = nested(alloc, r#"{"a":"#, "1", "}", 127)?;
-    same(&rt, number(alloc, objects.as_bytes()), Some(2));
-    let objects = nested(alloc, r#"{"a":"#, "1", "}", 128)?;
-    same(&rt, number(alloc, objects.as_bytes()), Some(1));
+    for (before, middle, after, count, want) in [
+        ("[", "", "]", 127, 2),
+        ("[", "", "]", 128, 1),
+        (r#"{"a":"#, "1", "}", 127, 2),
+        (r#"{"a":"#, "1", "}", 128, 1),
+    ] {
+        let text = nested(&rt, alloc, before, middle, after, count);
+        same_at(
+            &rt,
+            &(before, count),
+            number(alloc, text.as_bytes()),
+            Some(want),
+        );
+    }
+}
+
+#[test]
+fn bodies_nest_124_deep(rt: HostRuntime) {
+    let alloc = rt.alloc();
     // A body lies three deep.
     for (levels, want) in [(124, 16), (125, 1)] {
-        let body = nested(alloc, r#"["add",1,"#, "1", "]", levels)?;
-        let new = format!(in alloc; "\"body\":{body}")?;
-        edit_is(&rt, alloc, FULL, Some(want), BODY, new.as_str())?;
+        let body = nested(&rt, alloc, r#"["add",1,"#, "1", "]", levels);
+        let new = format!(in alloc; "\"body\":{body}").expect(&rt, "memory");
+        edit_is(&rt, alloc, FULL, Some(want), BODY, new.as_str());
     }
-    Ok(())
 }
 
 #[test]
-fn values_that_are_no_documents(rt: HostRuntime) -> Result<(), Fail> {
+fn values_that_are_no_documents(rt: HostRuntime) {
     let alloc = rt.alloc();
     for text in [
         "null",
@@ -123,5 +136,4 @@ fn values_that_are_no_documents(rt: HostRuntime) -> Result<(), Fail> {
     ] {
         same_at(&rt, &text, number(alloc, text.as_bytes()), Some(2));
     }
-    Ok(())
 }

@@ -1,11 +1,12 @@
 //! Worked rows of events.
 
-use crate::same::same;
+use crate::same::{same, same_at};
 use msg_core::{Event, EventFault, Machine, Seen};
 use msg_image::{Change, Image, read_document};
 use msg_names::{ClassRef, ImpRef, Selector};
 use msg_tables::ChangeFault;
 use std::alloc::Global;
+use std::process::Abort;
 
 const ROOT: ClassRef = ClassRef {
     class: 0,
@@ -40,77 +41,105 @@ fn machine(alloc: Global, document: &[u8]) -> Option<Machine> {
     Machine::open(alloc, &document.image, 1, &[4]).ok()
 }
 
-// Child gets an implementation of `value`.
-fn add(imp: u32) -> Option<Event> {
-    Some(Event::Commit(Change::Add {
-        class: CHILD,
-        sel: Selector::of(2)?,
-        imp: ImpRef::of(imp),
-    }))
+// An event of a row. A change gives Child the implementation of this number for `value`.
+#[derive(Clone, Copy, Debug)]
+enum Row {
+    Enter(u32),
+    Header(u32, ClassRef),
+    Read(u32, usize),
+    Leave(u32),
+    Fill(ClassRef, usize, u64),
+    Install(ClassRef, u32),
+    Flush(ClassRef),
+    Look(u32),
+    Clear(u32, usize),
+    Add(u32),
 }
+
+fn event(rt: &impl Abort, row: Row) -> Event {
+    match row {
+        Row::Enter(sender) => Event::Enter(sender),
+        Row::Header(sender, class) => Event::Header(sender, class),
+        Row::Read(sender, place) => Event::Read(sender, place),
+        Row::Leave(sender) => Event::Leave(sender),
+        Row::Fill(class, place, word) => Event::Fill(class, place, word),
+        Row::Install(class, array) => Event::Install(class, array),
+        Row::Flush(class) => Event::Flush(class),
+        Row::Look(sender) => Event::Look(sender),
+        Row::Clear(array, place) => Event::Clear(array, place),
+        Row::Add(imp) => Event::Commit(Change::Add {
+            class: CHILD,
+            sel: Selector::of(2).expect(rt, "a number above 0"),
+            imp: ImpRef::of(imp),
+        }),
+    }
+}
+
+// The machine answers each event of the rows.
+fn answers(rt: &impl Abort, machine: &mut Machine, rows: &[(Row, Result<Seen, EventFault>)]) {
+    for (row, answer) in rows {
+        same_at(rt, row, machine.step(event(rt, *row)), *answer);
+    }
+}
+
+const FLUSHED: [(Row, Result<Seen, EventFault>); 12] = [
+    (Row::Install(CHILD, 0), Ok(Seen::Nothing)),
+    (Row::Fill(CHILD, 2, WORD), Ok(Seen::Nothing)),
+    (Row::Enter(0), Ok(Seen::Nothing)),
+    (Row::Header(0, CHILD), Ok(Seen::Array(Some(0)))),
+    (Row::Flush(CHILD), Ok(Seen::Nothing)),
+    (Row::Look(0), Ok(Seen::Out(false))),
+    (Row::Clear(0, 2), Err(EventFault::NotFree)),
+    (Row::Read(0, 2), Ok(Seen::Word(WORD))),
+    (Row::Leave(0), Ok(Seen::Nothing)),
+    (Row::Look(0), Ok(Seen::Out(true))),
+    (Row::Clear(0, 2), Ok(Seen::Nothing)),
+    (Row::Install(ROOT, 0), Ok(Seen::Nothing)),
+];
 
 #[test]
 fn an_array_is_flushed_while_a_sender_holds_it(rt: HostRuntime) {
     let mut machine = machine(rt.alloc(), ONE).expect(&rt, "an image");
-    let events = [
-        (Event::Install(CHILD, 0), Ok(Seen::Nothing)),
-        (Event::Fill(CHILD, 2, WORD), Ok(Seen::Nothing)),
-        (Event::Enter(0), Ok(Seen::Nothing)),
-        (Event::Header(0, CHILD), Ok(Seen::Array(Some(0)))),
-        (Event::Flush(CHILD), Ok(Seen::Nothing)),
-        (Event::Look(0), Ok(Seen::Out(false))),
-        (Event::Clear(0, 2), Err(EventFault::NotFree)),
-        (Event::Read(0, 2), Ok(Seen::Word(WORD))),
-        (Event::Leave(0), Ok(Seen::Nothing)),
-        (Event::Look(0), Ok(Seen::Out(true))),
-        (Event::Clear(0, 2), Ok(Seen::Nothing)),
-        (Event::Install(ROOT, 0), Ok(Seen::Nothing)),
-    ];
-    for (event, answer) in events {
-        same(&rt, machine.step(event), answer);
-    }
+    answers(&rt, &mut machine, &FLUSHED);
 }
+
+// Selector 2 with implementation 2.
+const OTHER: u64 = 0x0000_0002_0000_0002;
+
+const REFUSED: [(Row, Result<Seen, EventFault>); 27] = [
+    (Row::Enter(1), Err(EventFault::NoSender)),
+    (Row::Header(0, CHILD), Err(EventFault::NotIn)),
+    (Row::Read(0, 0), Err(EventFault::NotHolding)),
+    (Row::Leave(0), Err(EventFault::NotIn)),
+    (Row::Enter(0), Ok(Seen::Nothing)),
+    (Row::Enter(0), Err(EventFault::NotOut)),
+    (Row::Fill(CHILD, 2, WORD), Err(EventFault::NotLive)),
+    (Row::Install(NONE, 0), Err(EventFault::NoClass)),
+    (Row::Install(CHILD, 1), Err(EventFault::NoArray)),
+    (Row::Install(CHILD, 0), Ok(Seen::Nothing)),
+    (Row::Install(ROOT, 0), Err(EventFault::NotFree)),
+    (Row::Fill(CHILD, 4, WORD), Err(EventFault::NoPlace)),
+    (Row::Fill(CHILD, 2, 1), Err(EventFault::Disagrees)),
+    (Row::Fill(CHILD, 2, OTHER), Err(EventFault::Disagrees)),
+    (Row::Fill(CHILD, 2, WORD), Ok(Seen::Nothing)),
+    (Row::Fill(CHILD, 2, WORD), Err(EventFault::NotEmpty)),
+    (Row::Add(9), Err(EventFault::Refused(ChangeFault::NoImp))),
+    (Row::Add(2), Err(EventFault::Disagrees)),
+    (Row::Flush(CHILD), Ok(Seen::Nothing)),
+    (Row::Add(2), Ok(Seen::Nothing)),
+    (Row::Look(0), Ok(Seen::Out(false))),
+    (Row::Leave(0), Ok(Seen::Nothing)),
+    (Row::Look(0), Ok(Seen::Out(true))),
+    (Row::Install(CHILD, 0), Err(EventFault::NotEmpty)),
+    (Row::Clear(0, 2), Ok(Seen::Nothing)),
+    (Row::Install(CHILD, 0), Ok(Seen::Nothing)),
+    (Row::Fill(CHILD, 2, OTHER), Ok(Seen::Nothing)),
+];
 
 #[test]
 fn each_refusal_is_the_least(rt: HostRuntime) {
     let mut machine = machine(rt.alloc(), TWO).expect(&rt, "an image");
-    let other = 0x0000_0002_0000_0002;
-    let events = [
-        (Some(Event::Enter(1)), Err(EventFault::NoSender)),
-        (Some(Event::Header(0, CHILD)), Err(EventFault::NotIn)),
-        (Some(Event::Read(0, 0)), Err(EventFault::NotHolding)),
-        (Some(Event::Leave(0)), Err(EventFault::NotIn)),
-        (Some(Event::Enter(0)), Ok(Seen::Nothing)),
-        (Some(Event::Enter(0)), Err(EventFault::NotOut)),
-        (Some(Event::Fill(CHILD, 2, WORD)), Err(EventFault::NotLive)),
-        (Some(Event::Install(NONE, 0)), Err(EventFault::NoClass)),
-        (Some(Event::Install(CHILD, 1)), Err(EventFault::NoArray)),
-        (Some(Event::Install(CHILD, 0)), Ok(Seen::Nothing)),
-        (Some(Event::Install(ROOT, 0)), Err(EventFault::NotFree)),
-        (Some(Event::Fill(CHILD, 4, WORD)), Err(EventFault::NoPlace)),
-        (Some(Event::Fill(CHILD, 2, 1)), Err(EventFault::Disagrees)),
-        (
-            Some(Event::Fill(CHILD, 2, other)),
-            Err(EventFault::Disagrees),
-        ),
-        (Some(Event::Fill(CHILD, 2, WORD)), Ok(Seen::Nothing)),
-        (Some(Event::Fill(CHILD, 2, WORD)), Err(EventFault::NotEmpty)),
-        (add(9), Err(EventFault::Refused(ChangeFault::NoImp))),
-        (add(2), Err(EventFault::Disagrees)),
-        (Some(Event::Flush(CHILD)), Ok(Seen::Nothing)),
-        (add(2), Ok(Seen::Nothing)),
-        (Some(Event::Look(0)), Ok(Seen::Out(false))),
-        (Some(Event::Leave(0)), Ok(Seen::Nothing)),
-        (Some(Event::Look(0)), Ok(Seen::Out(true))),
-        (Some(Event::Install(CHILD, 0)), Err(EventFault::NotEmpty)),
-        (Some(Event::Clear(0, 2)), Ok(Seen::Nothing)),
-        (Some(Event::Install(CHILD, 0)), Ok(Seen::Nothing)),
-        (Some(Event::Fill(CHILD, 2, other)), Ok(Seen::Nothing)),
-    ];
-    for (event, answer) in events {
-        let event = event.expect(&rt, "an event");
-        same(&rt, machine.step(event), answer);
-    }
+    answers(&rt, &mut machine, &REFUSED);
 }
 
 #[test]

@@ -11,13 +11,7 @@ fn interned(rt: &impl Abort, names: &mut Names, text: &str, want: Result<u32, Na
     same_at(rt, &text, number, want);
 }
 
-#[test]
-fn names_are_interned(rt: HostRuntime) -> Result<(), Fail> {
-    let alloc = rt.alloc();
-    let mut names = Names::new(alloc);
-    assert!(rt; names.is_empty());
-    let longest = "n".repeat(alloc, 64)?;
-    let longer = "n".repeat(alloc, 65)?;
+fn interns<'a>(rt: &impl Abort, names: &mut Names, longest: &'a str, longer: &'a str) {
     for (text, want) in [
         ("value", Ok(1)),
         ("value", Ok(1)),
@@ -28,29 +22,43 @@ fn names_are_interned(rt: HostRuntime) -> Result<(), Fail> {
         ("at:put", Err(NameFault::BadName)),
         ("1x", Err(NameFault::BadName)),
         ("a:b:c:d:e:", Err(NameFault::BadName)),
-        (longer.as_str(), Err(NameFault::BadName)),
-        (longest.as_str(), Ok(4)),
+        (longer, Err(NameFault::BadName)),
+        (longest, Ok(4)),
         ("value", Ok(1)),
     ] {
-        interned(&rt, &mut names, text, want);
+        interned(rt, names, text, want);
     }
-    same(&rt, names.len(), 4);
-    assert!(rt; !names.is_empty());
-    same(&rt, names.find("at:put:").map(Selector::number), Some(2));
-    same(&rt, names.find("at:"), None);
+}
+
+fn has_interned(rt: &impl Abort, names: &Names, longest: &str) -> Result<(), Fail> {
+    same(rt, names.len(), 4);
+    same(rt, names.is_empty(), false);
+    same(rt, names.find("at:put:").map(Selector::number), Some(2));
+    same(rt, names.find("at:"), None);
     for (number, text, colons) in [
         (1, Some("value"), Some(0)),
         (2, Some("at:put:"), Some(2)),
         (3, Some(":"), Some(1)),
-        (4, Some(longest.as_str()), Some(0)),
+        (4, Some(longest), Some(0)),
         (5, None, None),
         (4294967295, None, None),
     ] {
         let selector = Selector::of(number).ok_or("0")?;
-        same_at(&rt, &number, names.text(selector), text);
-        same_at(&rt, &number, names.colons(selector), colons);
+        same_at(rt, &number, names.text(selector), text);
+        same_at(rt, &number, names.colons(selector), colons);
     }
     Ok(())
+}
+
+#[test]
+fn names_are_interned(rt: HostRuntime) -> Result<(), Fail> {
+    let alloc = rt.alloc();
+    let longest = "n".repeat(alloc, 64)?;
+    let longer = "n".repeat(alloc, 65)?;
+    let mut names = Names::new(alloc);
+    same(&rt, names.is_empty(), true);
+    interns(&rt, &mut names, longest.as_str(), longer.as_str());
+    has_interned(&rt, &names, longest.as_str())
 }
 
 #[test]

@@ -10,8 +10,8 @@ use std::alloc::Global;
 use std::process::Abort;
 use std::test::Fail;
 
-fn image(alloc: Global) -> Result<Image, Fail> {
-    Ok(read_document(alloc, IMAGE.as_bytes())?.image)
+fn read(alloc: Global, text: &str) -> Result<Box<Document>, Fail> {
+    Ok(Box::new(alloc, read_document(alloc, text.as_bytes())?)?)
 }
 
 fn at(class: u32, meta: bool) -> ClassRef
@@ -20,9 +20,7 @@ fn at(class: u32, meta: bool) -> ClassRef
     ClassRef { class, meta }
 }
 
-#[test]
-fn names_come_in_the_order_of_the_walk(rt: HostRuntime) -> Result<(), Fail> {
-    let image = image(rt.alloc())?;
+fn has_names(rt: &impl Abort, image: &Image) {
     let names = [
         "forwardingTargetForSelector:",
         "value",
@@ -39,21 +37,23 @@ fn names_come_in_the_order_of_the_walk(rt: HostRuntime) -> Result<(), Fail> {
         "plus:",
         "go",
     ];
-    same(&rt, image.names().len(), 14);
+    same(rt, image.names().len(), 14);
     for (text, number) in names.into_iter().zip(1..15_u32) {
         let sel = image.names().find(text);
-        same_at(&rt, &text, sel.map(Selector::number), Some(number));
+        same_at(rt, &text, sel.map(Selector::number), Some(number));
     }
-    same(&rt, image.forwarding_selector().number(), 1);
-    Ok(())
+    same(rt, image.forwarding_selector().number(), 1);
 }
 
 #[test]
-fn classes_and_objects_come_as_listed(rt: HostRuntime) -> Result<(), Fail> {
-    let image = image(rt.alloc())?;
-    same(&rt, image.class_count(), 5);
-    same(&rt, image.object_count(), 5);
-    same(&rt, image.imp_count(), 14);
+fn names_come_in_the_order_of_the_walk(rt: HostRuntime) -> Result<(), Fail> {
+    let document = read(rt.alloc(), IMAGE)?;
+    has_names(&rt, &document.image);
+    Ok(())
+}
+
+fn has_classes(rt: &impl Abort, image: &Image) {
+    same(rt, image.class_count(), 5);
     for (class, name, above, above_meta) in [
         (0, "Root", None, Some(at(0, false))),
         (1, "Child", Some(at(0, false)), Some(at(0, true))),
@@ -62,10 +62,14 @@ fn classes_and_objects_come_as_listed(rt: HostRuntime) -> Result<(), Fail> {
         (4, "Proxy", None, Some(at(4, false))),
     ] {
         assert!(rt; class < image.listed_count());
-        same(&rt, image.class_name(class).as_bytes(), name.as_bytes());
-        same_at(&rt, &name, image.superclass(at(class, false)), above);
-        same_at(&rt, &name, image.superclass(at(class, true)), above_meta);
+        same(rt, image.class_name(class).as_bytes(), name.as_bytes());
+        same_at(rt, &name, image.superclass(at(class, false)), above);
+        same_at(rt, &name, image.superclass(at(class, true)), above_meta);
     }
+}
+
+fn has_objects(rt: &impl Abort, image: &Image) {
+    same(rt, image.object_count(), 5);
     for (object, name, class) in [
         (0, "c", 1),
         (1, "g", 2),
@@ -75,9 +79,17 @@ fn classes_and_objects_come_as_listed(rt: HostRuntime) -> Result<(), Fail> {
     ] {
         assert!(rt; object < image.object_count());
         let text = image.object_name(ObjectRef { object });
-        same(&rt, text.as_bytes(), name.as_bytes());
-        same_at(&rt, &name, image.object_class(ObjectRef { object }), class);
+        same(rt, text.as_bytes(), name.as_bytes());
+        same_at(rt, &name, image.object_class(ObjectRef { object }), class);
     }
+}
+
+#[test]
+fn classes_and_objects_come_as_listed(rt: HostRuntime) -> Result<(), Fail> {
+    let document = read(rt.alloc(), IMAGE)?;
+    has_classes(&rt, &document.image);
+    has_objects(&rt, &document.image);
+    same(&rt, document.image.imp_count(), 14);
     Ok(())
 }
 
@@ -90,44 +102,51 @@ fn methods_are(rt: &impl Abort, methods: &[(Selector, ImpRef)], want: &[(u32, u3
     }
 }
 
-const SECOND: &[u8] = br#"{"version":2,
+const SECOND: &str = r#"{"version":2,
 "classes":[{"name":"Child","super":"Root","methods":[],"class_methods":[]},{"name":"Root","super":null,"methods":[],"class_methods":[]}],
 "made":["Late"],"categories":[],"objects":[{"name":"l","class":"Late"}],"imps":[],"items":[{"change":["make","Late","Child"]}]}"#;
 
+// Of the document's one change.
+fn makes_the_third_class(items: &[Item]) -> bool {
+    match items {
+        [Item::Change(Change::AddClass { class, superclass })] => {
+            *class == 2 && *superclass == Some(0)
+        }
+        _ => false,
+    }
+}
+
+fn has_depths(rt: &impl Abort, image: &Image) {
+    assert_eq!(rt; image.listed_count(), 2);
+    same(rt, image.depth(0), 1);
+    same(rt, image.depth(1), 0);
+}
+
 #[test]
 fn depths_are_counted_to_the_root(rt: HostRuntime) -> Result<(), Fail> {
-    let Document { image, items } = read_document(rt.alloc(), SECOND)?;
-    assert_eq!(rt; image.listed_count(), 2);
-    same(&rt, image.depth(0), 1);
-    same(&rt, image.depth(1), 0);
-    assert_eq!(rt; items.len(), 1);
-    assert!(rt;
-        matches!(
-            &items[0],
-            Item::Change(Change::AddClass {
-                class: 2,
-                superclass: Some(0)
-            })
-        )
-    );
+    let document = read(rt.alloc(), SECOND)?;
+    has_depths(&rt, &document.image);
+    assert!(rt; makes_the_third_class(&document.items));
     Ok(())
+}
+
+fn has_a_class_to_make(rt: &impl Abort, image: &Image) {
+    assert_eq!(rt; image.class_count(), 3);
+    same(rt, image.class_name(2).as_bytes(), b"Late".as_slice());
+    methods_are(rt, image.methods(at(2, false)), &[]);
+    methods_are(rt, image.methods(at(2, true)), &[]);
+    assert_eq!(rt; image.object_count(), 1);
+    same(rt, image.object_class(ObjectRef { object: 0 }), 2);
 }
 
 #[test]
 fn classes_that_may_be_made_come_last(rt: HostRuntime) -> Result<(), Fail> {
-    let Document { image, .. } = read_document(rt.alloc(), SECOND)?;
-    assert_eq!(rt; image.class_count(), 3);
-    same(&rt, image.class_name(2).as_bytes(), b"Late".as_slice());
-    methods_are(&rt, image.methods(at(2, false)), &[]);
-    methods_are(&rt, image.methods(at(2, true)), &[]);
-    assert_eq!(rt; image.object_count(), 1);
-    same(&rt, image.object_class(ObjectRef { object: 0 }), 2);
+    let document = read(rt.alloc(), SECOND)?;
+    has_a_class_to_make(&rt, &document.image);
     Ok(())
 }
 
-#[test]
-fn methods_come_as_listed(rt: HostRuntime) -> Result<(), Fail> {
-    let image = image(rt.alloc())?;
+fn has_methods(rt: &impl Abort, image: &Image) {
     assert_eq!(rt; image.listed_count(), 5);
     let root = [
         (2, 1),
@@ -140,19 +159,29 @@ fn methods_come_as_listed(rt: HostRuntime) -> Result<(), Fail> {
         (9, 8),
         (10, 9),
     ];
-    methods_are(&rt, image.methods(at(0, false)), &root);
-    methods_are(&rt, image.methods(at(0, true)), &[(11, 10)]);
-    methods_are(&rt, image.methods(at(1, false)), &[(3, 11)]);
-    methods_are(&rt, image.methods(at(2, false)), &[]);
+    methods_are(rt, image.methods(at(0, false)), &root);
+    methods_are(rt, image.methods(at(0, true)), &[(11, 10)]);
+    methods_are(rt, image.methods(at(1, false)), &[(3, 11)]);
+    methods_are(rt, image.methods(at(2, false)), &[]);
     // without the methods of its categories
-    methods_are(&rt, image.methods(at(3, false)), &[(12, 2)]);
+    methods_are(rt, image.methods(at(3, false)), &[(12, 2)]);
+}
+
+fn has_categories(rt: &impl Abort, image: &Image) {
     let categories = image.categories();
-    same(&rt, categories.len(), 2);
+    same(rt, categories.len(), 2);
     for (category, imp) in categories.iter().zip([12, 13]) {
-        same(&rt, category.class, 3);
-        methods_are(&rt, category.methods.as_slice(), &[(12, imp)]);
-        methods_are(&rt, category.class_methods.as_slice(), &[]);
+        same(rt, category.class, 3);
+        methods_are(rt, category.methods.as_slice(), &[(12, imp)]);
+        methods_are(rt, category.class_methods.as_slice(), &[]);
     }
+}
+
+#[test]
+fn methods_come_as_listed(rt: HostRuntime) -> Result<(), Fail> {
+    let document = read(rt.alloc(), IMAGE)?;
+    has_methods(&rt, &document.image);
+    has_categories(&rt, &document.image);
     Ok(())
 }
 
@@ -217,9 +246,17 @@ fn is_sum(expr: &Expr, sel: u32) -> bool {
     }
 }
 
-#[test]
-fn implementations_come_as_listed(rt: HostRuntime) -> Result<(), Fail> {
-    let image = image(rt.alloc())?;
+// Whether the implementation of this number has the body that the document gives it.
+fn is_body(number: u32, body: &Expr) -> bool {
+    match number {
+        1 => is_number(body, 7),
+        3 => is_countdown(body, 4),
+        10 => matches!(body, Expr::Me),
+        _ => is_sum(body, 3),
+    }
+}
+
+fn has_implementations(rt: &impl Abort, image: &Image) {
     for (number, home, args) in [
         (1, at(0, false), 0),
         (3, at(0, false), 1),
@@ -228,101 +265,114 @@ fn implementations_come_as_listed(rt: HostRuntime) -> Result<(), Fail> {
     ] {
         assert!(rt; number <= image.imp_count());
         let imp = image.imp(ImpRef::of(number));
-        same_at(&rt, &number, imp.home, home);
-        same_at(&rt, &number, imp.args, args);
-        let is_as_listed = match number {
-            1 => is_number(&imp.body, 7),
-            3 => is_countdown(&imp.body, 4),
-            10 => matches!(imp.body, Expr::Me),
-            _ => is_sum(&imp.body, 3),
-        };
-        assert!(rt; is_as_listed, "{number}");
+        same_at(rt, &number, imp.home, home);
+        same_at(rt, &number, imp.args, args);
+        assert!(rt; is_body(number, &imp.body), "{number}");
     }
+}
+
+#[test]
+fn implementations_come_as_listed(rt: HostRuntime) -> Result<(), Fail> {
+    let document = read(rt.alloc(), IMAGE)?;
+    has_implementations(&rt, &document.image);
     Ok(())
+}
+
+// The change is of the method of this selector and implementation in a class.
+fn method_is(
+    rt: &impl Abort,
+    found: (ClassRef, Selector, ImpRef),
+    class: ClassRef,
+    sel: u32,
+    imp: u32,
+) {
+    same(
+        rt,
+        (found.0, found.1.number(), found.2.number()),
+        (class, sel, imp),
+    );
+}
+
+// The place of a change among the items, where it is as listed.
+fn place_of_change(rt: &impl Abort, change: &Change) -> u32 {
+    match change {
+        Change::Add { class, sel, imp } => {
+            method_is(rt, (*class, *sel, *imp), at(1, true), 2, 2);
+            2
+        }
+        Change::Replace { class, sel, imp } => {
+            method_is(rt, (*class, *sel, *imp), at(3, false), 12, 12);
+            3
+        }
+        Change::SetImp { class, sel, imp } => {
+            // the selectors of items come after those of bodies
+            method_is(rt, (*class, *sel, *imp), at(4, true), 15, 1);
+            4
+        }
+        Change::Exchange {
+            class,
+            sel,
+            other,
+            other_sel,
+        } => {
+            same(rt, (*class, sel.number()), (at(1, false), 2));
+            same(rt, (*other, other_sel.number()), (at(0, true), 3));
+            5
+        }
+        Change::Attach {
+            class,
+            methods,
+            class_methods,
+        } => {
+            same(rt, *class, 3);
+            methods_are(rt, methods.as_slice(), &[(12, 1), (16, 13)]);
+            methods_are(rt, class_methods.as_slice(), &[(11, 10)]);
+            6
+        }
+        // no item makes a class
+        Change::AddClass { .. } => 0,
+    }
+}
+
+// The place of an item, where it is as listed.
+fn place_of(rt: &impl Abort, item: &Item) -> u32 {
+    match item {
+        Item::Send {
+            receiver,
+            sel,
+            args,
+        } => {
+            same(rt, *receiver, Value::Object(ObjectRef { object: 1 }));
+            same(rt, sel.number(), 4);
+            same(rt, args.as_slice(), [Value::Number(31)].as_slice());
+            1
+        }
+        Item::Change(change) => place_of_change(rt, change),
+    }
+}
+
+fn items_are(rt: &impl Abort, items: &[Item]) {
+    let mut seen = 0_u32;
+    for item in items {
+        seen = seen.saturating_add(1);
+        same(rt, place_of(rt, item), seen);
+    }
+    same(rt, seen, 6);
 }
 
 #[test]
 fn items_come_as_listed(rt: HostRuntime) -> Result<(), Fail> {
-    let alloc = rt.alloc();
     let items =
         r#"{"send":[["obj","g"],"down:",31]},{"change":["add","Child",true,"value","r_name"]},{"change":["replace","Side",false,"tag","s_two"]},{"change":["set","Proxy",true,"new","r_value"]},{"change":["exchange","Child",false,"value","Root",true,"name"]},{"change":["attach","Side",[["tag","r_value"],["more","s_three"]],[["make","r_make"]]]}"#;
-    let text = with_items(alloc, IMAGE, items)?;
-    let document = read_document(alloc, text.as_bytes())?;
-    let mut seen = 0_u32;
-    for item in document.items {
-        seen = seen.saturating_add(1);
-        match item {
-            Item::Send {
-                receiver,
-                sel,
-                args,
-            } => {
-                same(&rt, receiver, Value::Object(ObjectRef { object: 1 }));
-                same(&rt, sel.number(), 4);
-                same(&rt, args.as_slice(), [Value::Number(31)].as_slice());
-                same(&rt, seen, 1);
-            }
-            Item::Change(Change::Add { class, sel, imp }) => {
-                same(
-                    &rt,
-                    (class, sel.number(), imp.number()),
-                    (at(1, true), 2, 2),
-                );
-                same(&rt, seen, 2);
-            }
-            Item::Change(Change::Replace { class, sel, imp }) => {
-                same(
-                    &rt,
-                    (class, sel.number(), imp.number()),
-                    (at(3, false), 12, 12),
-                );
-                same(&rt, seen, 3);
-            }
-            Item::Change(Change::SetImp { class, sel, imp }) => {
-                // the selectors of items come after those of bodies
-                same(
-                    &rt,
-                    (class, sel.number(), imp.number()),
-                    (at(4, true), 15, 1),
-                );
-                same(&rt, seen, 4);
-            }
-            Item::Change(
-                Change::Exchange {
-                    class,
-                    sel,
-                    other,
-                    other_sel,
-                },
-            ) => {
-                same(&rt, (class, sel.number()), (at(1, false), 2));
-                same(&rt, (other, other_sel.number()), (at(0, true), 3));
-                same(&rt, seen, 5);
-            }
-            Item::Change(Change::AddClass { class, .. }) => {
-                assert!(rt; false, "class {class} is made by no item");
-            }
-            Item::Change(
-                Change::Attach {
-                    class,
-                    methods,
-                    class_methods,
-                },
-            ) => {
-                same(&rt, class, 3);
-                methods_are(&rt, methods.as_slice(), &[(12, 1), (16, 13)]);
-                methods_are(&rt, class_methods.as_slice(), &[(11, 10)]);
-                same(&rt, seen, 6);
-            }
-        }
-    }
-    same(&rt, seen, 6);
+    let text = with_items(rt.alloc(), IMAGE, items)?;
+    let document = read(rt.alloc(), &text)?;
+    items_are(&rt, &document.items);
     Ok(())
 }
 
 #[test]
 fn a_method_list_gives_its_pairs_back(rt: HostRuntime) -> Result<(), Fail> {
-    let sel = Selector::of(2).ok_or("0")?;
+    let sel = Selector::of(2).expect(&rt, "a number above 0");
     let pairs = vec![in rt.alloc(); (sel, ImpRef::of(1)), (sel, ImpRef::FORWARD)]?;
     let list = MethodList::new(pairs);
     methods_are(&rt, list.as_slice(), &[(2, 1), (2, 0)]);

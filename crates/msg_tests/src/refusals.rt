@@ -5,11 +5,32 @@ use crate::images::ran;
 use crate::same::same_at;
 use msg_form::DocumentFault;
 use msg_runner::RunFault;
-use std::test::Fail;
+use std::alloc::Global;
+use std::process::Abort;
+use std::sync::Wait;
+use std::thread::Threads;
+
+// A run ends so, and has written these lines.
+fn run_is<R: Threads + Wait + Abort + Sync>(
+    rt: &R,
+    alloc: Global,
+    text: &str,
+    (workers, cut): (u32, u32),
+    want: Option<RunFault>,
+    lines: &str,
+) {
+    let ended = ran(rt, alloc, text.as_bytes(), workers, cut);
+    same_at(rt, &(text, workers, cut), ended.fault, want);
+    same_at(
+        rt,
+        &(text, workers, cut),
+        ended.text.as_slice(),
+        lines.as_bytes(),
+    );
+}
 
 #[test]
-fn workers_and_cuts_that_are_refused(rt: HostRuntime) -> Result<(), Fail> {
-    let alloc = rt.alloc();
+fn workers_and_cuts_that_are_refused(rt: HostRuntime) {
     for (workers, cut, want) in [
         (0, 64, Some(RunFault::Workers)),
         (65, 64, Some(RunFault::Workers)),
@@ -20,17 +41,13 @@ fn workers_and_cuts_that_are_refused(rt: HostRuntime) -> Result<(), Fail> {
         (64, 0, Some(RunFault::Cut)),
         (64, 4294967295, None),
     ] {
-        let ended = ran(&rt, alloc, SMALL.as_bytes(), workers, cut);
         let lines = if want.is_none() { "7\n" } else { "" };
-        same_at(&rt, &(workers, cut), ended.fault, want);
-        same_at(&rt, &(workers, cut), str::from_utf8(&ended.text)?, lines);
+        run_is(&rt, rt.alloc(), SMALL, (workers, cut), want, lines);
     }
-    Ok(())
 }
 
 #[test]
 fn texts_that_are_refused(rt: HostRuntime) {
-    let alloc = rt.alloc();
     // workers and the cut are judged before the document
     for (text, workers, cut, want) in [
         ("", 0, 1, RunFault::Workers),
@@ -44,8 +61,6 @@ fn texts_that_are_refused(rt: HostRuntime) {
         ),
         ("{}", 64, 64, RunFault::Document(DocumentFault::Shape)),
     ] {
-        let ended = ran(&rt, alloc, text.as_bytes(), workers, cut);
-        same_at(&rt, &text, ended.fault, Some(want));
-        assert!(rt; ended.text.is_empty(), "{text}");
+        run_is(&rt, rt.alloc(), text, (workers, cut), Some(want), "");
     }
 }

@@ -3,46 +3,62 @@
 use crate::documents::FULL;
 use crate::same::{same, same_at};
 use msg_form::{DocumentFault, FORWARDING, Form, NameSet, ReadFault};
-use msg_json::{Bump, Scratch, read};
-use std::test::Fail;
+use msg_json::{Bump, Scratch, Value, read};
+use std::alloc::Global;
+use std::process::Abort;
 
-#[test]
-fn selectors_come_in_the_order_of_the_walk(rt: HostRuntime) -> Result<(), Fail> {
-    let alloc = rt.alloc();
-    let mut scratch = Scratch::new(alloc);
-    let bump = Bump::new(alloc);
-    let value = read(&bump, FULL.as_bytes(), &mut scratch)?;
-    let form = Form::read(alloc, &value)?;
-    let texts = form.selector_texts(alloc)?;
-    let want = [
-        "forwardingTargetForSelector:",
-        "value",
-        "down:",
-        "make",
-        "name",
-        "tag",
-        "kind",
-        "down:",
-        "value",
-        "other",
-        "value",
-        "down:",
-        "seen",
-        "more",
-        "less",
-        "value",
-        "name",
-        "make",
-        "top",
-        "low",
-    ];
-    same(&rt, texts.as_slice(), want.as_slice());
-    same(&rt, FORWARDING, "forwardingTargetForSelector:");
-    Ok(())
+const WALK: [&str; 20] = [
+    "forwardingTargetForSelector:",
+    "value",
+    "down:",
+    "make",
+    "name",
+    "tag",
+    "kind",
+    "down:",
+    "value",
+    "other",
+    "value",
+    "down:",
+    "seen",
+    "more",
+    "less",
+    "value",
+    "name",
+    "make",
+    "top",
+    "low",
+];
+
+fn walk_is(rt: &impl Abort, alloc: Global, value: &Value<&Bump>, want: &[&str]) {
+    let form = Form::read(alloc, value).expect(rt, "a form");
+    let texts = form.selector_texts(alloc).expect(rt, "memory");
+    same(rt, texts.as_slice(), want);
 }
 
 #[test]
-fn names_are_numbered_as_they_come(rt: HostRuntime) -> Result<(), Fail> {
+fn selectors_come_in_the_order_of_the_walk(rt: HostRuntime) {
+    let alloc = rt.alloc();
+    let mut scratch = Scratch::new(alloc);
+    let bump = Bump::new(alloc);
+    let value = read(&bump, FULL.as_bytes(), &mut scratch).expect(&rt, "a JSON text");
+    walk_is(&rt, alloc, &value, &WALK);
+    same(&rt, FORWARDING, "forwardingTargetForSelector:");
+}
+
+fn is_inserted(
+    rt: &impl Abort,
+    names: &mut NameSet,
+    name: &'static str,
+    is_new: bool,
+    number: u32,
+) {
+    same_at(rt, &name, names.insert(name).expect(rt, "memory"), is_new);
+    same_at(rt, &name, names.number(name), Some(number));
+}
+
+#[test]
+fn names_are_numbered_as_they_come(rt: HostRuntime) {
     let mut names = NameSet::new(rt.alloc());
     same(&rt, names.number("value"), None);
     for (name, is_new, number) in [
@@ -54,16 +70,20 @@ fn names_are_numbered_as_they_come(rt: HostRuntime) -> Result<(), Fail> {
         ("Value", true, 5),
         ("at:put:", false, 2),
     ] {
-        same_at(&rt, &name, names.insert(name)?, is_new);
-        same_at(&rt, &name, names.number(name), Some(number));
+        is_inserted(&rt, &mut names, name, is_new, number);
     }
     same(&rt, names.number("at:"), None);
-    Ok(())
+}
+
+fn fault_is(rt: &impl Abort, alloc: Global, fault: DocumentFault, number: u32, text: &str) {
+    same_at(rt, &text, fault.number(), number);
+    same_at(rt, &number, fault.text(), text);
+    let written = fault.to_string(alloc).expect(rt, "memory");
+    same_at(rt, &number, written.as_str(), text);
 }
 
 #[test]
-fn faults_have_numbers_and_texts(rt: HostRuntime) -> Result<(), Fail> {
-    let alloc = rt.alloc();
+fn faults_have_numbers_and_texts(rt: HostRuntime) {
     for (fault, number, text) in [
         (DocumentFault::NotJson, 1, "not json"),
         (DocumentFault::Shape, 2, "shape"),
@@ -84,10 +104,8 @@ fn faults_have_numbers_and_texts(rt: HostRuntime) -> Result<(), Fail> {
         (DocumentFault::Memory, 17, "out of memory"),
         (DocumentFault::ClassCycle, 18, "class cycle"),
     ] {
-        same_at(&rt, &text, fault.number(), number);
-        same_at(&rt, &number, fault.text(), text);
-        same_at(&rt, &number, fault.to_string(alloc)?.as_str(), text);
+        fault_is(&rt, rt.alloc(), fault, number, text);
     }
-    same(&rt, ReadFault::Shape.to_string(alloc)?.as_str(), "shape");
-    Ok(())
+    let shape = ReadFault::Shape.to_string(rt.alloc()).expect(&rt, "memory");
+    same(&rt, shape.as_str(), "shape");
 }

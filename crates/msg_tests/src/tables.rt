@@ -1,15 +1,15 @@
 //! The class tables, called one by one.
 
-ghost use Rattle.std.specs.Prelude.{◌≡◌, ◌<◌, IfOk, length};
+ghost use Rattle.std.specs.Prelude.{◌≡◌, ◌<◌, length};
+ghost use Rattle.msg_image.specs.Parts.{class_total};
 
 use crate::images::IMAGE;
 use crate::same::{same, same_at};
 use msg_image::{Change, Image, MethodList, read_document};
 use msg_names::{ClassRef, ImpRef, Selector};
 use msg_tables::{ChangeFault, MAX_CHANGES, Tables};
-use std::alloc::{AllocError, Global};
+use std::alloc::Global;
 use std::process::Abort;
-use std::test::Fail;
 
 const ROOT: ClassRef = ClassRef {
     class: 0,
@@ -45,20 +45,31 @@ fn metaclass(class: ClassRef) -> ClassRef
     }
 }
 
-fn image(alloc: Global) -> Result<Image, Fail> {
-    Ok(read_document(alloc, IMAGE.as_bytes())?.image)
+// What a test owns lies in a box, since each way out of the test drops it by one call there.
+fn image(rt: &impl Abort, alloc: Global) -> Box<Image> {
+    let document = read_document(alloc, IMAGE.as_bytes()).expect(rt, "a document");
+    Box::new(alloc, document.image).expect(rt, "memory")
 }
 
-fn selector(image: &Image, name: &str) -> Result<Selector, Fail> {
-    Ok(image.names().find(name).ok_or("no selector")?)
+fn opened(rt: &impl Abort, alloc: Global, image: &Image) -> Box<Tables>
+    ensures { length result.value.supers ≡ class_total image.now }
+{
+    let tables = Tables::open(alloc, image).expect(rt, "memory");
+    Box::new(alloc, tables).expect(rt, "memory")
 }
 
-#[test]
-fn methods_are_found_along_the_superclasses(rt: HostRuntime) -> Result<(), Fail> {
-    let alloc = rt.alloc();
-    let image = image(alloc)?;
-    let tables = Tables::open(alloc, &image)?;
-    same(&rt, image.class_count(), 5);
+fn selector(rt: &impl Abort, image: &Image, name: &str) -> Selector {
+    image.names().find(name).expect(rt, "a selector")
+}
+
+fn numbered(rt: &impl Abort, number: u32) -> Selector {
+    Selector::of(number).expect(rt, "a number above 0")
+}
+
+// Which implementation each class finds, and where it stands.
+fn methods_are_found(rt: &impl Abort, image: &Image, tables: &Tables)
+    requires { length tables.now.supers ≡ class_total image.now }
+{
     for (class, name, imp, holder) in [
         (ROOT, "value", 1, Some(ROOT)),
         (GRAND, "value", 1, Some(ROOT)),
@@ -80,11 +91,16 @@ fn methods_are_found_along_the_superclasses(rt: HostRuntime) -> Result<(), Fail>
         ),
         (GRAND, "make", 0, None),
     ] {
-        let sel = selector(&image, name)?;
+        let sel = selector(rt, image, name);
         assert!(rt; class.class < image.class_count());
-        same_at(&rt, &(name, class), tables.lookup(class, sel).number(), imp);
-        same_at(&rt, &(name, class), tables.holder(class, sel), holder);
+        same_at(rt, &(name, class), tables.lookup(class, sel).number(), imp);
+        same_at(rt, &(name, class), tables.holder(class, sel), holder);
     }
+}
+
+fn superclasses_are_found(rt: &impl Abort, image: &Image, tables: &Tables)
+    requires { length tables.now.supers ≡ class_total image.now }
+{
     for (class, above) in [
         (ROOT, None),
         (CHILD, Some(ROOT)),
@@ -95,34 +111,41 @@ fn methods_are_found_along_the_superclasses(rt: HostRuntime) -> Result<(), Fail>
         (metaclass(PROXY), Some(PROXY)),
     ] {
         assert!(rt; class.class < image.class_count());
-        same_at(&rt, &class, tables.superclass(class), above);
+        same_at(rt, &class, tables.superclass(class), above);
     }
-    Ok(())
+}
+
+#[test]
+fn methods_are_found_along_the_superclasses(rt: HostRuntime) {
+    let image = image(&rt, rt.alloc());
+    same(&rt, image.class_count(), 5);
+    let tables = opened(&rt, rt.alloc(), &image);
+    methods_are_found(&rt, &image, &tables);
+    superclasses_are_found(&rt, &image, &tables);
 }
 
 // How many class references descend from this one, whether the other does, and whether it is marked when the marks were taken away.
 fn descendants(
+    rt: &impl Abort,
     alloc: Global,
     tables: &Tables,
     class: ClassRef,
     other: ClassRef,
-) -> Result<(usize, bool, bool), AllocError>
+) -> (usize, bool, bool)
     requires class { class.class < length tables.now.supers }
     requires other { other.class < length tables.now.supers }
 {
-    let mut marks = tables.marks(alloc)?;
+    let mut marks = tables.marks(alloc).expect(rt, "memory");
     tables.descendants(class, &mut marks);
     let count = marks.count();
     let is_below = marks.has(other);
     marks.clear();
-    Ok((count, is_below, marks.has(other)))
+    (count, is_below, marks.has(other))
 }
 
-#[test]
-fn descendants_are_marked(rt: HostRuntime) -> Result<(), Fail> {
-    let alloc = rt.alloc();
-    let image = image(alloc)?;
-    let tables = Tables::open(alloc, &image)?;
+fn descendants_are(rt: &impl Abort, alloc: Global, image: &Image, tables: &Tables)
+    requires { length tables.now.supers ≡ class_total image.now }
+{
     for (class, other, count, is_below) in [
         (ROOT, GRAND, 8, true),
         (ROOT, metaclass(SIDE), 8, true),
@@ -134,30 +157,53 @@ fn descendants_are_marked(rt: HostRuntime) -> Result<(), Fail> {
         (PROXY, metaclass(PROXY), 2, true),
     ] {
         assert!(rt; class.class < image.class_count() && other.class < image.class_count());
-        let found = descendants(alloc, &tables, class, other)?;
-        same_at(&rt, &(class, other), found, (count, is_below, false));
+        let found = descendants(rt, alloc, tables, class, other);
+        same_at(rt, &(class, other), found, (count, is_below, false));
     }
-    Ok(())
-}
-
-// What fresh tables make of a change. Before it is made they are asked for the fault.
-fn fault_of(
-    rt: &impl Abort,
-    alloc: Global,
-    image: &Image,
-    change: &Change,
-) -> Result<Option<ChangeFault>, Fail> {
-    let mut tables = Tables::open(alloc, image)?;
-    let refusal = tables.refusal(change);
-    let fault = tables.apply(change).err();
-    same(rt, refusal, fault);
-    Ok(fault)
 }
 
 #[test]
-fn changes_of_no_method_of_the_image(rt: HostRuntime) -> Result<(), Fail> {
-    let alloc = rt.alloc();
-    let image = image(alloc)?;
+fn descendants_are_marked(rt: HostRuntime) {
+    let image = image(&rt, rt.alloc());
+    let tables = opened(&rt, rt.alloc(), &image);
+    descendants_are(&rt, rt.alloc(), &image, &tables);
+}
+
+// What fresh tables make of a change. Before it is made they are asked for the fault.
+fn fault_is(
+    rt: &impl Abort,
+    alloc: Global,
+    image: &Image,
+    change: Change,
+    want: Option<ChangeFault>,
+) {
+    let mut tables = opened(rt, alloc, image);
+    same(rt, tables.refusal(&change), want);
+    same(rt, tables.apply(&change).err(), want);
+}
+
+// Fresh tables refuse this method with the same fault, whether it is added, replaced or set.
+fn faults_are(
+    rt: &impl Abort,
+    alloc: Global,
+    image: &Image,
+    (class, sel, imp): (ClassRef, Selector, ImpRef),
+    [add, replace, set]: [Option<ChangeFault>; 3],
+) {
+    fault_is(rt, alloc, image, Change::Add { class, sel, imp }, add);
+    fault_is(
+        rt,
+        alloc,
+        image,
+        Change::Replace { class, sel, imp },
+        replace,
+    );
+    fault_is(rt, alloc, image, Change::SetImp { class, sel, imp }, set);
+}
+
+#[test]
+fn changes_of_no_method_of_the_image(rt: HostRuntime) {
+    let image = image(&rt, rt.alloc());
     let nowhere = ClassRef {
         class: 9,
         meta: false,
@@ -170,44 +216,28 @@ fn changes_of_no_method_of_the_image(rt: HostRuntime) -> Result<(), Fail> {
         (CHILD, 2, 3, ChangeFault::ArgumentCount),
         (CHILD, 15, 1, ChangeFault::ArgumentCount),
     ] {
-        let sel = Selector::of(number).ok_or("0")?;
-        let imp = ImpRef::of(imp);
-        let add = Change::Add { class, sel, imp };
-        same(&rt, fault_of(&rt, alloc, &image, &add)?, Some(want));
-        let replace = Change::Replace { class, sel, imp };
-        same(&rt, fault_of(&rt, alloc, &image, &replace)?, Some(want));
-        let set = Change::SetImp { class, sel, imp };
-        same(&rt, fault_of(&rt, alloc, &image, &set)?, Some(want));
+        let method = (class, numbered(&rt, number), ImpRef::of(imp));
+        faults_are(&rt, rt.alloc(), &image, method, [Some(want); 3]);
     }
-    Ok(())
 }
 
 #[test]
-fn methods_present_and_absent(rt: HostRuntime) -> Result<(), Fail> {
-    let alloc = rt.alloc();
-    let image = image(alloc)?;
-    let imp = ImpRef::of(1);
+fn methods_present_and_absent(rt: HostRuntime) {
+    let image = image(&rt, rt.alloc());
     for (class, number, present, absent) in [
         (CHILD, 3, Some(ChangeFault::MethodPresent), None),
         (CHILD, 2, None, None),
         (PROXY, 2, None, Some(ChangeFault::NoMethod)),
     ] {
-        let sel = Selector::of(number).ok_or("0")?;
-        let add = Change::Add { class, sel, imp };
-        same(&rt, fault_of(&rt, alloc, &image, &add)?, present);
-        let replace = Change::Replace { class, sel, imp };
-        same(&rt, fault_of(&rt, alloc, &image, &replace)?, None);
-        let set = Change::SetImp { class, sel, imp };
-        same(&rt, fault_of(&rt, alloc, &image, &set)?, absent);
+        let method = (class, numbered(&rt, number), ImpRef::of(1));
+        faults_are(&rt, rt.alloc(), &image, method, [present, None, absent]);
     }
-    Ok(())
 }
 
 #[test]
-fn exchanges_of_fresh_tables(rt: HostRuntime) -> Result<(), Fail> {
-    let alloc = rt.alloc();
-    let image = image(alloc)?;
-    let sel = selector(&image, "value")?;
+fn exchanges_of_fresh_tables(rt: HostRuntime) {
+    let image = image(&rt, rt.alloc());
+    let sel = selector(&rt, &image, "value");
     for (class, other, number, want) in [
         (9, 1, 4, Some(ChangeFault::NoClass)),
         (1, 9, 3, Some(ChangeFault::NoClass)),
@@ -222,16 +252,10 @@ fn exchanges_of_fresh_tables(rt: HostRuntime) -> Result<(), Fail> {
             class: ClassRef { class, meta },
             sel,
             other: ClassRef { class: other, meta },
-            other_sel: Selector::of(number).ok_or("0")?,
+            other_sel: numbered(&rt, number),
         };
-        same_at(
-            &rt,
-            &(class, other),
-            fault_of(&rt, alloc, &image, &exchange)?,
-            want,
-        );
+        fault_is(&rt, rt.alloc(), &image, exchange, want);
     }
-    Ok(())
 }
 
 // The implementation that a lookup finds after a change.
@@ -242,99 +266,131 @@ fn found_after(
     change: &Change,
     class: ClassRef,
     sel: Selector,
-) -> Result<u32, Fail> {
-    let mut tables = Tables::open(alloc, image)?;
-    tables.apply(change)?;
+) -> u32 {
+    let mut tables = opened(rt, alloc, image);
+    tables.apply(change).expect(rt, "no fault");
     assert!(rt; class.class < image.class_count());
-    Ok(tables.lookup(class, sel).number())
+    tables.lookup(class, sel).number()
 }
 
-#[test]
-fn lookups_after_a_change(rt: HostRuntime) -> Result<(), Fail> {
-    let alloc = rt.alloc();
-    let image = image(alloc)?;
-    let tag = selector(&image, "tag")?;
-    let value = selector(&image, "value")?;
-    let name = selector(&image, "name")?;
-    // of two entries of one list the earlier wins
-    let methods = vec![in alloc; (tag, ImpRef::of(1)), (tag, ImpRef::of(2))]?;
-    let class_methods = vec![in alloc; (value, ImpRef::of(2))]?;
-    let attach = Change::Attach {
+// After a change these classes find these implementations.
+fn are_found_after(
+    rt: &impl Abort,
+    alloc: Global,
+    image: &Image,
+    change: Change,
+    wanted: &[(ClassRef, Selector, u32)],
+) {
+    for (class, sel, want) in wanted {
+        same_at(
+            rt,
+            &(*sel, *class),
+            found_after(rt, alloc, image, &change, *class, *sel),
+            *want,
+        );
+    }
+}
+
+// A category with two entries of one selector.
+fn category(rt: &impl Abort, alloc: Global, tag: Selector, value: Selector) -> Change {
+    let methods = vec![in alloc; (tag, ImpRef::of(1)), (tag, ImpRef::of(2))].expect(rt, "memory");
+    let class_methods = vec![in alloc; (value, ImpRef::of(2))].expect(rt, "memory");
+    Change::Attach {
         class: 3,
         methods: MethodList::new(methods),
         class_methods: MethodList::new(class_methods),
-    };
-    let set = Change::SetImp {
-        class: metaclass(GRAND),
-        sel: value,
-        imp: ImpRef::of(12),
-    };
-    let exchange = Change::Exchange {
-        class: CHILD,
-        sel: value,
-        other: CHILD,
-        other_sel: name,
-    };
-    for (change, class, sel, want) in [
-        (&attach, SIDE, tag, 1),
-        (&attach, metaclass(SIDE), value, 2),
-        (&attach, SIDE, value, 1),
-        (&set, SIDE, value, 12),
-        (&exchange, ROOT, value, 11),
-        (&exchange, GRAND, name, 1),
-        (&exchange, SIDE, name, 2),
-    ] {
-        same_at(
-            &rt,
-            &(sel, class),
-            found_after(&rt, alloc, &image, change, class, sel)?,
-            want,
-        );
     }
-    Ok(())
 }
 
 #[test]
-fn no_more_than_65536_changes_are_accepted(rt: HostRuntime) -> Result<(), Fail> {
-    let alloc = rt.alloc();
-    let image = image(alloc)?;
-    let mut tables = Tables::open(alloc, &image)?;
-    let (class, imp) = (CHILD, ImpRef::of(1));
-    let (sel, name) = (selector(&image, "value")?, selector(&image, "name")?);
-    let replace = Change::Replace { class, sel, imp };
+fn lookups_after_an_attachment(rt: HostRuntime) {
+    let image = image(&rt, rt.alloc());
+    let tag = selector(&rt, &image, "tag");
+    let value = selector(&rt, &image, "value");
+    let attach = category(&rt, rt.alloc(), tag, value);
+    // of two entries of one list the earlier wins
+    let wanted = [
+        (SIDE, tag, 1),
+        (metaclass(SIDE), value, 2),
+        (SIDE, value, 1),
+    ];
+    are_found_after(&rt, rt.alloc(), &image, attach, &wanted);
+}
+
+#[test]
+fn lookups_after_a_change(rt: HostRuntime) {
+    let image = image(&rt, rt.alloc());
+    let sel = selector(&rt, &image, "value");
+    let name = selector(&rt, &image, "name");
+    let set = Change::SetImp {
+        class: metaclass(GRAND),
+        sel,
+        imp: ImpRef::of(12),
+    };
+    are_found_after(&rt, rt.alloc(), &image, set, &[(SIDE, sel, 12)]);
+    let exchange = Change::Exchange {
+        class: CHILD,
+        sel,
+        other: CHILD,
+        other_sel: name,
+    };
+    let wanted = [(ROOT, sel, 11), (GRAND, name, 1), (SIDE, name, 2)];
+    are_found_after(&rt, rt.alloc(), &image, exchange, &wanted);
+}
+
+// The change is made again and again.
+fn is_made(rt: &impl Abort, tables: &mut Tables, change: &Change) {
     for place in 0..MAX_CHANGES {
-        same_at(&rt, &place, tables.apply(&replace), Ok(()));
+        same_at(rt, &place, tables.apply(change), Ok(()));
     }
-    same(&rt, MAX_CHANGES, 65_536);
-    let (other, other_sel) = (class, name);
-    let (methods, class_methods) = (
-        MethodList::new(Vec::new(alloc)),
-        MethodList::new(Vec::new(alloc)),
-    );
-    for change in [
-        replace,
-        Change::Add {
-            class: GRAND,
-            sel,
-            imp,
-        },
-        Change::SetImp { class, sel, imp },
-        Change::Exchange {
-            class,
-            sel,
-            other,
-            other_sel,
-        },
-        Change::Attach {
-            class: 1,
-            methods,
-            class_methods,
-        },
-    ] {
-        same(&rt, tables.apply(&change), Err(ChangeFault::Limit));
-        same(&rt, tables.refusal(&change), Some(ChangeFault::Limit));
-    }
+    same(rt, MAX_CHANGES, 65_536);
+}
+
+// A change that the tables would have made before.
+fn is_too_much(rt: &impl Abort, tables: &mut Tables, change: Change) {
+    same(rt, tables.apply(&change), Err(ChangeFault::Limit));
+    same(rt, tables.refusal(&change), Some(ChangeFault::Limit));
+}
+
+// No kind of change is made, and a method that is there is told first.
+fn are_full(rt: &impl Abort, alloc: Global, tables: &mut Tables, sel: Selector, name: Selector) {
+    let (class, imp) = (CHILD, ImpRef::of(1));
+    is_too_much(rt, tables, Change::Replace { class, sel, imp });
+    let below = Change::Add {
+        class: GRAND,
+        sel,
+        imp,
+    };
+    is_too_much(rt, tables, below);
+    is_too_much(rt, tables, Change::SetImp { class, sel, imp });
+    let exchange = Change::Exchange {
+        class,
+        sel,
+        other: class,
+        other_sel: name,
+    };
+    is_too_much(rt, tables, exchange);
+    let attach = Change::Attach {
+        class: 1,
+        methods: MethodList::new(Vec::new(alloc)),
+        class_methods: MethodList::new(Vec::new(alloc)),
+    };
+    is_too_much(rt, tables, attach);
     let present = Change::Add { class, sel, imp };
-    same(&rt, tables.apply(&present), Err(ChangeFault::MethodPresent));
-    Ok(())
+    same(rt, tables.apply(&present), Err(ChangeFault::MethodPresent));
+}
+
+#[test]
+fn no_more_than_65536_changes_are_accepted(rt: HostRuntime) {
+    let image = image(&rt, rt.alloc());
+    let mut tables = opened(&rt, rt.alloc(), &image);
+    let sel = selector(&rt, &image, "value");
+    let replace = Change::Replace {
+        class: CHILD,
+        sel,
+        imp: ImpRef::of(1),
+    };
+    is_made(&rt, &mut tables, &replace);
+    let name = selector(&rt, &image, "name");
+    are_full(&rt, rt.alloc(), &mut tables, sel, name);
 }

@@ -2,32 +2,46 @@
 
 use crate::same::{same, same_at};
 use msg_json::{JsonFault, Scratch, Value, get, has_keys, read, whole};
-use std::test::Fail;
+use std::alloc::Global;
+use std::process::Abort;
 
-#[test]
-fn a_tree_is_looked_into(rt: HostRuntime) -> Result<(), Fail> {
-    let alloc = rt.alloc();
-    let mut scratch = Scratch::new(alloc);
-    let text = r#"{"a":1,"b":[-7,1.0,-0,9223372036854775807,9223372036854775808],"\u0061":2}"#;
-    let value = read(alloc, text.as_bytes(), &mut scratch)?;
-    for (count, is_it) in [(1, false), (2, true), (3, false)] {
-        same_at(&rt, &count, has_keys(&value, count), is_it);
-    }
-    let Some(last) = get(&value, "a") else {
-        return Err("no key".into());
-    };
-    same(&rt, whole(last), Some(2));
-    same(&rt, get(&value, "c").is_none(), true);
-    let Some(Value::Array(numbers)) = get(&value, "b") else {
-        return Err("no list".into());
-    };
+fn numbers_are(rt: &impl Abort, numbers: &[Value]) {
     for (number, want) in numbers
         .iter()
         .zip([Some(-7), None, None, Some(i64::MAX), None])
     {
-        same(&rt, whole(number), want);
+        same(rt, whole(number), want);
     }
-    Ok(())
+}
+
+// The tree's keys and what they have.
+fn tree_is(rt: &impl Abort, value: &Value) {
+    for (count, is_it) in [(1, false), (2, true), (3, false)] {
+        same_at(rt, &count, has_keys(value, count), is_it);
+    }
+    let last = get(value, "a").expect(rt, "a key");
+    same(rt, whole(last), Some(2));
+    same(rt, get(value, "c").is_none(), true);
+    match get(value, "b") {
+        Some(Value::Array(numbers)) => numbers_are(rt, numbers),
+        _ => assert!(rt; false, "no list"),
+    }
+}
+
+#[test]
+fn a_tree_is_looked_into(rt: HostRuntime) {
+    let alloc = rt.alloc();
+    let mut scratch = Scratch::new(alloc);
+    let text = r#"{"a":1,"b":[-7,1.0,-0,9223372036854775807,9223372036854775808],"\u0061":2}"#;
+    let value = read(alloc, text.as_bytes(), &mut scratch).expect(&rt, "a JSON text");
+    tree_is(&rt, &value);
+}
+
+// The text is no JSON.
+fn is_not_read(rt: &impl Abort, alloc: Global, text: &str) {
+    let mut scratch = Scratch::new(alloc);
+    let fault = read(alloc, text.as_bytes(), &mut scratch).err();
+    same_at(rt, &text, fault, Some(JsonFault::NotJson));
 }
 
 #[test]
@@ -41,8 +55,6 @@ fn what_is_no_json_is_not_read(rt: HostRuntime) {
         "{\"a\":[-1e999]}",
         "\u{feff}1",
     ] {
-        let mut scratch = Scratch::new(rt.alloc());
-        let fault = read(rt.alloc(), text.as_bytes(), &mut scratch).err();
-        same_at(&rt, &text, fault, Some(JsonFault::NotJson));
+        is_not_read(&rt, rt.alloc(), text);
     }
 }
