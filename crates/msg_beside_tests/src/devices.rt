@@ -3,12 +3,12 @@
 ghost use Rattle.std.specs.Prelude.{◌≡◌, false};
 
 use crate::documents::{Way, document};
+use crate::same::{same, same_at};
 use msg_runner::{Failed, FromReader, OpenGate, RunFault, Sink, Source, ToWriter, run, run_beside};
 use std::alloc::Global;
 use std::io::{self, ErrorKind, Read, Write};
 use std::process::Abort;
 use std::sync::Wait;
-use std::test::Fail;
 use std::thread::Threads;
 
 // A send whose answer is 7.
@@ -87,13 +87,24 @@ fn slow_sink(alloc: Global, step: usize, calls_left: u32) -> ToWriter<Slow>
     })
 }
 
+// A run ended so, and its device failed where it is told.
+fn ended_so(
+    rt: &impl Abort,
+    (way, step, calls_left): (Way, usize, u32),
+    (ended, failed): (Option<RunFault>, bool),
+    fault: Option<RunFault>,
+) {
+    let row = (way, step, calls_left);
+    same_at(rt, &row, ended, fault);
+    same_at(rt, &row, failed, fault.is_some());
+}
+
 fn reads_end<T: Threads + Wait + Abort + Sync>(
     rt: &T,
     alloc: Global,
     way: Way,
     text: &str,
-    step: usize,
-    calls_left: u32,
+    (step, calls_left): (usize, u32),
     fault: Option<RunFault>,
 ) {
     let mut source = FromReader::new(Unsteady {
@@ -104,83 +115,57 @@ fn reads_end<T: Threads + Wait + Abort + Sync>(
     let mut sink = ToWriter::new(Vec::new(alloc));
     let ended = fault_of(rt, alloc, way, &mut source, &mut sink);
     let failed = source.failed;
-    assert_eq!(rt;
-        ended,
-        fault,
-        "{way:?}, {step} bytes a call, failure at {calls_left}"
-    );
-    assert_eq!(rt;
-        failed,
-        fault.is_some(),
-        "{way:?}, {step} bytes a call, failure at {calls_left}"
-    );
+    ended_so(rt, (way, step, calls_left), (ended, failed), fault);
     let lines = if fault.is_some() { "" } else { "7\n" };
-    assert_eq!(rt;
-        sink.writer.as_slice(),
-        lines.as_bytes(),
-        "{step} bytes a call"
-    );
+    same_at(rt, &step, sink.writer.as_slice(), lines.as_bytes());
     let failed = sink.failed;
     assert!(rt; !failed);
 }
 
 #[test]
-fn a_failed_read_ends_a_run(rt: HostRuntime) -> Result<(), Fail> {
+fn a_failed_read_ends_a_run(rt: HostRuntime) {
     let alloc = rt.alloc();
-    let small = document(alloc, SEND)?;
-    let small = small.as_str();
-    let spaces = " ".repeat(alloc, 20_000)?;
-    let long = format!(in alloc; "{small}{spaces}")?;
+    let small = document(&rt, alloc, SEND);
+    let spaces = " ".repeat(alloc, 20_000).expect(&rt, "memory");
+    let long = format!(in alloc; "{small}{spaces}").expect(&rt, "memory");
     for way in WAYS {
-        for (text, step, calls_left, fault) in [
-            (small, 10, 2, Some(RunFault::Read)),
-            (small, 10, 1, Some(RunFault::Read)),
-            (small, 1000, 2, Some(RunFault::Read)),
-            (long.as_str(), 8192, 3, Some(RunFault::Read)),
-            (small, 1, 0, None),
-            (long.as_str(), 8192, 0, None),
+        for (is_long, step, calls_left, fault) in [
+            (false, 10, 2, Some(RunFault::Read)),
+            (false, 10, 1, Some(RunFault::Read)),
+            (false, 1000, 2, Some(RunFault::Read)),
+            (true, 8192, 3, Some(RunFault::Read)),
+            (false, 1, 0, None),
+            (true, 8192, 0, None),
         ] {
-            reads_end(&rt, alloc, way, text, step, calls_left, fault);
+            let text = if is_long {
+                long.as_str()
+            } else {
+                small.as_str()
+            };
+            reads_end(&rt, alloc, way, text, (step, calls_left), fault);
         }
     }
-    Ok(())
 }
 
 fn writes_end<T: Threads + Wait + Abort + Sync>(
     rt: &T,
     alloc: Global,
     way: Way,
-    step: usize,
-    calls_left: u32,
+    (step, calls_left): (usize, u32),
     fault: Option<RunFault>,
     lines: &str,
-) -> Result<(), Fail> {
-    let small = document(alloc, SEND)?;
+) {
+    let small = document(rt, alloc, SEND);
     let mut source = FromReader::new(small.as_bytes());
     let mut sink = slow_sink(alloc, step, calls_left);
     let ended = fault_of(rt, alloc, way, &mut source, &mut sink);
     let failed = sink.failed;
-    assert_eq!(rt;
-        ended,
-        fault,
-        "{way:?}, {step} bytes a call, failure at {calls_left}"
-    );
-    assert_eq!(rt;
-        failed,
-        fault.is_some(),
-        "{way:?}, {step} bytes a call, failure at {calls_left}"
-    );
-    assert_eq!(rt;
-        sink.writer.taken.as_slice(),
-        lines.as_bytes(),
-        "{step} bytes a call"
-    );
-    Ok(())
+    ended_so(rt, (way, step, calls_left), (ended, failed), fault);
+    same_at(rt, &step, sink.writer.taken.as_slice(), lines.as_bytes());
 }
 
 #[test]
-fn a_failed_write_ends_a_run(rt: HostRuntime) -> Result<(), Fail> {
-    let alloc = rt.alloc();
+fn a_failed_write_ends_a_run(rt: HostRuntime) {
     for way in WAYS {
         for (step, calls_left, fault, lines) in [
             (1, 2, Some(RunFault::Write), "7"),
@@ -189,47 +174,57 @@ fn a_failed_write_ends_a_run(rt: HostRuntime) -> Result<(), Fail> {
             (1, 0, None, "7\n"),
             (2, 2, None, "7\n"),
         ] {
-            writes_end(&rt, alloc, way, step, calls_left, fault, lines)?;
+            writes_end(&rt, rt.alloc(), way, (step, calls_left), fault, lines);
         }
     }
-    Ok(())
+}
+
+// The run is refused since its document is too long, and writes nothing.
+fn is_left<T: Threads + Wait + Abort + Sync>(rt: &T, alloc: Global, way: Way) {
+    let mut source = FromReader::new(io::repeat(b' '));
+    let mut sink = ToWriter::new(Vec::new(alloc));
+    let number = match fault_of(rt, alloc, way, &mut source, &mut sink) {
+        Some(RunFault::Document(fault)) => Some(fault.number()),
+        _ => None,
+    };
+    same_at(rt, &way, number, Some(4));
+    same(rt, sink.writer.as_slice(), b"".as_slice());
 }
 
 #[test]
 fn an_input_without_end_is_left(rt: HostRuntime) {
-    let alloc = rt.alloc();
     for way in WAYS {
-        let mut source = FromReader::new(io::repeat(b' '));
-        let mut sink = ToWriter::new(Vec::new(alloc));
-        let number = match fault_of(&rt, alloc, way, &mut source, &mut sink) {
-            Some(RunFault::Document(fault)) => Some(fault.number()),
-            _ => None,
-        };
-        assert_eq!(rt; number, Some(4), "{way:?}");
-        assert!(rt; sink.writer.is_empty());
+        is_left(&rt, rt.alloc(), way);
     }
 }
 
-#[test]
-fn devices_tell_what_their_readers_and_writers_do(rt: HostRuntime) {
-    let alloc = rt.alloc();
+fn a_source_tells(rt: &impl Abort) {
     let mut source = FromReader::new(Unsteady {
         rest: b"abc",
         step: 2,
         calls_left: 3,
     });
     let mut bytes = [0; 4];
-    assert_eq!(rt; source.read(&mut bytes), Ok(2));
-    assert_eq!(rt; source.read(&mut bytes), Ok(1));
-    assert_eq!(rt; bytes.as_slice(), b"cb\0\0".as_slice());
+    same(rt, source.read(&mut bytes), Ok(2));
+    same(rt, source.read(&mut bytes), Ok(1));
+    same(rt, bytes.as_slice(), b"cb\0\0".as_slice());
     assert!(rt; !source.failed);
-    assert_eq!(rt; source.read(&mut bytes), Err(Failed));
+    same(rt, source.read(&mut bytes), Err(Failed));
     assert!(rt; source.failed);
+}
+
+fn a_sink_tells(rt: &impl Abort, alloc: Global) {
     let mut sink = slow_sink(alloc, 2, 3);
-    assert_eq!(rt; sink.write(b"abc"), Ok(2));
-    assert_eq!(rt; sink.write(b""), Ok(0));
+    same(rt, sink.write(b"abc"), Ok(2));
+    same(rt, sink.write(b""), Ok(0));
     assert!(rt; !sink.failed);
-    assert_eq!(rt; sink.write(b"c"), Err(Failed));
+    same(rt, sink.write(b"c"), Err(Failed));
     assert!(rt; sink.failed);
-    assert_eq!(rt; sink.writer.taken.as_slice(), b"ab".as_slice());
+    same(rt, sink.writer.taken.as_slice(), b"ab".as_slice());
+}
+
+#[test]
+fn devices_tell_what_their_readers_and_writers_do(rt: HostRuntime) {
+    a_source_tells(&rt);
+    a_sink_tells(&rt, rt.alloc());
 }

@@ -1,9 +1,10 @@
 //! Documents, and what a run of one writes.
 
+use crate::same::same;
 use msg_runner::{FromReader, Gate, RunFault, ToWriter, run, run_beside};
 use std::alloc::Global;
+use std::process::Abort;
 use std::sync::Wait;
-use std::test::Fail;
 use std::thread::Threads;
 
 /// Four classes. `value` is 7 and `name` is 1 in all of them, but for `name` of the class `Child` and below it; `r_name`, which can be set for `value`, is 1.
@@ -20,8 +21,8 @@ const CLASSES: &str = r#"{"version":1,"classes":[
 "items":["#;
 
 /// The document of these classes with these items.
-pub(crate) fn document(alloc: Global, items: &str) -> Result<String, Fail> {
-    Ok(format!(in alloc; "{CLASSES}{items}]}}")?)
+pub(crate) fn document(rt: &impl Abort, alloc: Global, items: &str) -> String {
+    format!(in alloc; "{CLASSES}{items}]}}").expect(rt, "memory")
 }
 
 /// Which of the two runs.
@@ -59,4 +60,10 @@ pub(crate) fn ran<G: Gate, T: Threads + Wait + Sync>(
         fault: ended.err(),
         text: writer,
     }
+}
+
+/// The run was not refused, and its lines are these.
+pub(crate) fn wrote(rt: &impl Abort, outcome: &Outcome, lines: &str) {
+    same(rt, outcome.fault, None);
+    same(rt, outcome.text.as_slice(), lines.as_bytes());
 }

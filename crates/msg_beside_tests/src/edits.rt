@@ -1,7 +1,7 @@
 //! Changes of method lists by the book: rows, and a search of them.
 
 use std::alloc::Global;
-use std::test::Fail;
+use std::process::Abort;
 
 /// The classes, each below the one before, and the selectors.
 pub(crate) const CLASSES: [&str; 3] = ["Root", "Child", "Grand"];
@@ -27,16 +27,17 @@ pub(crate) enum Edit {
 }
 
 /// Root has both methods, which answer 0.
-pub(crate) fn opening(alloc: Global) -> Result<Vec<Row>, Fail> {
+pub(crate) fn opening(rt: &impl Abort, alloc: Global) -> Vec<Row> {
     let mut rows = Vec::new(alloc);
     for sel in 0..SELECTORS.len() {
-        rows.push(Row {
-            class: 0,
-            sel,
-            number: 0,
-        })?;
+        insert(rt, &mut rows, 0, sel, 0);
     }
-    Ok(rows)
+    rows
+}
+
+fn insert(rt: &impl Abort, rows: &mut Vec<Row>, class: usize, sel: usize, number: u32) {
+    let row = Row { class, sel, number };
+    rows.push(row).expect(rt, "memory");
 }
 
 // The place of the row of a class for a selector.
@@ -89,31 +90,31 @@ fn exchange(rows: &mut [Row], class: usize) -> bool {
 }
 
 /// Makes a change, and says whether it was accepted.
-pub(crate) fn make(rows: &mut Vec<Row>, edit: Edit) -> Result<bool, Fail> {
+pub(crate) fn make(rt: &impl Abort, rows: &mut Vec<Row>, edit: Edit) -> bool {
     match edit {
         Edit::Set(class, sel, number) => {
             let place = method(rows, class, sel);
-            Ok(rewrite(rows, place, number))
+            rewrite(rows, place, number)
         }
         Edit::Replace(class, sel, number) => {
             let place = own(rows, class, sel);
             if !rewrite(rows, place, number) {
-                rows.push(Row { class, sel, number })?;
+                insert(rt, rows, class, sel, number);
             }
-            Ok(true)
+            true
         }
         Edit::Attach(class, sel, number) => {
-            rows.push(Row { class, sel, number })?;
-            Ok(true)
+            insert(rt, rows, class, sel, number);
+            true
         }
         Edit::Add(class, sel, number) => {
             let is_new = own(rows, class, sel).is_none();
             if is_new {
-                rows.push(Row { class, sel, number })?;
+                insert(rt, rows, class, sel, number);
             }
-            Ok(is_new)
+            is_new
         }
-        Edit::Exchange(class) => Ok(exchange(rows, class)),
+        Edit::Exchange(class) => exchange(rows, class),
     }
 }
 
@@ -126,28 +127,39 @@ fn selector(sel: usize) -> &'static str {
 }
 
 // A change that names a method by class and selector, and the implementation that answers a number.
-fn named(alloc: Global, kind: &str, class: usize, sel: usize, number: u32) -> Result<String, Fail> {
+fn named(
+    rt: &impl Abort,
+    alloc: Global,
+    kind: &str,
+    (class, sel, number): (usize, usize, u32),
+) -> String {
     let (class, sel) = (class_name(class), selector(sel));
-    Ok(format!(in alloc; "{{\"change\":[\"{kind}\",\"{class}\",false,\"{sel}\",\"i{number}\"]}}")?)
+    format!(in alloc;
+        "{{\"change\":[\"{kind}\",\"{class}\",false,\"{sel}\",\"i{number}\"]}}"
+    ).expect(rt, "memory")
+}
+
+fn attachment(rt: &impl Abort, alloc: Global, (class, sel, number): (usize, usize, u32)) -> String {
+    let (class, sel) = (class_name(class), selector(sel));
+    format!(in alloc;
+        "{{\"change\":[\"attach\",\"{class}\",[[\"{sel}\",\"i{number}\"]],[]]}}"
+    ).expect(rt, "memory")
+}
+
+fn exchange_item(rt: &impl Abort, alloc: Global, class: usize) -> String {
+    let class = class_name(class);
+    format!(in alloc;
+        "{{\"change\":[\"exchange\",\"{class}\",false,\"value\",\"{class}\",false,\"name\"]}}"
+    ).expect(rt, "memory")
 }
 
 /// The change as a document has it.
-pub(crate) fn item(alloc: Global, edit: Edit) -> Result<String, Fail> {
+pub(crate) fn item(rt: &impl Abort, alloc: Global, edit: Edit) -> String {
     match edit {
-        Edit::Set(class, sel, number) => named(alloc, "set", class, sel, number),
-        Edit::Replace(class, sel, number) => named(alloc, "replace", class, sel, number),
-        Edit::Add(class, sel, number) => named(alloc, "add", class, sel, number),
-        Edit::Attach(class, sel, number) => {
-            let (class, sel) = (class_name(class), selector(sel));
-            Ok(format!(in alloc;
-                "{{\"change\":[\"attach\",\"{class}\",[[\"{sel}\",\"i{number}\"]],[]]}}"
-            )?)
-        }
-        Edit::Exchange(class) => {
-            let class = class_name(class);
-            Ok(format!(in alloc;
-                "{{\"change\":[\"exchange\",\"{class}\",false,\"value\",\"{class}\",false,\"name\"]}}"
-            )?)
-        }
+        Edit::Set(class, sel, number) => named(rt, alloc, "set", (class, sel, number)),
+        Edit::Replace(class, sel, number) => named(rt, alloc, "replace", (class, sel, number)),
+        Edit::Add(class, sel, number) => named(rt, alloc, "add", (class, sel, number)),
+        Edit::Attach(class, sel, number) => attachment(rt, alloc, (class, sel, number)),
+        Edit::Exchange(class) => exchange_item(rt, alloc, class),
     }
 }

@@ -16,4 +16,6 @@ mod order;
 #[cfg(test)]
 mod points;
 #[cfg(test)]
+mod same;
+#[cfg(test)]
 mod stress;

@@ -1,12 +1,12 @@
 //! What a gate is told, and in which order.
 
-use crate::documents::{Way, document, ran};
+use crate::documents::{Way, document, ran, wrote};
 use crate::holding::Moment;
+use crate::same::{same, same_at};
 use msg_runner::Gate;
 use std::alloc::Global;
 use std::process::Abort;
 use std::sync::{Mutex, Wait};
-use std::test::Fail;
 use std::thread::Threads;
 
 /// What a gate was told once: by which worker, where it's a piece.
@@ -66,24 +66,19 @@ const ITEMS: &str =
 const LINES: &str = "7\n7\n11\nok\n7\nok\nrefused: method present\n11\n7\n";
 
 // What a run of two workers, with two sends a piece, tells.
-fn logged<R: Threads + Wait + Abort + Sync>(
-    rt: &R,
-    alloc: Global,
-    way: Way,
-) -> Result<Vec<Told>, Fail> {
+fn logged<R: Threads + Wait + Abort + Sync>(rt: &R, alloc: Global, way: Way) -> Vec<Told> {
     let log = Log::new(rt, alloc);
-    let document = document(alloc, ITEMS)?;
+    let document = document(rt, alloc, ITEMS);
     let outcome = ran(rt, alloc, way, document.as_str(), 2, 2, &log);
-    assert_eq!(rt; outcome.fault, None);
-    assert_eq!(rt; str::from_utf8(&outcome.text)?, LINES);
+    wrote(rt, &outcome, LINES);
     let Log { told, .. } = log;
-    Ok(told.into_inner())
+    told.into_inner()
 }
 
 // When a gate was told of a moment, which it was once.
 fn when<R: Abort>(rt: &R, told: &[Told], moment: Moment) -> usize {
     let times = told.iter().filter(|t| t.moment == moment).count();
-    assert_eq!(rt; times, 1, "{moment:?}");
+    same_at(rt, &moment, times, 1);
     told.iter()
         .position(|t| t.moment == moment)
         .expect(rt, "it was told")
@@ -108,18 +103,16 @@ fn are_by<R: Abort>(rt: &R, told: &[Told], workers: &[u32]) {
         for moment in [Moment::PieceStarts(piece), Moment::PieceDone(piece)] {
             let by = told.iter().find(|t| t.moment == moment);
             let worker_told = by.and_then(|t| t.worker);
-            assert_eq!(rt; worker_told, Some(*worker), "{moment:?}");
+            same_at(rt, &moment, worker_told, Some(*worker));
         }
         piece = piece.saturating_add(1);
     }
 }
 
-#[test]
-fn a_change_between_sends_is_told_between_their_pieces(rt: HostRuntime) -> Result<(), Fail> {
+fn is_told_between_pieces(rt: &impl Abort, told: &[Told]) {
     use Moment::{ChangeDone, ChangeStarts, PieceDone, PieceStarts};
-    let told = logged(&rt, rt.alloc(), Way::Between)?;
-    assert_eq!(rt; told.len(), 14);
-    are_by(&rt, &told, &[0, 1, 0, 0]);
+    same(rt, told.len(), 14);
+    are_by(rt, told, &[0, 1, 0, 0]);
     for piece in [0, 1] {
         let moments = [
             PieceStarts(piece),
@@ -135,17 +128,20 @@ fn a_change_between_sends_is_told_between_their_pieces(rt: HostRuntime) -> Resul
             PieceStarts(3),
             PieceDone(3),
         ];
-        are_in_order(&rt, &told, &moments);
+        are_in_order(rt, told, &moments);
     }
-    Ok(())
 }
 
 #[test]
-fn changes_beside_sends_are_told_in_their_order(rt: HostRuntime) -> Result<(), Fail> {
+fn a_change_between_sends_is_told_between_their_pieces(rt: HostRuntime) {
+    let told = logged(&rt, rt.alloc(), Way::Between);
+    is_told_between_pieces(&rt, &told);
+}
+
+fn are_told_in_their_order(rt: &impl Abort, told: &[Told]) {
     use Moment::{ChangeDone, ChangeStarts, PieceDone, PieceStarts};
-    let told = logged(&rt, rt.alloc(), Way::Beside)?;
-    assert_eq!(rt; told.len(), 12);
-    are_by(&rt, &told, &[0, 1, 0]);
+    same(rt, told.len(), 12);
+    are_by(rt, told, &[0, 1, 0]);
     let changes = [
         ChangeStarts(0),
         ChangeDone(0),
@@ -154,9 +150,14 @@ fn changes_beside_sends_are_told_in_their_order(rt: HostRuntime) -> Result<(), F
         ChangeStarts(2),
         ChangeDone(2),
     ];
-    are_in_order(&rt, &told, &changes);
+    are_in_order(rt, told, &changes);
     let pieces = [PieceStarts(0), PieceDone(0), PieceStarts(2), PieceDone(2)];
-    are_in_order(&rt, &told, &pieces);
-    are_in_order(&rt, &told, &[PieceStarts(1), PieceDone(1)]);
-    Ok(())
+    are_in_order(rt, told, &pieces);
+    are_in_order(rt, told, &[PieceStarts(1), PieceDone(1)]);
+}
+
+#[test]
+fn changes_beside_sends_are_told_in_their_order(rt: HostRuntime) {
+    let told = logged(&rt, rt.alloc(), Way::Beside);
+    are_told_in_their_order(&rt, &told);
 }

@@ -2,7 +2,7 @@
 
 use crate::edits::{CLASSES, Edit, Row, SELECTORS, answer, make, opening};
 use std::alloc::Global;
-use std::test::Fail;
+use std::process::Abort;
 
 /// What was answered at one point: a number for each class and selector.
 #[derive(Clone, Copy, Debug)]
@@ -39,19 +39,25 @@ pub(crate) const FACTOR: u32 = 10_000;
 
 impl Points {
     /// The points that these changes make, one after another.
-    pub(crate) fn of(alloc: Global, edits: &[Edit]) -> Result<Points, Fail> {
-        let mut rows = opening(alloc)?;
-        let mut answers = Vec::new(alloc);
-        let mut accepted = Vec::new(alloc);
-        answers.push(answers_of(&rows))?;
+    pub(crate) fn of(rt: &impl Abort, alloc: Global, edits: &[Edit]) -> Points {
+        let mut rows = opening(rt, alloc);
+        let mut points = Points {
+            answers: Vec::new(alloc),
+            accepted: Vec::new(alloc),
+        };
+        points.push(rt, &rows);
         for edit in edits {
-            let is_accepted = make(&mut rows, *edit)?;
-            accepted.push(is_accepted)?;
+            let is_accepted = make(rt, &mut rows, *edit);
+            points.accepted.push(is_accepted).expect(rt, "memory");
             if is_accepted {
-                answers.push(answers_of(&rows))?;
+                points.push(rt, &rows);
             }
         }
-        Ok(Points { answers, accepted })
+        points
+    }
+
+    fn push(&mut self, rt: &impl Abort, rows: &[Row]) {
+        self.answers.push(answers_of(rows)).expect(rt, "memory");
     }
 
     // The first point from one on at which a class answers the number to a selector.

@@ -3,12 +3,12 @@
 use crate::documents::{Way, ran};
 use crate::edits::{CLASSES, Edit, SELECTORS, item};
 use crate::points::{FACTOR, Points, Sent, send_of};
+use crate::same::{same, same_at};
 use msg_runner::Gate;
 use std::alloc::Global;
 use std::process::Abort;
 use std::sync::Wait;
 use std::sync::atomic::{AtomicBool, AtomicU32, Ordering};
-use std::test::Fail;
 use std::thread::{self, Threads};
 
 const ROUNDS: u32 = 4;
@@ -39,59 +39,67 @@ fn edit(number: u32) -> Edit {
     }
 }
 
-fn edits(alloc: Global) -> Result<Vec<Edit>, Fail> {
+fn edits(rt: &impl Abort, alloc: Global) -> Vec<Edit> {
     let mut edits = Vec::new(alloc);
     for number in 0..CHANGES {
-        edits.push(edit(number + 1))?;
+        edits.push(edit(number + 1)).expect(rt, "memory");
     }
-    Ok(edits)
+    edits
 }
 
 // The implementations that answer the numbers of the changes, and 0.
-fn imps(alloc: Global) -> Result<String, Fail> {
+fn imps(rt: &impl Abort, alloc: Global) -> String {
     let mut imps = String::new(alloc);
     for number in 0..=CHANGES {
         let imp = format!(in alloc;
             "{{\"name\":\"i{number}\",\"class\":\"Root\",\"meta\":false,\"args\":0,\"body\":{number}}},"
-        )?;
-        imps.push_str(&imp)?;
+        ).expect(rt, "memory");
+        imps.push_str(&imp).expect(rt, "memory");
     }
-    Ok(imps)
+    imps
 }
 
-fn send_item(alloc: Global, number: usize) -> Result<String, Fail> {
+fn send_item(rt: &impl Abort, alloc: Global, number: usize) -> String {
     let (class, sent) = send_of(number);
     let object = CLASSES.get(class).copied().unwrap_or("");
     let sel = match sent {
         Sent::One(sel) => SELECTORS.get(sel).copied().unwrap_or(""),
         Sent::Both => "both",
     };
-    Ok(format!(in alloc; "{{\"send\":[[\"obj\",\"{object}\"],\"{sel}\"]}}")?)
+    format!(in alloc; "{{\"send\":[[\"obj\",\"{object}\"],\"{sel}\"]}}").expect(rt, "memory")
+}
+
+// Writes down the sends that come before a change, from one number on.
+fn push_sends(rt: &impl Abort, alloc: Global, items: &mut String, first: usize) {
+    for each in 0..SENDS_EACH {
+        let send = send_item(rt, alloc, first.saturating_add(each));
+        items.push_str(&send).expect(rt, "memory");
+        items.push(',').expect(rt, "memory");
+    }
 }
 
 // The sends, with a change after every so many of them.
-fn items(alloc: Global, edits: &[Edit]) -> Result<String, Fail> {
+fn items(rt: &impl Abort, alloc: Global, edits: &[Edit]) -> String {
     let mut items = String::new(alloc);
     let mut number = 0usize;
     for edit in edits {
-        for _each in 0..SENDS_EACH {
-            items.push_str(&send_item(alloc, number)?)?;
-            items.push(',')?;
-            number = number.saturating_add(1);
-        }
-        items.push_str(&item(alloc, *edit)?)?;
-        items.push(',')?;
+        push_sends(rt, alloc, &mut items, number);
+        number = number.saturating_add(SENDS_EACH);
+        let change = item(rt, alloc, *edit);
+        items.push_str(&change).expect(rt, "memory");
+        items.push(',').expect(rt, "memory");
     }
-    items.push_str(&send_item(alloc, number)?)?;
-    Ok(items)
+    let last = send_item(rt, alloc, number);
+    items.push_str(&last).expect(rt, "memory");
+    items
 }
 
-fn document(alloc: Global, edits: &[Edit]) -> Result<String, Fail> {
-    let imps = imps(alloc)?;
-    let items = items(alloc, edits)?;
-    Ok(format!(in alloc;
+fn document(rt: &impl Abort, alloc: Global, edits: &[Edit]) -> String {
+    let imps = imps(rt, alloc);
+    let items = items(rt, alloc, edits);
+    format!(in alloc;
         "{{\"version\":1,\"classes\":[{{\"name\":\"Root\",\"super\":null,\"methods\":[[\"value\",\"i0\"],[\"name\",\"i0\"],[\"both\",\"r_both\"]],\"class_methods\":[]}},{{\"name\":\"Child\",\"super\":\"Root\",\"methods\":[],\"class_methods\":[]}},{{\"name\":\"Grand\",\"super\":\"Child\",\"methods\":[],\"class_methods\":[]}}],\"categories\":[],\"objects\":[{{\"name\":\"Root\",\"class\":\"Root\"}},{{\"name\":\"Child\",\"class\":\"Child\"}},{{\"name\":\"Grand\",\"class\":\"Grand\"}}],\"imps\":[{imps}{{\"name\":\"r_both\",\"class\":\"Root\",\"meta\":false,\"args\":0,\"body\":[\"add\",[\"mul\",[\"send\",[\"self\"],\"value\"],{FACTOR}],[\"send\",[\"self\"],\"name\"]]}}],\"items\":[{items}]}}"
-    )?)
+    ).expect(rt, "memory")
 }
 
 // A gate by which neither the sends nor the changes get far ahead of the others: there is about one change for each piece.
@@ -200,41 +208,35 @@ impl Seen {
     }
 }
 
-fn round<T: Threads + Wait + Abort + Sync>(
-    rt: &T,
-    alloc: Global,
-    points: &Points,
-    document: &str,
-) -> Result<usize, Fail> {
+// Each line is that of some point. Says how often a worker's points rose.
+fn rises(rt: &impl Abort, points: &Points, text: &[u8]) -> usize {
+    let text = str::from_utf8(text).ok().expect(rt, "a text");
+    let mut seen = Seen::new();
+    for line in text.lines() {
+        let taken = seen.take(points, line);
+        same_at(rt, &(line, seen.sends, seen.changes), taken, Some(()));
+    }
+    same(rt, (seen.sends, seen.changes), (60_001, 2_000));
+    seen.rises
+}
+
+// The changes really are made among the sends: by the gate a worker's points rise at least once in sixteen of its pieces.
+fn round<T: Threads + Wait + Abort + Sync>(rt: &T, alloc: Global, points: &Points, document: &str) {
     let gate = Paced::new();
     let outcome = ran(rt, alloc, Way::Beside, document, WORKERS, CUT, &gate);
-    assert_eq!(rt; outcome.fault, None);
-    let mut seen = Seen::new();
-    for line in str::from_utf8(&outcome.text)?.lines() {
-        let taken = seen.take(points, line);
-        let (sends, changes) = (seen.sends, seen.changes);
-        assert!(rt;
-            taken.is_some(),
-            "{line} after {sends} sends and {changes} changes"
-        );
-    }
-    assert_eq!(rt; seen.sends, 60_001);
-    assert_eq!(rt; seen.changes, 2_000);
-    let gave_up = gate.gave_up.load(Ordering::SeqCst);
-    assert!(rt; !gave_up);
-    Ok(seen.rises)
+    same(rt, outcome.fault, None);
+    let rises = rises(rt, points, &outcome.text);
+    assert!(rt; rises > 100, "{rises}");
+    same(rt, gate.gave_up.load(Ordering::SeqCst), false);
 }
 
 #[test]
-fn each_line_is_that_of_some_point(rt: HostRuntime) -> Result<(), Fail> {
+fn each_line_is_that_of_some_point(rt: HostRuntime) {
     let alloc = rt.alloc();
-    let edits = edits(alloc)?;
-    let points = Points::of(alloc, &edits)?;
-    let document = document(alloc, &edits)?;
+    let edits = edits(&rt, alloc);
+    let points = Points::of(&rt, alloc, &edits);
+    let document = document(&rt, alloc, &edits);
     for _round in 0..ROUNDS {
-        let rises = round(&rt, alloc, &points, document.as_str())?;
-        // The changes really were made among the sends: by the gate a worker's points rise at least once in sixteen of its pieces.
-        assert!(rt; rises > 100, "{rises}");
+        round(&rt, alloc, &points, document.as_str());
     }
-    Ok(())
 }
