@@ -9,7 +9,7 @@ use Rattle.std.specs.contracts.snapshot.Snapshot as Snapshot
 use Rattle.msg_cache.specs.contracts.arena.Arena as Arena
 use Rattle.msg_tables.specs.contracts.tables.Tables as Tables
 use Rattle.msg_tables.specs.contracts.rows.MethodRows as Rows
-use Rattle.msg_tables.specs.contracts.marks.Marks as Marks
+use Rattle.msg_tables.specs.contracts.below.Below as Below
 use Rattle.msg_runtime.specs.contracts.runtime.Runtime as Runtime
 use Rattle.msg_dispatch.specs.declared.name.ArenaName.{Ghosts}
 use Rattle.msg_dispatch.specs.contracts.desk.Desk as Desk
@@ -22,14 +22,14 @@ Rows-send = search (sendable, crosses, maps.crosses) depth 30
 Tables-send : IsSend Tables.the_row
 Tables-send = search (Rows-send, sendable, crosses, maps.crosses) depth 30
 
-Marks-send : IsSend Marks.the_row
-Marks-send = search (sendable, crosses, maps.crosses) depth 30
+Below-send : IsSend Below.the_row
+Below-send = search (sendable, crosses, maps.crosses) depth 30
 
 Snap-send : IsSend (Snapshot.the_row Arena.the_row)
 Snap-send = search (sendable, crosses) depth 30
 
 Runtime-send : IsSend Runtime.the_row
-Runtime-send = let k = Keeper-send in let t = Tables-send in let m = Marks-send in let a = Snap-send in search (sendable, crosses) depth 30
+Runtime-send = let k = Keeper-send in let t = Tables-send in let b = Below-send in let a = Snap-send in search (sendable, crosses) depth 30
 
 module _ (N : RattleType) (g : Ghosts N.Denot) where
   abbrev Dispatcher-row : RattleType

@@ -1,5 +1,5 @@
 -- The fields of a runtime.
-use Rattle.std.specs.Prelude.{◌≡◌, ◌*◌, length}
+use Rattle.std.specs.Prelude.{◌≡◌, ◌≤◌}
 use Rattle.msg_image.specs.Parts.{class_total}
 use Rattle.msg_tables.specs.Stands.{StandsAt}
 use Rattle.msg_runtime.specs.Parts.{IsKeeperOf, keeper_history, keeper_view, keeper_remembered, keeper_report}
@@ -17,4 +17,4 @@ pub record AreTogether (r : Inside) : Type 0 where
   pub tables : StandsAt r.tables (keeper_history r.keeper)
   pub image : (keeper_history r.keeper).image ≡ r.arena.value.key.image
   pub classes : r.classes ≡ class_total (keeper_history r.keeper).image
-  pub marks : length r.marks ≡ 2 * r.classes
+  pub room : r.classes ≤ r.below.room

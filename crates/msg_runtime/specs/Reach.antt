@@ -1,18 +1,14 @@
 -- Which caches a change flushes.
-use Rattle.std.specs.Prelude.{ℕ, ◌<◌, ◌==◌, ◌||◌, Bool, true, List, [], ◌∷◌, ◌++◌, Option, Some, None}
+use Rattle.std.specs.Prelude.{◌||◌, Bool, true, List, [], ◌∷◌, ◌++◌, Option, Some, None}
 use Rattle.std.specs.List.{list_any}
 use Rattle.std.specs.Option.{option_map_or}
 use Rattle.msg_names.specs.declared.value.ClassRef.{ClassRef}
-use Rattle.msg_names.specs.ClassRef.{same_class}
 use Rattle.msg_image.specs.declared.change.Change.{Change}
 use Rattle.msg_image.specs.declared.change.Change.TheVariants.{Add, Replace, SetImp, Exchange, Attach, AddClass}
 use Rattle.msg_tables.specs.After.{of_class, of_meta}
 use Rattle.msg_tables.specs.Affected.{if_any, is_of_made}
 use Rattle.msg_tables.specs.Chain.{is_member}
 use Rattle.msg_tables.specs.History.{History, chain_at}
-use Rattle.msg_tables.specs.Marking.{is_marked}
-use Rattle.msg_runtime.specs.declared.flushing.Reach.{Reach}
-use Rattle.msg_runtime.specs.declared.flushing.Reach.TheVariants.{All, Marked, Only, Made}
 
 -- The class references that are flushed with all below them. A method that is set or exchanged stands wherever it was found: then all caches are flushed.
 abbrev pub flushed_places : Change → Option (List ClassRef)
@@ -30,16 +26,3 @@ is_below h c places = list_any (λ place. is_member place (chain_at h c)) places
 -- a change after which this is the history flushes the cache of a class reference: it is of the class that is made, or one that is flushed, or below such a one
 abbrev pub is_flushed : History → Change → ClassRef → Bool
 is_flushed h x c = is_of_made x c || option_map_or (is_below h c) (flushed_places x) true
-
--- the cache of a class reference is among all, among those that are marked, the only one, or of the class that was made
-abbrev pub is_reached : Reach → List Bool → ClassRef → Bool
-is_reached All marks c = true
-is_reached Marked marks c = is_marked marks c
-is_reached (Only d) marks c = same_class d c
-is_reached (Made k) marks c = c.class == k
-
--- a class that was made, or is alone reached, is one of so many
-abbrev pub IsOneOf : ℕ → Reach → Type 0
-IsOneOf classes (Made k) = k < classes
-IsOneOf classes (Only d) = d.class < classes
-IsOneOf classes reach = Unit {0}

@@ -1,161 +1,163 @@
 //! The caches that a change flushes.
 
-ghost use Rattle.std.specs.Prelude.{◌≡◌, ◌<◌, ◌*◌, ◌||◌, [], ◌∷◌, None, true, length};
+ghost use Rattle.std.specs.Prelude.{◌≡◌, ◌<◌, ◌≤◌, ℕ, None, if◌then◌else◌, length, true};
 ghost use Rattle.msg_names.specs.declared.value.ClassRef.{ClassRef};
 ghost use Rattle.msg_image.specs.Parts.{class_total};
 ghost use Rattle.msg_tables.specs.Affected.{if_any};
-ghost use Rattle.msg_tables.specs.History.{History, and_then};
-ghost use Rattle.msg_tables.specs.Marking.{is_marked};
+ghost use Rattle.msg_tables.specs.Below.{is_among};
+ghost use Rattle.msg_tables.specs.Chain.{is_member};
+ghost use Rattle.msg_tables.specs.History.{History, and_then, chain_at};
+ghost use Rattle.msg_tables.specs.Preorder.{is_in};
 ghost use Rattle.msg_tables.specs.Refusal.{refusal};
 ghost use Rattle.msg_tables.specs.Stands.{StandsAt};
 ghost use Rattle.msg_runtime.specs.Parts.{IsKeeperOf, keeper_history, HasNoArray};
-ghost use Rattle.msg_runtime.specs.Reach.{IsOneOf, is_below, is_flushed, is_reached};
+ghost use Rattle.msg_runtime.specs.Reach.{is_below, is_flushed};
 
 use msg_cache::{Arena, Keeper};
 use msg_image::{Change, MethodList};
 use msg_names::ClassRef;
-use msg_tables::{Marks, Tables};
+use msg_tables::{Below, Tables};
 
-// The caches that a change flushes: all, those of the class references that are marked, that of one class reference, or those of a class that was just made and
-// its metaclass.
-#[derive(Clone, Copy)]
-pub(crate) enum Reach {
-    All,
-    Marked,
-    Only(ClassRef),
-    Made(u32),
-}
-
-// Of a class reference and all below it. Where nothing is below it no other class is looked at again.
-fn reach_below(tables: &Tables, class: ClassRef, marks: &mut Marks) -> Reach
-    requires class { class.class < length tables.now.supers }
-    requires room { length marks.old ≡ 2 * length tables.now.supers }
-    ensures room { length marks.new ≡ length marks.old }
-    ensures inside { IsOneOf (length tables.now.supers) result }
-    ensures reach { (h : History) → StandsAt tables.now h → (c : ClassRef) → c.class < length tables.now.supers → is_reached result marks.new c ≡ is_below h c (class ∷ []) }
+// Flushes the cache of a class, of its metaclass, or of both.
+#[inline(always)]
+fn flush_class(keeper: &mut Keeper, arena: &Arena, class: u32, own: bool, meta: bool)
+    requires arena { IsKeeperOf arena.now keeper.old }
+    requires class { class < class_total (keeper_history keeper.old).image }
+    ensures arena { IsKeeperOf arena.now keeper.new }
+    ensures history { keeper_history keeper.new ≡ keeper_history keeper.old }
+    ensures flushed { (c : ClassRef) → c.class ≡ class → (if c.meta then meta else own) ≡ true → HasNoArray arena.now keeper.new c }
+    ensures others { (c : ClassRef) → HasNoArray arena.now keeper.old c → HasNoArray arena.now keeper.new c }
 {
-    if tables.is_leaf(class) {
-        return Reach::Only(class);
+    if own {
+        let _had_array = keeper.flush(arena, ClassRef { class, meta: false });
     }
-    marks.clear();
-    tables.descendants(class, marks);
-    Reach::Marked
+    if meta {
+        let _had_array = keeper.flush(arena, ClassRef { class, meta: true });
+    }
 }
 
-// Marks a class reference and all below it, where a list of its methods isn't empty.
-fn mark_methods(tables: &Tables, class: ClassRef, methods: &MethodList, marks: &mut Marks)
+// Flushes the caches of some class references. No other class is looked at.
+fn flush_each(keeper: &mut Keeper, arena: &Arena, below: &Below)
+    requires arena { IsKeeperOf arena.now keeper.old }
+    requires classes { (k : ℕ) → is_in k below.now.classes ≡ true → k < class_total (keeper_history keeper.old).image }
+    ensures arena { IsKeeperOf arena.now keeper.new }
+    ensures history { keeper_history keeper.new ≡ keeper_history keeper.old }
+    ensures flushed { (c : ClassRef) → is_among below.now c ≡ true → HasNoArray arena.now keeper.new c }
+    ensures others { (c : ClassRef) → HasNoArray arena.now keeper.old c → HasNoArray arena.now keeper.new c }
+{
+    for class in below.classes() {
+        flush_class(
+            keeper,
+            arena,
+            *class,
+            below.has_classes(),
+            below.has_metaclasses(),
+        );
+    }
+}
+
+// Flushes the caches of a class reference and of all below it.
+fn flush_below(
+    keeper: &mut Keeper,
+    arena: &Arena,
+    tables: &Tables,
+    class: ClassRef,
+    below: &mut Below,
+)
+    requires arena { IsKeeperOf arena.now keeper.old }
     requires class { class.class < length tables.now.supers }
-    requires room { length marks.old ≡ 2 * length tables.now.supers }
-    ensures room { length marks.new ≡ length marks.old }
-    ensures marks { (h : History) → StandsAt tables.now h → (c : ClassRef) → c.class < length tables.now.supers
-        → is_marked marks.new c ≡ (is_marked marks.old c || is_below h c (if_any methods.now class)) }
+    requires classes { length tables.now.supers ≡ class_total (keeper_history keeper.old).image }
+    requires room { length tables.now.supers ≤ below.old.room }
+    ensures arena { IsKeeperOf arena.now keeper.new }
+    ensures history { keeper_history keeper.new ≡ keeper_history keeper.old }
+    ensures flushed { (h : History) → StandsAt tables.now h → (c : ClassRef) → is_member class (chain_at h c) ≡ true → HasNoArray arena.now keeper.new c }
+    ensures others { (c : ClassRef) → HasNoArray arena.now keeper.old c → HasNoArray arena.now keeper.new c }
+    ensures room { length tables.now.supers ≤ below.new.room }
+{
+    tables.below(class, below);
+    flush_each(keeper, arena, below);
+}
+
+// Flushes the caches of a class reference and of all below it, where a list of its methods isn't empty.
+fn flush_methods(
+    keeper: &mut Keeper,
+    arena: &Arena,
+    tables: &Tables,
+    class: ClassRef,
+    methods: &MethodList,
+    below: &mut Below,
+)
+    requires arena { IsKeeperOf arena.now keeper.old }
+    requires class { class.class < length tables.now.supers }
+    requires classes { length tables.now.supers ≡ class_total (keeper_history keeper.old).image }
+    requires room { length tables.now.supers ≤ below.old.room }
+    ensures arena { IsKeeperOf arena.now keeper.new }
+    ensures history { keeper_history keeper.new ≡ keeper_history keeper.old }
+    ensures flushed { (h : History) → StandsAt tables.now h → (c : ClassRef) → is_below h c (if_any methods.now class) ≡ true → HasNoArray arena.now keeper.new c }
+    ensures others { (c : ClassRef) → HasNoArray arena.now keeper.old c → HasNoArray arena.now keeper.new c }
+    ensures room { length tables.now.supers ≤ below.new.room }
 {
     if !methods.as_slice().is_empty() {
-        tables.descendants(class, marks);
+        flush_below(keeper, arena, tables, class, below);
     }
 }
 
-// Marks the class references whose caches are flushed by a change that was just made, or answers that all are.
+// Flushes all caches.
+fn flush_all(keeper: &mut Keeper, arena: &Arena, classes: u32)
+    requires arena { IsKeeperOf arena.now keeper.old }
+    requires classes { classes ≡ class_total (keeper_history keeper.old).image }
+    ensures arena { IsKeeperOf arena.now keeper.new }
+    ensures history { keeper_history keeper.new ≡ keeper_history keeper.old }
+    ensures flushed { (c : ClassRef) → c.class < classes → HasNoArray arena.now keeper.new c }
+{
+    for class in 0..classes {
+        flush_class(keeper, arena, class, true, true);
+    }
+}
+
+// Flushes the caches that a change reaches, which was just made.
 //
 // A method that is added or replaced is seen by the class and those below, and so is each list of an attached category. No lookup finds anything in a class
 // before it is made, and nothing is below it then but its metaclass: making one looks at no other class.
-pub(crate) fn mark_reach(tables: &Tables, change: &Change, marks: &mut Marks) -> Reach
+pub(crate) fn flush_reached(
+    keeper: &mut Keeper,
+    arena: &Arena,
+    tables: &Tables,
+    classes: u32,
+    change: &Change,
+    below: &mut Below,
+)
+    requires arena { IsKeeperOf arena.now keeper.old }
     requires made { (h : History) × StandsAt tables.now (and_then h change.now) × (refusal h change.now ≡ None) }
-    requires room { length marks.old ≡ 2 * length tables.now.supers }
-    ensures room { length marks.new ≡ length marks.old }
-    ensures made { IsOneOf (length tables.now.supers) result }
-    ensures reach { (h : History) → StandsAt tables.now h → (c : ClassRef) → c.class < length tables.now.supers → is_reached result marks.new c ≡ is_flushed h change.now c }
+    requires classes { classes ≡ class_total (keeper_history keeper.old).image }
+    requires tables { length tables.now.supers ≡ classes }
+    requires room { classes ≤ below.old.room }
+    ensures arena { IsKeeperOf arena.now keeper.new }
+    ensures history { keeper_history keeper.new ≡ keeper_history keeper.old }
+    ensures flushed { (h : History) → StandsAt tables.now h → (c : ClassRef) → c.class < classes → is_flushed h change.now c ≡ true → HasNoArray arena.now keeper.new c }
+    ensures room { classes ≤ below.new.room }
 {
     match change {
         Change::Add { class, .. } | Change::Replace { class, .. } => {
-            reach_below(tables, *class, marks)
+            flush_below(keeper, arena, tables, *class, below);
         }
-        Change::SetImp { .. } | Change::Exchange { .. } => Reach::All,
+        Change::SetImp { .. } | Change::Exchange { .. } => flush_all(keeper, arena, classes),
         Change::Attach {
             class,
             methods,
             class_methods,
         } => {
-            let class = *class;
-            marks.clear();
-            mark_methods(tables, ClassRef { class, meta: false }, methods, marks);
-            mark_methods(tables, ClassRef { class, meta: true }, class_methods, marks);
-            Reach::Marked
+            let own = ClassRef {
+                class: *class,
+                meta: false,
+            };
+            let meta = ClassRef {
+                class: *class,
+                meta: true,
+            };
+            flush_methods(keeper, arena, tables, own, methods, below);
+            flush_methods(keeper, arena, tables, meta, class_methods, below);
         }
-        Change::AddClass { class, .. } => Reach::Made(*class),
-    }
-}
-
-// Flushes the cache of a class reference, where a change reaches it.
-#[inline(always)]
-fn flush_reached(keeper: &mut Keeper, arena: &Arena, class: ClassRef, reach: Reach, marks: &Marks)
-    requires arena { IsKeeperOf arena.now keeper.old }
-    requires class { class.class < class_total (keeper_history keeper.old).image }
-    requires room { length marks.now ≡ 2 * class_total (keeper_history keeper.old).image }
-    ensures arena { IsKeeperOf arena.now keeper.new }
-    ensures history { keeper_history keeper.new ≡ keeper_history keeper.old }
-    ensures flushed { is_reached reach marks.now class ≡ true → HasNoArray arena.now keeper.new class }
-    ensures others { (c : ClassRef) → HasNoArray arena.now keeper.old c → HasNoArray arena.now keeper.new c }
-{
-    let reached = match reach {
-        Reach::All => true,
-        Reach::Marked => marks.has(class),
-        Reach::Only(only) => class == only,
-        Reach::Made(made) => class.class == made,
-    };
-    if reached {
-        let _had_array = keeper.flush(arena, class);
-    }
-}
-
-// Flushes the caches of a class and of its metaclass, where a change reaches them.
-#[inline(always)]
-fn flush_both_reached(keeper: &mut Keeper, arena: &Arena, class: u32, reach: Reach, marks: &Marks)
-    requires arena { IsKeeperOf arena.now keeper.old }
-    requires class { class < class_total (keeper_history keeper.old).image }
-    requires room { length marks.now ≡ 2 * class_total (keeper_history keeper.old).image }
-    ensures arena { IsKeeperOf arena.now keeper.new }
-    ensures history { keeper_history keeper.new ≡ keeper_history keeper.old }
-    ensures flushed { (c : ClassRef) → c.class ≡ class → is_reached reach marks.now c ≡ true → HasNoArray arena.now keeper.new c }
-    ensures others { (c : ClassRef) → HasNoArray arena.now keeper.old c → HasNoArray arena.now keeper.new c }
-{
-    flush_reached(keeper, arena, ClassRef { class, meta: false }, reach, marks);
-    flush_reached(keeper, arena, ClassRef { class, meta: true }, reach, marks);
-}
-
-// Flushes the caches that a change reaches, with a look at each class.
-fn flush_each_reached(keeper: &mut Keeper, arena: &Arena, classes: u32, reach: Reach, marks: &Marks)
-    requires arena { IsKeeperOf arena.now keeper.old }
-    requires classes { classes ≡ class_total (keeper_history keeper.old).image }
-    requires room { length marks.now ≡ 2 * classes }
-    ensures arena { IsKeeperOf arena.now keeper.new }
-    ensures history { keeper_history keeper.new ≡ keeper_history keeper.old }
-    ensures flushed { (c : ClassRef) → c.class < classes → is_reached reach marks.now c ≡ true → HasNoArray arena.now keeper.new c }
-{
-    for class in 0..classes {
-        flush_both_reached(keeper, arena, class, reach, marks);
-    }
-}
-
-// Flushes all caches that a change reaches. Where a class was made these are two, and where nothing is below the class that is changed one, however many there are.
-pub(crate) fn flush_all_reached(
-    keeper: &mut Keeper,
-    arena: &Arena,
-    classes: u32,
-    reach: Reach,
-    marks: &Marks,
-)
-    requires arena { IsKeeperOf arena.now keeper.old }
-    requires classes { classes ≡ class_total (keeper_history keeper.old).image }
-    requires room { length marks.now ≡ 2 * classes }
-    requires made { IsOneOf classes reach }
-    ensures arena { IsKeeperOf arena.now keeper.new }
-    ensures history { keeper_history keeper.new ≡ keeper_history keeper.old }
-    ensures flushed { (c : ClassRef) → c.class < classes → is_reached reach marks.now c ≡ true → HasNoArray arena.now keeper.new c }
-{
-    match reach {
-        Reach::Made(made) => flush_both_reached(keeper, arena, made, reach, marks),
-        Reach::Only(class) => flush_reached(keeper, arena, class, reach, marks),
-        Reach::All | Reach::Marked => flush_each_reached(keeper, arena, classes, reach, marks),
+        Change::AddClass { class, .. } => flush_class(keeper, arena, *class, true, true),
     }
 }

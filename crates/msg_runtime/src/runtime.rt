@@ -11,13 +11,13 @@ ghost use Rattle.msg_cache.specs.Views.{classes, layout, IsSenderOf};
 ghost use Rattle.msg_runtime.specs.Parts.{IsKeeperOf, AnswersMiss, IsNew, AreOut, keeper_history, keeper_view, keeper_remembered, keeper_report};
 
 use crate::caching::cache_found;
-use crate::flushing::{flush_all_reached, mark_reach};
+use crate::flushing::flush_reached;
 use msg_cache::{Arena, Keeper, Prober, Report, Turn};
 use msg_core::MAX_SENDERS;
 use msg_image::{Change, Image};
 use msg_names::{ClassRef, ImpRef, Selector};
 use msg_tables::laws::{an_accepted_change_is_within_the_limit, tables_are_of_their_image};
-use msg_tables::{ChangeFault, Marks, Tables};
+use msg_tables::{Below, ChangeFault, Tables};
 use std::alloc::{AllocError, Global};
 use std::marker::Model;
 use std::snapshot::Snapshot;
@@ -30,7 +30,7 @@ use std::snapshot::Snapshot;
 pub struct Runtime {
     keeper: Keeper,
     tables: Tables,
-    marks: Marks,
+    below: Below,
     classes: u32,
     arena: Snapshot<Arena>,
 }
@@ -68,11 +68,11 @@ impl Runtime {
         ensures keeper { IfOk result (λ r. (r.keeper ≡ keeper_view keeper) × (r.remembered ≡ keeper_remembered keeper) × (r.report ≡ keeper_report keeper)) }
     {
         let tables = Tables::open(alloc, image)?;
-        let marks = tables.marks(alloc)?;
+        let below = tables.room_below(alloc)?;
         Ok(Runtime {
             keeper,
             tables,
-            marks,
+            below,
             classes: image.class_count(),
             arena: Snapshot::of(arena),
         })
@@ -160,8 +160,14 @@ impl Runtime {
         an_accepted_change_is_within_the_limit();
         self.keeper.face(arena, turn);
         self.tables.apply(change)?;
-        let reach = mark_reach(&self.tables, change, &mut self.marks);
-        flush_all_reached(&mut self.keeper, arena, self.classes, reach, &self.marks);
+        flush_reached(
+            &mut self.keeper,
+            arena,
+            &self.tables,
+            self.classes,
+            change,
+            &mut self.below,
+        );
         Ok(self.keeper.commit(arena, turn, change))
     }
 

@@ -13,7 +13,7 @@ pub mod ListLemmas
 pub mod ListedLemmas
 pub mod ListedOrderLemmas
 pub mod LookupLemmas
-pub mod MarkLemmas
+pub mod DescentLemmas
 pub mod OpeningLemmas
 pub mod MadeLemmas
 pub mod OrElseLemmas
@@ -25,3 +25,6 @@ pub mod RowLemmas
 pub mod StandsLemmas
 pub mod TakeLemmas
 pub mod DepthLemmas
+pub mod PreorderLemmas
+pub mod WalkLemmas
+pub mod ThreadLemmas

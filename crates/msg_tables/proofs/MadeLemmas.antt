@@ -30,7 +30,7 @@ pushed-last [] x = refl
 pushed-last (y ∷ xs) x = pushed-last xs x
 
 -- one class more is present
-present_count-made : (supers : List (Option Presence)) (k : ℕ) (p : Presence) → k < length supers → is_present supers k ≡ false → present_count (slice_set supers k (Some p)) ≡ suc (present_count supers)
+pub present_count-made : (supers : List (Option Presence)) (k : ℕ) (p : Presence) → k < length supers → is_present supers k ≡ false → present_count (slice_set supers k (Some p)) ≡ suc (present_count supers)
 present_count-made [] k p inside absent = absurd (omega (arith, inside))
 present_count-made (None ∷ xs) zero p inside absent = omega arith
 present_count-made (Some q ∷ xs) zero p inside absent = cc

@@ -30,7 +30,7 @@ use Rattle.msg_tables.proofs.HistoryLemmas.{table-and_then, length-supers, accep
 use Rattle.msg_tables.proofs.LawLemmas.{lookup-after, lookup-unaffected, is-there}
 use Rattle.msg_tables.proofs.ListedOrderLemmas.{order-listed}
 use Rattle.msg_tables.proofs.MadeLemmas.{made-order}
-use Rattle.msg_tables.proofs.MarkLemmas.{chain_of-step}
+use Rattle.msg_tables.proofs.DescentLemmas.{chain_of-step}
 use Rattle.msg_tables.proofs.OrderLemmas.{present-inside, super-present, super-fewer, steps_suffice}
 
 -- ---- what is known of a class that is accepted

@@ -1,5 +1,5 @@
 -- Chains of superclasses.
-use Rattle.std.specs.Prelude.{ℕ, zero, suc, ◌+◌, if◌then◌else◌, ◌==◌, Bool, List, [], ◌∷◌, Option, Some, None, slice_index_or, length, is_some}
+use Rattle.std.specs.Prelude.{ℕ, zero, suc, ◌+◌, if◌then◌else◌, ◌==◌, Bool, List, [], ◌∷◌, Option, Some, None, slice_index_or, length, is_some, is_none, true}
 use Rattle.std.specs.Option.{option_map_or}
 use Rattle.std.specs.List.{list_any}
 use Rattle.msg_names.specs.declared.value.ClassRef.{ClassRef}
@@ -43,3 +43,11 @@ steps_of order c = index_in order c.class + (if c.meta then 1 else 0)
 -- one of the list
 abbrev pub is_member : ClassRef → List ClassRef → Bool
 is_member c cs = list_any (same_class c) cs
+
+-- the class reference descends from another, or is it
+unfoldable pub descends : List (Option Presence) → ClassRef → ClassRef → Bool
+descends supers origin c = is_member origin (chain_of supers c)
+
+-- no superclass stands above a class
+abbrev pub is_root : List (Option Presence) → ℕ → Bool
+is_root supers k = option_map_or (λ p. is_none p.superclass) (presence_of supers k) true

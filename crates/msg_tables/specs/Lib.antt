@@ -1,5 +1,6 @@
 pub mod Affected
 pub mod After
+pub mod Below
 pub mod Chain
 pub mod Edits
 pub mod FaultNumber
@@ -9,6 +10,7 @@ pub mod Inside
 pub mod Marking
 pub mod Opening
 pub mod Order
+pub mod Preorder
 pub mod Presence
 pub mod Refusal
 pub mod RowList

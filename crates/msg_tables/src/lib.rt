@@ -2,6 +2,7 @@
 #![tactic(auto)]
 
 mod apply;
+mod below;
 mod edit;
 mod fault;
 mod foresee;
@@ -13,7 +14,9 @@ mod opening;
 mod presence;
 mod rows;
 mod tables;
+mod thread;
 
+pub use below::Below;
 pub use fault::ChangeFault;
 pub use marks::Marks;
 pub use tables::{MAX_CHANGES, MAX_ROWS, Tables};

@@ -20,6 +20,7 @@ use crate::lists::append_rows;
 use crate::presence::Presence;
 use crate::rows::MethodRows;
 use crate::tables::{MAX_ROWS, Tables};
+use crate::thread::threaded;
 use msg_image::{Category, Image};
 use msg_names::{ClassRef, ImpRef, Names, Selector};
 use msg_order::class_order;
@@ -130,10 +131,15 @@ impl Tables {
     fn blank(alloc: Global, image: &Image) -> Result<Tables, AllocError>
         ensures { IfOk result (IsBlank image.now) }
     {
+        let classes = image.class_count();
+        let supers = opened_classes(alloc, image)?;
+        let order = listed_order(alloc, image)?;
+        let thread = threaded(alloc, &supers, &order)?;
         Ok(Tables {
-            supers: opened_classes(alloc, image)?,
-            order: listed_order(alloc, image)?,
-            lists: empty_lists(alloc, 2 * image.class_count() as usize)?,
+            supers,
+            order,
+            thread,
+            lists: empty_lists(alloc, 2 * classes as usize)?,
             colons: colon_counts(alloc, image.names())?,
             args: argument_counts(alloc, image)?,
             row_count: 0,

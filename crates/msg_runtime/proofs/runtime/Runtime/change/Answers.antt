@@ -2,7 +2,6 @@ use Rattle.std.proofs.Common.{◌≡◌, ap, sym, ◌∙◌, arith}
 use Rattle.msg_image.specs.Parts.{class_total}
 use Rattle.msg_tables.specs.Affected.{is_affected}
 use Rattle.msg_tables.specs.History.{and_then}
-use Rattle.msg_tables.proofs.StandsLemmas.{class_count}
 use Rattle.msg_cache.specs.declared.view.KeeperView.{KeeperView}
 use Rattle.msg_cache.specs.Views.{ArenaView}
 use Rattle.msg_runtime.specs.Parts.{keeper_history}
@@ -14,12 +13,10 @@ pub commit-requires-clause-flushed : goal.commit-requires-clause-flushed
 commit-requires-clause-flushed c = λ d inside affected.
     let x = c.args.change.now in
     let h = keeper_history c.self.inside.keeper in
-    let same : keeper_history c.flush_all_reached.new.keeper ≡ h = c.flush_all_reached.ensures.history ∙ ap (λ (k : KeeperView). k.history) c.face.ensures.same in
+    let same : keeper_history c.flush_reached.new.keeper ≡ h = c.flush_reached.ensures.history ∙ ap (λ (k : KeeperView). k.history) c.face.ensures.same in
     let (accepted, stands) = c.in_ok-apply.ensures.ok h c.self.invariant.tables in
     let arena : c.self.inside.arena.value ≡ c.args.arena.now = ap (λ (r : RuntimeView). r.arena) c.self.view_is ∙ sym c.requires.arena in
     let total : class_total h.image ≡ class_total c.args.arena.now.key.image = ap class_total (c.self.invariant.image ∙ ap (λ (a : ArenaView). a.key.image) arena) in
-    let supers = class_count c.apply.new.self (and_then h x) stands in
     let classes = c.self.invariant.classes in
     let flushed = affected-flushed h x d accepted (ap (λ k. is_affected k x d) (sym same) ∙ affected) in
-    let reached = c.mark_reach-reach.ensures.reach (and_then h x) stands d (omega (arith, inside, total, supers)) ∙ flushed in
-    c.flush_all_reached.ensures.flushed d (omega (arith, inside, total, classes)) reached
+    c.flush_reached.ensures.flushed (and_then h x) stands d (omega (arith, inside, total, classes)) flushed

@@ -1,6 +1,7 @@
 use Rattle.std.proofs.Common.{◌*◌, length, [], sym, ap, ◌∙◌, subst, arith}
 use Rattle.std.proofs.lemmas.List.{length-replicate}
 use Rattle.msg_tables.specs.Order.{IsOrder}
+use Rattle.msg_tables.specs.Preorder.{AreThreaded}
 use Rattle.msg_tables.proofs.ListedOrderLemmas.{length-opened}
 use Rattle.msg_tables.proofs.OpeningLemmas.{listed-blank}
 use Rattle.msg_tables.proofs.PutLemmas.{length-rows_of}
@@ -9,15 +10,17 @@ use Rattle.msg_tables.proofs.tables.Tables.blank.Goals as goal
 pub invariant_of-result : goal.invariant_of-result
 invariant_of-result c =
     let image = c.args.image.now in
-    let supers = c.in_ok-opened_classes.ensures in
+    let supers = c.in_ok-supers.ensures in
     let count = ap length supers ∙ length-opened image in
     let lists = c.in_ok-empty_lists.ensures in
+    let classes = c.class_count-classes in
     record {
-      order = subst (λ s. IsOrder s c.in_ok-listed_order.field-0.items) (sym supers) c.in_ok-listed_order.ensures.order;
-      room = omega (arith, count, c.in_ok-listed_order.ensures.room);
-      lists = omega (arith, sym (length-rows_of c.in_ok-empty_lists.field-0.items) ∙ ap length lists ∙ length-replicate (2 * c.class_count.result) [], c.class_count.ensures.count, count);
-      listed = rw lists (listed-blank (length c.in_ok-argument_counts.field-0.items) (2 * c.class_count.result));
-      few_classes = omega (arith, c.class_count.ensures.sound.few_classes, count);
+      order = subst (λ s. IsOrder s c.in_ok-order.order.items) (sym supers) c.in_ok-order.ensures.order;
+      room = omega (arith, count, c.in_ok-order.ensures.room);
+      thread = subst (λ s. AreThreaded s c.in_ok-thread.thread.depths.items c.in_ok-thread.thread.nexts.items) c.deref.ensures.value c.in_ok-thread.ensures;
+      lists = omega (arith, sym (length-rows_of c.in_ok-empty_lists.field-0.items) ∙ ap length lists ∙ length-replicate (2 * classes.result) [], classes.ensures.count, count);
+      listed = rw lists (listed-blank (length c.in_ok-argument_counts.field-0.items) (2 * classes.result));
+      few_classes = omega (arith, classes.ensures.sound.few_classes, count);
       few_rows = omega arith;
       few_changes = omega arith;
     }

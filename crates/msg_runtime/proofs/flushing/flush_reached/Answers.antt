@@ -4,32 +4,31 @@ use Rattle.msg_tables.specs.History.{and_then}
 use Rattle.msg_tables.specs.Refusal.{refusal}
 use Rattle.msg_tables.proofs.StandsLemmas.{class_count}
 use Rattle.msg_runtime.proofs.ReachLemmas.{of_image-add, of_image-replace, of_image-attach, of_image-make}
-use Rattle.msg_runtime.proofs.flushing.mark_reach.Goals as goal
+use Rattle.msg_runtime.proofs.flushing.flush_reached.Goals as goal
 
--- src/flushing.rt:62:13
-pub mark_methods-requires-clause-class : goal.mark_methods-requires-clause-class
-mark_methods-requires-clause-class c =
+pub flush_methods-requires-clause-class : goal.flush_methods-requires-clause-class
+flush_methods-requires-clause-class c =
     let (h, stands, accepted) = c.requires.made in
     let inside = of_image-attach h _ _ _ (ap (refusal h) (sym c.in-Attach.is) ∙ accepted) in
     let count = class_count c.args.tables.now (and_then h c.args.change.now) stands in
     omega (arith, inside, count)
 
-pub mark_methods-requires-in-Attach-clause-class : goal.mark_methods-requires-in-Attach-clause-class
-mark_methods-requires-in-Attach-clause-class c =
+pub flush_methods-requires-in-Attach-clause-class : goal.flush_methods-requires-in-Attach-clause-class
+flush_methods-requires-in-Attach-clause-class c =
     let (h, stands, accepted) = c.requires.made in
     let inside = of_image-attach h _ _ _ (ap (refusal h) (sym c.in-Attach.is) ∙ accepted) in
     let count = class_count c.args.tables.now (and_then h c.args.change.now) stands in
     omega (arith, inside, count)
 
-pub returns-in-AddClass-clause-made : goal.returns-in-AddClass-clause-made
-returns-in-AddClass-clause-made c =
+pub flush_class-requires-clause-class : goal.flush_class-requires-clause-class
+flush_class-requires-clause-class c =
     let (h, stands, accepted) = c.requires.made in
     let inside = of_image-make h _ _ (ap (refusal h) (sym c.in-AddClass.is) ∙ accepted) in
     let count = class_count c.args.tables.now (and_then h c.args.change.now) stands in
-    omega (arith, inside, count)
+    omega (arith, inside, count, c.requires.tables, c.requires.classes)
 
-pub reach_below-requires-clause-class : goal.reach_below-requires-clause-class
-reach_below-requires-clause-class c =
+pub flush_below-requires-clause-class : goal.flush_below-requires-clause-class
+flush_below-requires-clause-class c =
     let (h, stands, accepted) = c.requires.made in
     let inside : c.in-Add.class.class < class_total h.image = ⊎_elim
     (λ (s, i, is). of_image-add h c.in-Add.class s i (ap (refusal h) (sym is) ∙ accepted))

@@ -1,0 +1,14 @@
+use Rattle.std.proofs.Common.{◌≡◌, take, true}
+use Rattle.msg_names.specs.declared.value.ClassRef.{ClassRef}
+use Rattle.msg_tables.specs.Below.{is_among}
+use Rattle.msg_runtime.specs.Parts.{IsKeeperOf, keeper_history, HasNoArray}
+use Rattle.msg_runtime.proofs.flushing.flush_each.Given as goal
+
+-- the caches of the first classes are flushed
+abbrev pub invariant-loop-class : goal.invariant-loop-class
+invariant-loop-class l = record {
+  arena : IsKeeperOf l.arena l.keeper;
+  history : keeper_history l.keeper ≡ keeper_history l.fn.keeper;
+  flushed : (c : ClassRef) → is_among (record l.below { classes = take l.class-index l.class-items }) c ≡ true → HasNoArray l.arena l.keeper c;
+  others : (c : ClassRef) → HasNoArray l.arena l.fn.keeper c → HasNoArray l.arena l.keeper c;
+}

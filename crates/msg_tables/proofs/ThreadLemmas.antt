@@ -1,0 +1,467 @@
+-- One class more in an order in which those below a class come right after it.
+use Rattle.std.proofs.Common.{◌≡◌, ◌≢◌, ◌<◌, ◌≤◌, ◌+◌, ◌++◌, ◌⊎◌, inl, inr, ℕ, zero, suc, List, [], ◌∷◌, length, Option, Some, None, Bool, true, false, cond, replicate, take, drop, slice_get, length-append, refl, sym, ap, ◌∙◌, subst, arith}
+use Rattle.std.specs.Prelude.{◌==◌, ◌||◌, is_some, slice_index_or, slice_set, IfSome}
+use Rattle.std.specs.Option.{option_map_or}
+use Rattle.std.proofs.lemmas.Bool.{true≢false, or_cases, false_from_ne_true, cases_eq, cases_lt, cases_Bool}
+use Rattle.std.proofs.lemmas.List.{length-set, length-replicate, get_or-set_same, get_or-set_other}
+use Rattle.std.proofs.lemmas.List.Folds.{list_any-append}
+use Rattle.std.proofs.lemmas.Option.{same_Some, slice_get_within, get_or_from_slice_get}
+use Rattle.std.proofs.Math.Seq.{split_at, take-length}
+use Rattle.msg_names.proofs.TestLemmas.{same_number, other_number, equal}
+use Rattle.msg_names.proofs.ClassRefLemmas.{same_class-is}
+use Rattle.msg_names.specs.declared.value.ClassRef.{ClassRef}
+use Rattle.msg_names.specs.ClassRef.{above, same_class}
+use Rattle.msg_tables.specs.declared.presence.Presence.{Presence}
+use Rattle.msg_tables.specs.After.{of_class}
+use Rattle.msg_tables.specs.Chain.{presence_of, is_present, super_of, steps_of, is_member, descends}
+use Rattle.msg_tables.specs.Order.{StandsBefore, IsOrder, present_count}
+use Rattle.msg_tables.specs.Preorder.{is_in, first_depth, IsPreorder, next_in, depth_at, next_at, IsThread, AreThreaded, depths_with, nexts_with}
+use Rattle.msg_tables.proofs.DescentLemmas.{descends-step, up, itself}
+use Rattle.msg_tables.proofs.OrderLemmas.{count-le, present-inside, super-is, super-fewer}
+use Rattle.msg_tables.proofs.MadeLemmas.{made-order, present_count-made}
+use Rattle.msg_tables.proofs.PresenceLemmas.{chain_of-stays}
+use Rattle.msg_tables.proofs.TakeLemmas.{take-next}
+use Rattle.msg_tables.proofs.PreorderLemmas.{first-in, later-in, apart-in, unlike, placed, placed-in, placed-length, placed-first, first-same, preorder-grown, preorder-placed, followed-new, next-same, linked-same, linked-placed}
+
+-- a root class before all others, and another right after its superclass
+abbrev pub thread_with : List ℕ → ℕ → Option ℕ → List ℕ
+thread_with ks k None = k ∷ ks
+thread_with ks k (Some d) = placed d k ks
+
+-- a class that stands in no chain of the others
+pub out-of-chains : (supers : List (Option Presence)) (order : List ℕ) → IsOrder supers order → (ks : List ℕ) (k : ℕ) → is_in k ks ≡ false
+    → ((j e : ℕ) (p : Presence) → is_in j ks ≡ true → presence_of supers j ≡ Some p → p.superclass ≡ Some e → is_in e ks ≡ true)
+    → (j : ℕ) → is_in j ks ≡ true → descends supers (of_class k) (of_class j) ≡ false
+out-of-chains supers order before ks k fresh closed j there = false_from_ne_true (descends supers (of_class k) (of_class j)) (walk (suc (steps_of order (of_class j))) j (omega arith) there)
+  where
+    walk : (n j : ℕ) → steps_of order (of_class j) < n → is_in j ks ≡ true → descends supers (of_class k) (of_class j) ≡ true → ⊥
+    walk zero j less there down = absurd (omega (arith, less))
+    walk (suc n) j less there down = at (up supers order (of_class k) (of_class j) before down) (walk n)
+      where
+        further : (d : ClassRef) → ((p : Presence) × (presence_of supers j ≡ Some p) × (p.superclass ≡ Some d.class) × (d.meta ≡ false)) ⊎ ((d ≡ of_class j) × (false ≡ true) × (is_present supers j ≡ true))
+            → steps_of order d < steps_of order (of_class j) → descends supers (of_class k) d ≡ true → ((i : ℕ) → steps_of order (of_class i) < n → is_in i ks ≡ true → descends supers (of_class k) (of_class i) ≡ true → ⊥) → ⊥
+        further d (inl (p, here, upward, m)) fewer down rest =
+            let same : d ≡ of_class d.class = λ i. record { class = d.class; meta = m i } in
+            let fewer' : steps_of order (of_class d.class) < steps_of order (of_class j) = subst (λ z. steps_of order z < steps_of order (of_class j)) same fewer in
+            rest d.class (omega (arith, fewer', less)) (closed j d.class p there here upward) (subst (λ z. descends supers (of_class k) z ≡ true) same down)
+        further d (inr (same, clash, here)) fewer down rest = cc
+
+        at : (same_class (of_class k) (of_class j) ≡ true) ⊎ ((d : ClassRef) × (super_of supers (of_class j) ≡ Some d) × (descends supers (of_class k) d ≡ true))
+            → ((i : ℕ) → steps_of order (of_class i) < n → is_in i ks ≡ true → descends supers (of_class k) (of_class i) ≡ true → ⊥) → ⊥
+        at (inl e) rest = apart-in j k ks there fresh (sym (ap (λ (c : ClassRef). c.class) (same_class-is (of_class k) (of_class j) e)))
+        at (inr (d, e, down)) rest = further d (super-is supers (of_class j) d e) (super-fewer supers order before (of_class j) d e) down rest
+
+-- A class is placed.
+module _ (supers : List (Option Presence)) (order : List ℕ) (before : IsOrder supers order) (depths : List ℕ) (nexts : List (Option ℕ)) (ks : List ℕ) (k : ℕ)
+    (is : IsThread supers depths nexts ks)
+    (present : (j : ℕ) → is_in j ks ≡ true → is_present supers j ≡ true)
+    (closed : (j e : ℕ) (p : Presence) → is_in j ks ≡ true → presence_of supers j ≡ Some p → p.superclass ≡ Some e → is_in e ks ≡ true)
+    (fresh : is_in k ks ≡ false)
+    (depth_room : length depths ≡ length supers) (next_room : length nexts ≡ length supers) where
+  leaf : (j : ℕ) → is_in j ks ≡ true → descends supers (of_class k) (of_class j) ≡ false
+  leaf = out-of-chains supers order before ks k fresh closed
+
+  other : (j : ℕ) → is_in j ks ≡ true → j ≢ k
+  other j e = apart-in j k ks e fresh
+
+  -- where a class descends from
+  from : (o : Option ℕ) → presence_of supers k ≡ Some (record { superclass = o }) → (x : ℕ) → x ≢ k → descends supers (of_class x) (of_class k) ≡ option_map_or (λ d. descends supers (of_class x) (of_class d)) o false
+  from o here x ne =
+      descends-step supers order (of_class x) (of_class k) before (ap is_some here)
+      ∙ ap (λ q. same_class (of_class x) (of_class k) || option_map_or (descends supers (of_class x)) (option_map_or (λ (p : Presence). above (of_class k) p.superclass) q None) false) here
+      ∙ at o
+    where
+      apart : same_class (of_class x) (of_class k) ≡ false
+      apart = false_from_ne_true (same_class (of_class x) (of_class k)) (λ e. ne (ap (λ (c : ClassRef). c.class) (same_class-is (of_class x) (of_class k) e)))
+
+      at : (o : Option ℕ) → (same_class (of_class x) (of_class k) || option_map_or (descends supers (of_class x)) (above (of_class k) o) false) ≡ option_map_or (λ d. descends supers (of_class x) (of_class d)) o false
+      at None = ap (λ b. b || false) apart
+      at (Some d) = ap (λ b. b || descends supers (of_class x) (of_class d)) apart
+
+  thread-root : presence_of supers k ≡ Some (record { superclass = None }) → k < length supers → IsThread supers (slice_set depths k 0) (slice_set nexts k None) (k ∷ ks)
+  thread-root here inside = record {
+    preorder = (
+      followed-new supers (depth_at depths) depth' ks (k ∷ ks) k grown fresh same ks fresh (omega (arith, first', is.root)) own leaf,
+      preorder-grown supers (depth_at depths) depth' ks (k ∷ ks) k grown fresh same ks is.preorder (λ j e. e) (λ j e. from None here j (other j e)),
+    );
+    linked = (
+      get_or-set_same nexts k None None (omega (arith, inside, next_room)) ∙ sym (next-same (depth_at depths) depth' (next_at nexts) next' ks same ∙ none ks is.root),
+      linked-same (depth_at depths) depth' (next_at nexts) next' ks same (λ j e. get_or-set_other nexts k j None None (other j e)) is.linked,
+    );
+    root = deep;
+    shallow = λ j e. at j (or_cases (k == j) (is_in j ks) e);
+  }
+    where
+      depth' : ℕ → ℕ
+      depth' = depth_at (slice_set depths k 0)
+
+      next' : ℕ → Option ℕ
+      next' = next_at (slice_set nexts k None)
+
+      same : (j : ℕ) → is_in j ks ≡ true → depth_at (slice_set depths k 0) j ≡ depth_at depths j
+      same j e = get_or-set_other depths k j 0 0 (other j e)
+
+      deep : depth_at (slice_set depths k 0) k ≡ 0
+      deep = get_or-set_same depths k 0 0 (omega (arith, inside, depth_room))
+
+      first' : first_depth (depth_at (slice_set depths k 0)) ks ≡ first_depth (depth_at depths) ks
+      first' = first-same (depth_at (slice_set depths k 0)) (depth_at depths) ks same
+
+      own : descends supers (of_class k) (of_class k) ≡ true
+      own = itself supers order before (of_class k) (ap is_some here)
+
+      grown : (j : ℕ) → is_in j (k ∷ ks) ≡ true → (is_in j ks ≡ true) ⊎ (j ≡ k)
+      grown j e = pick (or_cases (k == j) (is_in j ks) e)
+        where
+          pick : ((k == j) ≡ true) ⊎ (is_in j ks ≡ true) → (is_in j ks ≡ true) ⊎ (j ≡ k)
+          pick (inl h) = inr (sym (same_number k j h))
+          pick (inr h) = inl h
+
+      none : (js : List ℕ) → first_depth (depth_at depths) js ≡ 0 → next_in (depth_at depths) js ≡ None
+      none [] e = refl
+      none (j ∷ js) e = ap (λ d. cond (d == 0) None (Some j)) e
+
+      at : (j : ℕ) → ((k == j) ≡ true) ⊎ (is_in j ks ≡ true) → depth_at (slice_set depths k 0) j < length (k ∷ ks)
+      at j (inl h) = let zero' : depth_at (slice_set depths k 0) j ≡ 0 = subst (λ z. depth_at (slice_set depths k 0) z ≡ 0) (same_number k j h) deep in omega (arith, zero')
+      at j (inr h) = let kept = same j h in let few = is.shallow j h in omega (arith, kept, few)
+
+  thread-below : (d : ℕ) → presence_of supers k ≡ Some (record { superclass = Some d }) → k < length supers → is_in d ks ≡ true
+      → IsThread supers (slice_set depths k (suc (depth_at depths d))) (slice_set (slice_set nexts k (next_at nexts d)) d (Some k)) (placed d k ks)
+  thread-below d here inside above' = record {
+    preorder = preorder-placed supers (depth_at depths) depth' ks (placed d k ks) k grown fresh same d above' deep (itself supers order before (of_class d) (present d above')) (itself supers order before (of_class k) (ap is_some here)) leaf
+        (λ x e. from (Some d) here x (other x e)) ks is.preorder (λ j e. e);
+    linked = linked-placed (depth_at depths) depth' (next_at nexts) next' supers ks d k ks is.preorder same
+        (λ j e ne. get_or-set_other (slice_set nexts k (next_at nexts d)) d j (Some k) None ne ∙ get_or-set_other nexts k j (next_at nexts d) None (other j e))
+        (get_or-set_same (slice_set nexts k (next_at nexts d)) d (Some k) None (omega (arith, length-set nexts k (next_at nexts d), next_room, inside-d)))
+        (get_or-set_other (slice_set nexts k (next_at nexts d)) d k (Some k) None (λ e. other d above' (sym e)) ∙ get_or-set_same nexts k (next_at nexts d) None (omega (arith, inside, next_room)))
+        (unlike (depth_at (slice_set depths k (suc (depth_at depths d))) k) 0 (λ e. absurd (omega (arith, deep, e)))) is.linked;
+    root = placed-first depth' d k ks ∙ first-same depth' (depth_at depths) ks same ∙ is.root;
+    shallow = λ j e. at j (grown j e);
+  }
+    where
+      depth' : ℕ → ℕ
+      depth' = depth_at (slice_set depths k (suc (depth_at depths d)))
+
+      next' : ℕ → Option ℕ
+      next' = next_at (slice_set (slice_set nexts k (next_at nexts d)) d (Some k))
+
+      inside-d : d < length supers
+      inside-d = present-inside supers d (present d above')
+
+      same : (j : ℕ) → is_in j ks ≡ true → depth_at (slice_set depths k (suc (depth_at depths d))) j ≡ depth_at depths j
+      same j e = get_or-set_other depths k j (suc (depth_at depths d)) 0 (other j e)
+
+      deep : depth_at (slice_set depths k (suc (depth_at depths d))) k ≡ suc (depth_at depths d)
+      deep = get_or-set_same depths k (suc (depth_at depths d)) 0 (omega (arith, inside, depth_room))
+
+      grown : (j : ℕ) → is_in j (placed d k ks) ≡ true → (is_in j ks ≡ true) ⊎ (j ≡ k)
+      grown j e = pick (or_cases (is_in j ks) (cond (is_in d ks) (k == j) false) (sym (placed-in d k j ks) ∙ e))
+        where
+          pick : (is_in j ks ≡ true) ⊎ (cond (is_in d ks) (k == j) false ≡ true) → (is_in j ks ≡ true) ⊎ (j ≡ k)
+          pick (inl h) = inl h
+          pick (inr h) = inr (sym (same_number k j (sym (ap (λ b. cond b (k == j) false) above') ∙ h)))
+
+      count : length (placed d k ks) ≡ suc (length ks)
+      count = placed-length d k ks above'
+
+      at : (j : ℕ) → (is_in j ks ≡ true) ⊎ (j ≡ k) → depth_at (slice_set depths k (suc (depth_at depths d))) j < length (placed d k ks)
+      at j (inl h) = let kept = same j h in let few = is.shallow j h in omega (arith, kept, few, count)
+      at j (inr h) =
+          let deep' : depth_at (slice_set depths k (suc (depth_at depths d))) j ≡ suc (depth_at depths d) = subst (λ z. depth_at (slice_set depths k (suc (depth_at depths d))) z ≡ suc (depth_at depths d)) (sym h) deep in
+          let few = is.shallow d above' in
+          omega (arith, deep', few, count)
+
+  pub thread-placed : (o : Option ℕ) → presence_of supers k ≡ Some (record { superclass = o }) → k < length supers → IfSome o (λ d. is_in d ks ≡ true) → IsThread supers (depths_with depths k o) (nexts_with nexts k o) (thread_with ks k o)
+  thread-placed None here inside above' = thread-root here inside
+  thread-placed (Some d) here inside above' = thread-below d here inside above'
+
+-- which stand there afterwards, and how many
+pub thread-in : (ks : List ℕ) (k : ℕ) (o : Option ℕ) → IfSome o (λ d. is_in d ks ≡ true) → (j : ℕ) → is_in j (thread_with ks k o) ≡ ((k == j) || is_in j ks)
+thread-in ks k None up j = refl
+thread-in ks k (Some d) up j = placed-in d k j ks ∙ ap (λ b. is_in j ks || cond b (k == j) false) up ∙ swap (is_in j ks) (k == j)
+  where
+    swap : (a b : Bool) → (a || b) ≡ (b || a)
+    swap true true = refl
+    swap true false = refl
+    swap false true = refl
+    swap false false = refl
+
+pub thread-length : (ks : List ℕ) (k : ℕ) (o : Option ℕ) → IfSome o (λ d. is_in d ks ≡ true) → length (thread_with ks k o) ≡ suc (length ks)
+thread-length ks k None up = refl
+thread-length ks k (Some d) up = placed-length d k ks up
+
+pub length-depths_with : (depths : List ℕ) (k : ℕ) (o : Option ℕ) → length (depths_with depths k o) ≡ length depths
+length-depths_with depths k None = length-set depths k 0
+length-depths_with depths k (Some d) = length-set depths k (suc (depth_at depths d))
+
+pub length-nexts_with : (nexts : List (Option ℕ)) (k : ℕ) (o : Option ℕ) → length (nexts_with nexts k o) ≡ length nexts
+length-nexts_with nexts k None = length-set nexts k None
+length-nexts_with nexts k (Some d) = length-set (slice_set nexts k (next_at nexts d)) d (Some k) ∙ length-set nexts k (next_at nexts d)
+
+-- ---- the classes of an order, one by one
+
+-- of the classes before a place of an order
+pub record ThreadsTo (supers : List (Option Presence)) (order : List ℕ) (depths : List ℕ) (nexts : List (Option ℕ)) (place : ℕ) : Type 0 where
+  pub thread : List ℕ
+  pub is : IsThread supers depths nexts thread
+  pub those : (j : ℕ) → is_in j thread ≡ is_in j (take place order)
+  pub count : length thread ≡ place
+  pub depth_room : length depths ≡ length supers
+  pub next_room : length nexts ≡ length supers
+
+take-in : (order : List ℕ) (place j : ℕ) → is_in j (take place order) ≡ true → StandsBefore order place j
+take-in order zero j e = cc
+take-in [] (suc place) j e = cc
+take-in (x ∷ order) (suc place) j e = at (or_cases (x == j) (is_in j (take place order)) e) (take-in order place j)
+  where
+    at : ((x == j) ≡ true) ⊎ (is_in j (take place order) ≡ true) → (is_in j (take place order) ≡ true → StandsBefore order place j) → StandsBefore (x ∷ order) (suc place) j
+    at (inl h) rest = record { at = 0; before = omega arith; is = ap Some (same_number x j h) }
+    at (inr h) rest = let s = rest h in record { at = suc s.at; before = omega (arith, s.before); is = s.is }
+
+in-take : (order : List ℕ) (i place j : ℕ) → i < place → slice_get order i ≡ Some j → is_in j (take place order) ≡ true
+in-take [] i place j less e = cc
+in-take (x ∷ order) i zero j less e = absurd (omega (arith, less))
+in-take (x ∷ order) zero (suc place) j less e = ap (λ n. n || is_in j (take place order)) (ap (λ z. x == z) (sym (same_Some x j e)) ∙ equal x)
+in-take (x ∷ order) (suc i) (suc place) j less e = later-in j x (take place order) (in-take order i place j (omega (arith, less)) e)
+
+-- ---- each class stands in an order once
+
+unset-count : (supers : List (Option Presence)) (k : ℕ) → present_count supers ≤ suc (present_count (slice_set supers k None))
+unset-count [] k = omega arith
+unset-count (None ∷ xs) zero = omega arith
+unset-count (Some p ∷ xs) zero = omega arith
+unset-count (None ∷ xs) (suc k) = let rest = unset-count xs k in omega (arith, rest)
+unset-count (Some p ∷ xs) (suc k) = let rest = unset-count xs k in omega (arith, rest)
+
+none-present : (supers : List (Option Presence)) → ((k : ℕ) → is_present supers k ≡ false) → present_count supers ≡ 0
+none-present [] none = refl
+none-present (None ∷ xs) none = let rest = none-present xs (λ k. none (suc k)) in omega (arith, rest)
+none-present (Some p ∷ xs) none = let here : true ≡ false = none 0 in cc
+
+-- a list that has all that are present is as long as there are of these
+covered : (ks : List ℕ) (supers : List (Option Presence)) → ((k : ℕ) → is_present supers k ≡ true → is_in k ks ≡ true) → present_count supers ≤ length ks
+covered [] supers all = let none = none-present supers (λ k. false_from_ne_true (is_present supers k) (λ e. true≢false (sym (all k e)))) in omega (arith, none)
+covered (x ∷ ks) supers all =
+    let rest = covered ks (slice_set supers x None) (λ k e. others k e) in
+    let step = unset-count supers x in
+    omega (arith, rest, step)
+  where
+    others : (k : ℕ) → is_present (slice_set supers x None) k ≡ true → is_in k ks ≡ true
+    others k e = at (cases_eq k x)
+      where
+        at : (k ≡ x) ⊎ (k ≡ x → ⊥) → is_in k ks ≡ true
+        at (inl same) = absurd (gone (cases_lt x (length supers)))
+          where
+            gone : (x < length supers) ⊎ (length supers ≤ x) → ⊥
+            gone (inl inside) = true≢false (sym e ∙ ap (is_present (slice_set supers x None)) same ∙ ap is_some (get_or-set_same supers x None None inside))
+            gone (inr outside) = let less = present-inside (slice_set supers x None) k e in let n = length-set supers x None in omega (arith, less, n, outside, same)
+        at (inr other) =
+            let kept : is_present supers k ≡ true = sym (ap is_some (get_or-set_other supers x k None None other)) ∙ e in
+            pick (or_cases (x == k) (is_in k ks) (all k kept))
+          where
+            pick : ((x == k) ≡ true) ⊎ (is_in k ks ≡ true) → is_in k ks ≡ true
+            pick (inl h) = absurd (other (sym (same_number x k h)))
+            pick (inr h) = h
+
+-- what stands at a place
+pub element-at : (xs : List ℕ) (i : ℕ) → i < length xs → slice_get xs i ≡ Some (slice_index_or xs i 0)
+element-at [] i inside = absurd (omega (arith, inside))
+element-at (x ∷ xs) zero inside = refl
+element-at (x ∷ xs) (suc i) inside = element-at xs i (omega (arith, inside))
+
+pub in-order : (order : List ℕ) (i j : ℕ) → slice_get order i ≡ Some j → is_in j order ≡ true
+in-order [] i j e = cc
+in-order (x ∷ order) zero j e = ap (λ n. n || is_in j order) (ap (λ z. x == z) (sym (same_Some x j e)) ∙ equal x)
+in-order (x ∷ order) (suc i) j e = later-in j x order (in-order order i j e)
+
+-- so what stands at a place of an order doesn't stand before it
+once : (supers : List (Option Presence)) (order : List ℕ) → IsOrder supers order → (place k : ℕ) → slice_get order place ≡ Some k → is_in k (take place order) ≡ false
+once supers order before place k at-place = false_from_ne_true (is_in k (take place order)) twice
+  where
+    inside : place < length order
+    inside = slice_get_within order place k at-place
+
+    rest : List ℕ
+    rest = drop (suc place) order
+
+    split : order ≡ take place order ++ k ∷ drop (suc place) order
+    split = split_at order place 0 inside ∙ ap (λ z. take place order ++ z ∷ drop (suc place) order) (get_or_from_slice_get order place k 0 at-place)
+
+    in-parts : (j : ℕ) → is_present supers j ≡ true → (is_in j (take place order) || ((k == j) || is_in j (drop (suc place) order))) ≡ true
+    in-parts j there =
+        let stands = before.whole j there in
+        sym (list_any-append (λ x. x == j) (take place order) (k ∷ drop (suc place) order)) ∙ sym (ap (is_in j) split) ∙ in-order order stands.at j stands.is
+
+    without : (j : ℕ) (a b : Bool) → (k == j) ≡ b → (b ≡ true → a ≡ true) → (c : Bool) → (a || (b || c)) ≡ true → (a || c) ≡ true
+    without j true b t found c e = refl
+    without j false true t found c e = let clash : false ≡ true = found refl in cc
+    without j false false t found c e = e
+
+    twice : is_in k (take place order) ≡ true → ⊥
+    twice e =
+        let few = covered (take place order ++ drop (suc place) order) supers (λ j there.
+        list_any-append (λ x. x == j) (take place order) (drop (suc place) order)
+        ∙ without j (is_in j (take place order)) (k == j) refl (λ t. ap (λ z. is_in z (take place order)) (sym (same_number k j t)) ∙ e) (is_in j (drop (suc place) order)) (in-parts j there)) in
+        let whole : length order ≡ length (take place order) + suc (length (drop (suc place) order)) = ap length split ∙ length-append (take place order) (k ∷ drop (suc place) order) in
+        omega (arith, few, whole, length-append (take place order) (drop (suc place) order), before.count)
+
+-- ---- an order's classes are placed
+
+pub threads-begin : (supers : List (Option Presence)) (order : List ℕ) (depths : List ℕ) (nexts : List (Option ℕ)) → depths ≡ replicate (length supers) 0 → nexts ≡ replicate (length supers) None → ThreadsTo supers order depths nexts 0
+threads-begin supers order depths nexts d n = record {
+  thread = [];
+  is = record { preorder = tt; linked = tt; root = refl; shallow = λ k e. cc };
+  those = λ j. refl;
+  count = refl;
+  depth_room = ap length d ∙ length-replicate (length supers) 0;
+  next_room = ap length n ∙ length-replicate (length supers) None;
+}
+
+module _ (supers : List (Option Presence)) (order : List ℕ) (before : IsOrder supers order) (depths : List ℕ) (nexts : List (Option ℕ)) (place k : ℕ) (o : Option ℕ)
+    (threads : ThreadsTo supers order depths nexts place) (at-place : slice_get order place ≡ Some k) (here : presence_of supers k ≡ Some (record { superclass = o })) where
+  up-in : (o : Option ℕ) → presence_of supers k ≡ Some (record { superclass = o }) → IfSome o (λ d. is_in d threads.thread ≡ true)
+  up-in None e = tt
+  up-in (Some d) e =
+      let stands = before.above place k d (record { superclass = Some d }) at-place e refl in
+      threads.those d ∙ in-take order stands.at place d stands.before stands.is
+
+  -- the superclass was placed already
+  pub above-ready : IfSome o (λ d. (d < length depths) × (d < length nexts) × (depth_at depths d < length supers))
+  above-ready = at o (up-in o here)
+    where
+      at : (o : Option ℕ) → IfSome o (λ d. is_in d threads.thread ≡ true) → IfSome o (λ d. (d < length depths) × (d < length nexts) × (depth_at depths d < length supers))
+      at None e = tt
+      at (Some d) e =
+          let stands = take-in order place d (sym (threads.those d) ∙ e) in
+          let inside = present-inside supers d (before.present stands.at d stands.is) in
+          let few = threads.is.shallow d e in
+          (omega (arith, inside, threads.depth_room), omega (arith, inside, threads.next_room), omega (arith, few, threads.count, slice_get_within order place k at-place, before.count, count-le supers))
+
+  pub threads-on : ThreadsTo supers order (depths_with depths k o) (nexts_with nexts k o) (place + 1)
+  threads-on = record {
+    thread = thread_with threads.thread k o;
+    is = thread-placed supers order before depths nexts threads.thread k threads.is
+        (λ j e. let stands = take-in order place j (sym (threads.those j) ∙ e) in before.present stands.at j stands.is)
+        (λ j e p there of' upward.
+        let stands = take-in order place j (sym (threads.those j) ∙ there) in
+        let above' = before.above stands.at j e p stands.is of' upward in
+        threads.those e ∙ in-take order above'.at place e (omega (arith, above'.before, stands.before)) above'.is)
+        (threads.those k ∙ once supers order before place k at-place) threads.depth_room threads.next_room o here (present-inside supers k (ap is_some here)) (up-in o here);
+    those = λ j.
+        thread-in threads.thread k o (up-in o here) j ∙ ap (λ b. (k == j) || b) (threads.those j) ∙ swap (k == j) (is_in j (take place order))
+        ∙ sym (ap (is_in j) (take-next order place k at-place) ∙ list_any-append (λ x. x == j) (take place order) (k ∷ []));
+    count = thread-length threads.thread k o (up-in o here) ∙ ap suc threads.count ∙ omega arith;
+    depth_room = length-depths_with depths k o ∙ threads.depth_room;
+    next_room = length-nexts_with nexts k o ∙ threads.next_room;
+  }
+    where
+      swap : (a b : Bool) → (a || b) ≡ (b || (a || false))
+      swap true true = refl
+      swap true false = refl
+      swap false true = refl
+      swap false false = refl
+
+pub threads-end : (supers : List (Option Presence)) (order : List ℕ) (depths : List ℕ) (nexts : List (Option ℕ)) → IsOrder supers order → ThreadsTo supers order depths nexts (length order) → AreThreaded supers depths nexts
+threads-end supers order depths nexts before threads = record {
+  thread = threads.thread;
+  is = threads.is;
+  present = λ k. threads.those k ∙ ap (is_in k) (take-length order) ∙ all k (is_present supers k) refl;
+  count = threads.count ∙ before.count;
+  depth_room = threads.depth_room;
+  next_room = threads.next_room;
+}
+  where
+    all : (k : ℕ) (b : Bool) → is_present supers k ≡ b → is_in k order ≡ is_present supers k
+    all k true e = let stands = before.whole k e in in-order order stands.at k stands.is ∙ sym e
+    all k false e =
+        false_from_ne_true (is_in k order) (λ there.
+        let stands = take-in order (length order) k (ap (is_in k) (take-length order) ∙ there) in
+        true≢false (sym (before.present stands.at k stands.is) ∙ e))
+        ∙ sym e
+
+-- ---- a class that is made
+
+preorder-stays : (supers supers' : List (Option Presence)) (depth : ℕ → ℕ) (all : List ℕ) → ((x j : ℕ) → is_in x all ≡ true → is_in j all ≡ true → descends supers' (of_class x) (of_class j) ≡ descends supers (of_class x) (of_class j))
+    → (ks : List ℕ) → ((j : ℕ) → is_in j ks ≡ true → is_in j all ≡ true) → IsPreorder supers depth all ks → IsPreorder supers' depth all ks
+preorder-stays supers supers' depth all stays [] sub is = tt
+preorder-stays supers supers' depth all stays (k ∷ ks) sub is = (
+  record { below = λ j e. is.0.below j e ∙ sym (stays k j (sub k (first-in k ks)) e); once = is.0.once; step = is.0.step },
+  preorder-stays supers supers' depth all stays ks (λ j e. sub j (later-in j k ks e)) is.1,
+)
+
+module _ (supers : List (Option Presence)) (order : List ℕ) (before : IsOrder supers order) (depths : List ℕ) (nexts : List (Option ℕ)) (k : ℕ) (o : Option ℕ)
+    (inside : k < length supers) (absent : is_present supers k ≡ false) (up' : IfSome o (λ e. is_present supers e ≡ true)) (are : AreThreaded supers depths nexts) where
+  supers' : List (Option Presence)
+  supers' = slice_set supers k (Some (record { superclass = o }))
+
+  fresh : is_in k are.thread ≡ false
+  fresh = are.present k ∙ absent
+
+  kept : (j : ℕ) → is_in j are.thread ≡ true → j ≢ k
+  kept j e = apart-in j k are.thread e fresh
+
+  presence-kept : (j : ℕ) → j ≢ k → presence_of supers' j ≡ presence_of supers j
+  unfolding supers'
+  presence-kept j ne = get_or-set_other supers k j (Some (record { superclass = o })) None ne
+
+  here' : presence_of supers' k ≡ Some (record { superclass = o })
+  unfolding supers'
+  here' = get_or-set_same supers k (Some (record { superclass = o })) None inside
+
+  up-thread : (o : Option ℕ) → IfSome o (λ e. is_present supers e ≡ true) → IfSome o (λ d. is_in d are.thread ≡ true)
+  up-thread None e = tt
+  up-thread (Some d) e = are.present d ∙ e
+
+  -- the superclass stands there
+  pub made-ready : IfSome o (λ d. (d < length depths) × (d < length nexts) × (depth_at depths d < length supers))
+  made-ready = at o up'
+    where
+      at : (o : Option ℕ) → IfSome o (λ e. is_present supers e ≡ true) → IfSome o (λ d. (d < length depths) × (d < length nexts) × (depth_at depths d < length supers))
+      at None e = tt
+      at (Some d) e =
+          let less = present-inside supers d e in
+          let few = are.is.shallow d (are.present d ∙ e) in
+          (omega (arith, less, are.depth_room), omega (arith, less, are.next_room), omega (arith, few, are.count, count-le supers))
+
+  stays : (x j : ℕ) → is_in x are.thread ≡ true → is_in j are.thread ≡ true → descends supers' (of_class x) (of_class j) ≡ descends supers (of_class x) (of_class j)
+  unfolding supers' descends
+  stays x j ex ej = ap (is_member (of_class x)) (chain_of-stays supers order before k (record { superclass = o }) absent (of_class j) (kept j ej))
+
+  room' : length supers' ≡ length supers
+  unfolding supers'
+  room' = length-set supers k (Some (record { superclass = o }))
+
+  closed' : (j e : ℕ) (p : Presence) → is_in j are.thread ≡ true → presence_of supers' j ≡ Some p → p.superclass ≡ Some e → is_in e are.thread ≡ true
+  closed' j e p there of' upward =
+      let was : presence_of supers j ≡ Some p = sym (presence-kept j (kept j there)) ∙ of' in
+      let stands = before.whole j (ap is_some was) in
+      let above' = before.above stands.at j e p stands.is was upward in
+      are.present e ∙ before.present above'.at e above'.is
+
+  count' : length (thread_with are.thread k o) ≡ present_count supers'
+  unfolding supers'
+  count' = thread-length are.thread k o (up-thread o up') ∙ ap suc are.count ∙ sym (present_count-made supers k (record { superclass = o }) inside absent)
+
+  pub made-threaded : AreThreaded (slice_set supers k (Some (record { superclass = o }))) (depths_with depths k o) (nexts_with nexts k o)
+  unfolding supers'
+  made-threaded =
+      let made = made-order supers order before k o inside absent up' in
+      record {
+        thread = thread_with are.thread k o;
+        is = thread-placed supers' (order ++ k ∷ []) made depths nexts are.thread k
+            (record {
+              preorder = preorder-stays supers supers' (depth_at depths) are.thread stays are.thread (λ j e. e) are.is.preorder;
+              linked = are.is.linked;
+              root = are.is.root;
+              shallow = are.is.shallow;
+            })
+            (λ j e. ap is_some (presence-kept j (kept j e)) ∙ sym (are.present j) ∙ e) closed' fresh (are.depth_room ∙ sym room') (are.next_room ∙ sym room') o here' (omega (arith, inside, room')) (up-thread o up');
+        present = λ j. thread-in are.thread k o (up-thread o up') j ∙ present j (cases_Bool (k == j));
+        count = count';
+        depth_room = length-depths_with depths k o ∙ are.depth_room ∙ sym room';
+        next_room = length-nexts_with nexts k o ∙ are.next_room ∙ sym room';
+      }
+    where
+      present : (j : ℕ) → ((k == j) ≡ true) ⊎ ((k == j) ≡ false) → ((k == j) || is_in j are.thread) ≡ is_present supers' j
+      present j (inl e) = ap (λ b. b || is_in j are.thread) e ∙ sym (ap is_some (ap (presence_of supers') (sym (same_number k j e)) ∙ here'))
+      present j (inr e) = ap (λ b. b || is_in j are.thread) e ∙ are.present j ∙ sym (ap is_some (presence-kept j (λ same. other_number k j e (sym same))))

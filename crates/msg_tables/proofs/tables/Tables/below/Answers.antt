@@ -1,0 +1,58 @@
+use Rattle.std.proofs.Common.{◌≡◌, ℕ, List, Option, Some, None, Bool, true, false, cond, refl, sym, ap, ◌∙◌}
+use Rattle.std.specs.Prelude.{◌&&◌, ◌||◌, not, is_some, is_none}
+use Rattle.std.specs.Option.{option_map_or}
+use Rattle.msg_names.specs.declared.value.ClassRef.{ClassRef}
+use Rattle.msg_tables.specs.declared.presence.Presence.{Presence}
+use Rattle.msg_tables.specs.After.{of_class}
+use Rattle.msg_tables.specs.Chain.{presence_of, is_present, descends, is_root}
+use Rattle.msg_tables.specs.Order.{IsOrder}
+use Rattle.msg_tables.specs.Preorder.{is_in}
+use Rattle.msg_tables.specs.View.{TablesView}
+use Rattle.msg_tables.proofs.DescentLemmas.{kinds, descends-at, present-below, nothing-below}
+use Rattle.msg_tables.proofs.OrderLemmas.{present-inside, read-presence}
+use Rattle.msg_tables.proofs.tables.Tables.below.Goals as goal
+
+none-of : (o : Option ℕ) (b : Bool) → is_some o ≡ not b → b ≡ is_none o
+none-of None true e = refl
+none-of None false e = cc
+none-of (Some x) true e = cc
+none-of (Some x) false e = refl
+
+and-none : (b : Bool) → (b && false) ≡ false
+and-none true = refl
+and-none false = refl
+
+-- of the classes below that of a class reference, those that descend from it
+below-of : (supers : List (Option Presence)) (order : List ℕ) → IsOrder supers order → (origin : ClassRef) (root : Bool) (classes : List ℕ) → is_root supers origin.class ≡ root
+    → ((k : ℕ) → is_in k classes ≡ descends supers (of_class origin.class) (of_class k)) → (c : ClassRef) → (cond c.meta (origin.meta || root) (not origin.meta) && is_in c.class classes) ≡ descends supers origin c
+below-of supers order before origin root classes is all c =
+    ap (λ b. cond c.meta (origin.meta || root) (not origin.meta) && b) (all c.class)
+    ∙ sym (ap (λ r. cond c.meta (origin.meta || r) (not origin.meta) && descends supers (of_class origin.class) (of_class c.class)) is)
+    ∙ sym (kinds supers order before origin c)
+
+pub returns-in-Some-clause-below : goal.returns-in-Some-clause-below
+returns-in-Some-clause-below c = λ h stands d.
+    let supers = c.self.inside.supers.items in
+    let inside = rw (← c.self.view_is) at c.requires.class in
+    let here : presence_of supers c.args.class.class ≡ Some c.in-Some.presence = sym (read-presence supers c.args.class.class c.index.result.now inside c.index.ensures) ∙ c.in-Some.is in
+    let root : is_root supers c.args.class.class ≡ c.is_none.result = ap (λ o. option_map_or (λ (p : Presence). is_none p.superclass) o true) here ∙ sym (none-of c.in-Some.presence.superclass c.is_none.result c.is_none.ensures) in
+    let same = ap (λ (t : TablesView). t.supers) c.self.view_is ∙ stands.supers in
+    below-of supers c.self.inside.order.items c.self.invariant.order c.args.class c.is_none.result c.gather.new.classes.items root (c.gather.ensures.below supers c.self.invariant.thread (ap is_some here)) d
+    ∙ descends-at h supers c.args.class d same
+
+pub returns-in-Some-clause-classes : goal.returns-in-Some-clause-classes
+returns-in-Some-clause-classes c = λ k e.
+    let supers = c.self.inside.supers.items in
+    let inside = rw (← c.self.view_is) at c.requires.class in
+    let here : presence_of supers c.args.class.class ≡ Some c.in-Some.presence = sym (read-presence supers c.args.class.class c.index.result.now inside c.index.ensures) ∙ c.in-Some.is in
+    let down : descends supers (of_class c.args.class.class) (of_class k) ≡ true = sym (c.gather.ensures.below supers c.self.invariant.thread (ap is_some here) k) ∙ e in
+    rw (← c.self.view_is) (present-inside supers k (present-below supers (of_class c.args.class.class) (of_class k) down))
+
+pub returns-in_default-clause-below : goal.returns-in_default-clause-below
+returns-in_default-clause-below c = λ h stands d.
+    let supers = c.self.inside.supers.items in
+    let inside = rw (← c.self.view_is) at c.requires.class in
+    let gone : is_present supers c.args.class.class ≡ false = ap is_some (sym (read-presence supers c.args.class.class c.index.result.now inside c.index.ensures) ∙ c.in_default.is) in
+    let same = ap (λ (t : TablesView). t.supers) c.self.view_is ∙ stands.supers in
+    ap (λ ks. cond d.meta c.args.class.meta (not c.args.class.meta) && is_in d.class ks) c.clear.ensures.items ∙ and-none (cond d.meta c.args.class.meta (not c.args.class.meta))
+    ∙ sym (nothing-below supers c.self.inside.order.items c.self.invariant.order c.args.class gone d) ∙ descends-at h supers c.args.class d same

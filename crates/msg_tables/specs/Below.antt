@@ -1,0 +1,22 @@
+-- Class references at and below one.
+use Rattle.std.specs.Prelude.{◌&&◌, ℕ, List, Bool, if◌then◌else◌}
+use Rattle.std.specs.Vec.{vec_capacity}
+use Rattle.msg_names.specs.declared.value.ClassRef.{ClassRef}
+use Rattle.msg_tables.specs.Preorder.{is_in}
+use Rattle.msg_tables.specs.declared.below.Below.TheInside.{Inside}
+
+-- Some classes: of each itself, its metaclass, or both.
+pub record BelowView : Type 0 where
+  pub classes : List ℕ
+  pub own : Bool
+  pub meta : Bool
+  -- how many classes there is room for
+  pub room : ℕ
+
+-- a class reference is one of these
+abbrev pub is_among : BelowView → ClassRef → Bool
+is_among b c = (if c.meta then b.meta else b.own) && is_in c.class b.classes
+
+-- what contracts see of them
+abbrev pub below_of : Inside → BelowView
+below_of b = record { classes = b.classes.items; own = b.own; meta = b.meta; room = vec_capacity b.classes }

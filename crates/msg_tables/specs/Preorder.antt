@@ -1,0 +1,74 @@
+-- The classes that are present, in an order in which those below a class come right after it.
+use Rattle.std.specs.Prelude.{◌≡◌, ◌<◌, ◌≤◌, ◌==◌, ℕ, suc, slice_set, List, [], ◌∷◌, Option, Some, None, Bool, true, false, if◌then◌else◌, length, nat_lt, slice_index_or}
+use Rattle.std.specs.List.{list_any}
+use Rattle.msg_tables.specs.declared.presence.Presence.{Presence}
+use Rattle.msg_tables.specs.After.{of_class}
+use Rattle.msg_tables.specs.Chain.{is_present, descends}
+use Rattle.msg_tables.specs.Order.{present_count}
+
+-- one of the list
+abbrev pub is_in : ℕ → List ℕ → Bool
+is_in k ks = list_any (λ x. x == k) ks
+
+-- the classes that a list begins with, as long as they are deeper
+abbrev pub deeper : (ℕ → ℕ) → ℕ → List ℕ → List ℕ
+deeper depth d [] = []
+deeper depth d (k ∷ ks) = if nat_lt d (depth k) then k ∷ deeper depth d ks else []
+
+-- how deep the first of a list is
+abbrev pub first_depth : (ℕ → ℕ) → List ℕ → ℕ
+first_depth depth [] = 0
+first_depth depth (k ∷ ks) = depth k
+
+-- of some classes, those below one are the deeper ones that come right after it
+pub record IsFollowed (supers : List (Option Presence)) (depth : ℕ → ℕ) (all : List ℕ) (k : ℕ) (ks : List ℕ) : Type 0 where
+  pub below : (j : ℕ) → is_in j all ≡ true → is_in j (k ∷ deeper depth (depth k) ks) ≡ descends supers (of_class k) (of_class j)
+  pub once : is_in k ks ≡ false
+  pub step : first_depth depth ks ≤ suc (depth k)
+
+-- and so of each in its turn
+abbrev pub IsPreorder : List (Option Presence) → (ℕ → ℕ) → List ℕ → List ℕ → Type 0
+IsPreorder supers depth all [] = Unit {0}
+IsPreorder supers depth all (k ∷ ks) = IsFollowed supers depth all k ks × IsPreorder supers depth all ks
+
+-- the class that comes next, where it is no root class
+abbrev pub next_in : (ℕ → ℕ) → List ℕ → Option ℕ
+next_in depth [] = None
+next_in depth (k ∷ ks) = if depth k == 0 then None else Some k
+
+-- each class has the next one at hand
+abbrev pub AreLinked : (ℕ → ℕ) → (ℕ → Option ℕ) → List ℕ → Type 0
+AreLinked depth next [] = Unit {0}
+AreLinked depth next (k ∷ ks) = (next k ≡ next_in depth ks) × AreLinked depth next ks
+
+-- how deep a class is, and which comes next
+abbrev pub depth_at : List ℕ → ℕ → ℕ
+depth_at depths k = slice_index_or depths k 0
+
+abbrev pub next_at : List (Option ℕ) → ℕ → Option ℕ
+next_at nexts k = slice_index_or nexts k None
+
+-- classes stand in such an order
+pub record IsThread (supers : List (Option Presence)) (depths : List ℕ) (nexts : List (Option ℕ)) (ks : List ℕ) : Type 0 where
+  pub preorder : IsPreorder supers (depth_at depths) ks ks
+  pub linked : AreLinked (depth_at depths) (next_at nexts) ks
+  pub root : first_depth (depth_at depths) ks ≡ 0
+  pub shallow : (k : ℕ) → is_in k ks ≡ true → depth_at depths k < length ks
+
+-- and all that are present do
+pub record AreThreaded (supers : List (Option Presence)) (depths : List ℕ) (nexts : List (Option ℕ)) : Type 0 where
+  pub thread : List ℕ
+  pub is : IsThread supers depths nexts thread
+  pub present : (k : ℕ) → is_in k thread ≡ is_present supers k
+  pub count : length thread ≡ present_count supers
+  pub depth_room : length depths ≡ length supers
+  pub next_room : length nexts ≡ length supers
+
+-- a class is placed: a root class before all others, and another right after its superclass
+abbrev pub depths_with : List ℕ → ℕ → Option ℕ → List ℕ
+depths_with depths k None = slice_set depths k 0
+depths_with depths k (Some d) = slice_set depths k (suc (depth_at depths d))
+
+abbrev pub nexts_with : List (Option ℕ) → ℕ → Option ℕ → List (Option ℕ)
+nexts_with nexts k None = slice_set nexts k None
+nexts_with nexts k (Some d) = slice_set (slice_set nexts k (next_at nexts d)) d (Some k)

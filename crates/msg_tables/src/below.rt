@@ -1,0 +1,90 @@
+//! The class references at and below one.
+
+ghost use Rattle.std.specs.Prelude.{◌≡◌, ◌<◌, ◌≤◌, [], ℕ, IfOk, length, true};
+ghost use Rattle.msg_names.specs.declared.value.ClassRef.{ClassRef};
+ghost use Rattle.msg_tables.specs.Below.{is_among};
+ghost use Rattle.msg_tables.specs.Chain.{is_member};
+ghost use Rattle.msg_tables.specs.History.{History, chain_at};
+ghost use Rattle.msg_tables.specs.Preorder.{is_in};
+ghost use Rattle.msg_tables.specs.Stands.{StandsAt};
+
+use crate::tables::Tables;
+use msg_names::ClassRef;
+use std::alloc::{AllocError, Global};
+use std::marker::Model;
+
+/// The class references at and below one: some classes, and of each itself, its metaclass or both.
+///
+/// The room for as many classes as an image has is taken when it is made.
+#[derive(Drop)]
+pub struct Below {
+    pub(crate) classes: Vec<u32>,
+    pub(crate) own: bool,
+    pub(crate) meta: bool,
+}
+
+impl Model for Below {
+    ghost use Rattle.msg_tables.specs.Below.{BelowView};
+
+    ghost Value = { BelowView };
+
+    ghost use Rattle.msg_tables.specs.Below.{below_of};
+
+    ghost view = { below_of };
+}
+
+impl Below {
+    /// The classes, each after its superclass where that is one of them.
+    pub fn classes(&self) -> &[u32]
+        ensures { result.now ≡ self.now.classes }
+    {
+        &self.classes
+    }
+
+    /// Whether the classes themselves are meant.
+    pub fn has_classes(&self) -> bool
+        ensures { result ≡ self.now.own }
+    {
+        self.own
+    }
+
+    /// Whether their metaclasses are meant.
+    pub fn has_metaclasses(&self) -> bool
+        ensures { result ≡ self.now.meta }
+    {
+        self.meta
+    }
+}
+
+impl Tables {
+    /// Room for the class references below one, and none of them.
+    pub fn room_below(&self, alloc: Global) -> Result<Below, AllocError>
+        ensures room { IfOk result (λ b. length self.now.supers ≤ b.room) }
+        ensures none { IfOk result (λ b. b.classes ≡ []) }
+    {
+        Ok(Below {
+            classes: Vec::with_capacity(alloc, self.supers.len())?,
+            own: false,
+            meta: false,
+        })
+    }
+
+    /// Finds a class reference and all below it.
+    ///
+    /// Below a root class stand its metaclass and all metaclasses of its subclasses too. It looks at the classes that it finds and at one more, and takes no memory.
+    pub fn below(&self, class: ClassRef, below: &mut Below)
+        requires class { class.class < length self.now.supers }
+        requires room { length self.now.supers ≤ below.old.room }
+        ensures below { (h : History) → StandsAt self.now h → (c : ClassRef) → is_among below.new c ≡ is_member class (chain_at h c) }
+        ensures classes { (k : ℕ) → is_in k below.new.classes ≡ true → k < length self.now.supers }
+        ensures room { below.old.room ≤ below.new.room }
+    {
+        below.classes.clear();
+        below.own = !class.meta;
+        below.meta = class.meta;
+        if let Some(presence) = self.supers[class.class as usize] {
+            below.meta |= presence.superclass.is_none();
+            self.thread.gather(class.class, &mut below.classes);
+        }
+    }
+}

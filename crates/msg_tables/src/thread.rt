@@ -1,0 +1,108 @@
+//! The classes that are present, in an order in which those below a class come right after it.
+
+ghost use Rattle.std.specs.Prelude.{◌≡◌, ◌<◌, ◌≤◌, List, [], ◌∷◌, ◌++◌, ℕ, Option, IfOk, IfSome, None, Some, length, replicate, true};
+ghost use Rattle.std.specs.Vec.{vec_capacity};
+ghost use Rattle.msg_form.specs.declared.limits.TheConstants.{MAX_CLASSES};
+ghost use Rattle.msg_tables.specs.After.{of_class};
+ghost use Rattle.msg_tables.specs.Chain.{descends, is_present, presence_of};
+ghost use Rattle.msg_tables.specs.Order.{IsOrder};
+ghost use Rattle.msg_tables.specs.Preorder.{AreThreaded, depth_at, next_at, depths_with, is_in, nexts_with};
+ghost use Rattle.msg_tables.specs.declared.presence.Presence.{Presence};
+
+use crate::presence::Presence;
+use std::alloc::{AllocError, Global};
+
+// Of each class how many superclasses it has above it, and which class comes next, where that is no root class. So what is below a class is found by a walk over just that.
+#[derive(Drop)]
+pub(crate) struct Thread {
+    depths: Vec<u32>,
+    nexts: Vec<Option<u32>>,
+}
+
+impl Thread {
+    // Room for classes, none of which stands in the order.
+    pub(crate) fn new(alloc: Global, classes: usize) -> Result<Thread, AllocError>
+        ensures depths { IfOk result (λ t. t.depths.items ≡ replicate classes 0) }
+        ensures nexts { IfOk result (λ t. t.nexts.items ≡ replicate classes None) }
+    {
+        Ok(Thread {
+            depths: vec![in alloc; 0; classes]?,
+            nexts: vec![in alloc; None; classes]?,
+        })
+    }
+
+    // Places a class right after its superclass, or a root class before all others.
+    pub(crate) fn place(&mut self, class: u32, superclass: Option<u32>)
+        requires depths { class < length self.old.depths.items }
+        requires nexts { class < length self.old.nexts.items }
+        requires above { IfSome superclass (λ d. (d < length self.old.depths.items) × (d < length self.old.nexts.items) × (depth_at self.old.depths.items d < MAX_CLASSES)) }
+        ensures depths { self.new.depths.items ≡ depths_with self.old.depths.items class superclass }
+        ensures nexts { self.new.nexts.items ≡ nexts_with self.old.nexts.items class superclass }
+    {
+        match superclass {
+            Some(above) => {
+                self.depths[class as usize] = self.depths[above as usize] + 1;
+                self.nexts[class as usize] = self.nexts[above as usize];
+                self.nexts[above as usize] = Some(class);
+            }
+            None => {
+                self.depths[class as usize] = 0;
+                self.nexts[class as usize] = None;
+            }
+        }
+    }
+
+    // Gathers a class and those below it, each after its superclass. It looks at just these, and at one more.
+    pub(crate) fn gather(&self, class: u32, classes: &mut Vec<u32>)
+        requires threaded { (supers : List (Option Presence)) × AreThreaded supers self.now.depths.items self.now.nexts.items × (is_present supers class ≡ true) × (length supers ≤ vec_capacity classes.old) }
+        requires none { classes.old.items ≡ [] }
+        ensures room { vec_capacity classes.old ≤ vec_capacity classes.new }
+        ensures below { (supers : List (Option Presence)) → AreThreaded supers self.now.depths.items self.now.nexts.items → is_present supers class ≡ true → (k : ℕ) → is_in k classes.new.items ≡ descends supers (of_class class) (of_class k) }
+    {
+        push_one(classes, class);
+        let depth = self.depths[class as usize];
+        let mut at = self.nexts[class as usize];
+        while let Some(next) = at {
+            if self.depths[next as usize] <= depth {
+                return;
+            }
+            push_one(classes, next);
+            at = self.nexts[next as usize];
+        }
+    }
+}
+
+// The superclass of a class that is present.
+fn superclass_in(supers: &[Option<Presence>], class: u32) -> Option<u32>
+    requires { is_present supers.now class ≡ true }
+    ensures { presence_of supers.now class ≡ Some (record { superclass = result }) }
+{
+    supers[class as usize].unwrap().superclass
+}
+
+// The classes of an order, those below a class right after it.
+pub(crate) fn threaded(
+    alloc: Global,
+    supers: &[Option<Presence>],
+    order: &[u32],
+) -> Result<Thread, AllocError>
+    requires order { IsOrder supers.now order.now }
+    requires few { length supers.now ≤ MAX_CLASSES }
+    ensures { IfOk result (λ t. AreThreaded supers.now t.depths.items t.nexts.items) }
+{
+    let mut thread = Thread::new(alloc, supers.len())?;
+    for class in order {
+        thread.place(*class, superclass_in(supers, *class));
+    }
+    Ok(thread)
+}
+
+// Pushes a class, for which there is room.
+fn push_one(classes: &mut Vec<u32>, class: u32)
+    requires { length classes.old.items < vec_capacity classes.old }
+    ensures items { classes.new.items ≡ classes.old.items ++ class ∷ [] }
+    ensures room { vec_capacity classes.old ≤ vec_capacity classes.new }
+{
+    let pushed: Result<_, _> = classes.push(class);
+    pushed.unwrap();
+}
