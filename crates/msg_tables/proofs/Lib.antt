@@ -27,4 +27,4 @@ pub mod TakeLemmas
 pub mod DepthLemmas
 pub mod PreorderLemmas
 pub mod WalkLemmas
-pub mod ThreadLemmas
+pub mod PlacedLemmas

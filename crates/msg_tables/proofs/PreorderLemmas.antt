@@ -1,13 +1,14 @@
 -- Classes in an order in which those below a class come right after it.
-use Rattle.std.proofs.Common.{◌≡◌, ◌≢◌, ◌≤◌, ◌⊎◌, inl, inr, ℕ, suc, List, [], ◌∷◌, length, Option, Some, None, Bool, true, false, cond, refl, sym, ap, ◌∙◌, subst, arith}
-use Rattle.std.specs.Prelude.{◌==◌, ◌||◌, nat_lt}
+use Rattle.std.proofs.Common.{◌≡◌, ◌≢◌, ◌<◌, ◌≤◌, ◌⊎◌, inl, inr, ℕ, zero, suc, List, [], ◌∷◌, length, Option, Some, None, Bool, true, false, cond, slice_get, refl, sym, ap, ◌∙◌, subst, arith}
+use Rattle.std.specs.Prelude.{◌==◌, ◌||◌, nat_lt, slice_index_or}
 use Rattle.std.proofs.lemmas.Bool.{true≢false, or_cases, or_from, or_parts, or_left, or_right, false_from_ne_true}
 use Rattle.std.proofs.lemmas.Bool.Decides.{nat_tests}
+use Rattle.std.proofs.lemmas.Option.{same_Some}
 use Rattle.msg_names.proofs.TestLemmas.{same_number, other_number, equal}
 use Rattle.msg_tables.specs.declared.presence.Presence.{Presence}
 use Rattle.msg_tables.specs.After.{of_class}
 use Rattle.msg_tables.specs.Chain.{descends}
-use Rattle.msg_tables.specs.Preorder.{is_in, deeper, first_depth, IsFollowed, IsPreorder, next_in, AreLinked}
+use Rattle.msg_tables.specs.Preorder.{is_in, deeper, first_depth, IsFollowed, AreFollowed, next_in, AreLinked}
 
 -- ---- lists of classes
 
@@ -23,6 +24,17 @@ apart-in j k ks e f same = true≢false (sym e ∙ ap (λ n. is_in n ks) same �
 
 pub unlike : (j k : ℕ) → j ≢ k → (j == k) ≡ false
 unlike j k ne = false_from_ne_true (j == k) (λ e. ne (same_number j k e))
+
+-- what stands at a place
+pub element-at : (xs : List ℕ) (i : ℕ) → i < length xs → slice_get xs i ≡ Some (slice_index_or xs i 0)
+element-at [] i inside = absurd (omega (arith, inside))
+element-at (x ∷ xs) zero inside = refl
+element-at (x ∷ xs) (suc i) inside = element-at xs i (omega (arith, inside))
+
+pub in-order : (order : List ℕ) (i j : ℕ) → slice_get order i ≡ Some j → is_in j order ≡ true
+in-order [] i j e = cc
+in-order (x ∷ order) zero j e = ap (λ n. n || is_in j order) (ap (λ z. x == z) (sym (same_Some x j e)) ∙ equal x)
+in-order (x ∷ order) (suc i) j e = later-in j x order (in-order order i j e)
 
 -- a class goes right after another
 abbrev pub placed : ℕ → ℕ → List ℕ → List ℕ
@@ -130,7 +142,7 @@ deeper-placed f s n d j (k ∷ ks) one = at (k == s) refl (deeper-placed f s n d
 
 -- what isn't below a class that stands later
 not-below : (supers : List (Option Presence)) (depth : ℕ → ℕ) (all : List ℕ) (s : ℕ) → is_in s all ≡ true
-    → (ks : List ℕ) → IsPreorder supers depth all ks → is_in s ks ≡ false → (k : ℕ) → is_in k ks ≡ true → descends supers (of_class k) (of_class s) ≡ false
+    → (ks : List ℕ) → AreFollowed supers depth all ks → is_in s ks ≡ false → (k : ℕ) → is_in k ks ≡ true → descends supers (of_class k) (of_class s) ≡ false
 not-below supers depth all s old [] is out k e = cc
 not-below supers depth all s old (x ∷ ks) is out k e = at (or_cases (x == k) (is_in k ks) e) (not-below supers depth all s old ks is.1 parts.1 k)
   where
@@ -173,7 +185,7 @@ module _ (supers : List (Option Presence)) (depth depth' : ℕ → ℕ) (all all
           let absent : is_in n (k ∷ deeper depth (depth k) ks) ≡ false = or_from (k == n) (is_in n (deeper depth (depth k) ks)) parts.0 (out-deeper depth (depth k) n ks parts.1) in
           subst (λ z. is_in z (k ∷ deeper depth' (depth' k) ks) ≡ descends supers (of_class k) (of_class z)) (sym new) (ap (λ js. is_in n (k ∷ js)) is-same ∙ absent ∙ sym none)
 
-  pub preorder-grown : (ks : List ℕ) → IsPreorder supers depth all ks → ((j : ℕ) → is_in j ks ≡ true → is_in j all ≡ true) → ((k : ℕ) → is_in k ks ≡ true → descends supers (of_class k) (of_class n) ≡ false) → IsPreorder supers depth' all' ks
+  pub preorder-grown : (ks : List ℕ) → AreFollowed supers depth all ks → ((j : ℕ) → is_in j ks ≡ true → is_in j all ≡ true) → ((k : ℕ) → is_in k ks ≡ true → descends supers (of_class k) (of_class n) ≡ false) → AreFollowed supers depth' all' ks
   preorder-grown [] is sub none = tt
   preorder-grown (k ∷ ks) is sub none =
       (followed-grown k ks is.0 sub (none k (first-in k ks)), preorder-grown ks is.1 (λ j e. sub j (later-in j k ks e)) (λ j e. none j (later-in j k ks e)))
@@ -277,14 +289,14 @@ module _ (supers : List (Option Presence)) (depth depth' : ℕ → ℕ) (all all
             ap (λ b. (k == n) || b) (spread n) ∙ rw (parts.0, gone, itself', other) (whole (is_in s (deeper depth (depth k) ks))) in
             subst (λ z. is_in z (k ∷ deeper depth' (depth' k) (placed s n ks)) ≡ descends supers (of_class k) (of_class z)) (sym new) (fact ∙ is.below s old ∙ sym (up k kept))
 
-    pub preorder-placed : (ks : List ℕ) → IsPreorder supers depth all ks → ((j : ℕ) → is_in j ks ≡ true → is_in j all ≡ true) → IsPreorder supers depth' all' (placed s n ks)
+    pub preorder-placed : (ks : List ℕ) → AreFollowed supers depth all ks → ((j : ℕ) → is_in j ks ≡ true → is_in j all ≡ true) → AreFollowed supers depth' all' (placed s n ks)
     preorder-placed [] is sub = tt
     preorder-placed (k ∷ ks) is sub = at (k == s) refl (preorder-placed ks is.1 (λ j e. sub j (later-in j k ks e)))
       where
         later : (j : ℕ) → is_in j ks ≡ true → is_in j all ≡ true
         later j e = sub j (later-in j k ks e)
 
-        at : (b : Bool) → (k == s) ≡ b → IsPreorder supers depth' all' (placed s n ks) → IsPreorder supers depth' all' (cond b (k ∷ n ∷ ks) (k ∷ placed s n ks))
+        at : (b : Bool) → (k == s) ≡ b → AreFollowed supers depth' all' (placed s n ks) → AreFollowed supers depth' all' (cond b (k ∷ n ∷ ks) (k ∷ placed s n ks))
         at false e rest = (followed-before k ks e is.0 sub, rest)
         at true e rest =
             let here : k ≡ s = same_number k s e in
@@ -312,7 +324,7 @@ module _ (depth depth' : ℕ → ℕ) (next next' : ℕ → Option ℕ) where
   )
 
   -- where one more class goes right after another
-  pub linked-placed : (supers : List (Option Presence)) (all : List ℕ) (s n : ℕ) (ks : List ℕ) → IsPreorder supers depth all ks
+  pub linked-placed : (supers : List (Option Presence)) (all : List ℕ) (s n : ℕ) (ks : List ℕ) → AreFollowed supers depth all ks
       → ((j : ℕ) → is_in j ks ≡ true → depth' j ≡ depth j) → ((j : ℕ) → is_in j ks ≡ true → j ≢ s → next' j ≡ next j)
       → next' s ≡ Some n → next' n ≡ next s → (depth' n == 0) ≡ false → AreLinked depth next ks → AreLinked depth' next' (placed s n ks)
   linked-placed supers all s n [] order same kept after-s after-n deep is = tt

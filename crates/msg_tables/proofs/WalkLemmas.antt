@@ -8,7 +8,7 @@ use Rattle.msg_names.proofs.TestLemmas.{same_number}
 use Rattle.msg_tables.specs.declared.presence.Presence.{Presence}
 use Rattle.msg_tables.specs.After.{of_class}
 use Rattle.msg_tables.specs.Chain.{is_present, descends}
-use Rattle.msg_tables.specs.Preorder.{is_in, deeper, first_depth, IsFollowed, IsPreorder, next_in, AreLinked, depth_at, next_at, AreThreaded}
+use Rattle.msg_tables.specs.Preorder.{is_in, deeper, first_depth, IsFollowed, AreFollowed, next_in, AreLinked, depth_at, next_at, HavePreorder}
 use Rattle.msg_tables.proofs.DescentLemmas.{absent-below}
 use Rattle.msg_tables.proofs.OrderLemmas.{count-le}
 use Rattle.msg_tables.proofs.PreorderLemmas.{first-in, later-in, out-deeper, deeper-none}
@@ -23,7 +23,7 @@ record Tail (supers : List (Option Presence)) (depth : ℕ → ℕ) (next : ℕ 
   pub sub : (j : ℕ) → is_in j rest ≡ true → is_in j ks ≡ true
   pub shorter : length rest < length ks
 
-tail-of : (supers : List (Option Presence)) (depth : ℕ → ℕ) (next : ℕ → Option ℕ) (all : List ℕ) (k : ℕ) (ks : List ℕ) → IsPreorder supers depth all ks → AreLinked depth next ks → is_in k ks ≡ true → Tail supers depth next all k ks
+tail-of : (supers : List (Option Presence)) (depth : ℕ → ℕ) (next : ℕ → Option ℕ) (all : List ℕ) (k : ℕ) (ks : List ℕ) → AreFollowed supers depth all ks → AreLinked depth next ks → is_in k ks ≡ true → Tail supers depth next all k ks
 tail-of supers depth next all k [] order links e = cc
 tail-of supers depth next all k (x ∷ ks) order links e = at (or_cases (x == k) (is_in k ks) e) (tail-of supers depth next all k ks order.1 links.1)
   where
@@ -69,9 +69,9 @@ or-one true b c = refl
 or-one false true c = refl
 or-one false false c = refl
 
-pub walk-begins : (supers : List (Option Presence)) (depths : List ℕ) (nexts : List (Option ℕ)) (k : ℕ) → AreThreaded supers depths nexts → is_present supers k ≡ true → Walks supers depths nexts k (k ∷ []) (next_at nexts k)
+pub walk-begins : (supers : List (Option Presence)) (depths : List ℕ) (nexts : List (Option ℕ)) (k : ℕ) → HavePreorder supers depths nexts → is_present supers k ≡ true → Walks supers depths nexts k (k ∷ []) (next_at nexts k)
 walk-begins supers depths nexts k are there =
-    let tail = tail-of supers (depth_at depths) (next_at nexts) are.thread k are.thread are.is.preorder are.is.linked (are.present k ∙ there) in
+    let tail = tail-of supers (depth_at depths) (next_at nexts) are.classes k are.classes are.is.followed are.is.linked (are.present k ∙ there) in
     record {
       rest = tail.rest;
       here = tail.here;
@@ -81,7 +81,7 @@ walk-begins supers depths nexts k are there =
       few = omega (arith, tail.shorter, are.count, count-le supers);
     }
   where
-    at : (tail : Tail supers (depth_at depths) (next_at nexts) are.thread k are.thread) (j : ℕ) → (is_present supers j ≡ true) ⊎ (is_present supers j ≡ false) → is_in j (k ∷ deeper (depth_at depths) (depth_at depths k) tail.rest) ≡ descends supers (of_class k) (of_class j)
+    at : (tail : Tail supers (depth_at depths) (next_at nexts) are.classes k are.classes) (j : ℕ) → (is_present supers j ≡ true) ⊎ (is_present supers j ≡ false) → is_in j (k ∷ deeper (depth_at depths) (depth_at depths k) tail.rest) ≡ descends supers (of_class k) (of_class j)
     at tail j (inl e) = tail.followed.below j (are.present j ∙ e)
     at tail j (inr e) =
         let other : (k == j) ≡ false = false_from_ne_true (k == j) (λ h. true≢false (sym there ∙ ap (is_present supers) (same_number k j h) ∙ e)) in

@@ -5,7 +5,7 @@ use Rattle.std.specs.Vec.{vec_capacity}
 use Rattle.msg_form.specs.declared.limits.TheConstants.{MAX_CLASSES}
 use Rattle.msg_tables.specs.declared.tables.TheConstants.{MAX_ROWS, MAX_CHANGES}
 use Rattle.msg_tables.specs.Order.{IsOrder}
-use Rattle.msg_tables.specs.Preorder.{AreThreaded}
+use Rattle.msg_tables.specs.Preorder.{HavePreorder}
 use Rattle.msg_tables.specs.RowList.{rows_of}
 use Rattle.msg_tables.specs.View.{TablesView, are_listed}
 use Rattle.msg_tables.specs.declared.tables.Tables.TheInside.{Inside}
@@ -29,7 +29,7 @@ pub record AreSoundTables (t : Inside) : Type 0 where
   -- and there is room for the others
   pub room : length t.supers.items ≤ vec_capacity t.order
   -- and in one in which those below a class come right after it
-  pub thread : AreThreaded t.supers.items t.thread.depths.items t.thread.nexts.items
+  pub preorder : HavePreorder t.supers.items t.preorder.depths.items t.preorder.nexts.items
   -- there is a list for each class reference
   pub lists : length t.lists.items ≡ 2 * length t.supers.items
   pub listed : list_all (are_listed (length t.args.items)) (rows_of t.lists.items) ≡ true

@@ -26,10 +26,10 @@ pub record IsFollowed (supers : List (Option Presence)) (depth : ℕ → ℕ) (a
   pub once : is_in k ks ≡ false
   pub step : first_depth depth ks ≤ suc (depth k)
 
--- and so of each in its turn
-abbrev pub IsPreorder : List (Option Presence) → (ℕ → ℕ) → List ℕ → List ℕ → Type 0
-IsPreorder supers depth all [] = Unit {0}
-IsPreorder supers depth all (k ∷ ks) = IsFollowed supers depth all k ks × IsPreorder supers depth all ks
+-- of each class of a list it is so, with those that come after it
+abbrev pub AreFollowed : List (Option Presence) → (ℕ → ℕ) → List ℕ → List ℕ → Type 0
+AreFollowed supers depth all [] = Unit {0}
+AreFollowed supers depth all (k ∷ ks) = IsFollowed supers depth all k ks × AreFollowed supers depth all ks
 
 -- the class that comes next, where it is no root class
 abbrev pub next_in : (ℕ → ℕ) → List ℕ → Option ℕ
@@ -48,19 +48,19 @@ depth_at depths k = slice_index_or depths k 0
 abbrev pub next_at : List (Option ℕ) → ℕ → Option ℕ
 next_at nexts k = slice_index_or nexts k None
 
--- classes stand in such an order
-pub record IsThread (supers : List (Option Presence)) (depths : List ℕ) (nexts : List (Option ℕ)) (ks : List ℕ) : Type 0 where
-  pub preorder : IsPreorder supers (depth_at depths) ks ks
+-- the classes of a list stand in such an order, a root class first
+pub record IsPreorder (supers : List (Option Presence)) (depths : List ℕ) (nexts : List (Option ℕ)) (ks : List ℕ) : Type 0 where
+  pub followed : AreFollowed supers (depth_at depths) ks ks
   pub linked : AreLinked (depth_at depths) (next_at nexts) ks
   pub root : first_depth (depth_at depths) ks ≡ 0
   pub shallow : (k : ℕ) → is_in k ks ≡ true → depth_at depths k < length ks
 
--- and all that are present do
-pub record AreThreaded (supers : List (Option Presence)) (depths : List ℕ) (nexts : List (Option ℕ)) : Type 0 where
-  pub thread : List ℕ
-  pub is : IsThread supers depths nexts thread
-  pub present : (k : ℕ) → is_in k thread ≡ is_present supers k
-  pub count : length thread ≡ present_count supers
+-- the classes that are present stand in such an order, each once
+pub record HavePreorder (supers : List (Option Presence)) (depths : List ℕ) (nexts : List (Option ℕ)) : Type 0 where
+  pub classes : List ℕ
+  pub is : IsPreorder supers depths nexts classes
+  pub present : (k : ℕ) → is_in k classes ≡ is_present supers k
+  pub count : length classes ≡ present_count supers
   pub depth_room : length depths ≡ length supers
   pub next_room : length nexts ≡ length supers
 

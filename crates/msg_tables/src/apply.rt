@@ -70,7 +70,7 @@ impl Tables {
     {
         let pushed: Result<_, _> = self.order.push(class);
         pushed.unwrap();
-        self.thread.place(class, superclass);
+        self.preorder.place(class, superclass);
         self.supers[class as usize] = Some(Presence { superclass });
     }
 

@@ -84,7 +84,7 @@ impl Tables {
         below.meta = class.meta;
         if let Some(presence) = self.supers[class.class as usize] {
             below.meta |= presence.superclass.is_none();
-            self.thread.gather(class.class, &mut below.classes);
+            self.preorder.gather(class.class, &mut below.classes);
         }
     }
 }

@@ -11,10 +11,10 @@ pub mod laws;
 mod lists;
 mod marks;
 mod opening;
+mod preorder;
 mod presence;
 mod rows;
 mod tables;
-mod thread;
 
 pub use below::Below;
 pub use fault::ChangeFault;

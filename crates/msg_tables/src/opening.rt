@@ -17,10 +17,10 @@ ghost use Rattle.msg_tables.specs.Stands.{StandsAt};
 ghost use Rattle.msg_tables.specs.View.{are_listed};
 
 use crate::lists::append_rows;
+use crate::preorder::preorder_of;
 use crate::presence::Presence;
 use crate::rows::MethodRows;
 use crate::tables::{MAX_ROWS, Tables};
-use crate::thread::threaded;
 use msg_image::{Category, Image};
 use msg_names::{ClassRef, ImpRef, Names, Selector};
 use msg_order::class_order;
@@ -134,11 +134,11 @@ impl Tables {
         let classes = image.class_count();
         let supers = opened_classes(alloc, image)?;
         let order = listed_order(alloc, image)?;
-        let thread = threaded(alloc, &supers, &order)?;
+        let preorder = preorder_of(alloc, &supers, &order)?;
         Ok(Tables {
             supers,
             order,
-            thread,
+            preorder,
             lists: empty_lists(alloc, 2 * classes as usize)?,
             colons: colon_counts(alloc, image.names())?,
             args: argument_counts(alloc, image)?,

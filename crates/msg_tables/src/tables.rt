@@ -9,9 +9,9 @@ ghost use Rattle.msg_tables.specs.RowList.{own_in};
 ghost use Rattle.msg_tables.specs.Stands.{StandsAt};
 ghost use Rattle.msg_tables.specs.View.{kept, kept_method, are_listed};
 
+use crate::preorder::Preorder;
 use crate::presence::Presence;
 use crate::rows::MethodRows;
-use crate::thread::Thread;
 use msg_form::MAX_ENTRIES;
 use msg_names::{ClassRef, ImpRef, Selector};
 use std::marker::Model;
@@ -30,7 +30,7 @@ pub struct Tables {
     pub(crate) supers: Vec<Option<Presence>>,
     // The classes that are present, each after its superclass. There is room for all that may be made.
     pub(crate) order: Vec<u32>,
-    pub(crate) thread: Thread,
+    pub(crate) preorder: Preorder,
     pub(crate) lists: Vec<MethodRows>,
     pub(crate) colons: Vec<u8>,
     pub(crate) args: Vec<u8>,

@@ -3,7 +3,7 @@ use Rattle.std.specs.Prelude.{slice_index_or}
 use Rattle.msg_image.specs.Parts.{class_total}
 use Rattle.msg_tables.specs.History.{History}
 use Rattle.msg_tables.specs.Preorder.{is_in}
-use Rattle.msg_tables.proofs.ThreadLemmas.{element-at, in-order}
+use Rattle.msg_tables.proofs.PreorderLemmas.{element-at, in-order}
 use Rattle.msg_runtime.proofs.flushing.flush_each.Goals as goal
 
 pub flush_class-requires-clause-class : goal.flush_class-requires-clause-class

@@ -5,7 +5,7 @@ use Rattle.std.proofs.Math.Seq.{take-length}
 use Rattle.msg_tables.specs.Marking.{is_marked}
 use Rattle.msg_tables.specs.Preorder.{is_in}
 use Rattle.msg_tables.proofs.TakeLemmas.{take-next}
-use Rattle.msg_tables.proofs.ThreadLemmas.{in-order, element-at}
+use Rattle.msg_tables.proofs.PreorderLemmas.{in-order, element-at}
 use Rattle.msg_tables.proofs.marks.mark_each.Goals as goal
 
 none-more : (a k : Bool) → a ≡ (a || (k && false))

@@ -21,7 +21,7 @@ invariant_of-self-2 c =
     record {
       order = c.self.invariant.order;
       room = c.self.invariant.room;
-      thread = c.self.invariant.thread;
+      preorder = c.self.invariant.preorder;
       lists = put-length c.self.inside.lists.items c.append_row.new.lists.items c.slot.result _ now ∙ c.self.invariant.lists;
       listed = put-listed (length c.self.inside.args.items) c.self.inside.lists.items c.append_row.new.lists.items c.slot.result (λ ms. ms ++ row) now c.self.invariant.listed
           (λ ms all. listed-append (length c.self.inside.args.items) ms row all (grind (arith, nat_tests, fits.named.1)));

@@ -23,7 +23,7 @@ invariant_of-self-2 c =
     record {
       order = c.self.invariant.order;
       room = c.self.invariant.room;
-      thread = c.self.invariant.thread;
+      preorder = c.self.invariant.preorder;
       lists = put_two-length was c.attach_rows.new.lists.items c.slot-at.result _ _ now ∙ c.self.invariant.lists;
       listed = put_two-listed n was c.attach_rows.new.lists.items c.slot-at.result ms cs now c.self.invariant.listed
           (rw c.as_slice-own.ensures (listed-reverse n c.args.methods.now fits.named.1)) (rw c.as_slice-meta.ensures (listed-reverse n c.args.class_methods.now fits.named.2));

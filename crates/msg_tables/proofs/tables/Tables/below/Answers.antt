@@ -37,7 +37,7 @@ returns-in-Some-clause-below c = λ h stands d.
     let here : presence_of supers c.args.class.class ≡ Some c.in-Some.presence = sym (read-presence supers c.args.class.class c.index.result.now inside c.index.ensures) ∙ c.in-Some.is in
     let root : is_root supers c.args.class.class ≡ c.is_none.result = ap (λ o. option_map_or (λ (p : Presence). is_none p.superclass) o true) here ∙ sym (none-of c.in-Some.presence.superclass c.is_none.result c.is_none.ensures) in
     let same = ap (λ (t : TablesView). t.supers) c.self.view_is ∙ stands.supers in
-    below-of supers c.self.inside.order.items c.self.invariant.order c.args.class c.is_none.result c.gather.new.classes.items root (c.gather.ensures.below supers c.self.invariant.thread (ap is_some here)) d
+    below-of supers c.self.inside.order.items c.self.invariant.order c.args.class c.is_none.result c.gather.new.classes.items root (c.gather.ensures.below supers c.self.invariant.preorder (ap is_some here)) d
     ∙ descends-at h supers c.args.class d same
 
 pub returns-in-Some-clause-classes : goal.returns-in-Some-clause-classes
@@ -45,7 +45,7 @@ returns-in-Some-clause-classes c = λ k e.
     let supers = c.self.inside.supers.items in
     let inside = rw (← c.self.view_is) at c.requires.class in
     let here : presence_of supers c.args.class.class ≡ Some c.in-Some.presence = sym (read-presence supers c.args.class.class c.index.result.now inside c.index.ensures) ∙ c.in-Some.is in
-    let down : descends supers (of_class c.args.class.class) (of_class k) ≡ true = sym (c.gather.ensures.below supers c.self.invariant.thread (ap is_some here) k) ∙ e in
+    let down : descends supers (of_class c.args.class.class) (of_class k) ≡ true = sym (c.gather.ensures.below supers c.self.invariant.preorder (ap is_some here) k) ∙ e in
     rw (← c.self.view_is) (present-inside supers k (present-below supers (of_class c.args.class.class) (of_class k) down))
 
 pub returns-in_default-clause-below : goal.returns-in_default-clause-below

@@ -1,7 +1,7 @@
 use Rattle.std.proofs.Common.{◌*◌, length, [], sym, ap, ◌∙◌, subst, arith}
 use Rattle.std.proofs.lemmas.List.{length-replicate}
 use Rattle.msg_tables.specs.Order.{IsOrder}
-use Rattle.msg_tables.specs.Preorder.{AreThreaded}
+use Rattle.msg_tables.specs.Preorder.{HavePreorder}
 use Rattle.msg_tables.proofs.ListedOrderLemmas.{length-opened}
 use Rattle.msg_tables.proofs.OpeningLemmas.{listed-blank}
 use Rattle.msg_tables.proofs.PutLemmas.{length-rows_of}
@@ -17,7 +17,7 @@ invariant_of-result c =
     record {
       order = subst (λ s. IsOrder s c.in_ok-order.order.items) (sym supers) c.in_ok-order.ensures.order;
       room = omega (arith, count, c.in_ok-order.ensures.room);
-      thread = subst (λ s. AreThreaded s c.in_ok-thread.thread.depths.items c.in_ok-thread.thread.nexts.items) c.deref.ensures.value c.in_ok-thread.ensures;
+      preorder = subst (λ s. HavePreorder s c.in_ok-preorder.preorder.depths.items c.in_ok-preorder.preorder.nexts.items) c.deref.ensures.value c.in_ok-preorder.ensures;
       lists = omega (arith, sym (length-rows_of c.in_ok-empty_lists.field-0.items) ∙ ap length lists ∙ length-replicate (2 * classes.result) [], classes.ensures.count, count);
       listed = rw lists (listed-blank (length c.in_ok-argument_counts.field-0.items) (2 * classes.result));
       few_classes = omega (arith, classes.ensures.sound.few_classes, count);

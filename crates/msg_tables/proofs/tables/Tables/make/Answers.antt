@@ -4,9 +4,9 @@ use Rattle.std.proofs.lemmas.List.{length-set}
 use Rattle.msg_tables.specs.declared.presence.Presence.{Presence}
 use Rattle.msg_form.specs.declared.limits.TheConstants.{MAX_CLASSES}
 use Rattle.msg_tables.specs.Order.{IsOrder}
-use Rattle.msg_tables.specs.Preorder.{AreThreaded, depth_at, depths_with}
+use Rattle.msg_tables.specs.Preorder.{HavePreorder, depth_at, depths_with}
 use Rattle.msg_tables.proofs.MadeLemmas.{made-order, order-room}
-use Rattle.msg_tables.proofs.ThreadLemmas.{made-ready, made-threaded}
+use Rattle.msg_tables.proofs.PlacedLemmas.{made-ready, made-preorder}
 use Rattle.msg_tables.proofs.tables.Tables.make.Goals as goal
 
 pub unwrap-requires : goal.unwrap-requires
@@ -24,10 +24,10 @@ pub place-requires-clause-above : goal.place-requires-clause-above
 place-requires-clause-above c =
     let fits = rw (← c.self.view_is) at c.requires in
     let was = c.self.inside.supers.items in
-    let depths = c.self.inside.thread.depths.items in
-    let nexts = c.self.inside.thread.nexts.items in
+    let depths = c.self.inside.preorder.depths.items in
+    let nexts = c.self.inside.preorder.nexts.items in
     within depths nexts (length was) c.args.superclass c.self.invariant.few_classes
-    (made-ready was c.self.inside.order.items c.self.invariant.order depths nexts c.args.class c.args.superclass fits.named.0 fits.named.1 fits.named.2 c.self.invariant.thread)
+    (made-ready was c.self.inside.order.items c.self.invariant.order depths nexts c.args.class c.args.superclass fits.named.0 fits.named.1 fits.named.2 c.self.invariant.preorder)
 
 pub invariant_of-self : goal.invariant_of-self
 invariant_of-self c =
@@ -41,9 +41,9 @@ invariant_of-self c =
     record {
       order = subst (λ o. IsOrder (slice_set was c.args.class (Some made)) o) (sym pushed) (made-order was order c.self.invariant.order c.args.class c.args.superclass fits.named.0 fits.named.1 fits.named.2);
       room = omega (arith, grown, c.self.invariant.room, c.push-pushed.ensures.capacity);
-      thread = subst (λ ds. AreThreaded (slice_set was c.args.class (Some made)) ds c.place.new.self.nexts.items) (sym c.place.ensures.depths)
-          (subst (λ ns. AreThreaded (slice_set was c.args.class (Some made)) (depths_with c.self.inside.thread.depths.items c.args.class c.args.superclass) ns) (sym c.place.ensures.nexts)
-          (made-threaded was order c.self.invariant.order c.self.inside.thread.depths.items c.self.inside.thread.nexts.items c.args.class c.args.superclass fits.named.0 fits.named.1 fits.named.2 c.self.invariant.thread));
+      preorder = subst (λ ds. HavePreorder (slice_set was c.args.class (Some made)) ds c.place.new.self.nexts.items) (sym c.place.ensures.depths)
+          (subst (λ ns. HavePreorder (slice_set was c.args.class (Some made)) (depths_with c.self.inside.preorder.depths.items c.args.class c.args.superclass) ns) (sym c.place.ensures.nexts)
+          (made-preorder was order c.self.invariant.order c.self.inside.preorder.depths.items c.self.inside.preorder.nexts.items c.args.class c.args.superclass fits.named.0 fits.named.1 fits.named.2 c.self.invariant.preorder));
       lists = omega (arith, grown, c.self.invariant.lists);
       listed = c.self.invariant.listed;
       few_classes = omega (arith, grown, c.self.invariant.few_classes);

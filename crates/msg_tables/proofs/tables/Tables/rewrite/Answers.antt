@@ -21,7 +21,7 @@ invariant_of-self c =
     record {
       order = c.self.invariant.order;
       room = c.self.invariant.room;
-      thread = c.self.invariant.thread;
+      preorder = c.self.invariant.preorder;
       lists = put-length c.self.inside.lists.items c.rewrite_row.new.lists.items c.slot.result _ now ∙ c.self.invariant.lists;
       listed = put-listed n c.self.inside.lists.items c.rewrite_row.new.lists.items c.slot.result write now c.self.invariant.listed
           (λ ms all. listed-set_last n (selector_number c.args.row.sel) (imp_number c.args.row.imp) ms own.imp all);

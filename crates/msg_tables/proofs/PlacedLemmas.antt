@@ -1,6 +1,6 @@
 -- One class more in an order in which those below a class come right after it.
 use Rattle.std.proofs.Common.{◌≡◌, ◌≢◌, ◌<◌, ◌≤◌, ◌+◌, ◌++◌, ◌⊎◌, inl, inr, ℕ, zero, suc, List, [], ◌∷◌, length, Option, Some, None, Bool, true, false, cond, replicate, take, drop, slice_get, length-append, refl, sym, ap, ◌∙◌, subst, arith}
-use Rattle.std.specs.Prelude.{◌==◌, ◌||◌, is_some, slice_index_or, slice_set, IfSome}
+use Rattle.std.specs.Prelude.{◌==◌, ◌||◌, is_some, slice_set, IfSome}
 use Rattle.std.specs.Option.{option_map_or}
 use Rattle.std.proofs.lemmas.Bool.{true≢false, or_cases, false_from_ne_true, cases_eq, cases_lt, cases_Bool}
 use Rattle.std.proofs.lemmas.List.{length-set, length-replicate, get_or-set_same, get_or-set_other}
@@ -15,18 +15,18 @@ use Rattle.msg_tables.specs.declared.presence.Presence.{Presence}
 use Rattle.msg_tables.specs.After.{of_class}
 use Rattle.msg_tables.specs.Chain.{presence_of, is_present, super_of, steps_of, is_member, descends}
 use Rattle.msg_tables.specs.Order.{StandsBefore, IsOrder, present_count}
-use Rattle.msg_tables.specs.Preorder.{is_in, first_depth, IsPreorder, next_in, depth_at, next_at, IsThread, AreThreaded, depths_with, nexts_with}
+use Rattle.msg_tables.specs.Preorder.{is_in, first_depth, AreFollowed, next_in, depth_at, next_at, IsPreorder, HavePreorder, depths_with, nexts_with}
 use Rattle.msg_tables.proofs.DescentLemmas.{descends-step, up, itself}
 use Rattle.msg_tables.proofs.OrderLemmas.{count-le, present-inside, super-is, super-fewer}
 use Rattle.msg_tables.proofs.MadeLemmas.{made-order, present_count-made}
 use Rattle.msg_tables.proofs.PresenceLemmas.{chain_of-stays}
 use Rattle.msg_tables.proofs.TakeLemmas.{take-next}
-use Rattle.msg_tables.proofs.PreorderLemmas.{first-in, later-in, apart-in, unlike, placed, placed-in, placed-length, placed-first, first-same, preorder-grown, preorder-placed, followed-new, next-same, linked-same, linked-placed}
+use Rattle.msg_tables.proofs.PreorderLemmas.{in-order, first-in, later-in, apart-in, unlike, placed, placed-in, placed-length, placed-first, first-same, preorder-grown, preorder-placed, followed-new, next-same, linked-same, linked-placed}
 
 -- a root class before all others, and another right after its superclass
-abbrev pub thread_with : List ℕ → ℕ → Option ℕ → List ℕ
-thread_with ks k None = k ∷ ks
-thread_with ks k (Some d) = placed d k ks
+abbrev pub placed_with : List ℕ → ℕ → Option ℕ → List ℕ
+placed_with ks k None = k ∷ ks
+placed_with ks k (Some d) = placed d k ks
 
 -- a class that stands in no chain of the others
 pub out-of-chains : (supers : List (Option Presence)) (order : List ℕ) → IsOrder supers order → (ks : List ℕ) (k : ℕ) → is_in k ks ≡ false
@@ -53,7 +53,7 @@ out-of-chains supers order before ks k fresh closed j there = false_from_ne_true
 
 -- A class is placed.
 module _ (supers : List (Option Presence)) (order : List ℕ) (before : IsOrder supers order) (depths : List ℕ) (nexts : List (Option ℕ)) (ks : List ℕ) (k : ℕ)
-    (is : IsThread supers depths nexts ks)
+    (is : IsPreorder supers depths nexts ks)
     (present : (j : ℕ) → is_in j ks ≡ true → is_present supers j ≡ true)
     (closed : (j e : ℕ) (p : Presence) → is_in j ks ≡ true → presence_of supers j ≡ Some p → p.superclass ≡ Some e → is_in e ks ≡ true)
     (fresh : is_in k ks ≡ false)
@@ -78,11 +78,11 @@ module _ (supers : List (Option Presence)) (order : List ℕ) (before : IsOrder 
       at None = ap (λ b. b || false) apart
       at (Some d) = ap (λ b. b || descends supers (of_class x) (of_class d)) apart
 
-  thread-root : presence_of supers k ≡ Some (record { superclass = None }) → k < length supers → IsThread supers (slice_set depths k 0) (slice_set nexts k None) (k ∷ ks)
-  thread-root here inside = record {
-    preorder = (
+  preorder-root : presence_of supers k ≡ Some (record { superclass = None }) → k < length supers → IsPreorder supers (slice_set depths k 0) (slice_set nexts k None) (k ∷ ks)
+  preorder-root here inside = record {
+    followed = (
       followed-new supers (depth_at depths) depth' ks (k ∷ ks) k grown fresh same ks fresh (omega (arith, first', is.root)) own leaf,
-      preorder-grown supers (depth_at depths) depth' ks (k ∷ ks) k grown fresh same ks is.preorder (λ j e. e) (λ j e. from None here j (other j e)),
+      preorder-grown supers (depth_at depths) depth' ks (k ∷ ks) k grown fresh same ks is.followed (λ j e. e) (λ j e. from None here j (other j e)),
     );
     linked = (
       get_or-set_same nexts k None None (omega (arith, inside, next_room)) ∙ sym (next-same (depth_at depths) depth' (next_at nexts) next' ks same ∙ none ks is.root),
@@ -125,12 +125,12 @@ module _ (supers : List (Option Presence)) (order : List ℕ) (before : IsOrder 
       at j (inl h) = let zero' : depth_at (slice_set depths k 0) j ≡ 0 = subst (λ z. depth_at (slice_set depths k 0) z ≡ 0) (same_number k j h) deep in omega (arith, zero')
       at j (inr h) = let kept = same j h in let few = is.shallow j h in omega (arith, kept, few)
 
-  thread-below : (d : ℕ) → presence_of supers k ≡ Some (record { superclass = Some d }) → k < length supers → is_in d ks ≡ true
-      → IsThread supers (slice_set depths k (suc (depth_at depths d))) (slice_set (slice_set nexts k (next_at nexts d)) d (Some k)) (placed d k ks)
-  thread-below d here inside above' = record {
-    preorder = preorder-placed supers (depth_at depths) depth' ks (placed d k ks) k grown fresh same d above' deep (itself supers order before (of_class d) (present d above')) (itself supers order before (of_class k) (ap is_some here)) leaf
-        (λ x e. from (Some d) here x (other x e)) ks is.preorder (λ j e. e);
-    linked = linked-placed (depth_at depths) depth' (next_at nexts) next' supers ks d k ks is.preorder same
+  preorder-below : (d : ℕ) → presence_of supers k ≡ Some (record { superclass = Some d }) → k < length supers → is_in d ks ≡ true
+      → IsPreorder supers (slice_set depths k (suc (depth_at depths d))) (slice_set (slice_set nexts k (next_at nexts d)) d (Some k)) (placed d k ks)
+  preorder-below d here inside above' = record {
+    followed = preorder-placed supers (depth_at depths) depth' ks (placed d k ks) k grown fresh same d above' deep (itself supers order before (of_class d) (present d above')) (itself supers order before (of_class k) (ap is_some here)) leaf
+        (λ x e. from (Some d) here x (other x e)) ks is.followed (λ j e. e);
+    linked = linked-placed (depth_at depths) depth' (next_at nexts) next' supers ks d k ks is.followed same
         (λ j e ne. get_or-set_other (slice_set nexts k (next_at nexts d)) d j (Some k) None ne ∙ get_or-set_other nexts k j (next_at nexts d) None (other j e))
         (get_or-set_same (slice_set nexts k (next_at nexts d)) d (Some k) None (omega (arith, length-set nexts k (next_at nexts d), next_room, inside-d)))
         (get_or-set_other (slice_set nexts k (next_at nexts d)) d k (Some k) None (λ e. other d above' (sym e)) ∙ get_or-set_same nexts k (next_at nexts d) None (omega (arith, inside, next_room)))
@@ -171,14 +171,14 @@ module _ (supers : List (Option Presence)) (order : List ℕ) (before : IsOrder 
           let few = is.shallow d above' in
           omega (arith, deep', few, count)
 
-  pub thread-placed : (o : Option ℕ) → presence_of supers k ≡ Some (record { superclass = o }) → k < length supers → IfSome o (λ d. is_in d ks ≡ true) → IsThread supers (depths_with depths k o) (nexts_with nexts k o) (thread_with ks k o)
-  thread-placed None here inside above' = thread-root here inside
-  thread-placed (Some d) here inside above' = thread-below d here inside above'
+  pub preorder-with : (o : Option ℕ) → presence_of supers k ≡ Some (record { superclass = o }) → k < length supers → IfSome o (λ d. is_in d ks ≡ true) → IsPreorder supers (depths_with depths k o) (nexts_with nexts k o) (placed_with ks k o)
+  preorder-with None here inside above' = preorder-root here inside
+  preorder-with (Some d) here inside above' = preorder-below d here inside above'
 
 -- which stand there afterwards, and how many
-pub thread-in : (ks : List ℕ) (k : ℕ) (o : Option ℕ) → IfSome o (λ d. is_in d ks ≡ true) → (j : ℕ) → is_in j (thread_with ks k o) ≡ ((k == j) || is_in j ks)
-thread-in ks k None up j = refl
-thread-in ks k (Some d) up j = placed-in d k j ks ∙ ap (λ b. is_in j ks || cond b (k == j) false) up ∙ swap (is_in j ks) (k == j)
+pub placed_with-in : (ks : List ℕ) (k : ℕ) (o : Option ℕ) → IfSome o (λ d. is_in d ks ≡ true) → (j : ℕ) → is_in j (placed_with ks k o) ≡ ((k == j) || is_in j ks)
+placed_with-in ks k None up j = refl
+placed_with-in ks k (Some d) up j = placed-in d k j ks ∙ ap (λ b. is_in j ks || cond b (k == j) false) up ∙ swap (is_in j ks) (k == j)
   where
     swap : (a b : Bool) → (a || b) ≡ (b || a)
     swap true true = refl
@@ -186,9 +186,9 @@ thread-in ks k (Some d) up j = placed-in d k j ks ∙ ap (λ b. is_in j ks || co
     swap false true = refl
     swap false false = refl
 
-pub thread-length : (ks : List ℕ) (k : ℕ) (o : Option ℕ) → IfSome o (λ d. is_in d ks ≡ true) → length (thread_with ks k o) ≡ suc (length ks)
-thread-length ks k None up = refl
-thread-length ks k (Some d) up = placed-length d k ks up
+pub placed_with-length : (ks : List ℕ) (k : ℕ) (o : Option ℕ) → IfSome o (λ d. is_in d ks ≡ true) → length (placed_with ks k o) ≡ suc (length ks)
+placed_with-length ks k None up = refl
+placed_with-length ks k (Some d) up = placed-length d k ks up
 
 pub length-depths_with : (depths : List ℕ) (k : ℕ) (o : Option ℕ) → length (depths_with depths k o) ≡ length depths
 length-depths_with depths k None = length-set depths k 0
@@ -201,11 +201,11 @@ length-nexts_with nexts k (Some d) = length-set (slice_set nexts k (next_at next
 -- ---- the classes of an order, one by one
 
 -- of the classes before a place of an order
-pub record ThreadsTo (supers : List (Option Presence)) (order : List ℕ) (depths : List ℕ) (nexts : List (Option ℕ)) (place : ℕ) : Type 0 where
-  pub thread : List ℕ
-  pub is : IsThread supers depths nexts thread
-  pub those : (j : ℕ) → is_in j thread ≡ is_in j (take place order)
-  pub count : length thread ≡ place
+pub record PlacedTo (supers : List (Option Presence)) (order : List ℕ) (depths : List ℕ) (nexts : List (Option ℕ)) (place : ℕ) : Type 0 where
+  pub classes : List ℕ
+  pub is : IsPreorder supers depths nexts classes
+  pub those : (j : ℕ) → is_in j classes ≡ is_in j (take place order)
+  pub count : length classes ≡ place
   pub depth_room : length depths ≡ length supers
   pub next_room : length nexts ≡ length supers
 
@@ -263,17 +263,6 @@ covered (x ∷ ks) supers all =
             pick (inl h) = absurd (other (sym (same_number x k h)))
             pick (inr h) = h
 
--- what stands at a place
-pub element-at : (xs : List ℕ) (i : ℕ) → i < length xs → slice_get xs i ≡ Some (slice_index_or xs i 0)
-element-at [] i inside = absurd (omega (arith, inside))
-element-at (x ∷ xs) zero inside = refl
-element-at (x ∷ xs) (suc i) inside = element-at xs i (omega (arith, inside))
-
-pub in-order : (order : List ℕ) (i j : ℕ) → slice_get order i ≡ Some j → is_in j order ≡ true
-in-order [] i j e = cc
-in-order (x ∷ order) zero j e = ap (λ n. n || is_in j order) (ap (λ z. x == z) (sym (same_Some x j e)) ∙ equal x)
-in-order (x ∷ order) (suc i) j e = later-in j x order (in-order order i j e)
-
 -- so what stands at a place of an order doesn't stand before it
 once : (supers : List (Option Presence)) (order : List ℕ) → IsOrder supers order → (place k : ℕ) → slice_get order place ≡ Some k → is_in k (take place order) ≡ false
 once supers order before place k at-place = false_from_ne_true (is_in k (take place order)) twice
@@ -307,10 +296,10 @@ once supers order before place k at-place = false_from_ne_true (is_in k (take pl
 
 -- ---- an order's classes are placed
 
-pub threads-begin : (supers : List (Option Presence)) (order : List ℕ) (depths : List ℕ) (nexts : List (Option ℕ)) → depths ≡ replicate (length supers) 0 → nexts ≡ replicate (length supers) None → ThreadsTo supers order depths nexts 0
-threads-begin supers order depths nexts d n = record {
-  thread = [];
-  is = record { preorder = tt; linked = tt; root = refl; shallow = λ k e. cc };
+pub placed-begin : (supers : List (Option Presence)) (order : List ℕ) (depths : List ℕ) (nexts : List (Option ℕ)) → depths ≡ replicate (length supers) 0 → nexts ≡ replicate (length supers) None → PlacedTo supers order depths nexts 0
+placed-begin supers order depths nexts d n = record {
+  classes = [];
+  is = record { followed = tt; linked = tt; root = refl; shallow = λ k e. cc };
   those = λ j. refl;
   count = refl;
   depth_room = ap length d ∙ length-replicate (length supers) 0;
@@ -318,41 +307,41 @@ threads-begin supers order depths nexts d n = record {
 }
 
 module _ (supers : List (Option Presence)) (order : List ℕ) (before : IsOrder supers order) (depths : List ℕ) (nexts : List (Option ℕ)) (place k : ℕ) (o : Option ℕ)
-    (threads : ThreadsTo supers order depths nexts place) (at-place : slice_get order place ≡ Some k) (here : presence_of supers k ≡ Some (record { superclass = o })) where
-  up-in : (o : Option ℕ) → presence_of supers k ≡ Some (record { superclass = o }) → IfSome o (λ d. is_in d threads.thread ≡ true)
+    (so_far : PlacedTo supers order depths nexts place) (at-place : slice_get order place ≡ Some k) (here : presence_of supers k ≡ Some (record { superclass = o })) where
+  up-in : (o : Option ℕ) → presence_of supers k ≡ Some (record { superclass = o }) → IfSome o (λ d. is_in d so_far.classes ≡ true)
   up-in None e = tt
   up-in (Some d) e =
       let stands = before.above place k d (record { superclass = Some d }) at-place e refl in
-      threads.those d ∙ in-take order stands.at place d stands.before stands.is
+      so_far.those d ∙ in-take order stands.at place d stands.before stands.is
 
   -- the superclass was placed already
   pub above-ready : IfSome o (λ d. (d < length depths) × (d < length nexts) × (depth_at depths d < length supers))
   above-ready = at o (up-in o here)
     where
-      at : (o : Option ℕ) → IfSome o (λ d. is_in d threads.thread ≡ true) → IfSome o (λ d. (d < length depths) × (d < length nexts) × (depth_at depths d < length supers))
+      at : (o : Option ℕ) → IfSome o (λ d. is_in d so_far.classes ≡ true) → IfSome o (λ d. (d < length depths) × (d < length nexts) × (depth_at depths d < length supers))
       at None e = tt
       at (Some d) e =
-          let stands = take-in order place d (sym (threads.those d) ∙ e) in
+          let stands = take-in order place d (sym (so_far.those d) ∙ e) in
           let inside = present-inside supers d (before.present stands.at d stands.is) in
-          let few = threads.is.shallow d e in
-          (omega (arith, inside, threads.depth_room), omega (arith, inside, threads.next_room), omega (arith, few, threads.count, slice_get_within order place k at-place, before.count, count-le supers))
+          let few = so_far.is.shallow d e in
+          (omega (arith, inside, so_far.depth_room), omega (arith, inside, so_far.next_room), omega (arith, few, so_far.count, slice_get_within order place k at-place, before.count, count-le supers))
 
-  pub threads-on : ThreadsTo supers order (depths_with depths k o) (nexts_with nexts k o) (place + 1)
-  threads-on = record {
-    thread = thread_with threads.thread k o;
-    is = thread-placed supers order before depths nexts threads.thread k threads.is
-        (λ j e. let stands = take-in order place j (sym (threads.those j) ∙ e) in before.present stands.at j stands.is)
+  pub placed-on : PlacedTo supers order (depths_with depths k o) (nexts_with nexts k o) (place + 1)
+  placed-on = record {
+    classes = placed_with so_far.classes k o;
+    is = preorder-with supers order before depths nexts so_far.classes k so_far.is
+        (λ j e. let stands = take-in order place j (sym (so_far.those j) ∙ e) in before.present stands.at j stands.is)
         (λ j e p there of' upward.
-        let stands = take-in order place j (sym (threads.those j) ∙ there) in
+        let stands = take-in order place j (sym (so_far.those j) ∙ there) in
         let above' = before.above stands.at j e p stands.is of' upward in
-        threads.those e ∙ in-take order above'.at place e (omega (arith, above'.before, stands.before)) above'.is)
-        (threads.those k ∙ once supers order before place k at-place) threads.depth_room threads.next_room o here (present-inside supers k (ap is_some here)) (up-in o here);
+        so_far.those e ∙ in-take order above'.at place e (omega (arith, above'.before, stands.before)) above'.is)
+        (so_far.those k ∙ once supers order before place k at-place) so_far.depth_room so_far.next_room o here (present-inside supers k (ap is_some here)) (up-in o here);
     those = λ j.
-        thread-in threads.thread k o (up-in o here) j ∙ ap (λ b. (k == j) || b) (threads.those j) ∙ swap (k == j) (is_in j (take place order))
+        placed_with-in so_far.classes k o (up-in o here) j ∙ ap (λ b. (k == j) || b) (so_far.those j) ∙ swap (k == j) (is_in j (take place order))
         ∙ sym (ap (is_in j) (take-next order place k at-place) ∙ list_any-append (λ x. x == j) (take place order) (k ∷ []));
-    count = thread-length threads.thread k o (up-in o here) ∙ ap suc threads.count ∙ omega arith;
-    depth_room = length-depths_with depths k o ∙ threads.depth_room;
-    next_room = length-nexts_with nexts k o ∙ threads.next_room;
+    count = placed_with-length so_far.classes k o (up-in o here) ∙ ap suc so_far.count ∙ omega arith;
+    depth_room = length-depths_with depths k o ∙ so_far.depth_room;
+    next_room = length-nexts_with nexts k o ∙ so_far.next_room;
   }
     where
       swap : (a b : Bool) → (a || b) ≡ (b || (a || false))
@@ -361,14 +350,14 @@ module _ (supers : List (Option Presence)) (order : List ℕ) (before : IsOrder 
       swap false true = refl
       swap false false = refl
 
-pub threads-end : (supers : List (Option Presence)) (order : List ℕ) (depths : List ℕ) (nexts : List (Option ℕ)) → IsOrder supers order → ThreadsTo supers order depths nexts (length order) → AreThreaded supers depths nexts
-threads-end supers order depths nexts before threads = record {
-  thread = threads.thread;
-  is = threads.is;
-  present = λ k. threads.those k ∙ ap (is_in k) (take-length order) ∙ all k (is_present supers k) refl;
-  count = threads.count ∙ before.count;
-  depth_room = threads.depth_room;
-  next_room = threads.next_room;
+pub placed-end : (supers : List (Option Presence)) (order : List ℕ) (depths : List ℕ) (nexts : List (Option ℕ)) → IsOrder supers order → PlacedTo supers order depths nexts (length order) → HavePreorder supers depths nexts
+placed-end supers order depths nexts before so_far = record {
+  classes = so_far.classes;
+  is = so_far.is;
+  present = λ k. so_far.those k ∙ ap (is_in k) (take-length order) ∙ all k (is_present supers k) refl;
+  count = so_far.count ∙ before.count;
+  depth_room = so_far.depth_room;
+  next_room = so_far.next_room;
 }
   where
     all : (k : ℕ) (b : Bool) → is_present supers k ≡ b → is_in k order ≡ is_present supers k
@@ -382,7 +371,7 @@ threads-end supers order depths nexts before threads = record {
 -- ---- a class that is made
 
 preorder-stays : (supers supers' : List (Option Presence)) (depth : ℕ → ℕ) (all : List ℕ) → ((x j : ℕ) → is_in x all ≡ true → is_in j all ≡ true → descends supers' (of_class x) (of_class j) ≡ descends supers (of_class x) (of_class j))
-    → (ks : List ℕ) → ((j : ℕ) → is_in j ks ≡ true → is_in j all ≡ true) → IsPreorder supers depth all ks → IsPreorder supers' depth all ks
+    → (ks : List ℕ) → ((j : ℕ) → is_in j ks ≡ true → is_in j all ≡ true) → AreFollowed supers depth all ks → AreFollowed supers' depth all ks
 preorder-stays supers supers' depth all stays [] sub is = tt
 preorder-stays supers supers' depth all stays (k ∷ ks) sub is = (
   record { below = λ j e. is.0.below j e ∙ sym (stays k j (sub k (first-in k ks)) e); once = is.0.once; step = is.0.step },
@@ -390,15 +379,15 @@ preorder-stays supers supers' depth all stays (k ∷ ks) sub is = (
 )
 
 module _ (supers : List (Option Presence)) (order : List ℕ) (before : IsOrder supers order) (depths : List ℕ) (nexts : List (Option ℕ)) (k : ℕ) (o : Option ℕ)
-    (inside : k < length supers) (absent : is_present supers k ≡ false) (up' : IfSome o (λ e. is_present supers e ≡ true)) (are : AreThreaded supers depths nexts) where
+    (inside : k < length supers) (absent : is_present supers k ≡ false) (up' : IfSome o (λ e. is_present supers e ≡ true)) (are : HavePreorder supers depths nexts) where
   supers' : List (Option Presence)
   supers' = slice_set supers k (Some (record { superclass = o }))
 
-  fresh : is_in k are.thread ≡ false
+  fresh : is_in k are.classes ≡ false
   fresh = are.present k ∙ absent
 
-  kept : (j : ℕ) → is_in j are.thread ≡ true → j ≢ k
-  kept j e = apart-in j k are.thread e fresh
+  kept : (j : ℕ) → is_in j are.classes ≡ true → j ≢ k
+  kept j e = apart-in j k are.classes e fresh
 
   presence-kept : (j : ℕ) → j ≢ k → presence_of supers' j ≡ presence_of supers j
   unfolding supers'
@@ -408,9 +397,9 @@ module _ (supers : List (Option Presence)) (order : List ℕ) (before : IsOrder 
   unfolding supers'
   here' = get_or-set_same supers k (Some (record { superclass = o })) None inside
 
-  up-thread : (o : Option ℕ) → IfSome o (λ e. is_present supers e ≡ true) → IfSome o (λ d. is_in d are.thread ≡ true)
-  up-thread None e = tt
-  up-thread (Some d) e = are.present d ∙ e
+  up-placed : (o : Option ℕ) → IfSome o (λ e. is_present supers e ≡ true) → IfSome o (λ d. is_in d are.classes ≡ true)
+  up-placed None e = tt
+  up-placed (Some d) e = are.present d ∙ e
 
   -- the superclass stands there
   pub made-ready : IfSome o (λ d. (d < length depths) × (d < length nexts) × (depth_at depths d < length supers))
@@ -423,7 +412,7 @@ module _ (supers : List (Option Presence)) (order : List ℕ) (before : IsOrder 
           let few = are.is.shallow d (are.present d ∙ e) in
           (omega (arith, less, are.depth_room), omega (arith, less, are.next_room), omega (arith, few, are.count, count-le supers))
 
-  stays : (x j : ℕ) → is_in x are.thread ≡ true → is_in j are.thread ≡ true → descends supers' (of_class x) (of_class j) ≡ descends supers (of_class x) (of_class j)
+  stays : (x j : ℕ) → is_in x are.classes ≡ true → is_in j are.classes ≡ true → descends supers' (of_class x) (of_class j) ≡ descends supers (of_class x) (of_class j)
   unfolding supers' descends
   stays x j ex ej = ap (is_member (of_class x)) (chain_of-stays supers order before k (record { superclass = o }) absent (of_class j) (kept j ej))
 
@@ -431,37 +420,37 @@ module _ (supers : List (Option Presence)) (order : List ℕ) (before : IsOrder 
   unfolding supers'
   room' = length-set supers k (Some (record { superclass = o }))
 
-  closed' : (j e : ℕ) (p : Presence) → is_in j are.thread ≡ true → presence_of supers' j ≡ Some p → p.superclass ≡ Some e → is_in e are.thread ≡ true
+  closed' : (j e : ℕ) (p : Presence) → is_in j are.classes ≡ true → presence_of supers' j ≡ Some p → p.superclass ≡ Some e → is_in e are.classes ≡ true
   closed' j e p there of' upward =
       let was : presence_of supers j ≡ Some p = sym (presence-kept j (kept j there)) ∙ of' in
       let stands = before.whole j (ap is_some was) in
       let above' = before.above stands.at j e p stands.is was upward in
       are.present e ∙ before.present above'.at e above'.is
 
-  count' : length (thread_with are.thread k o) ≡ present_count supers'
+  count' : length (placed_with are.classes k o) ≡ present_count supers'
   unfolding supers'
-  count' = thread-length are.thread k o (up-thread o up') ∙ ap suc are.count ∙ sym (present_count-made supers k (record { superclass = o }) inside absent)
+  count' = placed_with-length are.classes k o (up-placed o up') ∙ ap suc are.count ∙ sym (present_count-made supers k (record { superclass = o }) inside absent)
 
-  pub made-threaded : AreThreaded (slice_set supers k (Some (record { superclass = o }))) (depths_with depths k o) (nexts_with nexts k o)
+  pub made-preorder : HavePreorder (slice_set supers k (Some (record { superclass = o }))) (depths_with depths k o) (nexts_with nexts k o)
   unfolding supers'
-  made-threaded =
+  made-preorder =
       let made = made-order supers order before k o inside absent up' in
       record {
-        thread = thread_with are.thread k o;
-        is = thread-placed supers' (order ++ k ∷ []) made depths nexts are.thread k
+        classes = placed_with are.classes k o;
+        is = preorder-with supers' (order ++ k ∷ []) made depths nexts are.classes k
             (record {
-              preorder = preorder-stays supers supers' (depth_at depths) are.thread stays are.thread (λ j e. e) are.is.preorder;
+              followed = preorder-stays supers supers' (depth_at depths) are.classes stays are.classes (λ j e. e) are.is.followed;
               linked = are.is.linked;
               root = are.is.root;
               shallow = are.is.shallow;
             })
-            (λ j e. ap is_some (presence-kept j (kept j e)) ∙ sym (are.present j) ∙ e) closed' fresh (are.depth_room ∙ sym room') (are.next_room ∙ sym room') o here' (omega (arith, inside, room')) (up-thread o up');
-        present = λ j. thread-in are.thread k o (up-thread o up') j ∙ present j (cases_Bool (k == j));
+            (λ j e. ap is_some (presence-kept j (kept j e)) ∙ sym (are.present j) ∙ e) closed' fresh (are.depth_room ∙ sym room') (are.next_room ∙ sym room') o here' (omega (arith, inside, room')) (up-placed o up');
+        present = λ j. placed_with-in are.classes k o (up-placed o up') j ∙ present j (cases_Bool (k == j));
         count = count';
         depth_room = length-depths_with depths k o ∙ are.depth_room ∙ sym room';
         next_room = length-nexts_with nexts k o ∙ are.next_room ∙ sym room';
       }
     where
-      present : (j : ℕ) → ((k == j) ≡ true) ⊎ ((k == j) ≡ false) → ((k == j) || is_in j are.thread) ≡ is_present supers' j
-      present j (inl e) = ap (λ b. b || is_in j are.thread) e ∙ sym (ap is_some (ap (presence_of supers') (sym (same_number k j e)) ∙ here'))
-      present j (inr e) = ap (λ b. b || is_in j are.thread) e ∙ are.present j ∙ sym (ap is_some (presence-kept j (λ same. other_number k j e (sym same))))
+      present : (j : ℕ) → ((k == j) ≡ true) ⊎ ((k == j) ≡ false) → ((k == j) || is_in j are.classes) ≡ is_present supers' j
+      present j (inl e) = ap (λ b. b || is_in j are.classes) e ∙ sym (ap is_some (ap (presence_of supers') (sym (same_number k j e)) ∙ here'))
+      present j (inr e) = ap (λ b. b || is_in j are.classes) e ∙ are.present j ∙ sym (ap is_some (presence-kept j (λ same. other_number k j e (sym same))))

@@ -6,7 +6,7 @@ ghost use Rattle.msg_form.specs.declared.limits.TheConstants.{MAX_CLASSES};
 ghost use Rattle.msg_tables.specs.After.{of_class};
 ghost use Rattle.msg_tables.specs.Chain.{descends, is_present, presence_of};
 ghost use Rattle.msg_tables.specs.Order.{IsOrder};
-ghost use Rattle.msg_tables.specs.Preorder.{AreThreaded, depth_at, next_at, depths_with, is_in, nexts_with};
+ghost use Rattle.msg_tables.specs.Preorder.{HavePreorder, depth_at, next_at, depths_with, is_in, nexts_with};
 ghost use Rattle.msg_tables.specs.declared.presence.Presence.{Presence};
 
 use crate::presence::Presence;
@@ -14,18 +14,18 @@ use std::alloc::{AllocError, Global};
 
 // Of each class how many superclasses it has above it, and which class comes next, where that is no root class. So what is below a class is found by a walk over just that.
 #[derive(Drop)]
-pub(crate) struct Thread {
+pub(crate) struct Preorder {
     depths: Vec<u32>,
     nexts: Vec<Option<u32>>,
 }
 
-impl Thread {
+impl Preorder {
     // Room for classes, none of which stands in the order.
-    pub(crate) fn new(alloc: Global, classes: usize) -> Result<Thread, AllocError>
+    pub(crate) fn new(alloc: Global, classes: usize) -> Result<Preorder, AllocError>
         ensures depths { IfOk result (λ t. t.depths.items ≡ replicate classes 0) }
         ensures nexts { IfOk result (λ t. t.nexts.items ≡ replicate classes None) }
     {
-        Ok(Thread {
+        Ok(Preorder {
             depths: vec![in alloc; 0; classes]?,
             nexts: vec![in alloc; None; classes]?,
         })
@@ -54,10 +54,10 @@ impl Thread {
 
     // Gathers a class and those below it, each after its superclass. It looks at just these, and at one more.
     pub(crate) fn gather(&self, class: u32, classes: &mut Vec<u32>)
-        requires threaded { (supers : List (Option Presence)) × AreThreaded supers self.now.depths.items self.now.nexts.items × (is_present supers class ≡ true) × (length supers ≤ vec_capacity classes.old) }
+        requires preorder { (supers : List (Option Presence)) × HavePreorder supers self.now.depths.items self.now.nexts.items × (is_present supers class ≡ true) × (length supers ≤ vec_capacity classes.old) }
         requires none { classes.old.items ≡ [] }
         ensures room { vec_capacity classes.old ≤ vec_capacity classes.new }
-        ensures below { (supers : List (Option Presence)) → AreThreaded supers self.now.depths.items self.now.nexts.items → is_present supers class ≡ true → (k : ℕ) → is_in k classes.new.items ≡ descends supers (of_class class) (of_class k) }
+        ensures below { (supers : List (Option Presence)) → HavePreorder supers self.now.depths.items self.now.nexts.items → is_present supers class ≡ true → (k : ℕ) → is_in k classes.new.items ≡ descends supers (of_class class) (of_class k) }
     {
         push_one(classes, class);
         let depth = self.depths[class as usize];
@@ -81,20 +81,20 @@ fn superclass_in(supers: &[Option<Presence>], class: u32) -> Option<u32>
 }
 
 // The classes of an order, those below a class right after it.
-pub(crate) fn threaded(
+pub(crate) fn preorder_of(
     alloc: Global,
     supers: &[Option<Presence>],
     order: &[u32],
-) -> Result<Thread, AllocError>
+) -> Result<Preorder, AllocError>
     requires order { IsOrder supers.now order.now }
     requires few { length supers.now ≤ MAX_CLASSES }
-    ensures { IfOk result (λ t. AreThreaded supers.now t.depths.items t.nexts.items) }
+    ensures { IfOk result (λ t. HavePreorder supers.now t.depths.items t.nexts.items) }
 {
-    let mut thread = Thread::new(alloc, supers.len())?;
+    let mut preorder = Preorder::new(alloc, supers.len())?;
     for class in order {
-        thread.place(*class, superclass_in(supers, *class));
+        preorder.place(*class, superclass_in(supers, *class));
     }
-    Ok(thread)
+    Ok(preorder)
 }
 
 // Pushes a class, for which there is room.

@@ -4,15 +4,16 @@ use Rattle.std.specs.Prelude.{IfSome, is_some, slice_index_or}
 use Rattle.msg_form.specs.declared.limits.TheConstants.{MAX_CLASSES}
 use Rattle.msg_tables.specs.Preorder.{depth_at, depths_with}
 use Rattle.msg_tables.proofs.OrderLemmas.{present-inside}
-use Rattle.msg_tables.proofs.ThreadLemmas.{element-at, ThreadsTo, threads-begin, threads-on, threads-end, above-ready}
-use Rattle.msg_tables.proofs.thread.threaded.Goals as goal
+use Rattle.msg_tables.proofs.PreorderLemmas.{element-at}
+use Rattle.msg_tables.proofs.PlacedLemmas.{PlacedTo, placed-begin, placed-on, placed-end, above-ready}
+use Rattle.msg_tables.proofs.preorder.preorder_of.Goals as goal
 
 within : (depths : List ℕ) (nexts : List (Option ℕ)) (n : ℕ) (o : Option ℕ) → n ≤ MAX_CLASSES → IfSome o (λ d. (d < length depths) × (d < length nexts) × (depth_at depths d < n)) → IfSome o (λ d. (d < length depths) × (d < length nexts) × (depth_at depths d < MAX_CLASSES))
 within depths nexts n None few ready = tt
 within depths nexts n (Some d) few ready = (ready.0, ready.1, omega (arith, ready.2, few))
 
 pub loop-class-init : goal.loop-class-init
-loop-class-init c = threads-begin c.args.supers.now c.args.order.now c.in_ok-thread.thread.depths.items c.in_ok-thread.thread.nexts.items c.in_ok-thread.ensures.depths c.in_ok-thread.ensures.nexts
+loop-class-init c = placed-begin c.args.supers.now c.args.order.now c.in_ok-preorder.preorder.depths.items c.in_ok-preorder.preorder.nexts.items c.in_ok-preorder.ensures.depths c.in_ok-preorder.ensures.nexts
 
 pub place-requires-clause-depths : goal.place-requires-clause-depths
 place-requires-clause-depths c =
@@ -26,22 +27,22 @@ place-requires-clause-nexts c =
 
 pub place-requires-clause-above : goal.place-requires-clause-above
 place-requires-clause-above c =
-    let depths = c.loop-class.thread.depths.items in
-    let nexts = c.loop-class.thread.nexts.items in
+    let depths = c.loop-class.preorder.depths.items in
+    let nexts = c.loop-class.preorder.nexts.items in
     within depths nexts (length c.args.supers.now) c.superclass_in.result c.requires.few
     (above-ready c.args.supers.now c.args.order.now c.requires.order depths nexts c.loop-class.class-index (slice_index_or c.args.order.now c.loop-class.class-index 0) c.superclass_in.result c.loop-class.invariant (element-at c.args.order.now c.loop-class.class-index c.loop-class-test.true) c.superclass_in.ensures)
 
 pub loop-class-preserved : goal.loop-class-preserved
 loop-class-preserved c =
-    let depths = c.loop-class.thread.depths.items in
-    let nexts = c.loop-class.thread.nexts.items in
+    let depths = c.loop-class.preorder.depths.items in
+    let nexts = c.loop-class.preorder.nexts.items in
     let k = slice_index_or c.args.order.now c.loop-class.class-index 0 in
-    let on = threads-on c.args.supers.now c.args.order.now c.requires.order depths nexts c.loop-class.class-index k c.superclass_in.result c.loop-class.invariant (element-at c.args.order.now c.loop-class.class-index c.loop-class-test.true) c.superclass_in.ensures in
-    subst (λ ds. ThreadsTo c.args.supers.now c.args.order.now ds c.place.new.self.nexts.items (c.loop-class.class-index + 1)) (sym c.place.ensures.depths)
-    (subst (λ ns. ThreadsTo c.args.supers.now c.args.order.now (depths_with depths k c.superclass_in.result) ns (c.loop-class.class-index + 1)) (sym c.place.ensures.nexts) on)
+    let on = placed-on c.args.supers.now c.args.order.now c.requires.order depths nexts c.loop-class.class-index k c.superclass_in.result c.loop-class.invariant (element-at c.args.order.now c.loop-class.class-index c.loop-class-test.true) c.superclass_in.ensures in
+    subst (λ ds. PlacedTo c.args.supers.now c.args.order.now ds c.place.new.self.nexts.items (c.loop-class.class-index + 1)) (sym c.place.ensures.depths)
+    (subst (λ ns. PlacedTo c.args.supers.now c.args.order.now (depths_with depths k c.superclass_in.result) ns (c.loop-class.class-index + 1)) (sym c.place.ensures.nexts) on)
 
 pub returns : goal.returns
 returns c =
     let end : c.loop-class.class-index ≡ length c.args.order.now = omega (arith, c.loop-class-test.false, c.loop-class.auto.class-index-end) in
-    threads-end c.args.supers.now c.args.order.now c.loop-class.thread.depths.items c.loop-class.thread.nexts.items c.requires.order
-    (subst (λ n. ThreadsTo c.args.supers.now c.args.order.now c.loop-class.thread.depths.items c.loop-class.thread.nexts.items n) end c.loop-class.invariant)
+    placed-end c.args.supers.now c.args.order.now c.loop-class.preorder.depths.items c.loop-class.preorder.nexts.items c.requires.order
+    (subst (λ n. PlacedTo c.args.supers.now c.args.order.now c.loop-class.preorder.depths.items c.loop-class.preorder.nexts.items n) end c.loop-class.invariant)

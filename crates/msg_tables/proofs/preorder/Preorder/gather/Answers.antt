@@ -2,15 +2,15 @@
 use Rattle.std.proofs.Common.{◌≡◌, ◌<◌, ◌++◌, List, [], ◌∷◌, ℕ, Option, Some, None, length, length-append, true, sym, ap, ◌∙◌, subst, arith}
 use Rattle.std.proofs.lemmas.List.{get_or_read}
 use Rattle.msg_tables.specs.Chain.{is_present}
-use Rattle.msg_tables.specs.Preorder.{AreThreaded, depth_at, next_at}
+use Rattle.msg_tables.specs.Preorder.{HavePreorder, depth_at, next_at}
 use Rattle.msg_tables.specs.declared.presence.Presence.{Presence}
 use Rattle.msg_tables.proofs.OrderLemmas.{present-inside}
 use Rattle.msg_tables.proofs.WalkLemmas.{Walks, walk-begins, walk-next, walk-room, walk-more, walk-stops, walk-ends}
-use Rattle.msg_tables.proofs.thread.Thread.gather.Goals as goal
+use Rattle.msg_tables.proofs.preorder.Preorder.gather.Goals as goal
 
 pub loop-at-init : goal.loop-at-init
 loop-at-init c =
-    let (supers, are, there, room) = c.requires.threaded in
+    let (supers, are, there, room) = c.requires.preorder in
     let inside = present-inside supers c.args.class there in
     let depths = c.args.self.now.depths.items in
     let nexts = c.args.self.now.nexts.items in
@@ -24,23 +24,23 @@ loop-at-init c =
 
 -- A class comes next: what follows from the loop's invariant.
 module _ (depths : List ℕ) (nexts : List (Option ℕ)) (k next : ℕ) (classes : List ℕ) (at : Option ℕ) (is : at ≡ Some next)
-    (walks : (supers : List (Option Presence)) → AreThreaded supers depths nexts → is_present supers k ≡ true → Walks supers depths nexts k classes at) where
-  walks-on : (supers : List (Option Presence)) → AreThreaded supers depths nexts → is_present supers k ≡ true → Walks supers depths nexts k classes (Some next)
+    (walks : (supers : List (Option Presence)) → HavePreorder supers depths nexts → is_present supers k ≡ true → Walks supers depths nexts k classes at) where
+  walks-on : (supers : List (Option Presence)) → HavePreorder supers depths nexts → is_present supers k ≡ true → Walks supers depths nexts k classes (Some next)
   walks-on s t e = subst (λ o. Walks s depths nexts k classes o) is (walks s t e)
 
-  next-inside : (supers : List (Option Presence)) → AreThreaded supers depths nexts → is_present supers k ≡ true → (next < length depths) × (next < length nexts)
+  next-inside : (supers : List (Option Presence)) → HavePreorder supers depths nexts → is_present supers k ≡ true → (next < length depths) × (next < length nexts)
   next-inside s t e =
       let inside = present-inside s next (walk-next s depths nexts k classes next (walks-on s t e)) in
       (omega (arith, inside, t.depth_room), omega (arith, inside, t.next_room))
 
-  next-room : (supers : List (Option Presence)) → AreThreaded supers depths nexts → is_present supers k ≡ true → length classes < length depths
+  next-room : (supers : List (Option Presence)) → HavePreorder supers depths nexts → is_present supers k ≡ true → length classes < length depths
   next-room s t e =
       let few = walk-room s depths nexts k classes next (walks-on s t e) in
       omega (arith, few, t.depth_room)
 
 pub index-requires : goal.index-requires
 index-requires c =
-    let (supers, are, there, room) = c.requires.threaded in
+    let (supers, are, there, room) = c.requires.preorder in
     let inside = next-inside c.args.self.now.depths.items c.args.self.now.nexts.items c.args.class c.in-Some.next c.loop-at.classes.items c.loop-at.at c.in-Some.is c.loop-at.invariant.walks supers are there in
     omega (arith, inside.0, c.args.self.now.depths.ok.0)
 
@@ -55,19 +55,19 @@ returns-then-index-depth-clause-below c = λ s t e j.
 
 pub push_one-requires-in-Some : goal.push_one-requires-in-Some
 push_one-requires-in-Some c =
-    let (supers, are, there, room) = c.requires.threaded in
+    let (supers, are, there, room) = c.requires.preorder in
     let few = next-room c.args.self.now.depths.items c.args.self.now.nexts.items c.args.class c.in-Some.next c.loop-at.classes.items c.loop-at.at c.in-Some.is c.loop-at.invariant.walks supers are there in
     omega (arith, few, are.depth_room, room, c.loop-at.invariant.room)
 
 pub index-at-requires-in-Some : goal.index-at-requires-in-Some
 index-at-requires-in-Some c =
-    let (supers, are, there, room) = c.requires.threaded in
+    let (supers, are, there, room) = c.requires.preorder in
     let inside = next-inside c.args.self.now.depths.items c.args.self.now.nexts.items c.args.class c.in-Some.next c.loop-at.classes.items c.loop-at.at c.in-Some.is c.loop-at.invariant.walks supers are there in
     omega (arith, inside.1, c.args.self.now.nexts.ok.0)
 
 pub loop-at-smaller : goal.loop-at-smaller
 loop-at-smaller c =
-    let (supers, are, there, room) = c.requires.threaded in
+    let (supers, are, there, room) = c.requires.preorder in
     let few = next-room c.args.self.now.depths.items c.args.self.now.nexts.items c.args.class c.in-Some.next c.loop-at.classes.items c.loop-at.at c.in-Some.is c.loop-at.invariant.walks supers are there in
     let grown : length c.push_one-in-Some.new.classes.items ≡ length (c.loop-at.classes.items ++ c.in-Some.next ∷ []) = ap length c.push_one-in-Some.ensures.items in
     omega (arith, few, grown, length-append c.loop-at.classes.items (c.in-Some.next ∷ []))
