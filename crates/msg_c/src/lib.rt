@@ -16,6 +16,8 @@ mod reporting;
 #[cfg(test)]
 mod row_tests;
 mod runtime_handle;
+#[cfg(test)]
+mod same;
 mod sender_handle;
 mod sending;
 #[cfg(test)]

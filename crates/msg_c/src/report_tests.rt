@@ -6,6 +6,7 @@ use crate::answer::{CLOSED, DONE};
 use crate::changing::msg_set_imp;
 use crate::reporting::{MsgReport, msg_report};
 use crate::runtime_handle::RuntimeHandle;
+use crate::same::{answers, same};
 use crate::sender_handle::SenderHandle;
 use crate::sending::msg_fill;
 use crate::tests::{CHILD, ROOT, VALUE, opened, sending};
@@ -27,10 +28,10 @@ fn other() -> MsgReport {
 // So many entries were stored, each in an array of its own, and so many arrays taken away.
 fn reports<R: Abort>(rt: &R, alloc: Global, runtime: &mut RuntimeHandle, stored: u64, taken: u64) {
     let mut report = other();
-    assert_eq!(rt; msg_report(alloc, runtime, &mut report), DONE);
-    assert_eq!(rt; (report.fills, report.growths), (stored, stored));
-    assert_eq!(rt; (report.flushes, report.retired), (taken, taken));
-    assert_eq!(rt; report.given_again, 0);
+    answers(rt, msg_report(alloc, runtime, &mut report), DONE);
+    same(rt, (report.fills, report.growths), (stored, stored));
+    same(rt, (report.flushes, report.retired), (taken, taken));
+    same(rt, report.given_again, 0);
 }
 
 fn fills_and_flushes<R: Abort>(
@@ -42,12 +43,13 @@ fn fills_and_flushes<R: Abort>(
     requires together { AreOfOneArena runtime.old.held.state sender.old.held.state }
 {
     let mut imp = 99;
-    assert_eq!(rt;
+    answers(
+        rt,
         msg_fill(alloc, runtime, sender, CHILD, false, VALUE, &mut imp),
-        DONE
+        DONE,
     );
     reports(rt, alloc, runtime, 1, 0);
-    assert_eq!(rt; msg_set_imp(alloc, runtime, ROOT, false, VALUE, 2), DONE);
+    answers(rt, msg_set_imp(alloc, runtime, ROOT, false, VALUE, 2), DONE);
     reports(rt, alloc, runtime, 1, 1);
 }
 
@@ -66,7 +68,7 @@ fn a_closed_runtime_reports_nothing(rt: HostRuntime) -> Result<(), Fail> {
     let alloc = rt.alloc();
     let mut runtime = RuntimeHandle::closed(alloc);
     let mut report = other();
-    assert_eq!(rt; msg_report(alloc, &mut runtime, &mut report), CLOSED);
-    assert_eq!(rt; (report.fills, report.given_again), (99, 99));
+    answers(&rt, msg_report(alloc, &mut runtime, &mut report), CLOSED);
+    same(&rt, (report.fills, report.given_again), (99, 99));
     Ok(())
 }

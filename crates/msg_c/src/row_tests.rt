@@ -5,6 +5,7 @@ use crate::asking::{msg_class_count, msg_find_class, msg_find_selector, msg_look
 use crate::opening::msg_close;
 use crate::opening_rows::msg_open_rows;
 use crate::runtime_handle::RuntimeHandle;
+use crate::same::{answers, same};
 use msg_rows::{ClassRow, ImpRow, MethodRow, Name, ROOT};
 use std::alloc::Global;
 use std::process::Abort;
@@ -104,45 +105,63 @@ fn is_found<R: Abort>(
     wanted: u32,
 ) {
     let mut imp = 99;
-    assert_eq!(rt; msg_lookup(alloc, runtime, 1, meta, sel, &mut imp), DONE);
-    assert_eq!(rt; imp, wanted);
+    answers(rt, msg_lookup(alloc, runtime, 1, meta, sel, &mut imp), DONE);
+    answers(rt, imp, wanted);
 }
 
 fn has_its_names<R: Abort>(rt: &R, alloc: Global, runtime: &mut RuntimeHandle) {
     let (mut count, mut class, mut sel) = (0, 99, 99);
-    assert_eq!(rt; msg_class_count(alloc, runtime, &mut count), DONE);
-    assert_eq!(rt; count, 3);
-    assert_eq!(rt; msg_find_class(alloc, runtime, b"Made", &mut class), DONE);
-    assert_eq!(rt; class, 2);
-    assert_eq!(rt; msg_find_selector(alloc, runtime, b"new", &mut sel), DONE);
-    assert_eq!(rt; sel, 4);
+    answers(rt, msg_class_count(alloc, runtime, &mut count), DONE);
+    same(rt, count, 3);
+    answers(
+        rt,
+        msg_find_class(alloc, runtime, b"Made", &mut class),
+        DONE,
+    );
+    answers(rt, class, 2);
+    answers(
+        rt,
+        msg_find_selector(alloc, runtime, b"new", &mut sel),
+        DONE,
+    );
+    answers(rt, sel, 4);
 }
 
 #[test]
 fn rows_open_as_a_document_would(rt: HostRuntime) -> Result<(), Fail> {
     let alloc = rt.alloc();
     let mut runtime = RuntimeHandle::closed(alloc);
-    assert_eq!(rt; opens(alloc, &mut runtime, &CLASSES, &methods()), DONE);
+    answers(&rt, opens(alloc, &mut runtime, &CLASSES, &methods()), DONE);
     has_its_names(&rt, alloc, &mut runtime);
     is_found(&rt, alloc, &mut runtime, false, 2, 1);
     is_found(&rt, alloc, &mut runtime, false, 3, 3);
     is_found(&rt, alloc, &mut runtime, true, 4, 4);
     is_found(&rt, alloc, &mut runtime, false, 4, 0);
-    assert_eq!(rt;
+    answers(
+        &rt,
         opens(alloc, &mut runtime, &CLASSES, &methods()),
-        ALREADY_OPEN
+        ALREADY_OPEN,
     );
-    assert_eq!(rt; msg_close(alloc, &mut runtime), DONE);
+    answers(&rt, msg_close(alloc, &mut runtime), DONE);
     Ok(())
 }
 
 // What the counts of classes and the rows' numbers make of rows.
 fn counts_are_judged<R: Abort>(rt: &R, alloc: Global, runtime: &mut RuntimeHandle) {
-    assert_eq!(rt; opens(alloc, runtime, &CLASSES, &methods()[..3]), BAD_ROW);
-    assert_eq!(rt; opens(alloc, runtime, &CLASSES[..1], &methods()), BAD_ROW);
-    assert_eq!(rt;
+    answers(
+        rt,
+        opens(alloc, runtime, &CLASSES, &methods()[..3]),
+        BAD_ROW,
+    );
+    answers(
+        rt,
+        opens(alloc, runtime, &CLASSES[..1], &methods()),
+        BAD_ROW,
+    );
+    answers(
+        rt,
         opens(alloc, runtime, &CLASSES[..1], &methods()[..3]),
-        BAD_ROW
+        BAD_ROW,
     );
 }
 
@@ -154,30 +173,37 @@ fn rows_are_judged<R: Abort>(rt: &R, alloc: Global, runtime: &mut RuntimeHandle)
         Name { at: 49, length: 1 },
         Name { at: 0, length: 0 },
     ] {
-        assert_eq!(rt; opens_one(alloc, runtime, name, ROOT, value), BAD_ROW);
+        answers(rt, opens_one(alloc, runtime, name, ROOT, value), BAD_ROW);
     }
-    assert_eq!(rt; opens_one(alloc, runtime, root, 1, value), BAD_ROW);
-    assert_eq!(rt;
+    answers(rt, opens_one(alloc, runtime, root, 1, value), BAD_ROW);
+    answers(
+        rt,
         opens_one(alloc, runtime, root, ROOT, method(VALUE, 0)),
-        BAD_ROW
+        BAD_ROW,
     );
-    assert_eq!(rt;
+    answers(
+        rt,
         opens_one(alloc, runtime, root, ROOT, method(VALUE, 2)),
-        BAD_ROW
+        BAD_ROW,
     );
     let no_text = Name { at: 50, length: 1 };
-    assert_eq!(rt;
+    answers(
+        rt,
         opens_one(alloc, runtime, root, ROOT, method(no_text, 1)),
-        BAD_ROW
+        BAD_ROW,
     );
 }
 
 // A class that is its own superclass is a cycle, and a digit no selector's name.
 fn the_form_is_judged<R: Abort>(rt: &R, alloc: Global, runtime: &mut RuntimeHandle) {
     let root = Name { at: 0, length: 4 };
-    assert_eq!(rt; opens_one(alloc, runtime, root, 0, method(VALUE, 1)), 18);
+    answers(rt, opens_one(alloc, runtime, root, 0, method(VALUE, 1)), 18);
     let digit = Name { at: 49, length: 1 };
-    assert_eq!(rt; opens_one(alloc, runtime, root, ROOT, method(digit, 1)), 12);
+    answers(
+        rt,
+        opens_one(alloc, runtime, root, ROOT, method(digit, 1)),
+        12,
+    );
 }
 
 #[test]
@@ -187,9 +213,9 @@ fn rows_that_stand_for_no_form_are_refused(rt: HostRuntime) -> Result<(), Fail> 
     counts_are_judged(&rt, alloc, &mut runtime);
     rows_are_judged(&rt, alloc, &mut runtime);
     the_form_is_judged(&rt, alloc, &mut runtime);
-    assert_eq!(rt; msg_close(alloc, &mut runtime), CLOSED);
+    answers(&rt, msg_close(alloc, &mut runtime), CLOSED);
     let one = method(VALUE, 1);
     let root = Name { at: 0, length: 4 };
-    assert_eq!(rt; opens_one(alloc, &mut runtime, root, ROOT, one), DONE);
+    answers(&rt, opens_one(alloc, &mut runtime, root, ROOT, one), DONE);
     Ok(())
 }

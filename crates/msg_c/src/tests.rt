@@ -14,6 +14,7 @@ use crate::changing::{
 };
 use crate::opening::{msg_close, msg_open};
 use crate::runtime_handle::RuntimeHandle;
+use crate::same::{answers, same};
 use crate::sender_handle::SenderHandle;
 use crate::sending::{
     msg_fill, msg_meet, msg_probe, msg_recall, msg_refresh, msg_sender_close, msg_sender_open,
@@ -50,7 +51,7 @@ const TAKE: u32 = 5;
 
 pub(crate) fn opened<R: Abort>(rt: &R, alloc: Global) -> RuntimeHandle {
     let mut runtime = RuntimeHandle::closed(alloc);
-    assert_eq!(rt; msg_open(alloc, &mut runtime, TEXT), DONE);
+    answers(rt, msg_open(alloc, &mut runtime, TEXT), DONE);
     runtime
 }
 
@@ -63,9 +64,10 @@ fn found<R: Abort>(
     sel: u32,
 ) -> u32 {
     let mut imp = 99;
-    assert_eq!(rt;
+    answers(
+        rt,
         msg_lookup(alloc, runtime, class, meta, sel, &mut imp),
-        DONE
+        DONE,
     );
     imp
 }
@@ -74,13 +76,13 @@ fn found<R: Abort>(
 fn a_text_opens_once_and_closes_once(rt: HostRuntime) -> Result<(), Fail> {
     let alloc = rt.alloc();
     let mut runtime = RuntimeHandle::closed(alloc);
-    assert_eq!(rt; msg_open(alloc, &mut runtime, b"{"), 1);
-    assert_eq!(rt; msg_open(alloc, &mut runtime, br#"{"version":3}"#), 2);
-    assert_eq!(rt; msg_close(alloc, &mut runtime), CLOSED);
-    assert_eq!(rt; msg_open(alloc, &mut runtime, TEXT), DONE);
-    assert_eq!(rt; msg_open(alloc, &mut runtime, TEXT), ALREADY_OPEN);
-    assert_eq!(rt; msg_close(alloc, &mut runtime), DONE);
-    assert_eq!(rt; msg_close(alloc, &mut runtime), CLOSED);
+    answers(&rt, msg_open(alloc, &mut runtime, b"{"), 1);
+    answers(&rt, msg_open(alloc, &mut runtime, br#"{"version":3}"#), 2);
+    answers(&rt, msg_close(alloc, &mut runtime), CLOSED);
+    answers(&rt, msg_open(alloc, &mut runtime, TEXT), DONE);
+    answers(&rt, msg_open(alloc, &mut runtime, TEXT), ALREADY_OPEN);
+    answers(&rt, msg_close(alloc, &mut runtime), DONE);
+    answers(&rt, msg_close(alloc, &mut runtime), CLOSED);
     Ok(())
 }
 
@@ -89,33 +91,38 @@ fn names_are_found(rt: HostRuntime) -> Result<(), Fail> {
     let alloc = rt.alloc();
     let mut runtime = opened(&rt, alloc);
     let (mut count, mut class, mut sel) = (0, 99, 99);
-    assert_eq!(rt; msg_class_count(alloc, &mut runtime, &mut count), DONE);
-    assert_eq!(rt; count, 4);
-    assert_eq!(rt;
+    answers(&rt, msg_class_count(alloc, &mut runtime, &mut count), DONE);
+    same(&rt, count, 4);
+    answers(
+        &rt,
         msg_find_class(alloc, &mut runtime, b"Child", &mut class),
-        DONE
+        DONE,
     );
-    assert_eq!(rt; class, CHILD);
-    assert_eq!(rt;
+    answers(&rt, class, CHILD);
+    answers(
+        &rt,
         msg_find_class(alloc, &mut runtime, b"Made", &mut class),
-        DONE
+        DONE,
     );
-    assert_eq!(rt; class, MADE);
-    assert_eq!(rt;
+    answers(&rt, class, MADE);
+    answers(
+        &rt,
         msg_find_class(alloc, &mut runtime, b"child", &mut class),
-        NONE
+        NONE,
     );
-    assert_eq!(rt; class, MADE);
-    assert_eq!(rt;
+    answers(&rt, class, MADE);
+    answers(
+        &rt,
         msg_find_selector(alloc, &mut runtime, b"take:", &mut sel),
-        DONE
+        DONE,
     );
-    assert_eq!(rt; sel, TAKE);
-    assert_eq!(rt;
+    answers(&rt, sel, TAKE);
+    answers(
+        &rt,
         msg_find_selector(alloc, &mut runtime, b"\xff", &mut sel),
-        NONE
+        NONE,
     );
-    assert_eq!(rt; sel, TAKE);
+    answers(&rt, sel, TAKE);
     Ok(())
 }
 
@@ -123,22 +130,24 @@ fn names_are_found(rt: HostRuntime) -> Result<(), Fail> {
 fn lookups_go_up(rt: HostRuntime) -> Result<(), Fail> {
     let alloc = rt.alloc();
     let mut runtime = opened(&rt, alloc);
-    assert_eq!(rt; found(&rt, alloc, &mut runtime, CHILD, false, VALUE), 1);
-    assert_eq!(rt; found(&rt, alloc, &mut runtime, CHILD, false, NAME), 3);
-    assert_eq!(rt; found(&rt, alloc, &mut runtime, CHILD, true, NEW), 4);
-    assert_eq!(rt; found(&rt, alloc, &mut runtime, CHILD, true, VALUE), 1);
-    assert_eq!(rt; found(&rt, alloc, &mut runtime, CHILD, false, TAKE), 0);
-    assert_eq!(rt; found(&rt, alloc, &mut runtime, MADE, false, VALUE), 0);
+    answers(&rt, found(&rt, alloc, &mut runtime, CHILD, false, VALUE), 1);
+    answers(&rt, found(&rt, alloc, &mut runtime, CHILD, false, NAME), 3);
+    answers(&rt, found(&rt, alloc, &mut runtime, CHILD, true, NEW), 4);
+    answers(&rt, found(&rt, alloc, &mut runtime, CHILD, true, VALUE), 1);
+    answers(&rt, found(&rt, alloc, &mut runtime, CHILD, false, TAKE), 0);
+    answers(&rt, found(&rt, alloc, &mut runtime, MADE, false, VALUE), 0);
     let mut imp = 99;
-    assert_eq!(rt;
+    answers(
+        &rt,
         msg_lookup(alloc, &mut runtime, 4, false, VALUE, &mut imp),
-        66
+        66,
     );
-    assert_eq!(rt;
+    answers(
+        &rt,
         msg_lookup(alloc, &mut runtime, CHILD, false, 0, &mut imp),
-        67
+        67,
     );
-    assert_eq!(rt; imp, 99);
+    answers(&rt, imp, 99);
     Ok(())
 }
 
@@ -150,35 +159,45 @@ fn superclasses_and_holders_are_told(rt: HostRuntime) -> Result<(), Fail> {
         class: 99,
         meta: false,
     };
-    assert_eq!(rt;
+    answers(
+        &rt,
         msg_superclass(alloc, &mut runtime, ROOT, false, &mut at),
-        NONE
+        NONE,
     );
-    assert_eq!(rt; msg_superclass(alloc, &mut runtime, 4, false, &mut at), 66);
-    assert_eq!(rt;
+    answers(
+        &rt,
+        msg_superclass(alloc, &mut runtime, 4, false, &mut at),
+        66,
+    );
+    answers(
+        &rt,
         msg_holder(alloc, &mut runtime, CHILD, false, TAKE, &mut at),
-        NONE
+        NONE,
     );
-    assert_eq!(rt;
+    answers(
+        &rt,
         msg_holder(alloc, &mut runtime, CHILD, false, 0, &mut at),
-        67
+        67,
     );
-    assert_eq!(rt; at.class, 99);
-    assert_eq!(rt;
+    answers(&rt, at.class, 99);
+    answers(
+        &rt,
         msg_superclass(alloc, &mut runtime, CHILD, true, &mut at),
-        DONE
+        DONE,
     );
-    assert_eq!(rt; (at.class, at.meta), (ROOT, true));
-    assert_eq!(rt;
+    same(&rt, (at.class, at.meta), (ROOT, true));
+    answers(
+        &rt,
         msg_superclass(alloc, &mut runtime, ROOT, true, &mut at),
-        DONE
+        DONE,
     );
-    assert_eq!(rt; (at.class, at.meta), (ROOT, false));
-    assert_eq!(rt;
+    same(&rt, (at.class, at.meta), (ROOT, false));
+    answers(
+        &rt,
         msg_holder(alloc, &mut runtime, CHILD, true, NEW, &mut at),
-        DONE
+        DONE,
     );
-    assert_eq!(rt; (at.class, at.meta), (ROOT, true));
+    same(&rt, (at.class, at.meta), (ROOT, true));
     Ok(())
 }
 
@@ -186,25 +205,35 @@ fn superclasses_and_holders_are_told(rt: HostRuntime) -> Result<(), Fail> {
 fn methods_are_changed(rt: HostRuntime) -> Result<(), Fail> {
     let alloc = rt.alloc();
     let mut runtime = opened(&rt, alloc);
-    assert_eq!(rt; msg_add(alloc, &mut runtime, CHILD, false, VALUE, 2), DONE);
-    assert_eq!(rt; found(&rt, alloc, &mut runtime, CHILD, false, VALUE), 2);
-    assert_eq!(rt; msg_add(alloc, &mut runtime, CHILD, false, VALUE, 1), 4);
-    assert_eq!(rt;
+    answers(
+        &rt,
+        msg_add(alloc, &mut runtime, CHILD, false, VALUE, 2),
+        DONE,
+    );
+    answers(&rt, found(&rt, alloc, &mut runtime, CHILD, false, VALUE), 2);
+    answers(&rt, msg_add(alloc, &mut runtime, CHILD, false, VALUE, 1), 4);
+    answers(
+        &rt,
         msg_replace(alloc, &mut runtime, CHILD, false, VALUE, 3),
-        DONE
+        DONE,
     );
-    assert_eq!(rt; found(&rt, alloc, &mut runtime, CHILD, false, VALUE), 3);
-    assert_eq!(rt; msg_set_imp(alloc, &mut runtime, CHILD, true, NEW, 1), DONE);
-    assert_eq!(rt; found(&rt, alloc, &mut runtime, ROOT, true, NEW), 1);
-    assert_eq!(rt;
+    answers(&rt, found(&rt, alloc, &mut runtime, CHILD, false, VALUE), 3);
+    answers(
+        &rt,
+        msg_set_imp(alloc, &mut runtime, CHILD, true, NEW, 1),
+        DONE,
+    );
+    answers(&rt, found(&rt, alloc, &mut runtime, ROOT, true, NEW), 1);
+    answers(
+        &rt,
         msg_exchange(alloc, &mut runtime, CHILD, false, VALUE, ROOT, false, NAME),
-        DONE
+        DONE,
     );
-    assert_eq!(rt; found(&rt, alloc, &mut runtime, CHILD, false, VALUE), 2);
-    assert_eq!(rt; found(&rt, alloc, &mut runtime, ROOT, false, NAME), 3);
+    answers(&rt, found(&rt, alloc, &mut runtime, CHILD, false, VALUE), 2);
+    answers(&rt, found(&rt, alloc, &mut runtime, ROOT, false, NAME), 3);
     let mut count = 0;
-    assert_eq!(rt; msg_change_count(alloc, &mut runtime, &mut count), DONE);
-    assert_eq!(rt; count, 4);
+    answers(&rt, msg_change_count(alloc, &mut runtime, &mut count), DONE);
+    same(&rt, count, 4);
     Ok(())
 }
 
@@ -212,21 +241,46 @@ fn methods_are_changed(rt: HostRuntime) -> Result<(), Fail> {
 fn a_refused_change_changes_nothing(rt: HostRuntime) -> Result<(), Fail> {
     let alloc = rt.alloc();
     let mut runtime = opened(&rt, alloc);
-    assert_eq!(rt; msg_replace(alloc, &mut runtime, 4, false, VALUE, 1), 1);
-    assert_eq!(rt; msg_replace(alloc, &mut runtime, MADE, false, VALUE, 1), 1);
-    assert_eq!(rt; msg_replace(alloc, &mut runtime, CHILD, false, VALUE, 0), 2);
-    assert_eq!(rt; msg_replace(alloc, &mut runtime, CHILD, false, VALUE, 5), 2);
-    assert_eq!(rt; msg_replace(alloc, &mut runtime, CHILD, false, TAKE, 1), 3);
-    assert_eq!(rt; msg_replace(alloc, &mut runtime, CHILD, false, 0, 1), 67);
-    assert_eq!(rt; msg_set_imp(alloc, &mut runtime, ROOT, false, NEW, 1), 5);
-    assert_eq!(rt;
+    answers(&rt, msg_replace(alloc, &mut runtime, 4, false, VALUE, 1), 1);
+    answers(
+        &rt,
+        msg_replace(alloc, &mut runtime, MADE, false, VALUE, 1),
+        1,
+    );
+    answers(
+        &rt,
+        msg_replace(alloc, &mut runtime, CHILD, false, VALUE, 0),
+        2,
+    );
+    answers(
+        &rt,
+        msg_replace(alloc, &mut runtime, CHILD, false, VALUE, 5),
+        2,
+    );
+    answers(
+        &rt,
+        msg_replace(alloc, &mut runtime, CHILD, false, TAKE, 1),
+        3,
+    );
+    answers(
+        &rt,
+        msg_replace(alloc, &mut runtime, CHILD, false, 0, 1),
+        67,
+    );
+    answers(
+        &rt,
+        msg_set_imp(alloc, &mut runtime, ROOT, false, NEW, 1),
+        5,
+    );
+    answers(
+        &rt,
         msg_exchange(alloc, &mut runtime, ROOT, false, VALUE, ROOT, false, 0),
-        67
+        67,
     );
     let mut count = 99;
-    assert_eq!(rt; msg_change_count(alloc, &mut runtime, &mut count), DONE);
-    assert_eq!(rt; count, 0);
-    assert_eq!(rt; found(&rt, alloc, &mut runtime, CHILD, false, VALUE), 1);
+    answers(&rt, msg_change_count(alloc, &mut runtime, &mut count), DONE);
+    same(&rt, count, 0);
+    answers(&rt, found(&rt, alloc, &mut runtime, CHILD, false, VALUE), 1);
     Ok(())
 }
 
@@ -239,20 +293,23 @@ fn categories_are_attached(rt: HostRuntime) -> Result<(), Fail> {
         MethodRow { sel: VALUE, imp: 2 },
     ];
     let class_methods = [MethodRow { sel: NEW, imp: 2 }];
-    assert_eq!(rt;
+    answers(
+        &rt,
         msg_attach(alloc, &mut runtime, CHILD, &methods, &class_methods),
-        DONE
+        DONE,
     );
-    assert_eq!(rt; found(&rt, alloc, &mut runtime, CHILD, false, VALUE), 3);
-    assert_eq!(rt; found(&rt, alloc, &mut runtime, CHILD, true, NEW), 2);
+    answers(&rt, found(&rt, alloc, &mut runtime, CHILD, false, VALUE), 3);
+    answers(&rt, found(&rt, alloc, &mut runtime, CHILD, true, NEW), 2);
     let unnamed = [MethodRow { sel: 0, imp: 2 }];
-    assert_eq!(rt;
+    answers(
+        &rt,
         msg_attach(alloc, &mut runtime, CHILD, &methods, &unnamed),
-        67
+        67,
     );
-    assert_eq!(rt;
+    answers(
+        &rt,
         msg_attach(alloc, &mut runtime, MADE, &methods, &class_methods),
-        1
+        1,
     );
     Ok(())
 }
@@ -261,12 +318,12 @@ fn categories_are_attached(rt: HostRuntime) -> Result<(), Fail> {
 fn classes_are_made(rt: HostRuntime) -> Result<(), Fail> {
     let alloc = rt.alloc();
     let mut runtime = opened(&rt, alloc);
-    assert_eq!(rt; msg_make_class(alloc, &mut runtime, MADE, 3), 1);
-    assert_eq!(rt; msg_make_class(alloc, &mut runtime, MADE, CHILD), DONE);
-    assert_eq!(rt; msg_make_class(alloc, &mut runtime, MADE, CHILD), 8);
-    assert_eq!(rt; found(&rt, alloc, &mut runtime, MADE, false, NAME), 3);
-    assert_eq!(rt; msg_make_root_class(alloc, &mut runtime, 3), DONE);
-    assert_eq!(rt; found(&rt, alloc, &mut runtime, 3, false, NAME), 0);
+    answers(&rt, msg_make_class(alloc, &mut runtime, MADE, 3), 1);
+    answers(&rt, msg_make_class(alloc, &mut runtime, MADE, CHILD), DONE);
+    answers(&rt, msg_make_class(alloc, &mut runtime, MADE, CHILD), 8);
+    answers(&rt, found(&rt, alloc, &mut runtime, MADE, false, NAME), 3);
+    answers(&rt, msg_make_root_class(alloc, &mut runtime, 3), DONE);
+    answers(&rt, found(&rt, alloc, &mut runtime, 3, false, NAME), 0);
     Ok(())
 }
 
@@ -280,49 +337,70 @@ fn a_closed_runtime_answers_nothing(rt: HostRuntime) -> Result<(), Fail> {
         class: 99,
         meta: false,
     };
-    assert_eq!(rt; msg_class_count(alloc, &mut runtime, &mut number), CLOSED);
-    assert_eq!(rt; msg_change_count(alloc, &mut runtime, &mut count), CLOSED);
-    assert_eq!(rt;
+    answers(
+        &rt,
+        msg_class_count(alloc, &mut runtime, &mut number),
+        CLOSED,
+    );
+    answers(
+        &rt,
+        msg_change_count(alloc, &mut runtime, &mut count),
+        CLOSED,
+    );
+    answers(
+        &rt,
         msg_find_class(alloc, &mut runtime, b"Root", &mut number),
-        CLOSED
+        CLOSED,
     );
-    assert_eq!(rt;
+    answers(
+        &rt,
         msg_find_selector(alloc, &mut runtime, b"value", &mut number),
-        CLOSED
+        CLOSED,
     );
-    assert_eq!(rt;
+    answers(
+        &rt,
         msg_lookup(alloc, &mut runtime, ROOT, false, VALUE, &mut number),
-        CLOSED
+        CLOSED,
     );
-    assert_eq!(rt;
+    answers(
+        &rt,
         msg_superclass(alloc, &mut runtime, CHILD, false, &mut at),
-        CLOSED
+        CLOSED,
     );
-    assert_eq!(rt;
+    answers(
+        &rt,
         msg_holder(alloc, &mut runtime, CHILD, false, VALUE, &mut at),
-        CLOSED
+        CLOSED,
     );
-    assert_eq!(rt;
+    answers(
+        &rt,
         msg_add(alloc, &mut runtime, CHILD, false, VALUE, 2),
-        CLOSED
+        CLOSED,
     );
-    assert_eq!(rt;
+    answers(
+        &rt,
         msg_replace(alloc, &mut runtime, CHILD, false, VALUE, 2),
-        CLOSED
+        CLOSED,
     );
-    assert_eq!(rt;
+    answers(
+        &rt,
         msg_set_imp(alloc, &mut runtime, CHILD, false, VALUE, 2),
-        CLOSED
+        CLOSED,
     );
-    assert_eq!(rt;
+    answers(
+        &rt,
         msg_exchange(alloc, &mut runtime, ROOT, false, VALUE, ROOT, false, NAME),
-        CLOSED
+        CLOSED,
     );
-    assert_eq!(rt; msg_attach(alloc, &mut runtime, ROOT, &[], &[]), CLOSED);
-    assert_eq!(rt; msg_make_class(alloc, &mut runtime, MADE, ROOT), CLOSED);
-    assert_eq!(rt; msg_make_root_class(alloc, &mut runtime, MADE), CLOSED);
-    assert_eq!(rt; msg_sender_open(alloc, &mut runtime, &mut sender), CLOSED);
-    assert_eq!(rt; number, 99);
+    answers(&rt, msg_attach(alloc, &mut runtime, ROOT, &[], &[]), CLOSED);
+    answers(&rt, msg_make_class(alloc, &mut runtime, MADE, ROOT), CLOSED);
+    answers(&rt, msg_make_root_class(alloc, &mut runtime, MADE), CLOSED);
+    answers(
+        &rt,
+        msg_sender_open(alloc, &mut runtime, &mut sender),
+        CLOSED,
+    );
+    answers(&rt, number, 99);
     Ok(())
 }
 
@@ -332,7 +410,7 @@ pub(crate) fn sending<R: Abort>(rt: &R, alloc: Global, runtime: &mut RuntimeHand
     ensures together { AreOfOneArena runtime.new.held.state result.held.state }
 {
     let mut sender = SenderHandle::closed(alloc);
-    assert_eq!(rt; msg_sender_open(alloc, runtime, &mut sender), DONE);
+    answers(rt, msg_sender_open(alloc, runtime, &mut sender), DONE);
     sender
 }
 
@@ -342,22 +420,25 @@ fn what_is_filled_is_hit(rt: HostRuntime) -> Result<(), Fail> {
     let mut runtime = opened(&rt, alloc);
     let mut sender = sending(&rt, alloc, &mut runtime);
     let mut imp = 99;
-    assert_eq!(rt;
+    answers(
+        &rt,
         msg_probe(alloc, &mut sender, CHILD, true, NEW, &mut imp),
-        MISSED
+        MISSED,
     );
-    assert_eq!(rt; imp, 99);
-    assert_eq!(rt;
+    answers(&rt, imp, 99);
+    answers(
+        &rt,
         msg_fill(alloc, &mut runtime, &mut sender, CHILD, true, NEW, &mut imp),
-        DONE
+        DONE,
     );
-    assert_eq!(rt; imp, 4);
+    answers(&rt, imp, 4);
     imp = 99;
-    assert_eq!(rt;
+    answers(
+        &rt,
         msg_probe(alloc, &mut sender, CHILD, true, NEW, &mut imp),
-        DONE
+        DONE,
     );
-    assert_eq!(rt; imp, 4);
+    answers(&rt, imp, 4);
     Ok(())
 }
 
@@ -367,7 +448,8 @@ fn a_change_flushes_and_is_seen(rt: HostRuntime) -> Result<(), Fail> {
     let mut runtime = opened(&rt, alloc);
     let mut sender = sending(&rt, alloc, &mut runtime);
     let (mut imp, mut count) = (99, 99);
-    assert_eq!(rt;
+    answers(
+        &rt,
         msg_fill(
             alloc,
             &mut runtime,
@@ -375,22 +457,25 @@ fn a_change_flushes_and_is_seen(rt: HostRuntime) -> Result<(), Fail> {
             CHILD,
             false,
             VALUE,
-            &mut imp
+            &mut imp,
         ),
-        DONE
+        DONE,
     );
-    assert_eq!(rt; imp, 1);
-    assert_eq!(rt;
+    answers(&rt, imp, 1);
+    answers(
+        &rt,
         msg_set_imp(alloc, &mut runtime, ROOT, false, VALUE, 2),
-        DONE
+        DONE,
     );
-    assert_eq!(rt; msg_refresh(alloc, &mut sender, &mut count), DONE);
-    assert_eq!(rt; count, 1);
-    assert_eq!(rt;
+    answers(&rt, msg_refresh(alloc, &mut sender, &mut count), DONE);
+    same(&rt, count, 1);
+    answers(
+        &rt,
         msg_probe(alloc, &mut sender, CHILD, false, VALUE, &mut imp),
-        MISSED
+        MISSED,
     );
-    assert_eq!(rt;
+    answers(
+        &rt,
         msg_fill(
             alloc,
             &mut runtime,
@@ -398,11 +483,11 @@ fn a_change_flushes_and_is_seen(rt: HostRuntime) -> Result<(), Fail> {
             CHILD,
             false,
             VALUE,
-            &mut imp
+            &mut imp,
         ),
-        DONE
+        DONE,
     );
-    assert_eq!(rt; imp, 2);
+    answers(&rt, imp, 2);
     Ok(())
 }
 
@@ -411,13 +496,22 @@ fn senders_meet_and_close(rt: HostRuntime) -> Result<(), Fail> {
     let alloc = rt.alloc();
     let mut runtime = opened(&rt, alloc);
     let mut sender = sending(&rt, alloc, &mut runtime);
-    assert_eq!(rt;
+    answers(
+        &rt,
         msg_sender_open(alloc, &mut runtime, &mut sender),
-        ALREADY_OPEN
+        ALREADY_OPEN,
     );
-    assert_eq!(rt; msg_meet(alloc, &mut runtime, &mut sender), DONE);
-    assert_eq!(rt; msg_sender_close(alloc, &mut runtime, &mut sender), DONE);
-    assert_eq!(rt; msg_sender_close(alloc, &mut runtime, &mut sender), CLOSED);
+    answers(&rt, msg_meet(alloc, &mut runtime, &mut sender), DONE);
+    answers(
+        &rt,
+        msg_sender_close(alloc, &mut runtime, &mut sender),
+        DONE,
+    );
+    answers(
+        &rt,
+        msg_sender_close(alloc, &mut runtime, &mut sender),
+        CLOSED,
+    );
     Ok(())
 }
 
@@ -427,23 +521,27 @@ fn a_sender_refuses_what_is_nobodys(rt: HostRuntime) -> Result<(), Fail> {
     let mut runtime = opened(&rt, alloc);
     let mut sender = sending(&rt, alloc, &mut runtime);
     let mut imp = 99;
-    assert_eq!(rt;
+    answers(
+        &rt,
         msg_probe(alloc, &mut sender, 4, false, VALUE, &mut imp),
-        66
+        66,
     );
-    assert_eq!(rt;
+    answers(
+        &rt,
         msg_probe(alloc, &mut sender, CHILD, false, 0, &mut imp),
-        67
+        67,
     );
-    assert_eq!(rt;
+    answers(
+        &rt,
         msg_fill(alloc, &mut runtime, &mut sender, 4, false, VALUE, &mut imp),
-        66
+        66,
     );
-    assert_eq!(rt;
+    answers(
+        &rt,
         msg_fill(alloc, &mut runtime, &mut sender, CHILD, false, 0, &mut imp),
-        67
+        67,
     );
-    assert_eq!(rt; imp, 99);
+    answers(&rt, imp, 99);
     Ok(())
 }
 
@@ -453,11 +551,13 @@ fn a_closed_sender_answers_nothing(rt: HostRuntime) -> Result<(), Fail> {
     let mut runtime = opened(&rt, alloc);
     let mut sender = SenderHandle::closed(alloc);
     let (mut imp, mut count) = (99, 99);
-    assert_eq!(rt;
+    answers(
+        &rt,
         msg_probe(alloc, &mut sender, CHILD, false, VALUE, &mut imp),
-        CLOSED
+        CLOSED,
     );
-    assert_eq!(rt;
+    answers(
+        &rt,
         msg_fill(
             alloc,
             &mut runtime,
@@ -465,13 +565,13 @@ fn a_closed_sender_answers_nothing(rt: HostRuntime) -> Result<(), Fail> {
             CHILD,
             false,
             VALUE,
-            &mut imp
+            &mut imp,
         ),
-        CLOSED
+        CLOSED,
     );
-    assert_eq!(rt; msg_meet(alloc, &mut runtime, &mut sender), CLOSED);
-    assert_eq!(rt; msg_refresh(alloc, &mut sender, &mut count), CLOSED);
-    assert_eq!(rt; (imp, count), (99, 99));
+    answers(&rt, msg_meet(alloc, &mut runtime, &mut sender), CLOSED);
+    answers(&rt, msg_refresh(alloc, &mut sender, &mut count), CLOSED);
+    same(&rt, (imp, count), (99, 99));
     Ok(())
 }
 
@@ -482,15 +582,24 @@ fn sixty_four_senders_are_out_at_most(rt: HostRuntime) -> Result<(), Fail> {
     let mut first = sending(&rt, alloc, &mut runtime);
     for _ in 1..64 {
         let mut another = SenderHandle::closed(alloc);
-        assert_eq!(rt; msg_sender_open(alloc, &mut runtime, &mut another), DONE);
+        answers(
+            &rt,
+            msg_sender_open(alloc, &mut runtime, &mut another),
+            DONE,
+        );
     }
     let mut last = SenderHandle::closed(alloc);
-    assert_eq!(rt; msg_sender_open(alloc, &mut runtime, &mut last), NO_SENDER);
-    assert_eq!(rt; msg_close(alloc, &mut runtime), DONE);
+    answers(
+        &rt,
+        msg_sender_open(alloc, &mut runtime, &mut last),
+        NO_SENDER,
+    );
+    answers(&rt, msg_close(alloc, &mut runtime), DONE);
     let mut imp = 99;
-    assert_eq!(rt;
+    answers(
+        &rt,
         msg_probe(alloc, &mut first, CHILD, false, VALUE, &mut imp),
-        MISSED
+        MISSED,
     );
     Ok(())
 }
@@ -501,7 +610,8 @@ fn a_sender_remembers_until_it_sees_a_change(rt: HostRuntime) -> Result<(), Fail
     let mut runtime = opened(&rt, alloc);
     let mut sender = sending(&rt, alloc, &mut runtime);
     let (mut imp, mut count) = (99, 99);
-    assert_eq!(rt;
+    answers(
+        &rt,
         msg_fill(
             alloc,
             &mut runtime,
@@ -509,24 +619,27 @@ fn a_sender_remembers_until_it_sees_a_change(rt: HostRuntime) -> Result<(), Fail
             CHILD,
             false,
             VALUE,
-            &mut imp
+            &mut imp,
         ),
-        DONE
+        DONE,
     );
-    assert_eq!(rt;
+    answers(
+        &rt,
         msg_replace(alloc, &mut runtime, CHILD, false, VALUE, 2),
-        DONE
+        DONE,
     );
     imp = 99;
-    assert_eq!(rt;
+    answers(
+        &rt,
         msg_probe(alloc, &mut sender, CHILD, false, VALUE, &mut imp),
-        DONE
+        DONE,
     );
-    assert_eq!(rt; imp, 1);
-    assert_eq!(rt; msg_refresh(alloc, &mut sender, &mut count), DONE);
-    assert_eq!(rt;
+    answers(&rt, imp, 1);
+    answers(&rt, msg_refresh(alloc, &mut sender, &mut count), DONE);
+    answers(
+        &rt,
         msg_probe(alloc, &mut sender, CHILD, false, VALUE, &mut imp),
-        MISSED
+        MISSED,
     );
     Ok(())
 }
@@ -536,9 +649,17 @@ fn a_sender_is_closed_after_its_runtime(rt: HostRuntime) -> Result<(), Fail> {
     let alloc = rt.alloc();
     let mut runtime = opened(&rt, alloc);
     let mut sender = sending(&rt, alloc, &mut runtime);
-    assert_eq!(rt; msg_close(alloc, &mut runtime), DONE);
-    assert_eq!(rt; msg_sender_close(alloc, &mut runtime, &mut sender), DONE);
-    assert_eq!(rt; msg_sender_close(alloc, &mut runtime, &mut sender), CLOSED);
+    answers(&rt, msg_close(alloc, &mut runtime), DONE);
+    answers(
+        &rt,
+        msg_sender_close(alloc, &mut runtime, &mut sender),
+        DONE,
+    );
+    answers(
+        &rt,
+        msg_sender_close(alloc, &mut runtime, &mut sender),
+        CLOSED,
+    );
     Ok(())
 }
 
@@ -553,8 +674,9 @@ fn what_is_noted_is_recalled_at_its_count(rt: HostRuntime) -> Result<(), Fail> {
     let mut runtime = opened(&rt, alloc);
     let mut sender = sending(&rt, alloc, &mut runtime);
     let mut imp = 99;
-    assert_eq!(rt; msg_recall(&sender, CHILD_SLOT, VALUE, 0), NOT_NOTED);
-    assert_eq!(rt;
+    same(&rt, msg_recall(&sender, CHILD_SLOT, VALUE, 0), NOT_NOTED);
+    answers(
+        &rt,
         msg_fill(
             alloc,
             &mut runtime,
@@ -562,20 +684,22 @@ fn what_is_noted_is_recalled_at_its_count(rt: HostRuntime) -> Result<(), Fail> {
             CHILD,
             false,
             VALUE,
-            &mut imp
+            &mut imp,
         ),
-        DONE
+        DONE,
     );
-    assert_eq!(rt; msg_recall(&sender, CHILD_SLOT, VALUE, 0), 1);
-    assert_eq!(rt; msg_recall(&sender, META_SLOT, VALUE, 0), NOT_NOTED);
-    assert_eq!(rt; msg_recall(&sender, CHILD_SLOT, NAME, 0), NOT_NOTED);
-    assert_eq!(rt; msg_recall(&sender, CHILD_SLOT, VALUE, 1), NOT_NOTED);
-    assert_eq!(rt;
+    same(&rt, msg_recall(&sender, CHILD_SLOT, VALUE, 0), 1);
+    same(&rt, msg_recall(&sender, META_SLOT, VALUE, 0), NOT_NOTED);
+    same(&rt, msg_recall(&sender, CHILD_SLOT, NAME, 0), NOT_NOTED);
+    same(&rt, msg_recall(&sender, CHILD_SLOT, VALUE, 1), NOT_NOTED);
+    answers(
+        &rt,
         msg_replace(alloc, &mut runtime, CHILD, false, VALUE, 2),
-        DONE
+        DONE,
     );
-    assert_eq!(rt; msg_recall(&sender, CHILD_SLOT, VALUE, 1), NOT_NOTED);
-    assert_eq!(rt;
+    same(&rt, msg_recall(&sender, CHILD_SLOT, VALUE, 1), NOT_NOTED);
+    answers(
+        &rt,
         msg_fill(
             alloc,
             &mut runtime,
@@ -583,12 +707,12 @@ fn what_is_noted_is_recalled_at_its_count(rt: HostRuntime) -> Result<(), Fail> {
             CHILD,
             false,
             VALUE,
-            &mut imp
+            &mut imp,
         ),
-        DONE
+        DONE,
     );
-    assert_eq!(rt; msg_recall(&sender, CHILD_SLOT, VALUE, 1), 2);
-    assert_eq!(rt; msg_recall(&sender, CHILD_SLOT, VALUE, 0), NOT_NOTED);
+    same(&rt, msg_recall(&sender, CHILD_SLOT, VALUE, 1), 2);
+    same(&rt, msg_recall(&sender, CHILD_SLOT, VALUE, 0), NOT_NOTED);
     Ok(())
 }
 
@@ -597,19 +721,24 @@ fn a_closed_handle_recalls_nothing(rt: HostRuntime) -> Result<(), Fail> {
     let alloc = rt.alloc();
     let mut runtime = opened(&rt, alloc);
     let mut sender = SenderHandle::closed(alloc);
-    assert_eq!(rt; msg_recall(&sender, 0, 0, 0), NOT_NOTED);
-    assert_eq!(rt; msg_sender_open(alloc, &mut runtime, &mut sender), DONE);
-    assert_eq!(rt; msg_recall(&sender, 0, 0, 0), NOT_NOTED);
+    same(&rt, msg_recall(&sender, 0, 0, 0), NOT_NOTED);
+    answers(&rt, msg_sender_open(alloc, &mut runtime, &mut sender), DONE);
+    same(&rt, msg_recall(&sender, 0, 0, 0), NOT_NOTED);
     let mut imp = 99;
-    assert_eq!(rt;
+    answers(
+        &rt,
         msg_fill(alloc, &mut runtime, &mut sender, CHILD, true, NEW, &mut imp),
-        DONE
+        DONE,
     );
-    assert_eq!(rt; msg_recall(&sender, META_SLOT, NEW, 0), 4);
-    assert_eq!(rt; msg_sender_close(alloc, &mut runtime, &mut sender), DONE);
-    assert_eq!(rt; msg_recall(&sender, META_SLOT, NEW, 0), NOT_NOTED);
-    assert_eq!(rt; msg_sender_open(alloc, &mut runtime, &mut sender), DONE);
-    assert_eq!(rt; msg_recall(&sender, META_SLOT, NEW, 0), NOT_NOTED);
-    assert_eq!(rt; msg_sender_size(), 49168);
+    same(&rt, msg_recall(&sender, META_SLOT, NEW, 0), 4);
+    answers(
+        &rt,
+        msg_sender_close(alloc, &mut runtime, &mut sender),
+        DONE,
+    );
+    same(&rt, msg_recall(&sender, META_SLOT, NEW, 0), NOT_NOTED);
+    answers(&rt, msg_sender_open(alloc, &mut runtime, &mut sender), DONE);
+    same(&rt, msg_recall(&sender, META_SLOT, NEW, 0), NOT_NOTED);
+    same(&rt, msg_sender_size(), 49168);
     Ok(())
 }

@@ -1,0 +1,14 @@
+//! What tests compare by. In functions of their own comparisons are proved once, and not at each place of a test.
+
+use std::fmt::Debug;
+use std::process::Abort;
+
+// The call answers this number.
+pub(crate) fn answers<R: Abort>(rt: &R, found: u32, wanted: u32) {
+    assert_eq!(rt; found, wanted);
+}
+
+// The two are equal.
+pub(crate) fn same<R: Abort, T: PartialEq + Debug + Drop>(rt: &R, found: T, wanted: T) {
+    assert_eq!(rt; found, wanted);
+}
