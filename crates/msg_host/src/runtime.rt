@@ -24,7 +24,7 @@ use crate::opening::{arena_of, document_of};
 use crate::sender::HostedSender;
 use msg_cache::{Arena, Report, Turn};
 use msg_form::DocumentFault;
-use msg_image::{Change, Image, read_document};
+use msg_image::{Change, Document, Image, read_document};
 use msg_memory::Memory;
 use msg_memory::laws::a_longer_history_has_what_is_remembered;
 use msg_names::{ClassRef, ImpRef, Selector};
@@ -73,14 +73,26 @@ fn shared(alloc: Global, arena: Arena) -> Result<Arc<Arena, Global>, AllocError>
     }
 }
 
-// The runtime of an image.
-fn opened(alloc: Global, image: Image) -> Result<HostedRuntime, AllocError>
-    ensures { IfOk result (λ r. r.history ≡ empty image) }
+// What shares an image's caches, keeps them, and may change them.
+fn opened(alloc: Global, image: &Image) -> Result<(Arc<Arena, Global>, Runtime, Turn), AllocError>
+    ensures arena { IfOk result (λ r. arc_value r.0 ≡ r.1.arena) }
+    ensures image { IfOk result (λ r. r.1.arena.key.image ≡ image.now) }
+    ensures history { IfOk result (λ r. r.1.keeper.history ≡ empty image.now) }
+    ensures turn { IfOk result (λ r. r.2.table ≡ r.1.arena.table) }
 {
-    let (arena, keeper) = arena_of(alloc, &image)?;
+    let (arena, keeper) = arena_of(alloc, image)?;
     let arena = shared(alloc, arena)?;
-    let mut runtime = Runtime::open(alloc, &arena, keeper, &image)?;
+    let mut runtime = Runtime::open(alloc, &arena, keeper, image)?;
     let turn = runtime.turn(&arena).unwrap();
+    Ok((arena, runtime, turn))
+}
+
+// The runtime of a document's image. What the document sends and changes is left aside.
+fn hosted(alloc: Global, document: Document) -> Result<HostedRuntime, AllocError>
+    ensures { IfOk result (λ r. r.history ≡ empty document.image) }
+{
+    let (arena, runtime, turn) = opened(alloc, &document.image)?;
+    let Document { image, .. } = document;
     Ok(HostedRuntime {
         arena,
         runtime,
@@ -98,7 +110,7 @@ impl HostedRuntime {
         ensures fault { IfErr result (λ f. f ≢ DocumentFault.Memory → IsAnswer text.now (Err f)) }
     {
         let document = read_document(alloc, text)?;
-        Ok(opened(alloc, document.image)?)
+        Ok(hosted(alloc, document)?)
     }
 
     /// Opens the image of the form that rows stand for, with no change made yet.
@@ -109,7 +121,7 @@ impl HostedRuntime {
         ensures fault { IfErr result (λ f. f ≢ DocumentFault.Memory → judged (form_of (rows_view rows.now)) ≡ Err f) }
     {
         let document = document_of(alloc, rows)?;
-        Ok(opened(alloc, document.image)?)
+        Ok(hosted(alloc, document)?)
     }
 
     /// How many classes have numbers: the listed ones, and after them those that may be made.
