@@ -12,10 +12,10 @@ ghost use Rattle.msg_form.specs.Text.{distinct};
 ghost use Rattle.msg_form.specs.Views.{form_view};
 ghost use Rattle.msg_form.specs.Walk.{selector_texts};
 
+mod any;
 mod bodies;
 mod classes;
 mod clean;
-mod constants;
 mod counts;
 mod cycle;
 mod depth;

@@ -9,14 +9,14 @@ ghost use Rattle.msg_form.specs.BodyFaults.{AreBodyFaults, HasNoBodyFault, has_o
 ghost use Rattle.msg_form.specs.ExprView.{expr_view};
 ghost use Rattle.msg_form.specs.Faults as spec;
 ghost use Rattle.msg_form.specs.FormNames.{AreNamesOf};
-ghost use Rattle.msg_form.specs.Parts.{classes_in, indices_in, is_super_send, objects_in, own_indices, sends_in};
+ghost use Rattle.msg_form.specs.Parts.{classes_in, indices_in, is_super_send, objects_in, own_class, own_constants, own_indices, own_object, sends_in};
 ghost use Rattle.msg_form.specs.Text.{is_among, is_unknown};
 ghost use Rattle.msg_form.specs.Views.{imp_view, imps_view, form_view};
 
 use super::clean::room_if_clean;
-use super::constants::{ClassOutside, ObjectOutside, any_in_body};
 use super::counts::{has_miscounted_send, is_miscounted_send};
 use super::depth::is_too_deep;
+use super::names::{ClassOutside, ObjectOutside};
 use super::part::{PartTest, any_part};
 use crate::form::{Constant, Expr, Form, Imp};
 use crate::form_names::FormNames;
@@ -24,7 +24,7 @@ use crate::limits::{MAX_DEPTH, MAX_EXPRESSIONS};
 use crate::name_set::NameSet;
 
 /// Which faults some body has.
-#[derive(Clone, Copy, Debug)]
+#[derive(Clone, Copy)]
 pub(super) struct BodyFaults {
     /// A super send in a method of a root class.
     pub(super) sends_above: bool,
@@ -50,7 +50,7 @@ pub(super) fn body_faults(form: &Form, names: &FormNames) -> BodyFaults
 }
 
 /// The names that bodies may use.
-#[derive(Clone, Copy)]
+#[derive(Drop)]
 struct Known<'s, 'v> {
     classes: &'s NameSet<'v>,
     roots: &'s NameSet<'v>,
@@ -183,14 +183,36 @@ impl PartTest for IsSuperSend {
 fn names_class_outside(classes: &NameSet, body: &Expr) -> bool
     ensures { result ≡ list_any (is_unknown classes.now) (classes_in (expr_view body.now)) }
 {
-    any_in_body(&ClassOutside { classes }, body)
+    any_part(&ClassOutside { classes }, body)
+}
+
+impl PartTest for ClassOutside<'_, '_> {
+    ghost passes = { λ t e. list_any (λ c. list_any (is_unknown t.classes.now) (own_class c)) (own_constants e) };
+
+    fn passes(&self, part: &Expr) -> bool {
+        match part {
+            Expr::Const(Constant::Class(name)) => self.classes.lacks(*name),
+            _ => false,
+        }
+    }
 }
 
 #[tactic(auto, using(crate::proofs::AnyLemmas::anys))]
 fn names_object_outside(objects: &NameSet, body: &Expr) -> bool
     ensures { result ≡ list_any (is_unknown objects.now) (objects_in (expr_view body.now)) }
 {
-    any_in_body(&ObjectOutside { objects }, body)
+    any_part(&ObjectOutside { objects }, body)
+}
+
+impl PartTest for ObjectOutside<'_, '_> {
+    ghost passes = { λ t e. list_any (λ c. list_any (is_unknown t.objects.now) (own_object c)) (own_constants e) };
+
+    fn passes(&self, part: &Expr) -> bool {
+        match part {
+            Expr::Const(Constant::Object(name)) => self.objects.lacks(*name),
+            _ => false,
+        }
+    }
 }
 
 #[tactic(auto, using(crate::proofs::AnyLemmas::anys))]

@@ -11,6 +11,7 @@ ghost use Rattle.msg_form.specs.Lists.{item_sends, method_entries};
 ghost use Rattle.msg_form.specs.Parts.{own_sends, sends_in};
 ghost use Rattle.msg_form.specs.Views.{imps_view, item_view, form_view};
 
+use super::any::{Test, any};
 use super::bodies::BodyFaults;
 use super::lists::method_lists;
 use super::part::{PartTest, any_part};
@@ -33,7 +34,7 @@ pub(super) fn has_wrong_argument_count(
     if has_miscounted_pair(alloc, form)? {
         return Ok(true);
     }
-    Ok(any_miscounted_item(&form.items))
+    Ok(any(&IsMiscounted, &form.items))
 }
 
 fn has_miscounted_pair(alloc: Global, form: &Form) -> Result<bool, AllocError>
@@ -42,20 +43,33 @@ fn has_miscounted_pair(alloc: Global, form: &Form) -> Result<bool, AllocError>
 {
     let args = imp_args(alloc, &form.imps)?;
     let lists = method_lists(alloc, form)?;
-    Ok(any_miscounted_pair(&args, &lists))
+    Ok(any(&Miscounted { args: &args }, &lists))
 }
 
-fn any_miscounted_pair(args: &IndexMap<&str, u8>, lists: &[&[Pair]]) -> bool
-    ensures { result
-        ≡ list_any (λ l. list_any (is_miscounted_by args.now.entries) l.now) lists.now }
-{
-    lists.iter().any(|list| any_miscounted_in(args, list))
+/// The test of a pair whose implementation takes more or fewer arguments than its selector has colons.
+#[derive(Drop)]
+struct Miscounted<'a, 'v> {
+    /// How many arguments the implementations of names take.
+    args: &'a IndexMap<&'v str, u8>,
 }
 
-fn any_miscounted_in(args: &IndexMap<&str, u8>, list: &[Pair]) -> bool
-    ensures { result ≡ list_any (is_miscounted_by args.now.entries) list.now }
-{
-    list.iter().any(|pair| is_miscounted(args, pair))
+impl<'v> Test<Pair<'v>> for Miscounted<'_, '_> {
+    ghost passes = { λ t p. is_miscounted_by t.args.now.entries p };
+
+    fn passes(&self, pair: &Pair<'v>) -> bool {
+        match self.args.get(pair.imp) {
+            Some(args) => *args as usize != colons(pair.selector),
+            None => false,
+        }
+    }
+}
+
+impl<'f, 'v> Test<&'f [Pair<'v>]> for Miscounted<'_, '_> {
+    ghost passes = { λ t l. list_any (is_miscounted_by t.args.now.entries) l.now };
+
+    fn passes(&self, list: &&'f [Pair<'v>]) -> bool {
+        any(self, *list)
+    }
 }
 
 /// How many arguments the implementation of a name takes, the first of that name.
@@ -78,15 +92,6 @@ fn keep_first<'v>(args: &mut IndexMap<&'v str, u8>, imp: &Imp<'v>) -> Result<(),
     Ok(())
 }
 
-fn is_miscounted(args: &IndexMap<&str, u8>, pair: &Pair) -> bool
-    ensures { result ≡ is_miscounted_by args.now.entries pair.now }
-{
-    match args.get(pair.imp) {
-        Some(args) => *args as usize != colons(pair.selector),
-        None => false,
-    }
-}
-
 fn colons(text: &str) -> usize
     ensures { result ≡ colons_of text.now }
 {
@@ -100,22 +105,6 @@ pub(super) fn has_miscounted_send(body: &Expr) -> bool
     any_part(&IsMiscounted, body)
 }
 
-fn any_miscounted_item(items: &[Item]) -> bool
-    ensures { result
-        ≡ list_any (λ i. list_any spec.is_miscounted_send (item_sends (item_view i))) items.now }
-{
-    items.iter().any(is_miscounted_item)
-}
-
-fn is_miscounted_item(item: &Item) -> bool
-    ensures { result ≡ list_any spec.is_miscounted_send (item_sends (item_view item.now)) }
-{
-    match item {
-        Item::Send { selector, args, .. } => is_miscounted_send(selector, args.len()),
-        Item::Change(_) => false,
-    }
-}
-
 pub(super) fn is_miscounted_send(selector: &str, count: usize) -> bool
     ensures { result ≡ spec.is_miscounted_send (selector.now, count) }
 {
@@ -125,6 +114,17 @@ pub(super) fn is_miscounted_send(selector: &str, count: usize) -> bool
 /// The test of a send or super send whose arguments are more or fewer than its selector's colons.
 #[derive(Drop)]
 struct IsMiscounted;
+
+impl<'v> Test<Item<'v>> for IsMiscounted {
+    ghost passes = { λ _ i. list_any spec.is_miscounted_send (item_sends (item_view i)) };
+
+    fn passes(&self, item: &Item<'v>) -> bool {
+        match item {
+            Item::Send { selector, args, .. } => is_miscounted_send(*selector, args.len()),
+            Item::Change(_) => false,
+        }
+    }
+}
 
 impl PartTest for IsMiscounted {
     ghost passes = { λ _ e. list_any spec.is_miscounted_send (own_sends e) };
