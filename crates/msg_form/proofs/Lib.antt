@@ -1,4 +1,5 @@
 pub mod JsonLemmas
+pub mod ReadLemmas
 pub mod ExprShapeLemmas
 pub mod NameSetLemmas
 pub mod TextLemmas

@@ -1,5 +1,3 @@
-use Rattle.std.proofs.Common.{◌∙◌}
-use Rattle.msg_form.specs.Text.{is_unknown}
 use Rattle.msg_form.specs.Views.{form_view}
 use Rattle.msg_form.proofs.CitedLemmas.{unknown-in_bodies, unknown-at_home, unknown-elsewhere}
 use Rattle.msg_form.proofs.judge.names.has_unknown_class.Goals as goal
