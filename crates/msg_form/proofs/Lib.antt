@@ -1,5 +1,6 @@
 pub mod JsonLemmas
 pub mod ReadLemmas
+pub mod ResultLemmas
 pub mod ExprShapeLemmas
 pub mod NameSetLemmas
 pub mod TextLemmas
