@@ -100,7 +100,7 @@ fn later_fault(
     if has_duplicate_selector(alloc, form)? {
         return Ok(Some(DocumentFault::DuplicateSelector));
     }
-    if has_wrong_argument_count(alloc, form, bodies)? {
+    if has_wrong_argument_count(alloc, form, &names.imps, bodies)? {
         return Ok(Some(DocumentFault::ArgumentCount));
     }
     if bodies.argument_index {

@@ -1,13 +1,13 @@
 //! Whether argument counts and selectors' colons differ.
 
-ghost use Rattle.std.specs.Prelude.{◌≡◌, IfOk, OnOk};
+ghost use Rattle.std.specs.Prelude.{◌≡◌, IfOk};
 ghost use Rattle.std.specs.List.{list_any};
 ghost use Rattle.msg_names.specs.Name.{colons_of};
 ghost use Rattle.msg_form.specs.BodyFaults.{AreBodyFaults};
 ghost use Rattle.msg_form.specs.Faults as spec;
 ghost use Rattle.msg_form.specs.ExprView.{expr_view};
-ghost use Rattle.msg_form.specs.ImpArgs.{is_miscounted_by, AreArgsOf, KeepsFirst};
-ghost use Rattle.msg_form.specs.Lists.{item_sends, method_entries};
+ghost use Rattle.msg_form.specs.ImpArgs.{args_at, is_miscounted_by};
+ghost use Rattle.msg_form.specs.Lists.{imp_names, item_sends, method_entries};
 ghost use Rattle.msg_form.specs.Parts.{own_sends, sends_in};
 ghost use Rattle.msg_form.specs.Views.{imps_view, item_view, form_view};
 
@@ -16,80 +16,78 @@ use super::bodies::BodyFaults;
 use super::lists::method_lists;
 use super::part::{PartTest, any_part};
 use crate::form::{Expr, Form, Imp, Item, Pair};
-use indexmap::IndexMap;
+use crate::name_set::NameSet;
 use std::alloc::{AllocError, Global};
 
 #[tactic(auto, using(crate::proofs::AnyLemmas::anys), unfolding(crate::specs::Faults::has_wrong_argument_count))]
 pub(super) fn has_wrong_argument_count(
     alloc: Global,
     form: &Form,
+    imps: &NameSet,
     bodies: BodyFaults,
 ) -> Result<bool, AllocError>
-    requires { AreBodyFaults bodies (form_view form.now) }
+    requires imps { imps.now ≡ imp_names (form_view form.now) }
+    requires bodies { AreBodyFaults bodies (form_view form.now) }
     ensures { IfOk result (λ b. b ≡ spec.has_wrong_argument_count (form_view form.now)) }
 {
     if bodies.argument_count {
         return Ok(true);
     }
-    if has_miscounted_pair(alloc, form)? {
+    if has_miscounted_pair(alloc, form, imps)? {
         return Ok(true);
     }
     Ok(any(&IsMiscounted, &form.items))
 }
 
-fn has_miscounted_pair(alloc: Global, form: &Form) -> Result<bool, AllocError>
+fn has_miscounted_pair(alloc: Global, form: &Form, imps: &NameSet) -> Result<bool, AllocError>
+    requires { imps.now ≡ imp_names (form_view form.now) }
     ensures { IfOk result
         (λ b. b ≡ list_any (spec.is_miscounted (imps_view form.now.imps.items)) (method_entries (form_view form.now))) }
 {
-    let args = imp_args(alloc, &form.imps)?;
     let lists = method_lists(alloc, form)?;
-    Ok(any(&Miscounted { args: &args }, &lists))
+    let test = Miscounted {
+        names: imps,
+        imps: &form.imps,
+    };
+    Ok(any(&test, &lists))
 }
 
 /// The test of a pair whose implementation takes more or fewer arguments than its selector has colons.
 #[derive(Drop)]
-struct Miscounted<'a, 'v> {
-    /// How many arguments the implementations of names take.
-    args: &'a IndexMap<&'v str, u8>,
+struct Miscounted<'n, 'w, 'i, 'v> {
+    /// The names of the implementations, each in its place.
+    names: &'n NameSet<'w>,
+    imps: &'i [Imp<'v>],
 }
 
-impl<'v> Test<Pair<'v>> for Miscounted<'_, '_> {
-    ghost passes = { λ t p. is_miscounted_by t.args.now.entries p };
+impl<'v> Test<Pair<'v>> for Miscounted<'_, '_, '_, '_> {
+    ghost passes = { λ t p. is_miscounted_by t.names.now (imps_view t.imps.now) p };
 
     fn passes(&self, pair: &Pair<'v>) -> bool {
-        match self.args.get(pair.imp) {
-            Some(args) => *args as usize != colons(pair.selector),
+        match args_at(self.names, self.imps, pair.imp) {
+            Some(args) => args as usize != colons(pair.selector),
             None => false,
         }
     }
 }
 
-impl<'f, 'v> Test<&'f [Pair<'v>]> for Miscounted<'_, '_> {
-    ghost passes = { λ t l. list_any (is_miscounted_by t.args.now.entries) l.now };
+impl<'f, 'v> Test<&'f [Pair<'v>]> for Miscounted<'_, '_, '_, '_> {
+    ghost passes = { λ t l. list_any (is_miscounted_by t.names.now (imps_view t.imps.now)) l.now };
 
     fn passes(&self, list: &&'f [Pair<'v>]) -> bool {
         any(self, *list)
     }
 }
 
-/// How many arguments the implementation of a name takes, the first of that name.
-fn imp_args<'v>(alloc: Global, imps: &[Imp<'v>]) -> Result<IndexMap<&'v str, u8>, AllocError>
-    ensures { IfOk result (λ m. AreArgsOf m.entries (imps_view imps.now)) }
+/// How many arguments the implementation at a name's place takes.
+fn args_at(names: &NameSet, imps: &[Imp], name: &str) -> Option<u8>
+    ensures { result ≡ args_at names.now (imps_view imps.now) name.now }
 {
-    let mut args = IndexMap::new(alloc);
-    for imp in imps {
-        keep_first(&mut args, imp)?;
+    let place = names.number(name)?.saturating_sub(1) as usize;
+    if place >= imps.len() {
+        return None;
     }
-    Ok(args)
-}
-
-fn keep_first<'v>(args: &mut IndexMap<&'v str, u8>, imp: &Imp<'v>) -> Result<(), AllocError>
-    ensures { OnOk result (KeepsFirst args.old.entries args.new.entries imp.now.name imp.now.args) }
-{
-    if !args.contains_key(imp.name) {
-        args.insert(imp.name, imp.args)?;
-    }
-    Ok(())
+    Some(imps[place].args)
 }
 
 fn colons(text: &str) -> usize
