@@ -24,35 +24,6 @@ pub counted : (es : List Expr) → count_of (expressions (map expr_view es)) ≡
 counted [] = refl
 counted (e ∷ es) = ap suc (counted es)
 
-own_sends-Send : (s : Box SendExpr Global) → own_sends (expr_view (Send s)) ≡ ((out-SendExpr s.value).selector.now, length (out-SendExpr s.value).args.items) ∷ []
-own_sends-Send s =
-    let fields = out-SendExpr s.value in
-    let is : expr_view (Send s) ≡ send (expr_view fields.receiver) fields.selector.now (expressions (map expr_view fields.args.items)) = search (rules, the_lemmas) in
-    rw (is, counted fields.args.items)
-
-own_sends-Super : (s : Box SuperExpr Global) → own_sends (expr_view (Super s)) ≡ ((out-SuperExpr s.value).selector.now, length (out-SuperExpr s.value).args.items) ∷ []
-own_sends-Super s =
-    let fields = out-SuperExpr s.value in
-    let is : expr_view (Super s) ≡ super_send fields.selector.now (expressions (map expr_view fields.args.items)) = search (rules, the_lemmas) in
-    rw (is, counted fields.args.items)
-
-one_send : (sends : List (Text × ℕ)) (selector : Text) (n : ℕ) (r : Bool) → sends ≡ (selector, n) ∷ [] → r ≡ not (n == colons_of selector) → r ≡ list_any is_miscounted_send sends
-one_send sends selector n r is e = rw is (e ∙ sym (or-false (not (n == colons_of selector))))
-
--- where a send is counted, so is the part that it is
-pub counted_send : (part : Expr) (s : Box SendExpr Global) (a b : SendExpr) (n : ℕ) (r : Bool) → part ≡ Send s → a ≡ s.value → b ≡ s.value → n ≡ vec_len (out-SendExpr b).args → r ≡ not (n == colons_of (out-SendExpr a).selector.now)
-    → r ≡ list_any is_miscounted_send (own_sends (expr_view part))
-counted_send part s a b n r is same_a same_b len e =
-    let count : n ≡ length (out-SendExpr s.value).args.items = len ∙ (out-SendExpr b).args.ok.0 ∙ ap (λ x. length (out-SendExpr x).args.items) same_b in
-    one_send (own_sends (expr_view part)) (out-SendExpr s.value).selector.now (length (out-SendExpr s.value).args.items) r (ap (λ x. own_sends (expr_view x)) is ∙ own_sends-Send s) (e ∙ (λ i. not (count i == colons_of (out-SendExpr (same_a i)).selector.now)))
-
--- the same of a super send
-pub counted_super : (part : Expr) (s : Box SuperExpr Global) (a b : SuperExpr) (n : ℕ) (r : Bool) → part ≡ Super s → a ≡ s.value → b ≡ s.value → n ≡ vec_len (out-SuperExpr b).args → r ≡ not (n == colons_of (out-SuperExpr a).selector.now)
-    → r ≡ list_any is_miscounted_send (own_sends (expr_view part))
-counted_super part s a b n r is same_a same_b len e =
-    let count : n ≡ length (out-SuperExpr s.value).args.items = len ∙ (out-SuperExpr b).args.ok.0 ∙ ap (λ x. length (out-SuperExpr x).args.items) same_b in
-    one_send (own_sends (expr_view part)) (out-SuperExpr s.value).selector.now (length (out-SuperExpr s.value).args.items) r (ap (λ x. own_sends (expr_view x)) is ∙ own_sends-Super s) (e ∙ (λ i. not (count i == colons_of (out-SuperExpr (same_a i)).selector.now)))
-
 -- ---- implementations by the places of their names
 
 -- the place of a name, from 0

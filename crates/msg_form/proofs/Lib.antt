@@ -17,6 +17,4 @@ pub mod SelectorLemmas
 pub mod BodyLemmas
 pub mod LeastLemmas
 pub mod LimitLemmas
-pub mod PartLemmas
-pub mod RoomLemmas
-pub mod CleanLemmas
+pub mod FoundLemmas

@@ -14,15 +14,13 @@ ghost use Rattle.msg_form.specs.Walk.{selector_texts};
 
 mod any;
 mod bodies;
+mod body_walk;
 mod classes;
-mod clean;
 mod counts;
 mod cycle;
-mod depth;
 mod limits;
 mod lists;
 mod names;
-mod part;
 mod selectors;
 
 use crate::faults::DocumentFault;

@@ -5,17 +5,14 @@ ghost use Rattle.std.specs.List.{list_any};
 ghost use Rattle.msg_names.specs.Name.{colons_of};
 ghost use Rattle.msg_form.specs.BodyFaults.{AreBodyFaults};
 ghost use Rattle.msg_form.specs.Faults as spec;
-ghost use Rattle.msg_form.specs.ExprView.{expr_view};
 ghost use Rattle.msg_form.specs.ImpArgs.{args_at, is_miscounted_by};
 ghost use Rattle.msg_form.specs.Lists.{imp_names, item_sends, method_entries};
-ghost use Rattle.msg_form.specs.Parts.{own_sends, sends_in};
 ghost use Rattle.msg_form.specs.Views.{imps_view, item_view, form_view};
 
 use super::any::{Test, any};
 use super::bodies::BodyFaults;
 use super::lists::method_lists;
-use super::part::{PartTest, any_part};
-use crate::form::{Expr, Form, Imp, Item, Pair};
+use crate::form::{Form, Imp, Item, Pair};
 use crate::name_set::NameSet;
 use std::alloc::{AllocError, Global};
 
@@ -96,20 +93,13 @@ fn colons(text: &str) -> usize
     text.as_bytes().iter().filter(|b| **b == b':').count()
 }
 
-#[tactic(auto, using(crate::proofs::AnyLemmas::anys))]
-pub(super) fn has_miscounted_send(body: &Expr) -> bool
-    ensures { result ≡ list_any spec.is_miscounted_send (sends_in (expr_view body.now)) }
-{
-    any_part(&IsMiscounted, body)
-}
-
 pub(super) fn is_miscounted_send(selector: &str, count: usize) -> bool
     ensures { result ≡ spec.is_miscounted_send (selector.now, count) }
 {
     count != colons(selector)
 }
 
-/// The test of a send or super send whose arguments are more or fewer than its selector's colons.
+/// The test of a send whose arguments are more or fewer than its selector's colons.
 #[derive(Drop)]
 struct IsMiscounted;
 
@@ -120,18 +110,6 @@ impl<'v> Test<Item<'v>> for IsMiscounted {
         match item {
             Item::Send { selector, args, .. } => is_miscounted_send(*selector, args.len()),
             Item::Change(_) => false,
-        }
-    }
-}
-
-impl PartTest for IsMiscounted {
-    ghost passes = { λ _ e. list_any spec.is_miscounted_send (own_sends e) };
-
-    fn passes(&self, part: &Expr) -> bool {
-        match part {
-            Expr::Send(send) => is_miscounted_send(send.selector, send.args.len()),
-            Expr::Super(send) => is_miscounted_send(send.selector, send.args.len()),
-            _ => false,
         }
     }
 }

@@ -131,8 +131,8 @@ fn names_class_outside(classes: &NameSet, form: &Form) -> bool
 
 /// The test of what names an object beyond the set.
 #[derive(Drop)]
-pub(super) struct ObjectOutside<'s, 'v> {
-    pub(super) objects: &'s NameSet<'v>,
+struct ObjectOutside<'s, 'v> {
+    objects: &'s NameSet<'v>,
 }
 
 impl<'v> Test<Constant<'v>> for ObjectOutside<'_, '_> {
