@@ -1,24 +1,18 @@
 -- Argument counts.
-use Rattle.std.proofs.Common.{◌≡◌, ℕ, suc, ◌-◌, arith, Bool, true, false, not, cond, List, [], ◌∷◌, length, map, Option, None, Some, option_map, slice_get, bytes_eq, Box, Bor, Global, vec_len, refl, sym, ap, ◌∙◌, rules}
-use Rattle.std.specs.Prelude.{◌==◌}
+use Rattle.std.proofs.Common.{◌≡◌, ℕ, suc, ◌-◌, arith, Bool, true, false, cond, List, [], ◌∷◌, length, map, Option, None, Some, option_map, slice_get, bytes_eq, Bor, refl, ap, ◌∙◌}
 use Rattle.std.specs.List.{find, flat_map, list_any}
-use Rattle.msg_names.specs.Name.{colons_of}
 use Rattle.msg_names.specs.Numbering.{number_of}
-use Rattle.msg_form.specs.Expression.{expressions, count_of, send, super_send}
+use Rattle.msg_form.specs.Expression.{expressions, count_of}
 use Rattle.msg_form.specs.ExprView.{expr_view}
-use Rattle.msg_form.specs.Faults.{args_named, differs, is_miscounted, is_miscounted_send}
+use Rattle.msg_form.specs.Faults.{args_named, differs, is_miscounted}
 use Rattle.msg_form.specs.Form.{PairForm, ImpForm}
 use Rattle.msg_form.specs.ImpArgs.{args_at, is_miscounted_by}
 use Rattle.msg_form.specs.Json.{◌>>=◌}
-use Rattle.msg_form.specs.Parts.{own_sends}
 use Rattle.msg_form.specs.Text.{Text}
 use Rattle.msg_form.specs.Views.{pair_view, lists_view}
-use Rattle.msg_form.specs.declared.form.Expr.{Expr, Send, Super, the_lemmas}
+use Rattle.msg_form.specs.declared.form.Expr.{Expr}
 use Rattle.msg_form.specs.declared.form.Pair.{Pair}
-use Rattle.msg_form.specs.declared.form.SendExpr.{SendExpr, out-SendExpr}
-use Rattle.msg_form.specs.declared.form.SuperExpr.{SuperExpr, out-SuperExpr}
 use Rattle.msg_form.proofs.AnyLemmas.{any_listed}
-use Rattle.msg_form.proofs.TextLemmas.{or-false}
 
 pub counted : (es : List Expr) → count_of (expressions (map expr_view es)) ≡ length es
 counted [] = refl

@@ -1,13 +1,13 @@
 -- What a walk over a body finds.
-use Rattle.std.proofs.Common.{◌≡◌, ℕ, zero, suc, ◌+◌, ◌-◌, Bool, true, false, not, ◌||◌, ◌&&◌, List, [], ◌∷◌, ◌++◌, length, map, Box, Global, vec_len, refl, sym, ap, ◌∙◌, arith, rules}
+use Rattle.std.proofs.Common.{◌≡◌, ℕ, suc, ◌-◌, Bool, true, false, not, ◌||◌, ◌&&◌, List, [], ◌∷◌, ◌++◌, length, map, Box, Global, vec_len, refl, sym, ap, ◌∙◌, arith, rules}
 use Rattle.std.specs.Prelude.{◌==◌, fold, max, nat_le, nat_lt}
 use Rattle.std.specs.List.{flat_map, list_any}
 use Rattle.std.proofs.lemmas.Bool.Decides.{nat_tests}
 use Rattle.std.proofs.lemmas.List.{length-map, map-append}
 use Rattle.std.proofs.lemmas.List.Folds.{list_any-append}
 use Rattle.msg_names.specs.Name.{colons_of}
-use Rattle.msg_form.specs.BodyWalk.{parts_at, all_parts_at, entered, with_constant, with_own, with_part}
-use Rattle.msg_form.specs.Expression.{Constant, whole, nil, object_named, class_named, selector_named, Expression, Expressions, constant, me, arg, binary, choice, send, super_send, no_more, more, expressions, count_of}
+use Rattle.msg_form.specs.BodyWalk.{parts_at, all_parts_at, entered, with_own, with_part}
+use Rattle.msg_form.specs.Expression.{whole, nil, object_named, class_named, selector_named, Expression, Expressions, constant, me, arg, binary, choice, send, super_send, no_more, more, expressions, count_of}
 use Rattle.msg_form.specs.ExprView.{expr_view}
 use Rattle.msg_form.specs.Faults.{is_miscounted_send, is_too_deep}
 use Rattle.msg_form.specs.Parts.{parts, all_parts, depth, greatest_depth, own_constants, own_indices, own_sends, own_class, own_object, is_super_send, classes_in, objects_in, sends_in, indices_in}

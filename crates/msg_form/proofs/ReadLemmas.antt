@@ -1,5 +1,5 @@
 -- Readings of values that stand beside others.
-use Rattle.std.proofs.Common.{◌≡◌, List, Bool, true, Option, Some, None, Result, Ok, Err, sym, ap, refl, ◌∙◌, subst, codes, bytes_eq}
+use Rattle.std.proofs.Common.{◌≡◌, List, true, Option, Some, Result, Ok, Err, sym, ap, refl, ◌∙◌, subst, codes, bytes_eq}
 use Rattle.std.specs.Prelude.{IfOk, IfErr}
 use Rattle.std.proofs.lemmas.Slice.Eq.{bytes_eq-Decides}
 use Rattle.serde_json.specs.Data.{Data}
