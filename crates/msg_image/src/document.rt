@@ -16,7 +16,7 @@ ghost use Rattle.msg_image.specs.Sound.{IsSoundItem};
 
 use crate::change::Item;
 use crate::image::Image;
-use crate::resolve::each;
+use crate::resolve::{both, each};
 use msg_form::{DocumentFault, Form, FormNames, MAX_ITEMS};
 use msg_json::{Bump, JsonFault, Scratch, Tree};
 use std::alloc::{AllocError, Global};
@@ -57,8 +57,8 @@ fn numbered(alloc: Global, form: &Form, names: &FormNames) -> Result<Document, A
     ensures sound { IfOk result (λ d. All (IsSoundItem d.image) (map item_parts d.items.items)) }
     ensures few { IfOk result (λ d. length d.items.items ≤ MAX_ITEMS) }
 {
-    let items = each(alloc, names, &form.items)?;
-    let image = Image::of(alloc, form, names)?;
+    let items = each(alloc, names, &form.items);
+    let (items, image) = both(items, Image::of(alloc, form, names))?;
     Ok(Document { image, items })
 }
 
@@ -128,7 +128,9 @@ pub fn read_document(alloc: Global, bytes: &[u8]) -> Result<Document, DocumentFa
     }
     let mut scratch = Scratch::new(alloc);
     let form = spelled(alloc, bytes, &mut scratch)?;
-    judge_form(alloc, &form)
+    let judged = judge_form(alloc, &form);
+    drop(form);
+    judged
 }
 
 /// Bytes have one answer.

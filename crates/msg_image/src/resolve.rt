@@ -294,11 +294,17 @@ fn change(alloc: Global, names: &FormNames, change: &form::Change) -> Result<Cha
             class,
             methods: own,
             class_methods,
-        } => Ok(Change::Attach {
-            class: class_named(names, class),
-            methods: methods(alloc, names, own)?,
-            class_methods: methods(alloc, names, class_methods)?,
-        }),
+        } => {
+            let (methods, class_methods) = both(
+                methods(alloc, names, own),
+                methods(alloc, names, class_methods),
+            )?;
+            Ok(Change::Attach {
+                class: class_named(names, class),
+                methods,
+                class_methods,
+            })
+        }
         form::Change::Make {
             class,
             superclass: above,
