@@ -32,3 +32,10 @@ found p xs ys r is there = let here : list_any p xs ≡ true = sym is ∙ there 
 
 pub not_found : {A : Type 0} (p : A → Bool) (xs ys : List A) (r s : Bool) → r ≡ list_any p xs → r ≡ false → s ≡ list_any p ys → s ≡ list_any p (xs ++ ys)
 not_found p xs ys r s is none e = let here : list_any p xs ≡ false = sym is ∙ none in sym (list_any-append p xs ys ∙ ap (λ b. b || list_any p ys) here ∙ sym e)
+
+-- the first of two tests is met, or is not, so that the other decides
+pub first_met : (a b r whole : Bool) → whole ≡ (a || b) → r ≡ a → r ≡ true → r ≡ whole
+first_met a b r whole either is met = met ∙ sym (either ∙ ap (λ x. x || b) (sym is ∙ met))
+
+pub first_unmet : (a b r s whole : Bool) → whole ≡ (a || b) → r ≡ a → r ≡ false → s ≡ b → s ≡ whole
+first_unmet a b r s whole either is unmet e = e ∙ sym (either ∙ ap (λ x. x || b) (sym is ∙ unmet))

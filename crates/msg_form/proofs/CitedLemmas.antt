@@ -1,22 +1,23 @@
 -- The classes of categories, objects and implementations.
-use Rattle.std.proofs.Common.{◌≡◌, Bool, true, false, ◌||◌, List, ◌++◌, map, refl, sym, ap, ◌∙◌}
+use Rattle.std.proofs.Common.{◌≡◌, Bool, true, false, ◌||◌, List, ◌++◌, refl, sym, ap, ◌∙◌}
 use Rattle.std.specs.List.{list_any}
 use Rattle.std.proofs.lemmas.List.Folds.{list_any-append}
 use Rattle.msg_form.specs.Faults.{has_unknown_class}
 use Rattle.msg_form.specs.Form as form
-use Rattle.msg_form.specs.Lists.{listed_names, class_names, body_classes, home_classes, other_classes}
+use Rattle.msg_form.specs.Lists.{listed_names, class_names, body_classes, home_classes, item_classes, other_classes}
 use Rattle.msg_form.specs.Text.{Text, is_unknown, distinct}
-use Rattle.msg_form.specs.Views.{form_view, object_view}
+use Rattle.msg_form.specs.Views.{form_view, item_view}
 use Rattle.msg_form.specs.declared.form.Form.{Form}
-use Rattle.msg_form.specs.declared.form.Object.{Object}
-use Rattle.msg_form.proofs.AnyLemmas.{list_any-map}
+use Rattle.msg_form.proofs.AnyLemmas.{list_any-map, list_any-flat_map}
 use Rattle.msg_form.proofs.BodyLemmas.{is_unknown-distinct}
 
-pub any_home : (p : Text → Bool) (f : Form) → list_any (λ n. p n.now) (map (λ c. c.class) f.categories.items ++ map (λ i. i.class) f.imps.items) ≡ list_any p (home_classes (form_view f))
+-- the classes of categories and implementations, as they stand in the program
+pub any_home : (p : Text → Bool) (f : Form) → list_any p (home_classes (form_view f)) ≡ (list_any (λ c. p c.class.now) f.categories.items || list_any (λ i. p i.class.now) f.imps.items)
 any_home p f = simp (list_any-append, list_any-map)
 
-pub any_object : (p : Text → Bool) (os : List Object) (f : Form) → os ≡ f.objects.items → list_any (λ o. p o.class.now) os ≡ list_any p (map (λ (o : form.ObjectForm). o.class) (form_view f).objects)
-any_object p os f same = ap (list_any (λ o. p o.class.now)) same ∙ sym (list_any-map p (λ (o : form.ObjectForm). o.class) (map object_view f.objects.items) ∙ list_any-map (λ (o : form.ObjectForm). p o.class) object_view f.objects.items)
+-- the classes that objects and items name, as they stand in the program
+pub any_other : (p : Text → Bool) (f : Form) → list_any p (other_classes (form_view f)) ≡ (list_any (λ o. p o.class.now) f.objects.items || list_any (λ i. list_any p (item_classes (item_view i))) f.items.items)
+any_other p f = simp (list_any-append, list_any-map, list_any-flat_map)
 
 or-true : (b : Bool) → true ≡ (b || true)
 or-true true = refl

@@ -1,5 +1,5 @@
 -- The names of a form.
-use Rattle.std.proofs.Common.{◌≡◌, ℕ, ◌<◌, ◌≤◌, List, [], length, map, drop, Bor, sym, ap, ◌∙◌, arith}
+use Rattle.std.proofs.Common.{◌≡◌, ℕ, ◌<◌, ◌≤◌, false, List, [], length, map, drop, Bor, sym, ap, ◌∙◌, arith}
 use Rattle.std.specs.Prelude.{fold, nat_lt}
 use Rattle.std.proofs.lemmas.Bool.Decides.{nat_tests}
 use Rattle.std.proofs.lemmas.List.{drop_all}
@@ -17,7 +17,7 @@ use Rattle.msg_form.specs.declared.form.Form as declared
 use Rattle.msg_form.specs.declared.form.Object.{Object}
 use Rattle.msg_form.specs.declared.form.Imp.{Imp}
 use Rattle.msg_form.specs.declared.form_names.FormNames.{FormNames}
-use Rattle.msg_form.proofs.TextLemmas.{fold_grows, repeats-none}
+use Rattle.msg_form.proofs.TextLemmas.{distinct-same, fold_grows, repeats-none}
 
 -- the loop that puts texts into a set, and stops at more than 4,096
 
@@ -71,3 +71,8 @@ object_names_shown f os = names_shown (λ (o : ObjectForm). o.name) object_view 
 
 pub imp_names_shown : (f : declared.Form) (is : List Imp) → is ≡ f.imps.items → map (λ i. i.name.now) is ≡ imp_names (form_view f)
 imp_names_shown f is = names_shown (λ (i : ImpForm). i.name) imp_view is f.imps.items
+
+-- where no two implementations have one name, each name stands in its implementation's place
+pub imps_in_place : (f : Form) (n : FormNames) → AreNamesOf n f → n.imp_twice ≡ false → n.imps ≡ imp_names f
+unfolding has_duplicate_imp
+imps_in_place f n are once = are.imps ∙ distinct-same (imp_names f) (sym are.imp_twice ∙ once)

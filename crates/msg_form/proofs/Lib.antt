@@ -1,4 +1,6 @@
 pub mod JsonLemmas
+pub mod ReadLemmas
+pub mod ResultLemmas
 pub mod ExprShapeLemmas
 pub mod NameSetLemmas
 pub mod TextLemmas
@@ -15,6 +17,4 @@ pub mod SelectorLemmas
 pub mod BodyLemmas
 pub mod LeastLemmas
 pub mod LimitLemmas
-pub mod PartLemmas
-pub mod RoomLemmas
-pub mod CleanLemmas
+pub mod FoundLemmas

@@ -1,5 +1,5 @@
 -- Texts among texts.
-use Rattle.std.proofs.Common.{◌≡◌, ℕ, suc, ◌+◌, ◌<◌, ◌≤◌, Bool, true, false, cond, not, ◌||◌, List, [], ◌∷◌, ◌++◌, length, map, drop, get_or, bytes_eq, refl, sym, ap, ◌∙◌, drop-cons, add-one, length-append, arith}
+use Rattle.std.proofs.Common.{◌≡◌, ℕ, suc, ◌+◌, ◌<◌, ◌≤◌, Bool, true, false, cond, not, ◌||◌, List, [], ◌∷◌, ◌++◌, length, map, drop, get_or, bytes_eq, refl, sym, ap, ◌∙◌, drop-cons, add-one, length-append, arith, append-nil, append_assoc}
 use Rattle.std.specs.Prelude.{fold}
 use Rattle.std.specs.List.{list_any}
 use Rattle.std.proofs.lemmas.List.Folds.{list_any-append}
@@ -79,6 +79,22 @@ repeats-none texts = ap (λ b. b || has_duplicate texts) (none texts)
 pub fold-append : (names xs ys : List Text) → fold with_name names (xs ++ ys) ≡ fold with_name (fold with_name names xs) ys
 fold-append names [] ys = refl
 fold-append names (x ∷ xs) ys = fold-append (with_name names x) xs ys
+
+neither : (a b : Bool) → (a || b) ≡ false → (a ≡ false) × (b ≡ false)
+neither true b e = cc
+neither false b e = (refl, e)
+
+distinct-on : (seen texts : List Text) → repeats seen texts ≡ false → fold with_name seen texts ≡ seen ++ texts
+distinct-on seen [] e = sym (append-nil seen)
+distinct-on seen (t ∷ texts) e =
+    let each = neither (is_among t seen) (repeats (with_name seen t) texts) (sym (repeats-step seen t texts) ∙ e) in
+    let grown : with_name seen t ≡ seen ++ t ∷ [] = rw each.0 refl in
+    distinct-on (with_name seen t) texts each.1 ∙ ap (λ n. n ++ texts) grown ∙ append_assoc seen (t ∷ []) texts
+
+-- texts of which none stands twice are the different ones
+pub distinct-same : (texts : List Text) → has_duplicate texts ≡ false → distinct texts ≡ texts
+unfolding distinct
+distinct-same texts e = distinct-on [] texts (repeats-none texts ∙ e)
 
 -- a text of two lists repeats in the first, or in the other after the first's
 pub repeats-append : (seen xs ys : List Text) → repeats seen (xs ++ ys) ≡ (repeats seen xs || repeats (fold with_name seen xs) ys)

@@ -21,8 +21,8 @@ send_pushed item receiver selector args before mid after is first second =
     rw (is, pushed, flat_map-map own_selector constant_view args.items) (simp append_assoc)
 
 -- the parts of a form, one kind after the other
-pub form_pushed : (f : Form) (t₀ t₁ t₂ t₃ t₄ : List Text) → t₀ ≡ forwarding_text ∷ [] → t₁ ≡ t₀ ++ flat_map (λ c. class_texts (class_view c)) f.classes.items → t₂ ≡ t₁ ++ flat_map (λ c. category_texts (category_view c)) f.categories.items
-    → t₃ ≡ t₂ ++ flat_map (λ i. imp_texts (imp_view i)) f.imps.items → t₄ ≡ t₃ ++ flat_map (λ i. item_texts (item_view i)) f.items.items → t₄ ≡ selector_texts (form_view f)
+pub form_pushed : (f : Form) (old t₀ t₁ t₂ t₃ t₄ : List Text) → t₀ ≡ old ++ forwarding_text ∷ [] → t₁ ≡ t₀ ++ flat_map (λ c. class_texts (class_view c)) f.classes.items → t₂ ≡ t₁ ++ flat_map (λ c. category_texts (category_view c)) f.categories.items
+    → t₃ ≡ t₂ ++ flat_map (λ i. imp_texts (imp_view i)) f.imps.items → t₄ ≡ t₃ ++ flat_map (λ i. item_texts (item_view i)) f.items.items → t₄ ≡ old ++ selector_texts (form_view f)
 unfolding selector_texts
-form_pushed f t₀ t₁ t₂ t₃ t₄ e₀ e₁ e₂ e₃ e₄ =
+form_pushed f old t₀ t₁ t₂ t₃ t₄ e₀ e₁ e₂ e₃ e₄ =
     rw (e₄, e₃, e₂, e₁, e₀, flat_map-map class_texts class_view f.classes.items, flat_map-map category_texts category_view f.categories.items, flat_map-map imp_texts imp_view f.imps.items, flat_map-map item_texts item_view f.items.items) (simp append_assoc)

@@ -1,25 +1,16 @@
--- The numbers of arguments that a map has for the names of implementations.
-use Rattle.std.specs.Prelude.{◌≡◌, ℕ, List, Bool, Option, Some, None, if◌then◌else◌}
-use Rattle.std.specs.Borrow.{Bor}
-use Rattle.std.specs.Map.{lookup}
-use Rattle.std.specs.Option.{option_or}
-use Rattle.std.specs.Str.{bytes_eq}
-use Rattle.msg_form.specs.Faults.{args_named, differs}
+-- How many arguments implementations take, by the places of their names.
+use Rattle.std.specs.Prelude.{ℕ, ◌-◌, List, Bool, Option, option_map, slice_get}
+use Rattle.msg_names.specs.Numbering.{number_of}
+use Rattle.msg_form.specs.Faults.{differs}
 use Rattle.msg_form.specs.Form.{ImpForm}
+use Rattle.msg_form.specs.Json.{◌>>=◌}
 use Rattle.msg_form.specs.Text.{Text}
 use Rattle.msg_form.specs.declared.form.Pair.{Pair}
 
-abbrev pub args_at : List (Bor Text × ℕ) → Bor Text → Option ℕ
-args_at entries name = lookup (λ k. bytes_eq name.now k.now) entries
+-- those of the implementation that stands where its name does among the names
+abbrev pub args_at : List Text → List ImpForm → Text → Option ℕ
+args_at names imps name = number_of names name >>= λ n. option_map (λ i. i.args) (slice_get imps (n - 1))
 
--- the map has of each name what the implementations have
-abbrev pub AreArgsOf : List (Bor Text × ℕ) → List ImpForm → Type 0
-AreArgsOf entries imps = (name : Bor Text) → args_at entries name ≡ args_named imps name.now
-
--- the new map has the number at the name, where the old one has none there
-abbrev pub KeepsFirst : List (Bor Text × ℕ) → List (Bor Text × ℕ) → Bor Text → ℕ → Type 0
-KeepsFirst old new imp args = (name : Bor Text) → args_at new name ≡ option_or (args_at old name) (if bytes_eq name.now imp.now then Some args else None)
-
--- by the map, the pair's implementation takes another number of arguments than its selector has colons
-abbrev pub is_miscounted_by : List (Bor Text × ℕ) → Pair → Bool
-is_miscounted_by entries p = differs (args_at entries p.imp) p.selector.now
+-- by its place, the pair's implementation takes another number of arguments than its selector has colons
+abbrev pub is_miscounted_by : List Text → List ImpForm → Pair → Bool
+is_miscounted_by names imps p = differs (args_at names imps p.imp.now) p.selector.now

@@ -17,6 +17,6 @@ pub mod Walk
 pub mod Faults
 pub mod FormNames
 pub mod BodyFaults
+pub mod BodyWalk
 pub mod ImpArgs
-pub mod Room
 pub mod Unread

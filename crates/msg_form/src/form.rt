@@ -24,7 +24,7 @@ pub(crate) fn is_second(version: i64) -> bool
 }
 
 /// An entry of a method list: a selector and the name of its implementation.
-#[derive(Clone, Copy, Debug)]
+#[derive(Clone, Copy)]
 pub struct Pair<'v> {
     pub selector: &'v str,
     pub imp: &'v str,
@@ -45,7 +45,7 @@ pub struct Category<'v> {
     pub class_methods: Vec<Pair<'v>>,
 }
 
-#[derive(Clone, Copy, Debug)]
+#[derive(Clone, Copy)]
 pub struct Object<'v> {
     pub name: &'v str,
     pub class: &'v str,
@@ -73,7 +73,7 @@ pub enum Item<'v> {
 }
 
 /// The name of a method, `-[class selector]`, or `+[class selector]` where `meta` is true.
-#[derive(Clone, Copy, Debug)]
+#[derive(Clone, Copy)]
 pub struct MethodName<'v> {
     pub class: &'v str,
     pub meta: bool,
@@ -109,7 +109,7 @@ pub enum Change<'v> {
     },
 }
 
-#[derive(Clone, Copy, Debug)]
+#[derive(Clone, Copy)]
 pub enum Constant<'v> {
     Whole(i64),
     Nil,
@@ -118,7 +118,7 @@ pub enum Constant<'v> {
     Selector(&'v str),
 }
 
-#[derive(Clone, Copy, Debug, PartialEq, Eq)]
+#[derive(Clone, Copy)]
 pub enum Operator {
     Add,
     Sub,

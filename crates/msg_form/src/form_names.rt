@@ -37,8 +37,7 @@ impl<'v> FormNames<'v> {
         ensures { IfOk result (λ n. AreNamesOf n (form_view form.now)) }
     {
         let mut names = FormNames::none(alloc);
-        names.add(alloc, form)?;
-        Ok(names)
+        names.add(alloc, form).and(Ok(names))
     }
 
     fn none(alloc: Global) -> FormNames<'v>

@@ -12,17 +12,15 @@ ghost use Rattle.msg_form.specs.Text.{distinct};
 ghost use Rattle.msg_form.specs.Views.{form_view};
 ghost use Rattle.msg_form.specs.Walk.{selector_texts};
 
+mod any;
 mod bodies;
+mod body_walk;
 mod classes;
-mod clean;
-mod constants;
 mod counts;
 mod cycle;
-mod depth;
 mod limits;
 mod lists;
 mod names;
-mod part;
 mod selectors;
 
 use crate::faults::DocumentFault;
@@ -100,7 +98,7 @@ fn later_fault(
     if has_duplicate_selector(alloc, form)? {
         return Ok(Some(DocumentFault::DuplicateSelector));
     }
-    if has_wrong_argument_count(alloc, form, bodies)? {
+    if has_wrong_argument_count(alloc, form, &names.imps, bodies)? {
         return Ok(Some(DocumentFault::ArgumentCount));
     }
     if bodies.argument_index {

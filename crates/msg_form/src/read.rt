@@ -12,9 +12,9 @@ mod parts;
 mod values;
 
 use crate::faults::ReadFault;
-use msg_json::Tree;
+use msg_json::{Tree, get};
 use std::alloc::Global;
-use values::{field, list, value_in};
+use values::{list, value_in};
 
 /// What a JSON value may spell.
 trait FromValue<'v>: Sized + Drop {
@@ -34,7 +34,10 @@ trait FromValue<'v>: Sized + Drop {
 fn list_of<'v, T: FromValue<'v>>(alloc: Global, value: &Tree<'v, '_>) -> Result<Vec<T>, ReadFault>
     ensures { Gives (λ v. map T.plain v.items) result (list_of T.spelled (view value.now)) }
 {
-    each(alloc, list(value)?)
+    match list(value) {
+        Some(values) => each(alloc, values),
+        None => Err(ReadFault::Shape),
+    }
 }
 
 /// What the values of the list at a key spell.
@@ -45,7 +48,10 @@ fn list_at<'v, T: FromValue<'v>>(
 ) -> Result<Vec<T>, ReadFault>
     ensures { Gives (λ v. map T.plain v.items) result (field_of (list_of T.spelled) key.now (view value.now)) }
 {
-    list_of(alloc, field(value, key)?)
+    match get(value, key) {
+        Some(value) => list_of(alloc, value),
+        None => Err(ReadFault::Shape),
+    }
 }
 
 /// What the values of the list at a place spell.
@@ -56,7 +62,10 @@ fn list_in<'v, T: FromValue<'v>>(
 ) -> Result<Vec<T>, ReadFault>
     ensures { Gives (λ v. map T.plain v.items) result (value_of (list_of T.spelled) place (map view values.now)) }
 {
-    list_of(alloc, value_in(values, place)?)
+    match value_in(values, place) {
+        Some(value) => list_of(alloc, value),
+        None => Err(ReadFault::Shape),
+    }
 }
 
 /// What each of the values spells.

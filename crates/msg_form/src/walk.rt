@@ -24,12 +24,18 @@ impl<'v> Form<'v> {
             (λ v. texts_view v.items ≡ spec.selector_texts (form_view self.now)) }
     {
         let mut texts = Vec::new(alloc);
+        self.push_texts(&mut texts).and(Ok(texts))
+    }
+
+    fn push_texts(&self, texts: &mut Vec<&'v str>) -> Result<(), AllocError>
+        ensures { OnOk result
+            (texts_view texts.new.items ≡ texts_view texts.old.items ++ spec.selector_texts (form_view self.now)) }
+    {
         texts.push(FORWARDING)?;
-        push_all(&self.classes, &mut texts)?;
-        push_all(&self.categories, &mut texts)?;
-        push_all(&self.imps, &mut texts)?;
-        push_all(&self.items, &mut texts)?;
-        Ok(texts)
+        push_all(&self.classes, texts)?;
+        push_all(&self.categories, texts)?;
+        push_all(&self.imps, texts)?;
+        push_all(&self.items, texts)
     }
 }
 

@@ -16,7 +16,7 @@ ghost use Rattle.msg_names.specs.Number.{selector_number, imp_number};
 use crate::expr::Expr;
 use crate::methods::MethodList;
 use crate::numbers::{forwarding_selector, selector_names};
-use crate::resolve::each;
+use crate::resolve::{both, each};
 use msg_form::{Form, FormNames, MAX_CLASSES};
 use msg_names::{ClassRef, ImpRef, Names, ObjectRef, Selector};
 use std::alloc::{AllocError, Global};
@@ -112,8 +112,8 @@ fn classes_of(alloc: Global, form: &Form, names: &FormNames) -> Result<Classes, 
     ensures listed { IfOk result (λ c. map class_parts c.listed.items ≡ map (λ c. spec.class (numbers_by names.now) (class_view c)) form.now.classes.items) }
     ensures made { IfOk result (λ c. map string_bytes c.made.items ≡ texts_view form.now.made.items) }
 {
-    let listed = each(alloc, names, &form.classes)?;
-    let made = each(alloc, names, &form.made)?;
+    let listed = each(alloc, names, &form.classes);
+    let (listed, made) = both(listed, each(alloc, names, &form.made))?;
     Ok(Classes { listed, made })
 }
 
@@ -129,9 +129,10 @@ fn members_of(alloc: Global, form: &Form, names: &FormNames) -> Result<Members, 
     ensures objects { IfOk result (λ m. map object_parts m.objects.items ≡ map (λ o. spec.object (numbers_by names.now) (object_view o)) form.now.objects.items) }
     ensures imps { IfOk result (λ m. map imp_parts m.imps.items ≡ map (λ i. spec.imp (numbers_by names.now) (imp_view i)) form.now.imps.items) }
 {
-    let categories = each(alloc, names, &form.categories)?;
-    let objects = each(alloc, names, &form.objects)?;
-    let imps = each(alloc, names, &form.imps)?;
+    let categories = each(alloc, names, &form.categories);
+    let objects = each(alloc, names, &form.objects);
+    let imps = each(alloc, names, &form.imps);
+    let (categories, (objects, imps)) = both(categories, both(objects, imps))?;
     Ok(Members {
         categories,
         objects,
@@ -146,9 +147,10 @@ impl Image {
         requires names { AreNamesOf names.now (form_view form.now) }
         ensures { IfOk result (λ i. i ≡ image_of (form_view form.now)) }
     {
-        let classes = classes_of(alloc, form, names)?;
-        let members = members_of(alloc, form, names)?;
-        let selectors = selector_names(alloc, names.selectors.as_slice())?;
+        let classes = classes_of(alloc, form, names);
+        let members = members_of(alloc, form, names);
+        let selectors = selector_names(alloc, names.selectors.as_slice());
+        let (classes, (members, selectors)) = both(classes, both(members, selectors))?;
         Ok(Image {
             names: selectors,
             classes: classes.listed,

@@ -1,6 +1,6 @@
 //! The document that a form spells: numbers for names. Each place of a name is hashed once.
 
-ghost use Rattle.std.specs.Prelude.{◌≡◌, ℕ, List, IfOk, map, take, option_map, string_bytes};
+ghost use Rattle.std.specs.Prelude.{◌≡◌, ℕ, List, Ok, IfOk, map, take, option_map, string_bytes};
 ghost use Rattle.msg_form.specs.Expression as form;
 ghost use Rattle.msg_form.specs.ExprView.{constant_view, expr_view};
 ghost use Rattle.msg_form.specs.Views.{pairs_view, class_view, category_view, object_view, imp_view, method_view, change_view, item_view};
@@ -50,6 +50,22 @@ pub(crate) fn each<F, T: Resolve<F>>(
     Ok(found)
 }
 
+// Two values that were made, or the refusal of one. What was made beside one that was refused is dropped here, for all types at once.
+pub(crate) fn both<A: Drop, B: Drop>(
+    first: Result<A, AllocError>,
+    second: Result<B, AllocError>,
+) -> Result<(A, B), AllocError>
+    ensures { IfOk result (λ made. (first ≡ Ok made.0) × (second ≡ Ok made.1)) }
+{
+    Ok((first?, second?))
+}
+
+fn boxed<T: Drop>(alloc: Global, value: Result<T, AllocError>) -> Result<Box<T>, AllocError>
+    ensures { IfOk result (λ boxed. value ≡ Ok boxed.value) }
+{
+    Ok(Box::new(alloc, value?)?)
+}
+
 fn value(names: &FormNames, constant: &Constant) -> Value
     ensures { result ≡ spec.constant (numbers_by names.now) (constant_view constant.now) }
 {
@@ -83,19 +99,21 @@ fn expr(alloc: Global, names: &FormNames, form: &form::Expr) -> Result<Expr, All
         form::Expr::Me => Ok(Expr::Me),
         form::Expr::Arg(place) => Ok(Expr::Arg((*place).min(255) as u8)),
         form::Expr::Binary(parts) => {
-            let left = Box::new(alloc, expr(alloc, names, &parts.left)?)?;
-            let right = Box::new(alloc, expr(alloc, names, &parts.right)?)?;
+            let left = boxed(alloc, expr(alloc, names, &parts.left));
+            let right = boxed(alloc, expr(alloc, names, &parts.right));
+            let (left, right) = both(left, right)?;
             Ok(binary(parts.operator, left, right))
         }
         form::Expr::If(parts) => {
-            let condition = Box::new(alloc, expr(alloc, names, &parts.condition)?)?;
-            let then = Box::new(alloc, expr(alloc, names, &parts.then)?)?;
-            let otherwise = Box::new(alloc, expr(alloc, names, &parts.otherwise)?)?;
+            let condition = boxed(alloc, expr(alloc, names, &parts.condition));
+            let then = boxed(alloc, expr(alloc, names, &parts.then));
+            let otherwise = boxed(alloc, expr(alloc, names, &parts.otherwise));
+            let (condition, (then, otherwise)) = both(condition, both(then, otherwise))?;
             Ok(Expr::If(condition, then, otherwise))
         }
         form::Expr::Send(send) => {
-            let receiver = Box::new(alloc, expr(alloc, names, &send.receiver)?)?;
-            let args = exprs(alloc, names, &send.args)?;
+            let receiver = boxed(alloc, expr(alloc, names, &send.receiver));
+            let (receiver, args) = both(receiver, exprs(alloc, names, &send.args))?;
             Ok(Expr::Send(receiver, selector_named(names, send.selector), args))
         }
         form::Expr::Super(send) => {
@@ -159,11 +177,19 @@ impl<'v> Resolve<form::Class<'v>> for Class {
         names: &FormNames,
         class: &form::Class<'v>,
     ) -> Result<Class, AllocError> {
+        let name = String::from_str(alloc, class.name);
+        let (name, (methods, class_methods)) = both(
+            name,
+            both(
+                methods(alloc, names, &class.methods),
+                methods(alloc, names, &class.class_methods),
+            ),
+        )?;
         Ok(Class {
-            name: String::from_str(alloc, class.name)?,
+            name,
             superclass: superclass(names, class.superclass),
-            methods: methods(alloc, names, &class.methods)?,
-            class_methods: methods(alloc, names, &class.class_methods)?,
+            methods,
+            class_methods,
         })
     }
 }
@@ -180,10 +206,14 @@ impl<'v> Resolve<form::Category<'v>> for Category {
         names: &FormNames,
         category: &form::Category<'v>,
     ) -> Result<Category, AllocError> {
+        let (methods, class_methods) = both(
+            methods(alloc, names, &category.methods),
+            methods(alloc, names, &category.class_methods),
+        )?;
         Ok(Category {
             class: class_named(names, category.class),
-            methods: methods(alloc, names, &category.methods)?,
-            class_methods: methods(alloc, names, &category.class_methods)?,
+            methods,
+            class_methods,
         })
     }
 }
@@ -264,11 +294,17 @@ fn change(alloc: Global, names: &FormNames, change: &form::Change) -> Result<Cha
             class,
             methods: own,
             class_methods,
-        } => Ok(Change::Attach {
-            class: class_named(names, class),
-            methods: methods(alloc, names, own)?,
-            class_methods: methods(alloc, names, class_methods)?,
-        }),
+        } => {
+            let (methods, class_methods) = both(
+                methods(alloc, names, own),
+                methods(alloc, names, class_methods),
+            )?;
+            Ok(Change::Attach {
+                class: class_named(names, class),
+                methods,
+                class_methods,
+            })
+        }
         form::Change::Make {
             class,
             superclass: above,

@@ -8,7 +8,9 @@ ghost use Rattle.msg_form.specs.FormNames.{AreNamesOf};
 ghost use Rattle.msg_form.specs.Text.{distinct};
 ghost use Rattle.msg_form.specs.Views.{class_view, classes_view, form_view};
 
+use super::any::{Test, any};
 use super::bodies::BodyFaults;
+use super::names::ClassOutside;
 use crate::form::{Class, Form, is_second};
 use crate::form_names::FormNames;
 use crate::name_set::NameSet;
@@ -45,15 +47,15 @@ fn has_unlisted_superclass(listed: &NameSet, classes: &[Class]) -> bool
     ensures { result
         ≡ list_any (λ c. spec.is_outside (map (λ c. c.name) (classes_view classes.now)) c.superclass) (classes_view classes.now) }
 {
-    any_superclass_outside(listed, classes)
+    any(&ClassOutside { classes: listed }, classes)
 }
 
-fn any_superclass_outside(listed: &NameSet, classes: &[Class]) -> bool
-    ensures { result ≡ list_any (λ c. spec.is_outside listed.now (class_view c).superclass) classes.now }
-{
-    classes
-        .iter()
-        .any(|class| is_outside(listed, class.superclass))
+impl<'v> Test<Class<'v>> for ClassOutside<'_, '_> {
+    ghost passes = { λ t c. spec.is_outside t.classes.now (class_view c).superclass };
+
+    fn passes(&self, class: &Class<'v>) -> bool {
+        is_outside(self.classes, class.superclass)
+    }
 }
 
 fn has_late_superclass(alloc: Global, classes: &[Class]) -> Result<bool, AllocError>

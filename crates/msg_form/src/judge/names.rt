@@ -5,21 +5,97 @@
 ghost use Rattle.std.specs.Prelude.{◌≡◌, ◌++◌, map, IfOk};
 ghost use Rattle.std.specs.List.{list_any};
 ghost use Rattle.msg_form.specs.BodyFaults.{AreBodyFaults};
+ghost use Rattle.msg_form.specs.ExprView.{constant_view};
 ghost use Rattle.msg_form.specs.Faults as spec;
 ghost use Rattle.msg_form.specs.FormNames.{AreNamesOf};
-ghost use Rattle.msg_form.specs.Lists.{imps_cited, other_classes};
+ghost use Rattle.msg_form.specs.Lists.{imps_cited, home_classes, other_classes};
 ghost use Rattle.msg_form.specs.Lists.{change_classes, item_classes, item_imps, item_objects};
+ghost use Rattle.msg_form.specs.Parts.{own_class, own_object};
 ghost use Rattle.msg_form.specs.Text.{is_unknown};
 ghost use Rattle.msg_form.specs.Views.{change_view, item_view, items_view, lists_view, form_view};
 
+use super::any::{Test, any};
 use super::bodies::BodyFaults;
 use super::classes::is_outside;
-use super::constants::{ClassOutside, ObjectOutside, any_in_send};
 use super::lists::all_lists;
-use crate::form::{Change, Form, Item, Object, Pair};
+use crate::form::{Category, Change, Class, Constant, Form, Imp, Item, Object, Pair};
 use crate::form_names::FormNames;
 use crate::name_set::NameSet;
 use std::alloc::{AllocError, Global};
+
+// ---- classes
+
+/// The test of what names a class beyond the set.
+#[derive(Drop)]
+pub(super) struct ClassOutside<'s, 'v> {
+    pub(super) classes: &'s NameSet<'v>,
+}
+
+impl<'v> Test<Category<'v>> for ClassOutside<'_, '_> {
+    ghost passes = { λ t c. is_unknown t.classes.now c.class.now };
+
+    fn passes(&self, category: &Category<'v>) -> bool {
+        self.classes.lacks(category.class)
+    }
+}
+
+impl<'v> Test<Imp<'v>> for ClassOutside<'_, '_> {
+    ghost passes = { λ t i. is_unknown t.classes.now i.class.now };
+
+    fn passes(&self, imp: &Imp<'v>) -> bool {
+        self.classes.lacks(imp.class)
+    }
+}
+
+impl<'v> Test<Object<'v>> for ClassOutside<'_, '_> {
+    ghost passes = { λ t o. is_unknown t.classes.now o.class.now };
+
+    fn passes(&self, object: &Object<'v>) -> bool {
+        self.classes.lacks(object.class)
+    }
+}
+
+impl<'v> Test<Constant<'v>> for ClassOutside<'_, '_> {
+    ghost passes = { λ t c. list_any (is_unknown t.classes.now) (own_class (constant_view c)) };
+
+    fn passes(&self, constant: &Constant<'v>) -> bool {
+        match constant {
+            Constant::Class(name) => self.classes.lacks(*name),
+            _ => false,
+        }
+    }
+}
+
+impl<'v> Test<Change<'v>> for ClassOutside<'_, '_> {
+    ghost passes = { λ t c. list_any (is_unknown t.classes.now) (change_classes (change_view c)) };
+
+    fn passes(&self, change: &Change<'v>) -> bool {
+        match change {
+            Change::Add { method, .. }
+            | Change::Replace { method, .. }
+            | Change::SetImp { method, .. } => self.classes.lacks(method.class),
+            Change::Exchange { method, other } => {
+                self.classes.lacks(method.class) || self.classes.lacks(other.class)
+            }
+            Change::Attach { class, .. } => self.classes.lacks(*class),
+            Change::Make { class, superclass } => {
+                self.classes.lacks(*class) || is_outside(self.classes, *superclass)
+            }
+        }
+    }
+}
+
+impl<'v> Test<Item<'v>> for ClassOutside<'_, '_> {
+    ghost passes = { λ t i. list_any (is_unknown t.classes.now) (item_classes (item_view i)) };
+
+    #[tactic(auto, using(crate::proofs::AnyLemmas::anys))]
+    fn passes(&self, item: &Item<'v>) -> bool {
+        match item {
+            Item::Send { receiver, args, .. } => self.passes(receiver) || any(self, args),
+            Item::Change(change) => self.passes(change),
+        }
+    }
+}
 
 pub(super) fn has_unknown_class(form: &Form, names: &FormNames, bodies: BodyFaults) -> bool
     requires names { AreNamesOf names.now (form_view form.now) }
@@ -29,70 +105,55 @@ pub(super) fn has_unknown_class(form: &Form, names: &FormNames, bodies: BodyFaul
     if bodies.unknown_class {
         return true;
     }
-    if any_home_outside(&names.listed, form) {
+    if has_home_outside(&names.listed, form) {
         return true;
     }
     names_class_outside(&names.classes, form)
+}
+
+/// Whether a category or an implementation has a class beyond the set.
+fn has_home_outside(classes: &NameSet, form: &Form) -> bool
+    ensures { result ≡ list_any (is_unknown classes.now) (home_classes (form_view form.now)) }
+{
+    let test = ClassOutside { classes };
+    any(&test, &form.categories) || any(&test, &form.imps)
 }
 
 /// Whether a class beyond the set is named outside of bodies.
 fn names_class_outside(classes: &NameSet, form: &Form) -> bool
     ensures { result ≡ list_any (is_unknown classes.now) (other_classes (form_view form.now)) }
 {
-    any_object_of_other(classes, &form.objects) || any_item_outside(classes, &form.items)
+    let test = ClassOutside { classes };
+    any(&test, &form.objects) || any(&test, &form.items)
 }
 
-/// Whether a category or an implementation has a class beyond the set.
-fn any_home_outside(listed: &NameSet, form: &Form) -> bool
-    ensures { result
-        ≡ list_any (λ n. is_unknown listed.now n.now)
-        (map (λ c. c.class) form.now.categories.items
-        ++ map (λ i. i.class) form.now.imps.items) }
-{
-    let categories = form.categories.iter().map(|category| category.class);
-    let imps = form.imps.iter().map(|imp| imp.class);
-    categories.chain(imps).any(|class| listed.lacks(class))
+// ---- objects
+
+/// The test of what names an object beyond the set.
+#[derive(Drop)]
+struct ObjectOutside<'s, 'v> {
+    objects: &'s NameSet<'v>,
 }
 
-/// Whether an object has a class beyond the set.
-fn any_object_of_other(classes: &NameSet, objects: &[Object]) -> bool
-    ensures { result ≡ list_any (λ o. is_unknown classes.now o.class.now) objects.now }
-{
-    objects.iter().any(|object| classes.lacks(object.class))
-}
+impl<'v> Test<Constant<'v>> for ObjectOutside<'_, '_> {
+    ghost passes = { λ t c. list_any (is_unknown t.objects.now) (own_object (constant_view c)) };
 
-fn any_item_outside(classes: &NameSet, items: &[Item]) -> bool
-    ensures { result
-        ≡ list_any (λ i. list_any (is_unknown classes.now) (item_classes (item_view i))) items.now }
-{
-    items
-        .iter()
-        .any(|item| item_names_class_outside(classes, item))
-}
-
-#[tactic(auto, using(crate::proofs::AnyLemmas::anys))]
-fn item_names_class_outside(classes: &NameSet, item: &Item) -> bool
-    ensures { result ≡ list_any (is_unknown classes.now) (item_classes (item_view item.now)) }
-{
-    match item {
-        Item::Send { receiver, args, .. } => any_in_send(&ClassOutside { classes }, receiver, args),
-        Item::Change(change) => change_names_class_outside(classes, change),
+    fn passes(&self, constant: &Constant<'v>) -> bool {
+        match constant {
+            Constant::Object(name) => self.objects.lacks(*name),
+            _ => false,
+        }
     }
 }
 
-fn change_names_class_outside(classes: &NameSet, change: &Change) -> bool
-    ensures { result ≡ list_any (is_unknown classes.now) (change_classes (change_view change.now)) }
-{
-    match change {
-        Change::Add { method, .. }
-        | Change::Replace { method, .. }
-        | Change::SetImp { method, .. } => classes.lacks(method.class),
-        Change::Exchange { method, other } => {
-            classes.lacks(method.class) || classes.lacks(other.class)
-        }
-        Change::Attach { class, .. } => classes.lacks(*class),
-        Change::Make { class, superclass } => {
-            classes.lacks(*class) || is_outside(classes, *superclass)
+impl<'v> Test<Item<'v>> for ObjectOutside<'_, '_> {
+    ghost passes = { λ t i. list_any (is_unknown t.objects.now) (item_objects (item_view i)) };
+
+    #[tactic(auto, using(crate::proofs::AnyLemmas::anys))]
+    fn passes(&self, item: &Item<'v>) -> bool {
+        match item {
+            Item::Send { receiver, args, .. } => self.passes(receiver) || any(self, args),
+            Item::Change(_) => false,
         }
     }
 }
@@ -102,27 +163,46 @@ pub(super) fn has_unknown_object(form: &Form, names: &FormNames, bodies: BodyFau
     requires bodies { AreBodyFaults bodies (form_view form.now) }
     ensures { result ≡ spec.has_unknown_object (form_view form.now) }
 {
-    bodies.unknown_object || any_object_outside(&names.objects, &form.items)
+    let test = ObjectOutside {
+        objects: &names.objects,
+    };
+    bodies.unknown_object || any(&test, &form.items)
 }
 
-fn any_object_outside(objects: &NameSet, items: &[Item]) -> bool
-    ensures { result
-        ≡ list_any (λ i. list_any (is_unknown objects.now) (item_objects (item_view i))) items.now }
-{
-    items
-        .iter()
-        .any(|item| item_names_object_outside(objects, item))
+// ---- implementations
+
+/// The test of what names an implementation beyond the set.
+#[derive(Drop)]
+struct ImpOutside<'s, 'v> {
+    imps: &'s NameSet<'v>,
 }
 
-#[tactic(auto, using(crate::proofs::AnyLemmas::anys))]
-fn item_names_object_outside(objects: &NameSet, item: &Item) -> bool
-    ensures { result ≡ list_any (is_unknown objects.now) (item_objects (item_view item.now)) }
-{
-    match item {
-        Item::Send { receiver, args, .. } => {
-            any_in_send(&ObjectOutside { objects }, receiver, args)
+impl<'v> Test<Pair<'v>> for ImpOutside<'_, '_> {
+    ghost passes = { λ t p. is_unknown t.imps.now p.imp.now };
+
+    fn passes(&self, pair: &Pair<'v>) -> bool {
+        self.imps.lacks(pair.imp)
+    }
+}
+
+impl<'f, 'v> Test<&'f [Pair<'v>]> for ImpOutside<'_, '_> {
+    ghost passes = { λ t l. list_any (λ p. is_unknown t.imps.now p.imp.now) l.now };
+
+    fn passes(&self, list: &&'f [Pair<'v>]) -> bool {
+        any(self, *list)
+    }
+}
+
+impl<'v> Test<Item<'v>> for ImpOutside<'_, '_> {
+    ghost passes = { λ t i. list_any (is_unknown t.imps.now) (item_imps (item_view i)) };
+
+    fn passes(&self, item: &Item<'v>) -> bool {
+        match item {
+            Item::Change(
+                Change::Add { imp, .. } | Change::Replace { imp, .. } | Change::SetImp { imp, .. },
+            ) => self.imps.lacks(*imp),
+            _ => false,
         }
-        Item::Change(_) => false,
     }
 }
 
@@ -143,36 +223,6 @@ fn names_imp_outside(imps: &NameSet, lists: &[&[Pair]], items: &[Item]) -> bool
     ensures { result
         ≡ list_any (is_unknown imps.now) (imps_cited (lists_view lists.now) (items_view items.now)) }
 {
-    any_list_outside(imps, lists) || any_change_outside(imps, items)
-}
-
-fn any_list_outside(imps: &NameSet, lists: &[&[Pair]]) -> bool
-    ensures { result
-        ≡ list_any (λ l. list_any (λ p. is_unknown imps.now p.imp.now) l.now) lists.now }
-{
-    lists.iter().any(|list| any_pair_outside(imps, list))
-}
-
-fn any_pair_outside(imps: &NameSet, list: &[Pair]) -> bool
-    ensures { result ≡ list_any (λ p. is_unknown imps.now p.imp.now) list.now }
-{
-    list.iter().any(|pair| imps.lacks(pair.imp))
-}
-
-fn any_change_outside(imps: &NameSet, items: &[Item]) -> bool
-    ensures { result
-        ≡ list_any (λ i. list_any (is_unknown imps.now) (item_imps (item_view i))) items.now }
-{
-    items.iter().any(|item| item_names_imp_outside(imps, item))
-}
-
-fn item_names_imp_outside(imps: &NameSet, item: &Item) -> bool
-    ensures { result ≡ list_any (is_unknown imps.now) (item_imps (item_view item.now)) }
-{
-    match item {
-        Item::Change(
-            Change::Add { imp, .. } | Change::Replace { imp, .. } | Change::SetImp { imp, .. },
-        ) => imps.lacks(*imp),
-        _ => false,
-    }
+    let test = ImpOutside { imps };
+    any(&test, lists) || any(&test, items)
 }

@@ -1,7 +1,8 @@
 //! Reading changes and items.
 
-ghost use Rattle.std.specs.Prelude.{◌≡◌, ◌+◌, ◌≤◌, map, length};
+ghost use Rattle.std.specs.Prelude.{◌≡◌, ◌+◌, ◌≤◌, codes, false, map, length, option_map};
 ghost use Rattle.msg_json.specs.View.{view};
+ghost use Rattle.msg_form.specs.ExprShape.{is_word};
 ghost use Rattle.msg_form.specs.Form.{ChangeForm, ItemForm};
 ghost use Rattle.msg_form.specs.Gives.{Gives};
 ghost use Rattle.msg_form.specs.Shape as spec;
@@ -9,20 +10,20 @@ ghost use Rattle.msg_form.specs.Views.{method_view, change_view, item_view};
 
 use super::expr::constant;
 use super::parts::superclass;
-use super::values::{field, keys, list, name_in, text_in, truth, value_in};
+use super::values::{list, name_in, text_in, truth, value_in};
 use super::{FromValue, each, list_in};
 use crate::faults::ReadFault;
 use crate::form::{Change, Item, MethodName};
-use msg_json::Tree;
+use msg_json::{Tree, get, has_keys};
 use std::alloc::Global;
 
 /// A method's name, which takes three values from a place on.
 #[tactic(auto, unfolding(crate::specs::Shape::method_form_of))]
-fn method<'v>(values: &[Tree<'v, '_>], place: usize) -> Result<MethodName<'v>, ReadFault>
+fn method<'v>(values: &[Tree<'v, '_>], place: usize) -> Option<MethodName<'v>>
     requires { place + 3 ≤ length values.now }
-    ensures { Gives method_view result (spec.method_form_of place (map view values.now)) }
+    ensures { option_map method_view result ≡ spec.method_form_of place (map view values.now) }
 {
-    Ok(MethodName {
+    Some(MethodName {
         class: name_in(values, place)?,
         meta: truth(value_in(values, place + 1)?)?,
         selector: text_in(values, place + 2)?,
@@ -31,25 +32,23 @@ fn method<'v>(values: &[Tree<'v, '_>], place: usize) -> Result<MethodName<'v>, R
 
 /// What `add`, `replace` and `set` say of a method.
 #[tactic(auto, unfolding(crate::specs::Shape::edit_of))]
-fn edit<'v>(values: &[Tree<'v, '_>]) -> Result<(MethodName<'v>, &'v str), ReadFault>
-    ensures { Gives (λ e. (method_view e.0, e.1.now)) result (spec.edit_of (map view values.now)) }
+fn edit<'v>(values: &[Tree<'v, '_>]) -> Option<(MethodName<'v>, &'v str)>
+    ensures { option_map (λ e. (method_view e.0, e.1.now)) result ≡ spec.edit_of (map view values.now) }
 {
     if values.len() != 5 {
-        return Err(ReadFault::Shape);
+        return None;
     }
-    let method = method(values, 1)?;
-    let imp = name_in(values, 4)?;
-    Ok((method, imp))
+    Some((method(values, 1)?, name_in(values, 4)?))
 }
 
 #[tactic(auto, unfolding(crate::specs::Shape::exchange_of))]
-fn exchange<'v>(values: &[Tree<'v, '_>]) -> Result<Change<'v>, ReadFault>
-    ensures { Gives change_view result (spec.exchange_of (map view values.now)) }
+fn exchange<'v>(values: &[Tree<'v, '_>]) -> Option<Change<'v>>
+    ensures { option_map change_view result ≡ spec.exchange_of (map view values.now) }
 {
     if values.len() != 7 {
-        return Err(ReadFault::Shape);
+        return None;
     }
-    Ok(Change::Exchange {
+    Some(Change::Exchange {
         method: method(values, 1)?,
         other: method(values, 4)?,
     })
@@ -62,27 +61,54 @@ fn attach<'v>(alloc: Global, values: &[Tree<'v, '_>]) -> Result<Change<'v>, Read
     if values.len() != 4 {
         return Err(ReadFault::Shape);
     }
+    let Some(class) = name_in(values, 1) else {
+        return Err(ReadFault::Shape);
+    };
     Ok(Change::Attach {
-        class: name_in(values, 1)?,
+        class,
         methods: list_in(alloc, values, 2)?,
         class_methods: list_in(alloc, values, 3)?,
     })
 }
 
 #[tactic(auto, unfolding(crate::specs::Shape::make_of))]
-fn make<'v>(values: &[Tree<'v, '_>]) -> Result<Change<'v>, ReadFault>
-    ensures { Gives change_view result (spec.make_of (map view values.now)) }
+fn make<'v>(values: &[Tree<'v, '_>]) -> Option<Change<'v>>
+    ensures { option_map change_view result ≡ spec.make_of (map view values.now) }
 {
     if values.len() != 3 {
-        return Err(ReadFault::Shape);
+        return None;
     }
-    Ok(Change::Make {
+    Some(Change::Make {
         class: name_in(values, 1)?,
         superclass: superclass(value_in(values, 2)?)?,
     })
 }
 
+/// A change that takes no lists.
 #[tactic(auto, unfolding(crate::specs::Shape::worded_change_of))]
+fn plain_change<'v>(word: &str, values: &[Tree<'v, '_>]) -> Option<Change<'v>>
+    requires { is_word word.now (codes "attach") ≡ false }
+    ensures { option_map change_view result ≡ spec.worded_change_of word.now (map view values.now) }
+{
+    match word {
+        "add" => {
+            let (method, imp) = edit(values)?;
+            Some(Change::Add { method, imp })
+        }
+        "replace" => {
+            let (method, imp) = edit(values)?;
+            Some(Change::Replace { method, imp })
+        }
+        "set" => {
+            let (method, imp) = edit(values)?;
+            Some(Change::SetImp { method, imp })
+        }
+        "exchange" => exchange(values),
+        "make" => make(values),
+        _ => None,
+    }
+}
+
 fn worded_change<'v>(
     alloc: Global,
     word: &str,
@@ -90,45 +116,41 @@ fn worded_change<'v>(
 ) -> Result<Change<'v>, ReadFault>
     ensures { Gives change_view result (spec.worded_change_of word.now (map view values.now)) }
 {
-    match word {
-        "add" => {
-            let (method, imp) = edit(values)?;
-            Ok(Change::Add { method, imp })
-        }
-        "replace" => {
-            let (method, imp) = edit(values)?;
-            Ok(Change::Replace { method, imp })
-        }
-        "set" => {
-            let (method, imp) = edit(values)?;
-            Ok(Change::SetImp { method, imp })
-        }
-        "exchange" => exchange(values),
-        "attach" => attach(alloc, values),
-        "make" => make(values),
-        _ => Err(ReadFault::Shape),
+    if word == "attach" {
+        return attach(alloc, values);
     }
+    plain_change(word, values).ok_or(ReadFault::Shape)
 }
 
 #[tactic(auto, unfolding(crate::specs::Shape::change_form_of))]
 fn change<'v>(alloc: Global, value: &Tree<'v, '_>) -> Result<Change<'v>, ReadFault>
     ensures { Gives change_view result (spec.change_form_of (view value.now)) }
 {
-    let values = list(value)?;
-    worded_change(alloc, text_in(values, 0)?, values)
+    let Some(values) = list(value) else {
+        return Err(ReadFault::Shape);
+    };
+    let Some(word) = text_in(values, 0) else {
+        return Err(ReadFault::Shape);
+    };
+    worded_change(alloc, word, values)
 }
 
 #[tactic(auto, unfolding(crate::specs::Shape::send_item_of))]
 fn send_item<'v>(alloc: Global, value: &Tree<'v, '_>) -> Result<Item<'v>, ReadFault>
     ensures { Gives item_view result (spec.send_item_of (view value.now)) }
 {
-    let values = list(value)?;
+    let Some(values) = list(value) else {
+        return Err(ReadFault::Shape);
+    };
     if values.len() < 2 {
         return Err(ReadFault::Shape);
     }
+    let (Some(receiver), Some(selector)) = (constant(&values[0]), text_in(values, 1)) else {
+        return Err(ReadFault::Shape);
+    };
     Ok(Item::Send {
-        receiver: constant(value_in(values, 0)?)?,
-        selector: text_in(values, 1)?,
+        receiver,
+        selector,
         args: each(alloc, &values[2..])?,
     })
 }
@@ -142,10 +164,15 @@ impl<'v> FromValue<'v> for Item<'v> {
 
     #[tactic(auto, unfolding(crate::specs::Shape::item_form_of))]
     fn from_value(alloc: Global, value: &Tree<'v, '_>) -> Result<Item<'v>, ReadFault> {
-        keys(value, 1)?;
-        match msg_json::get(value, "send") {
-            Some(send) => send_item(alloc, send),
-            None => Ok(Item::Change(change(alloc, field(value, "change")?)?)),
+        if !has_keys(value, 1) {
+            return Err(ReadFault::Shape);
+        }
+        if let Some(send) = get(value, "send") {
+            return send_item(alloc, send);
+        }
+        match get(value, "change") {
+            Some(value) => Ok(Item::Change(change(alloc, value)?)),
+            None => Err(ReadFault::Shape),
         }
     }
 }

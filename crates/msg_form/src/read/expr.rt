@@ -1,6 +1,6 @@
 //! Reading constants and expressions. A body is read once, from the outside in.
 
-ghost use Rattle.std.specs.Prelude.{◌≡◌, ◌≤◌, List, Option, Some, map, length, option_and_then};
+ghost use Rattle.std.specs.Prelude.{◌≡◌, ◌≤◌, List, Option, Ok, Err, Some, IfOk, IfErr, map, length, option_and_then, option_map};
 ghost use Rattle.msg_json.specs.View.{view};
 ghost use Rattle.msg_form.specs.Expression as plain;
 ghost use Rattle.msg_form.specs.ExprShape as spec;
@@ -10,10 +10,10 @@ ghost use Rattle.msg_form.specs.Gives.{Gives};
 ghost use Rattle.msg_form.specs.Readings.{readings};
 
 use super::FromValue;
-use super::values::{name_in, text_in, value_in, whole};
+use super::values::{name_in, text_in};
 use crate::faults::ReadFault;
 use crate::form::{BinaryExpr, Constant, Expr, IfExpr, Operator, SendExpr, SuperExpr};
-use msg_json::{Tree, Value};
+use msg_json::{Tree, Value, whole};
 use std::alloc::Global;
 
 impl<'v> FromValue<'v> for Constant<'v> {
@@ -24,41 +24,41 @@ impl<'v> FromValue<'v> for Constant<'v> {
     ghost spelled = { spec.constant_of };
 
     fn from_value(_alloc: Global, value: &Tree<'v, '_>) -> Result<Constant<'v>, ReadFault> {
-        constant(value)
+        constant(value).ok_or(ReadFault::Shape)
     }
 }
 
-#[tactic(auto, unfolding(crate::specs::ExprShape::constant_of, crate::specs::ExprShape::whole_constant_of))]
-pub(super) fn constant<'v>(value: &Tree<'v, '_>) -> Result<Constant<'v>, ReadFault>
-    ensures { Gives constant_view result (spec.constant_of (view value.now)) }
+#[tactic(auto, unfolding(crate::specs::ExprShape::constant_of, crate::specs::ExprShape::whole_constant_of, crate::specs::Json::whole_of))]
+pub(super) fn constant<'v>(value: &Tree<'v, '_>) -> Option<Constant<'v>>
+    ensures { option_map constant_view result ≡ spec.constant_of (view value.now) }
 {
     match value {
-        Value::Null => Ok(Constant::Nil),
-        Value::Number(_) => Ok(Constant::Whole(whole(value)?)),
+        Value::Null => Some(Constant::Nil),
+        Value::Number(_) => Some(Constant::Whole(whole(value)?)),
         Value::Array(values) => listed_constant(values),
-        _ => Err(ReadFault::Shape),
+        _ => None,
     }
 }
 
 #[tactic(auto, unfolding(crate::specs::ExprShape::listed_constant_of))]
-fn listed_constant<'v>(values: &[Tree<'v, '_>]) -> Result<Constant<'v>, ReadFault>
-    ensures { Gives constant_view result (spec.listed_constant_of (map view values.now)) }
+fn listed_constant<'v>(values: &[Tree<'v, '_>]) -> Option<Constant<'v>>
+    ensures { option_map constant_view result ≡ spec.listed_constant_of (map view values.now) }
 {
     named(text_in(values, 0)?, values)
 }
 
 #[tactic(auto, unfolding(crate::specs::ExprShape::named_of))]
-fn named<'v>(word: &str, values: &[Tree<'v, '_>]) -> Result<Constant<'v>, ReadFault>
-    ensures { Gives constant_view result (spec.named_of word.now (map view values.now)) }
+fn named<'v>(word: &str, values: &[Tree<'v, '_>]) -> Option<Constant<'v>>
+    ensures { option_map constant_view result ≡ spec.named_of word.now (map view values.now) }
 {
     if values.len() != 2 {
-        return Err(ReadFault::Shape);
+        return None;
     }
     match word {
-        "obj" => Ok(Constant::Object(name_in(values, 1)?)),
-        "class" => Ok(Constant::Class(name_in(values, 1)?)),
-        "sel" => Ok(Constant::Selector(text_in(values, 1)?)),
-        _ => Err(ReadFault::Shape),
+        "obj" => Some(Constant::Object(name_in(values, 1)?)),
+        "class" => Some(Constant::Class(name_in(values, 1)?)),
+        "sel" => Some(Constant::Selector(text_in(values, 1)?)),
+        _ => None,
     }
 }
 
@@ -76,18 +76,18 @@ fn operator(word: &str) -> Option<Operator>
     }
 }
 
-#[tactic(auto, unfolding(crate::specs::ExprShape::arg_of))]
-fn arg<'v>(values: &[Tree<'v, '_>]) -> Result<Expr<'v>, ReadFault>
-    ensures { Gives expr_view result (spec.arg_of (map view values.now)) }
+#[tactic(auto, unfolding(crate::specs::ExprShape::arg_of, crate::specs::Json::whole_of))]
+fn arg<'v>(values: &[Tree<'v, '_>]) -> Option<Expr<'v>>
+    ensures { option_map expr_view result ≡ spec.arg_of (map view values.now) }
 {
     if values.len() != 2 {
-        return Err(ReadFault::Shape);
+        return None;
     }
-    let number = whole(value_in(values, 1)?)?;
+    let number = whole(&values[1])?;
     if number < 0 {
-        return Err(ReadFault::Shape);
+        return None;
     }
-    Ok(Expr::Arg(number as u64))
+    Some(Expr::Arg(number as u64))
 }
 
 impl<'v> FromValue<'v> for Expr<'v> {
@@ -108,7 +108,10 @@ fn expr<'v>(alloc: Global, value: &Tree<'v, '_>) -> Result<Expr<'v>, ReadFault>
 {
     match value {
         Value::Array(values) => listed(alloc, values),
-        _ => Ok(Expr::Const(constant(value)?)),
+        _ => match constant(value) {
+            Some(constant) => Ok(Expr::Const(constant)),
+            None => Err(ReadFault::Shape),
+        },
     }
 }
 
@@ -129,7 +132,9 @@ fn expr_in<'v>(alloc: Global, values: &[Tree<'v, '_>], place: usize) -> Result<E
 fn listed<'v>(alloc: Global, values: &[Tree<'v, '_>]) -> Result<Expr<'v>, ReadFault>
     ensures { Gives expr_view result (spec.listed_of (map view values.now) (readings values.now)) }
 {
-    let word = text_in(values, 0)?;
+    let Some(word) = text_in(values, 0) else {
+        return Err(ReadFault::Shape);
+    };
     match word {
         "self" => {
             if values.len() == 1 {
@@ -138,13 +143,16 @@ fn listed<'v>(alloc: Global, values: &[Tree<'v, '_>]) -> Result<Expr<'v>, ReadFa
                 Err(ReadFault::Shape)
             }
         }
-        "arg" => arg(values),
+        "arg" => arg(values).ok_or(ReadFault::Shape),
         "if" => choice(alloc, values),
         "send" => send(alloc, values),
         "super" => super_send(alloc, values),
         _ => match operator(word) {
             Some(operator) => binary(alloc, operator, values),
-            None => Ok(Expr::Const(named(word, values)?)),
+            None => match named(word, values) {
+                Some(constant) => Ok(Expr::Const(constant)),
+                None => Err(ReadFault::Shape),
+            },
         },
     }
 }
@@ -199,7 +207,9 @@ fn send<'v>(alloc: Global, values: &[Tree<'v, '_>]) -> Result<Expr<'v>, ReadFaul
     if values.len() < 3 {
         return Err(ReadFault::Shape);
     }
-    let selector = text_in(values, 2)?;
+    let Some(selector) = text_in(values, 2) else {
+        return Err(ReadFault::Shape);
+    };
     let receiver = expr_in(alloc, values, 1)?;
     boxed_send(alloc, receiver, selector, exprs(alloc, values, 3))
 }
@@ -212,7 +222,9 @@ fn super_send<'v>(alloc: Global, values: &[Tree<'v, '_>]) -> Result<Expr<'v>, Re
     if values.len() < 2 {
         return Err(ReadFault::Shape);
     }
-    let selector = text_in(values, 1)?;
+    let Some(selector) = text_in(values, 1) else {
+        return Err(ReadFault::Shape);
+    };
     let args = exprs(alloc, values, 2)?;
     let send = SuperExpr { selector, args };
     Ok(Expr::Super(Box::new(alloc, send)?))
@@ -235,14 +247,12 @@ fn exprs<'v>(
     Ok(exprs)
 }
 
-// An expression is dropped by a jump for each of its variants. So those that were read before one that failed are dropped in few places.
+// An expression is dropped by a jump for each of its variants. So those that were read before one that failed are dropped here, where no variant is known.
 
-fn beside<'v>(
-    first: Expr<'v>,
-    second: Result<Expr<'v>, ReadFault>,
-) -> Result<(Expr<'v>, Expr<'v>), ReadFault>
-    ensures { (o : Option plain.Expression) → Gives expr_view second.entry o
-        → Gives {Y = plain.Expression × plain.Expression} (λ es. (expr_view es.0, expr_view es.1)) result (option_and_then (λ e. Some (expr_view first.entry, e)) o) }
+/// A value, and one that was read after it.
+fn beside<A: Drop, B>(first: A, second: Result<B, ReadFault>) -> Result<(A, B), ReadFault>
+    ensures ok { IfOk result (λ r. (r.0 ≡ first) × (second ≡ Ok r.1)) }
+    ensures err { IfErr result (λ e. second ≡ Err e) }
 {
     Ok((first, second?))
 }
@@ -256,10 +266,11 @@ fn boxed_binary<'v>(
     ensures { (o : Option plain.Expression) → Gives expr_view right.entry o
         → Gives expr_view result (option_and_then (λ r. Some (plain.binary operator (expr_view left.entry) r)) o) }
 {
+    let (left, right) = beside(left, right)?;
     let binary = BinaryExpr {
         operator,
         left,
-        right: right?,
+        right,
     };
     Ok(Expr::Binary(Box::new(alloc, binary)?))
 }
@@ -272,7 +283,7 @@ fn boxed_choice<'v>(
     ensures { (o : Option (plain.Expression × plain.Expression)) → Gives (λ es. (expr_view es.0, expr_view es.1)) branches.entry o
         → Gives expr_view result (option_and_then (λ es. Some (plain.choice (expr_view condition.entry) es.0 es.1)) o) }
 {
-    let (then, otherwise) = branches?;
+    let (condition, (then, otherwise)) = beside(condition, branches)?;
     let choice = IfExpr {
         condition,
         then,
@@ -290,10 +301,11 @@ fn boxed_send<'v>(
     ensures { (o : Option (List plain.Expression)) → Gives (λ v. map expr_view v.items) args.entry o
         → Gives expr_view result (option_and_then (λ es. Some (plain.send (expr_view receiver.entry) selector.now (plain.expressions es))) o) }
 {
+    let (receiver, args) = beside(receiver, args)?;
     let send = SendExpr {
         receiver,
         selector,
-        args: args?,
+        args,
     };
     Ok(Expr::Send(Box::new(alloc, send)?))
 }

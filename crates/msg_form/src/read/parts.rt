@@ -1,22 +1,36 @@
 //! Reading the parts of a document.
 
-ghost use Rattle.std.specs.Prelude.{◌≡◌, ◌≤◌, map, option_map, IfOk};
+ghost use Rattle.std.specs.Prelude.{◌≡◌, ◌≤◌, [], codes, map, option_map, IfSome};
 ghost use Rattle.msg_json.specs.View.{view};
 ghost use Rattle.msg_form.specs.Form.{PairForm, ClassForm, CategoryForm, ObjectForm, ImpForm};
 ghost use Rattle.msg_form.specs.Gives.{Gives};
-ghost use Rattle.msg_form.specs.Json.{name_of};
+ghost use Rattle.msg_form.specs.Json.{field_of, name_of, whole_of};
 ghost use Rattle.msg_form.specs.Shape as spec;
 ghost use Rattle.msg_form.specs.Text.{Text, texts_view};
 ghost use Rattle.std.specs.List.{list_any};
 ghost use Rattle.msg_form.specs.Views.{pair_view, class_view, category_view, object_view};
 ghost use Rattle.msg_form.specs.Views.{imp_view, item_view, form_view};
 
-use super::values::{field, keys, list, name, name_at, name_in, text_in, truth, whole};
+use super::values::{list, name, name_at, name_in, text_in, truth};
 use super::{FromValue, list_at};
 use crate::faults::ReadFault;
 use crate::form::{Category, Change, Class, Expr, Form, Imp, Item, Object, Pair, is_second};
-use msg_json::{Tree, Value};
+use msg_json::{Tree, Value, get, has_keys, whole};
 use std::alloc::Global;
+
+#[tactic(auto, unfolding(crate::specs::Shape::pair_form_of))]
+fn pair<'v>(value: &Tree<'v, '_>) -> Option<Pair<'v>>
+    ensures { option_map pair_view result ≡ spec.pair_form_of (view value.now) }
+{
+    let values = list(value)?;
+    if values.len() != 2 {
+        return None;
+    }
+    Some(Pair {
+        selector: text_in(values, 0)?,
+        imp: name_in(values, 1)?,
+    })
+}
 
 impl<'v> FromValue<'v> for Pair<'v> {
     ghost Plain = { PairForm };
@@ -25,28 +39,19 @@ impl<'v> FromValue<'v> for Pair<'v> {
 
     ghost spelled = { spec.pair_form_of };
 
-    #[tactic(auto, unfolding(crate::specs::Shape::pair_form_of))]
     fn from_value(_alloc: Global, value: &Tree<'v, '_>) -> Result<Pair<'v>, ReadFault> {
-        let values = list(value)?;
-        if values.len() != 2 {
-            return Err(ReadFault::Shape);
-        }
-        Ok(Pair {
-            selector: text_in(values, 0)?,
-            imp: name_in(values, 1)?,
-        })
+        pair(value).ok_or(ReadFault::Shape)
     }
 }
 
 #[tactic(auto, unfolding(crate::specs::Shape::superclass_of))]
-pub(super) fn superclass<'v>(value: &Tree<'v, '_>) -> Result<Option<&'v str>, ReadFault>
-    ensures { Gives (λ o. option_map (λ s. s.now) o) result
-        (spec.superclass_of (view value.now)) }
+pub(super) fn superclass<'v>(value: &Tree<'v, '_>) -> Option<Option<&'v str>>
+    ensures { option_map (λ o. option_map (λ s. s.now) o) result ≡ spec.superclass_of (view value.now) }
 {
     match value {
-        Value::Null => Ok(None),
-        Value::String(_) => Ok(Some(name(value)?)),
-        _ => Err(ReadFault::Shape),
+        Value::Null => Some(None),
+        Value::String(_) => Some(Some(name(value)?)),
+        _ => None,
     }
 }
 
@@ -59,10 +64,18 @@ impl<'v> FromValue<'v> for Class<'v> {
 
     #[tactic(auto, unfolding(crate::specs::Shape::class_form_of))]
     fn from_value(alloc: Global, value: &Tree<'v, '_>) -> Result<Class<'v>, ReadFault> {
-        keys(value, 4)?;
+        if !has_keys(value, 4) {
+            return Err(ReadFault::Shape);
+        }
+        let (Some(name), Some(above)) = (name_at(value, "name"), get(value, "super")) else {
+            return Err(ReadFault::Shape);
+        };
+        let Some(superclass) = superclass(above) else {
+            return Err(ReadFault::Shape);
+        };
         Ok(Class {
-            name: name_at(value, "name")?,
-            superclass: superclass(field(value, "super")?)?,
+            name,
+            superclass,
             methods: list_at(alloc, value, "methods")?,
             class_methods: list_at(alloc, value, "class_methods")?,
         })
@@ -78,13 +91,31 @@ impl<'v> FromValue<'v> for Category<'v> {
 
     #[tactic(auto, unfolding(crate::specs::Shape::category_form_of))]
     fn from_value(alloc: Global, value: &Tree<'v, '_>) -> Result<Category<'v>, ReadFault> {
-        keys(value, 3)?;
+        if !has_keys(value, 3) {
+            return Err(ReadFault::Shape);
+        }
+        let Some(class) = name_at(value, "class") else {
+            return Err(ReadFault::Shape);
+        };
         Ok(Category {
-            class: name_at(value, "class")?,
+            class,
             methods: list_at(alloc, value, "methods")?,
             class_methods: list_at(alloc, value, "class_methods")?,
         })
     }
+}
+
+#[tactic(auto, unfolding(crate::specs::Shape::object_form_of))]
+fn object<'v>(value: &Tree<'v, '_>) -> Option<Object<'v>>
+    ensures { option_map object_view result ≡ spec.object_form_of (view value.now) }
+{
+    if !has_keys(value, 2) {
+        return None;
+    }
+    Some(Object {
+        name: name_at(value, "name")?,
+        class: name_at(value, "class")?,
+    })
 }
 
 impl<'v> FromValue<'v> for Object<'v> {
@@ -94,25 +125,20 @@ impl<'v> FromValue<'v> for Object<'v> {
 
     ghost spelled = { spec.object_form_of };
 
-    #[tactic(auto, unfolding(crate::specs::Shape::object_form_of))]
     fn from_value(_alloc: Global, value: &Tree<'v, '_>) -> Result<Object<'v>, ReadFault> {
-        keys(value, 2)?;
-        Ok(Object {
-            name: name_at(value, "name")?,
-            class: name_at(value, "class")?,
-        })
+        object(value).ok_or(ReadFault::Shape)
     }
 }
 
 /// How many arguments an implementation takes.
-#[tactic(auto, unfolding(crate::specs::Shape::args_of))]
-fn args<'v>(value: &Tree<'v, '_>) -> Result<u8, ReadFault>
-    ensures number { Gives (λ n. n) result (spec.args_of (view value.now)) }
-    ensures few { IfOk result (λ n. n ≤ 4) }
+#[tactic(auto, unfolding(crate::specs::Shape::args_of, crate::specs::Json::whole_of))]
+fn arg_count(value: &Tree<'_, '_>) -> Option<u8>
+    ensures number { result ≡ spec.args_of (view value.now) }
+    ensures few { IfSome result (λ n. n ≤ 4) }
 {
     match whole(value)? {
-        number @ 0..=4 => Ok(number as u8),
-        _ => Err(ReadFault::Shape),
+        number @ 0..=4 => Some(number as u8),
+        _ => None,
     }
 }
 
@@ -125,13 +151,28 @@ impl<'v> FromValue<'v> for Imp<'v> {
 
     #[tactic(auto, unfolding(crate::specs::Shape::imp_form_of))]
     fn from_value(alloc: Global, value: &Tree<'v, '_>) -> Result<Imp<'v>, ReadFault> {
-        keys(value, 5)?;
+        if !has_keys(value, 5) {
+            return Err(ReadFault::Shape);
+        }
+        let (Some(name), Some(class)) = (name_at(value, "name"), name_at(value, "class")) else {
+            return Err(ReadFault::Shape);
+        };
+        let (Some(meta), Some(args), Some(body)) = (
+            get(value, "meta"),
+            get(value, "args"),
+            get(value, "body"),
+        ) else {
+            return Err(ReadFault::Shape);
+        };
+        let (Some(meta), Some(args)) = (truth(meta), arg_count(args)) else {
+            return Err(ReadFault::Shape);
+        };
         Ok(Imp {
-            name: name_at(value, "name")?,
-            class: name_at(value, "class")?,
-            meta: truth(field(value, "meta")?)?,
-            args: args(field(value, "args")?)?,
-            body: Expr::from_value(alloc, field(value, "body")?)?,
+            name,
+            class,
+            meta,
+            args,
+            body: Expr::from_value(alloc, body)?,
         })
     }
 }
@@ -144,8 +185,15 @@ impl<'v> FromValue<'v> for &'v str {
     ghost spelled = { name_of };
 
     fn from_value(_alloc: Global, value: &Tree<'v, '_>) -> Result<&'v str, ReadFault> {
-        name(value)
+        name(value).ok_or(ReadFault::Shape)
     }
+}
+
+#[tactic(auto, unfolding(crate::specs::Json::whole_of))]
+fn version(value: &Tree<'_, '_>) -> Option<i64>
+    ensures { result ≡ field_of whole_of (codes "version") (view value.now) }
+{
+    whole(get(value, "version")?)
 }
 
 fn is_making(item: &Item) -> bool
@@ -162,59 +210,82 @@ fn makes_class(items: &[Item]) -> bool
 
 impl<'v> Form<'v> {
     /// The form that a JSON value spells.
-    #[tactic(auto, unfolding(crate::specs::Shape::form_of))]
+    #[tactic(auto, unfolding(crate::specs::Shape::form_of, crate::specs::Json::whole_of))]
     pub fn read(alloc: Global, value: &Tree<'v, '_>) -> Result<Form<'v>, ReadFault>
         ensures { Gives form_view result (spec.form_of (view value.now)) }
     {
-        let version = whole(field(value, "version")?)?;
-        if is_second(version) {
-            Form::second(alloc, version, value)
-        } else {
-            Form::first(alloc, version, value)
+        let Some(version) = version(value) else {
+            return Err(ReadFault::Shape);
+        };
+        let mut form = Form::empty(alloc, version);
+        form.fill(alloc, value).and(Ok(form))
+    }
+
+    fn empty(alloc: Global, version: i64) -> Form<'v>
+        ensures version { result.version ≡ version }
+        ensures made { result.made.items ≡ [] }
+    {
+        Form {
+            version,
+            classes: Vec::new(alloc),
+            made: Vec::new(alloc),
+            categories: Vec::new(alloc),
+            objects: Vec::new(alloc),
+            imps: Vec::new(alloc),
+            items: Vec::new(alloc),
         }
     }
 
-    /// A form of version 1, which makes no classes.
-    #[tactic(auto, using(crate::proofs::AnyLemmas::anys), unfolding(crate::specs::Shape::first_form_of))]
-    fn first(alloc: Global, version: i64, value: &Tree<'v, '_>) -> Result<Form<'v>, ReadFault>
-        ensures { Gives form_view result (spec.first_form_of version (view value.now)) }
+    // The lists stay where they are, so that none is dropped where another can't be read.
+    fn fill(&mut self, alloc: Global, value: &Tree<'v, '_>) -> Result<(), ReadFault>
+        requires { self.old.made.items ≡ [] }
+        ensures { Gives (λ _. form_view self.new) result (spec.form_by self.old.version (view value.now)) }
     {
-        keys(value, 6)?;
-        let form = Form::parts(alloc, version, Vec::new(alloc), value)?;
-        if makes_class(&form.items) {
+        if is_second(self.version) {
+            self.fill_second(alloc, value)
+        } else {
+            self.fill_first(alloc, value)
+        }
+    }
+
+    /// Fills in a form of version 1, which makes no classes.
+    #[tactic(auto, using(crate::proofs::AnyLemmas::anys), unfolding(crate::specs::Shape::first_form_of))]
+    fn fill_first(&mut self, alloc: Global, value: &Tree<'v, '_>) -> Result<(), ReadFault>
+        requires { self.old.made.items ≡ [] }
+        ensures { Gives (λ _. form_view self.new) result (spec.first_form_of self.old.version (view value.now)) }
+    {
+        if !has_keys(value, 6) {
             return Err(ReadFault::Shape);
         }
-        Ok(form)
+        self.fill_parts(alloc, value)?;
+        if makes_class(&self.items) {
+            return Err(ReadFault::Shape);
+        }
+        Ok(())
     }
 
-    /// A form of version 2, which names the classes that may be made.
+    /// Fills in a form of version 2, which names the classes that may be made.
     #[tactic(auto, unfolding(crate::specs::Shape::second_form_of))]
-    fn second(alloc: Global, version: i64, value: &Tree<'v, '_>) -> Result<Form<'v>, ReadFault>
-        ensures { Gives form_view result (spec.second_form_of version (view value.now)) }
+    fn fill_second(&mut self, alloc: Global, value: &Tree<'v, '_>) -> Result<(), ReadFault>
+        ensures { Gives (λ _. form_view self.new) result (spec.second_form_of self.old.version (view value.now)) }
     {
-        keys(value, 7)?;
-        let made = list_at(alloc, value, "made")?;
-        Form::parts(alloc, version, made, value)
+        if !has_keys(value, 7) {
+            return Err(ReadFault::Shape);
+        }
+        self.made = list_at(alloc, value, "made")?;
+        self.fill_parts(alloc, value)
     }
 
-    /// What the versions share.
+    /// Fills in what the versions share.
     #[tactic(auto, unfolding(crate::specs::Shape::parts_of))]
-    fn parts(
-        alloc: Global,
-        version: i64,
-        made: Vec<&'v str>,
-        value: &Tree<'v, '_>,
-    ) -> Result<Form<'v>, ReadFault>
-        ensures { Gives form_view result (spec.parts_of version (texts_view made.entry.items) (view value.now)) }
+    fn fill_parts(&mut self, alloc: Global, value: &Tree<'v, '_>) -> Result<(), ReadFault>
+        ensures { Gives (λ _. form_view self.new) result (spec.parts_of self.old.version (texts_view self.old.made.items) (view value.now)) }
     {
-        Ok(Form {
-            version,
-            made,
-            classes: list_at(alloc, value, "classes")?,
-            categories: list_at(alloc, value, "categories")?,
-            objects: list_at(alloc, value, "objects")?,
-            imps: list_at(alloc, value, "imps")?,
-            items: list_at(alloc, value, "items")?,
-        })
+        self.classes = list_at(alloc, value, "classes")?;
+        self.categories = list_at(alloc, value, "categories")?;
+        self.objects = list_at(alloc, value, "objects")?;
+        self.imps = list_at(alloc, value, "imps")?;
+        self.items = list_at(alloc, value, "items")?;
+        Ok(())
     }
 }

@@ -6,10 +6,14 @@ use Rattle.msg_image.proofs.ImageLemmas.{resolved, resolved_categories}
 use Rattle.msg_image.proofs.image.members_of.Goals as goal
 
 pub returns-clause-categories : goal.returns-clause-categories
-returns-clause-categories c = resolved_categories (numbers_by c.args.names.now) c.in_ok-categories.categories.items c.deref.result.now c.args.form.now.categories.items c.deref.ensures.value c.in_ok-categories.ensures
+returns-clause-categories c = resolved_categories (numbers_by c.args.names.now) c.in_ok-categories.categories.items c.deref.result.now c.args.form.now.categories.items c.deref.ensures.value (rw c.in_ok-categories.ensures.0 at c.each-categories.ensures)
 
 pub returns-clause-objects : goal.returns-clause-objects
-returns-clause-objects c = resolved object_parts object_view (spec.object (numbers_by c.args.names.now)) c.in_ok-objects.objects.items c.deref-2.result.now c.args.form.now.objects.items c.deref-2.ensures.value c.in_ok-objects.ensures
+returns-clause-objects c =
+    let rest = rw c.in_ok-categories.ensures.1 at c.both.ensures in
+    resolved object_parts object_view (spec.object (numbers_by c.args.names.now)) c.in_ok-categories.objects.items c.deref-2.result.now c.args.form.now.objects.items c.deref-2.ensures.value (rw rest.0 at c.each-objects.ensures)
 
 pub returns-clause-imps : goal.returns-clause-imps
-returns-clause-imps c = resolved imp_parts imp_view (spec.imp (numbers_by c.args.names.now)) c.in_ok-imps.imps.items c.deref-3.result.now c.args.form.now.imps.items c.deref-3.ensures.value c.in_ok-imps.ensures
+returns-clause-imps c =
+    let rest = rw c.in_ok-categories.ensures.1 at c.both.ensures in
+    resolved imp_parts imp_view (spec.imp (numbers_by c.args.names.now)) c.in_ok-categories.imps.items c.deref-3.result.now c.args.form.now.imps.items c.deref-3.ensures.value (rw rest.1 at c.each-imps.ensures)

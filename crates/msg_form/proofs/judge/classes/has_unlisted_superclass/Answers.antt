@@ -2,4 +2,4 @@ use Rattle.msg_form.proofs.ClassLemmas.{unlisted_superclass}
 use Rattle.msg_form.proofs.judge.classes.has_unlisted_superclass.Goals as goal
 
 pub returns : goal.returns
-returns c = unlisted_superclass c.args.classes.now c.args.listed.now c.any_superclass_outside.result c.requires c.any_superclass_outside.ensures
+returns c = unlisted_superclass c.args.classes.now c.args.listed.now c.any.result c.requires c.any.ensures

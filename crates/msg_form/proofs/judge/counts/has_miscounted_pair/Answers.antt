@@ -5,6 +5,5 @@ use Rattle.msg_form.proofs.judge.counts.has_miscounted_pair.Goals as goal
 
 pub returns : goal.returns
 returns c =
-    let args = rw c.deref.ensures.value at c.in_ok-args.ensures in
-    let pairs = rw c.deref-2.ensures.value at c.any_miscounted_pair.ensures in
-    miscounted c.in_ok-args.args.entries (imps_view c.args.form.now.imps.items) c.in_ok-lists.lists.items (method_lists (form_view c.args.form.now)) c.any_miscounted_pair.result args c.in_ok-lists.ensures pairs
+    let pairs = rw (c.deref.ensures.value, c.deref-2.ensures.value) at c.any.ensures in
+    miscounted c.args.imps.now (imps_view c.args.form.now.imps.items) c.in_ok-lists.lists.items (method_lists (form_view c.args.form.now)) c.any.result c.requires c.in_ok-lists.ensures pairs

@@ -11,5 +11,5 @@ unfolding has_wrong_argument_count
 returns c =
     let f = form_view c.args.form.now in
     let pairs : list_any (is_miscounted f.imps) (method_entries f) ≡ false = sym c.in_ok-has_miscounted_pair.ensures ∙ c.if-branch.false in
-    let items = (rw c.deref.ensures.value at c.any_miscounted_item.ensures) ∙ any_mapped is_miscounted_send item_sends item_view c.args.form.now.items.items in
-    rw pairs (not_found is_miscounted_send (body_sends f) (flat_map item_sends f.items) c.args.bodies.argument_count c.any_miscounted_item.result c.requires.argument_count c.if-bodies.false items)
+    let items = (rw c.deref.ensures.value at c.any.ensures) ∙ any_mapped is_miscounted_send item_sends item_view c.args.form.now.items.items in
+    rw pairs (not_found is_miscounted_send (body_sends f) (flat_map item_sends f.items) c.args.bodies.argument_count c.any.result c.requires.bodies.argument_count c.if-bodies.false items)

@@ -19,6 +19,6 @@ unfolding has_unknown_object
 returns-else-bodies c =
     let f = form_view c.args.form.now in
     let names = c.args.names.now in
-    let items = (rw c.deref.ensures.value at c.any_object_outside.ensures) ∙ any_mapped (is_unknown names.objects) item_objects item_view c.args.form.now.items.items in
+    let items = (rw c.deref.ensures.value at c.any.ensures) ∙ any_mapped (is_unknown names.objects) item_objects item_view c.args.form.now.items.items in
     let cited = items ∙ ap (λ p. list_any p (flat_map item_objects f.items)) (ap is_unknown c.requires.names.objects ∙ is_unknown-distinct (object_names f)) in
-    not_found (is_unknown (object_names f)) (body_objects f) (flat_map item_objects f.items) c.args.bodies.unknown_object c.any_object_outside.result c.requires.bodies.unknown_object c.if-bodies.false cited
+    not_found (is_unknown (object_names f)) (body_objects f) (flat_map item_objects f.items) c.args.bodies.unknown_object c.any.result c.requires.bodies.unknown_object c.if-bodies.false cited

@@ -1,10 +1,11 @@
-use Rattle.std.proofs.Common.{◌-◌, map, take, drop, length, arith}
+use Rattle.std.proofs.Common.{◌-◌, map, take, drop, length, arith, sym}
 use Rattle.msg_json.specs.View.{view}
 use Rattle.msg_form.specs.ExprShape.{expression_of, at, two_at, all_from}
 use Rattle.msg_form.specs.ExprView.{expr_view}
 use Rattle.msg_form.specs.Readings.{readings}
 use Rattle.msg_form.proofs.ExprShapeLemmas.{expression_of-array, exprs_start, reading_is, binary_left, choice_left, send_left}
 use Rattle.msg_form.proofs.JsonLemmas.{each_on}
+use Rattle.msg_form.proofs.ReadLemmas.{gives_beside}
 use Rattle.msg_form.proofs.read.expr.+expr.Goals as goal
 
 pub expr-returns-in-Array : goal.expr-returns-in-Array
@@ -21,7 +22,8 @@ pub expr_in-returns : goal.expr_in-returns
 expr_in-returns t c = rw (reading_is c.args.values.now c.args.place c.index-values-place.result c.if-place-values.false c.index-values-place.is) c.expr.ensures
 
 pub two-returns : goal.two-returns
-two-returns t c = rw c.in_ok-left.ensures (c.beside.ensures (at c.args.second (readings c.args.values.now)) c.expr_in-2.ensures)
+two-returns t c =
+    rw c.in_ok-left.ensures (gives_beside expr_view expr_view c.in_ok-left.left c.expr_in-2.result (at c.args.second (readings c.args.values.now)) c.beside.result c.beside.ensures.ok c.beside.ensures.err c.expr_in-2.ensures)
 
 pub binary-returns : goal.binary-returns
 binary-returns t c =
@@ -33,4 +35,4 @@ choice-returns t c =
 
 pub send-returns : goal.send-returns
 send-returns t c =
-    rw (send_left c.args.values.now (expr_view c.in_ok-receiver.receiver) c.in_ok-selector.selector.now c.in_ok-selector.ensures c.in_ok-receiver.ensures) (c.boxed_send.ensures (all_from 3 (readings c.args.values.now)) c.exprs.ensures)
+    rw (send_left c.args.values.now (expr_view c.in_ok-receiver.receiver) c.in-Some.selector.now (sym c.in-Some.ensures) c.in_ok-receiver.ensures) (c.boxed_send.ensures (all_from 3 (readings c.args.values.now)) c.exprs.ensures)

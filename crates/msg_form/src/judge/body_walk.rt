@@ -1,0 +1,115 @@
+//! One walk over a body, which looks at each expression once. It takes no memory.
+
+ghost use Rattle.std.specs.Prelude.{◌≡◌, fold};
+ghost use Rattle.msg_form.specs.BodyWalk as spec;
+ghost use Rattle.msg_form.specs.ExprView.{expr_view, exprs_view};
+
+use super::bodies::BodyFaults;
+use super::counts::is_miscounted_send;
+use crate::form::{Constant, Expr};
+use crate::name_set::NameSet;
+
+/// What a walk has found so far.
+#[derive(Clone, Copy)]
+pub(super) struct Found {
+    pub(super) faults: BodyFaults,
+    /// How many more expressions there may be.
+    pub(super) room: u32,
+}
+
+impl Found {
+    /// Goes on to an expression, from which on there may be so many levels.
+    fn enter(&mut self, levels: u32)
+        ensures { self.new ≡ spec.entered levels self.old }
+    {
+        let full = (levels == 0) | (self.room == 0);
+        self.faults.too_deep = self.faults.too_deep | full;
+        self.room = self.room.saturating_sub(1);
+    }
+}
+
+/// What a body may use.
+#[derive(Drop)]
+pub(super) struct BodyWalk<'s, 'v> {
+    /// Whether a super send would look above a root class.
+    pub(super) above: bool,
+    pub(super) classes: &'s NameSet<'v>,
+    pub(super) objects: &'s NameSet<'v>,
+    pub(super) args: u64,
+}
+
+impl BodyWalk<'_, '_> {
+    /// Looks at an expression and those inside it, where there may be so many levels.
+    #[cycle(visit)]
+    pub(super) fn visit(&self, expr: &Expr, levels: u32, found: &mut Found)
+        ensures { found.new
+            ≡ fold (spec.with_part self.now.above self.now.classes.now self.now.objects.now self.now.args) found.old (spec.parts_at levels (expr_view expr.now)) }
+    {
+        self.look(expr, levels, found);
+        let inner = levels.saturating_sub(1);
+        match expr {
+            Expr::Const(_) | Expr::Me | Expr::Arg(_) => {}
+            Expr::Binary(binary) => {
+                self.visit(&binary.left, inner, found);
+                self.visit(&binary.right, inner, found);
+            }
+            Expr::If(choice) => {
+                self.visit(&choice.condition, inner, found);
+                self.visit(&choice.then, inner, found);
+                self.visit(&choice.otherwise, inner, found);
+            }
+            Expr::Send(send) => {
+                self.visit(&send.receiver, inner, found);
+                self.visit_all(&send.args, inner, found);
+            }
+            Expr::Super(send) => self.visit_all(&send.args, inner, found),
+        }
+    }
+
+    #[cycle(visit)]
+    fn visit_all(&self, exprs: &[Expr], levels: u32, found: &mut Found)
+        ensures { found.new
+            ≡ fold (spec.with_part self.now.above self.now.classes.now self.now.objects.now self.now.args) found.old (spec.all_parts_at levels (exprs_view exprs.now)) }
+    {
+        for expr in exprs {
+            self.visit(expr, levels, found);
+        }
+    }
+
+    /// Looks at an expression, and not at those inside it.
+    fn look(&self, expr: &Expr, levels: u32, found: &mut Found)
+        ensures { found.new
+            ≡ spec.with_part self.now.above self.now.classes.now self.now.objects.now self.now.args found.old (levels, expr_view expr.now) }
+    {
+        found.enter(levels);
+        self.note(expr, &mut found.faults);
+    }
+
+    fn note(&self, expr: &Expr, faults: &mut BodyFaults)
+        ensures { faults.new
+            ≡ spec.with_own self.now.above self.now.classes.now self.now.objects.now self.now.args faults.old (expr_view expr.now) }
+    {
+        match expr {
+            Expr::Const(Constant::Class(name)) => {
+                faults.unknown_class = faults.unknown_class | self.classes.lacks(*name);
+            }
+            Expr::Const(Constant::Object(name)) => {
+                faults.unknown_object = faults.unknown_object | self.objects.lacks(*name);
+            }
+            Expr::Arg(index) => {
+                let beyond = self.args <= *index;
+                faults.argument_index = faults.argument_index | beyond;
+            }
+            Expr::Send(send) => {
+                let miscounted = is_miscounted_send(send.selector, send.args.len());
+                faults.argument_count = faults.argument_count | miscounted;
+            }
+            Expr::Super(send) => {
+                let miscounted = is_miscounted_send(send.selector, send.args.len());
+                faults.argument_count = faults.argument_count | miscounted;
+                faults.sends_above = faults.sends_above | self.above;
+            }
+            Expr::Const(_) | Expr::Me | Expr::Binary(_) | Expr::If(_) => {}
+        }
+    }
+}
