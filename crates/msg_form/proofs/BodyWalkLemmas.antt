@@ -63,14 +63,12 @@ pub three_pushed : (old mid more new all a b c : List Text) → all ≡ a ++ (b 
 three_pushed old mid more new all a b c is e f g = two_pushed old mid new all a (b ++ c) is e (two_pushed mid more new (b ++ c) b c (λ i. b ++ c) f g)
 
 -- a selector, and what comes after it
-pub selector_pushed : (old mid : List (Bor Text)) (selector : Bor Text) (new all rest : List Text) → all ≡ selector.now ∷ rest → mid ≡ old ++ selector ∷ [] → new ≡ texts_view mid ++ rest → new ≡ texts_view old ++ all
-selector_pushed old mid selector new all rest is e f =
-    two_pushed (texts_view old) (texts_view mid) new all (selector.now ∷ []) rest is (ap texts_view e ∙ map_push (λ t. t.now) old selector) f
+pub selector_pushed : (selector : Text) (old mid new all rest : List Text) → all ≡ selector ∷ rest → mid ≡ old ++ selector ∷ [] → new ≡ mid ++ rest → new ≡ old ++ all
+selector_pushed selector old mid new all rest is e f = two_pushed old mid new all (selector ∷ []) rest is e f
 
 -- the same after a receiver
-pub send_pushed : (old : List Text) (first mid : List (Bor Text)) (selector : Bor Text) (new all a rest : List Text) → all ≡ a ++ (selector.now ∷ rest) → texts_view first ≡ old ++ a → mid ≡ first ++ selector ∷ [] → new ≡ texts_view mid ++ rest → new ≡ old ++ all
-send_pushed old first mid selector new all a rest is e f g =
-    two_pushed old (texts_view first) new all a (selector.now ∷ rest) is e (selector_pushed first mid selector new (selector.now ∷ rest) rest (λ i. selector.now ∷ rest) f g)
+pub send_pushed : (selector : Text) (old first mid new all a rest : List Text) → all ≡ a ++ (selector ∷ rest) → first ≡ old ++ a → mid ≡ first ++ selector ∷ [] → new ≡ mid ++ rest → new ≡ old ++ all
+send_pushed selector old first mid new all a rest is e f g = two_pushed old first new all a (selector ∷ rest) is e (selector_pushed selector first mid new (selector ∷ rest) rest (λ i. selector ∷ rest) f g)
 
 -- ---- the loop over expressions
 

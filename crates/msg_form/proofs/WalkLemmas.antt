@@ -14,10 +14,10 @@ use Rattle.msg_form.specs.declared.form.Item.{Item}
 use Rattle.msg_form.specs.declared.form.Item.TheVariants.{Send}
 
 -- after a send's receiver and its selector come the selectors in its arguments
-pub send_pushed : (item : Item) (receiver : Constant) (selector : Bor Text) (args : Vec Constant Global) (before mid after : List (Bor Text)) → item ≡ Send receiver selector args → texts_view mid ≡ texts_view before ++ own_selector (constant_view receiver) → after ≡ mid ++ selector ∷ []
-    → texts_view before ++ item_texts (item_view item) ≡ texts_view after ++ flat_map (λ c. own_selector (constant_view c)) args.items
+pub send_pushed : (item : Item) (receiver : Constant) (selector : Bor Text) (args : Vec Constant Global) (before mid after : List Text) → item ≡ Send receiver selector args → mid ≡ before ++ own_selector (constant_view receiver) → after ≡ mid ++ selector.now ∷ []
+    → before ++ item_texts (item_view item) ≡ after ++ flat_map (λ c. own_selector (constant_view c)) args.items
 send_pushed item receiver selector args before mid after is first second =
-    let pushed : texts_view after ≡ texts_view before ++ own_selector (constant_view receiver) ++ selector.now ∷ [] = ap texts_view second ∙ map_push (λ t. t.now) mid selector ∙ ap (λ ts. ts ++ selector.now ∷ []) first in
+    let pushed : after ≡ before ++ own_selector (constant_view receiver) ++ selector.now ∷ [] = second ∙ ap (λ ts. ts ++ selector.now ∷ []) first in
     rw (is, pushed, flat_map-map own_selector constant_view args.items) (simp append_assoc)
 
 -- the parts of a form, one kind after the other

@@ -1,7 +1,7 @@
 //! The walk over a document's places of selectors, which numbers them. It looks at each part once,
 //! and copies no text.
 
-ghost use Rattle.std.specs.Prelude.{◌≡◌, List, ◌++◌, IfOk, OnOk};
+ghost use Rattle.std.specs.Prelude.{◌≡◌, List, [], ◌∷◌, ◌++◌, IfOk, OnOk};
 ghost use Rattle.std.specs.List.{flat_map};
 ghost use Rattle.msg_form.specs.ExprView.{constant_view, expr_view, exprs_view};
 ghost use Rattle.msg_form.specs.Parts.{own_selector};
@@ -31,12 +31,20 @@ impl<'v> Form<'v> {
         ensures { OnOk result
             (texts_view texts.new.items ≡ texts_view texts.old.items ++ spec.selector_texts (form_view self.now)) }
     {
-        texts.push(FORWARDING)?;
+        push_text(FORWARDING, texts)?;
         push_all(&self.classes, texts)?;
         push_all(&self.categories, texts)?;
         push_all(&self.imps, texts)?;
         push_all(&self.items, texts)
     }
+}
+
+fn push_text<'v>(text: &'v str, texts: &mut Vec<&'v str>) -> Result<(), AllocError>
+    ensures { OnOk result
+        (texts_view texts.new.items ≡ texts_view texts.old.items ++ text.now ∷ []) }
+{
+    texts.push(text)?;
+    Ok(())
 }
 
 /// A part with places of selectors.
@@ -68,7 +76,7 @@ fn push_list<'v>(pairs: &[Pair<'v>], texts: &mut Vec<&'v str>) -> Result<(), All
         ≡ texts_view texts.old.items ++ spec.list_texts (pairs_view pairs.now)) }
 {
     for pair in pairs {
-        texts.push(pair.selector)?;
+        push_text(pair.selector, texts)?;
     }
     Ok(())
 }
@@ -103,10 +111,10 @@ impl<'v> HasSelectors<'v> for Constant<'v> {
     ghost selectors = { λ c. own_selector (constant_view c) };
 
     fn push_selectors(&self, texts: &mut Vec<&'v str>) -> Result<(), AllocError> {
-        if let Constant::Selector(text) = self {
-            texts.push(*text)?;
+        match self {
+            Constant::Selector(text) => push_text(*text, texts),
+            _ => Ok(()),
         }
-        Ok(())
     }
 }
 
@@ -117,14 +125,10 @@ impl<'v> HasSelectors<'v> for Change<'v> {
         match self {
             Change::Add { method, .. }
             | Change::Replace { method, .. }
-            | Change::SetImp { method, .. } => {
-                texts.push(method.selector)?;
-                Ok(())
-            }
+            | Change::SetImp { method, .. } => push_text(method.selector, texts),
             Change::Exchange { method, other } => {
-                texts.push(method.selector)?;
-                texts.push(other.selector)?;
-                Ok(())
+                push_text(method.selector, texts)?;
+                push_text(other.selector, texts)
             }
             Change::Attach {
                 methods,
@@ -150,7 +154,7 @@ impl<'v> HasSelectors<'v> for Item<'v> {
                 args,
             } => {
                 receiver.push_selectors(texts)?;
-                texts.push(*selector)?;
+                push_text(*selector, texts)?;
                 push_all(args, texts)
             }
             Item::Change(change) => change.push_selectors(texts),
@@ -178,11 +182,11 @@ fn push_expr<'v>(expr: &Expr<'v>, texts: &mut Vec<&'v str>) -> Result<(), AllocE
         }
         Expr::Send(send) => {
             push_expr(&send.receiver, texts)?;
-            texts.push(send.selector)?;
+            push_text(send.selector, texts)?;
             push_exprs(&send.args, texts)
         }
         Expr::Super(send) => {
-            texts.push(send.selector)?;
+            push_text(send.selector, texts)?;
             push_exprs(&send.args, texts)
         }
     }

@@ -31,20 +31,20 @@ push_expr-returns-in_ok-push_expr-in-If-2 t c =
     (texts-If c.args.expr.now c.in-If.choice c.in-If.is) condition then)
     otherwise
 
-pub push_expr-returns-in_ok-push-in-Send : goal.push_expr-returns-in_ok-push-in-Send
-push_expr-returns-in_ok-push-in-Send t c =
+pub push_expr-returns-in_ok-push_text-in-Send : goal.push_expr-returns-in_ok-push_text-in-Send
+push_expr-returns-in_ok-push_text-in-Send t c =
     let receiver = rw c.deref-in-Send.ensures at c.in_ok-push_expr-in-Send.ensures in
-    let selector = rw c.deref-in-Send-2.ensures at c.in_ok-push-in-Send.ensures.items in
+    let selector = rw c.deref-in-Send-2.ensures at c.in_ok-push_text-in-Send.ensures in
     let args = rw (c.deref-in-Send-4.ensures.value, c.deref-in-Send-3.ensures) at c.push_exprs.ensures in
     on_ok_weaker c.push_exprs.result
-    (send_pushed (texts_view c.args.texts.now.items) c.push_expr-in-Send.new.texts.items c.push.new.self.items _ (texts_view c.push_exprs.new.texts.items) _ _ _ (texts-Send c.args.expr.now c.in-Send.send c.in-Send.is) receiver selector) args
+    (send_pushed _ (texts_view c.args.texts.now.items) (texts_view c.push_expr-in-Send.new.texts.items) (texts_view c.push_text.new.texts.items) (texts_view c.push_exprs.new.texts.items) _ _ _ (texts-Send c.args.expr.now c.in-Send.send c.in-Send.is) receiver selector) args
 
-pub push_expr-returns-in_ok-push-in-Super : goal.push_expr-returns-in_ok-push-in-Super
-push_expr-returns-in_ok-push-in-Super t c =
-    let selector = rw c.deref-in-Super.ensures at c.in_ok-push-in-Super.ensures.items in
+pub push_expr-returns-in_ok-push_text-in-Super : goal.push_expr-returns-in_ok-push_text-in-Super
+push_expr-returns-in_ok-push_text-in-Super t c =
+    let selector = rw c.deref-in-Super.ensures at c.in_ok-push_text-in-Super.ensures in
     let args = rw (c.deref-in-Super-3.ensures.value, c.deref-in-Super-2.ensures) at c.push_exprs-in-Super.ensures in
     on_ok_weaker c.push_exprs-in-Super.result
-    (selector_pushed c.args.texts.now.items c.push-in-Super.new.self.items _ (texts_view c.push_exprs-in-Super.new.texts.items) _ _ (texts-Super c.args.expr.now c.in-Super.send c.in-Super.is) selector) args
+    (selector_pushed _ (texts_view c.args.texts.now.items) (texts_view c.push_text-in-Super.new.texts.items) (texts_view c.push_exprs-in-Super.new.texts.items) _ _ (texts-Super c.args.expr.now c.in-Super.send c.in-Super.is) selector) args
 
 pub push_exprs-loop-expr-preserved : goal.push_exprs-loop-expr-preserved
 push_exprs-loop-expr-preserved t c =
