@@ -1,10 +1,10 @@
 -- The texts that a walk over a body pushes, step by step.
-use Rattle.std.proofs.Common.{◌≡◌, ℕ, suc, ◌+◌, ◌<◌, ◌≤◌, List, [], ◌∷◌, ◌++◌, length, map, drop, get_or, Bor, Box, Global, ◌⊎◌, inl, inr, sym, ap, ◌∙◌, append_assoc, append-nil, drop-cons, add-one, rules}
-use Rattle.std.proofs.lemmas.List.{drop_all, map_push}
+use Rattle.std.proofs.Common.{◌≡◌, ℕ, suc, ◌+◌, ◌<◌, ◌≤◌, List, [], ◌∷◌, ◌++◌, length, map, drop, get_or, Box, Global, ◌⊎◌, inl, inr, sym, ap, ◌∙◌, append_assoc, append-nil, drop-cons, add-one, rules}
+use Rattle.std.proofs.lemmas.List.{drop_all}
 use Rattle.msg_form.specs.Expression.{constant, me, arg, binary, choice, send, super_send, expressions}
 use Rattle.msg_form.specs.ExprView.{constant_view, expr_view}
 use Rattle.msg_form.specs.Parts.{own_selector}
-use Rattle.msg_form.specs.Text.{Text, texts_view}
+use Rattle.msg_form.specs.Text.{Text}
 use Rattle.msg_form.specs.Walk.{texts_in, all_texts_in}
 use Rattle.msg_form.specs.declared.form.BinaryExpr.{BinaryExpr, out-BinaryExpr}
 use Rattle.msg_form.specs.declared.form.Constant.{Constant}

@@ -1,11 +1,10 @@
 -- The texts of a walk, part after part.
 use Rattle.std.proofs.Common.{◌≡◌, List, [], ◌∷◌, ◌++◌, Bor, Vec, Global, ap, ◌∙◌, append_assoc}
 use Rattle.std.specs.List.{flat_map}
-use Rattle.std.proofs.lemmas.List.{map_push}
 use Rattle.std.proofs.lemmas.List.Folds.{flat_map-map}
 use Rattle.msg_form.specs.ExprView.{constant_view}
 use Rattle.msg_form.specs.Parts.{own_selector}
-use Rattle.msg_form.specs.Text.{Text, texts_view}
+use Rattle.msg_form.specs.Text.{Text}
 use Rattle.msg_form.specs.Views.{class_view, category_view, imp_view, item_view, form_view}
 use Rattle.msg_form.specs.Walk.{forwarding_text, class_texts, category_texts, imp_texts, item_texts, selector_texts}
 use Rattle.msg_form.specs.declared.form.Constant.{Constant}
