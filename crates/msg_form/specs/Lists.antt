@@ -65,6 +65,7 @@ method_entries f = flat_map (λ l. l) (method_lists f)
 abbrev pub body_sends : Form → List (Text × ℕ)
 body_sends f = flat_map (λ i. sends_in i.body) f.imps
 
+-- the selector of a send of the document, with how many arguments it is given
 abbrev pub item_sends : ItemForm → List (Text × ℕ)
 item_sends (send_item r s args) = (s, length args) ∷ []
 item_sends (change_item c) = []
@@ -79,6 +80,7 @@ abbrev pub at_most_one : Option Text → List Text
 at_most_one None = []
 at_most_one (Some name) = name ∷ []
 
+-- the classes that a change names
 abbrev pub change_classes : ChangeForm → List Text
 change_classes (add m i) = m.class ∷ []
 change_classes (replace m i) = m.class ∷ []
@@ -87,6 +89,7 @@ change_classes (exchange m o) = m.class ∷ o.class ∷ []
 change_classes (attach c ms cs) = c ∷ []
 change_classes (make c s) = c ∷ at_most_one s
 
+-- the classes that an item names, by a receiver, an argument or a change
 abbrev pub item_classes : ItemForm → List Text
 item_classes (send_item r s args) = flat_map own_class (r ∷ args)
 item_classes (change_item c) = change_classes c
@@ -106,6 +109,7 @@ other_classes f = map (λ o. o.class) f.objects ++ flat_map item_classes f.items
 abbrev pub classes_named : Form → List Text
 classes_named f = body_classes f ++ other_classes f
 
+-- the objects that a send of the document names
 abbrev pub item_objects : ItemForm → List Text
 item_objects (send_item r s args) = flat_map own_object (r ∷ args)
 item_objects (change_item c) = []
@@ -125,6 +129,7 @@ change_imps (exchange m o) = []
 change_imps (attach c ms cs) = []
 change_imps (make c s) = []
 
+-- the implementations that a change names
 abbrev pub item_imps : ItemForm → List Text
 item_imps (send_item r s args) = []
 item_imps (change_item c) = change_imps c

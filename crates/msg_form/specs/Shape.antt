@@ -187,10 +187,11 @@ second_form_of version d = do
   made ← field_of (list_of name_of) (codes "made") d
   parts_of version made d
 
--- The version decides the form where it is 2. Any other has the form of version 1.
+-- the form of a document of this version
 abbrev pub form_by : ℤ → Data → Option Form
 form_by version d = if is_second version then second_form_of version d else first_form_of version d
 
+-- The version decides the form where it is 2. Any other has the form of version 1.
 unfoldable pub form_of : Data → Option Form
 form_of d = do
   version ← field_of whole_of (codes "version") d

@@ -46,6 +46,7 @@ object_view o = record { name = o.name.now; class = o.class.now }
 abbrev pub imp_view : Imp → ImpForm
 imp_view i = record { name = i.name.now; class = i.class.now; meta = i.meta; args = i.args; body = expr_view i.body }
 
+-- the implementations of a form, as definitions have them
 abbrev pub imps_view : List Imp → List ImpForm
 imps_view is = map imp_view is
 
