@@ -1,6 +1,6 @@
 -- What workers serve.
-use Rattle.std.proofs.Common.{◌≡◌, ◌≢◌, ◌<◌, ◌+◌, ℕ, zero, suc, Bool, true, false, cond, List, [], ◌∷◌, ◌++◌, map, length, refl, sym, ap, ◌∙◌, subst, append_assoc, arith}
-use Rattle.std.specs.Prelude.{All, ◌==◌}
+use Rattle.std.proofs.Common.{◌≡◌, ◌≢◌, ◌<◌, ◌+◌, ℕ, zero, suc, Bool, true, false, cond, Result, Ok, Err, List, [], ◌∷◌, ◌++◌, map, length, refl, sym, ap, ◌∙◌, subst, append_assoc, arith}
+use Rattle.std.specs.Prelude.{All, ◌==◌, IfOk, MatchResult}
 use Rattle.std.proofs.lemmas.List.{append-nil}
 use mathlib.Core.Logic.{dite}
 use native.Mathlib.Decide.{ℕ_discrete}
@@ -109,3 +109,8 @@ pub push_worker : (P : ℕ → List Reply → Type 0) (lists : List (List Reply)
 push_worker P lists y n long before last w lt = dite (ℕ_discrete w n)
     (λ (same : w ≡ n). subst (λ k. P k (at_worker (lists ++ y ∷ []) k)) (sym same) (subst (λ k. P k (at_worker (lists ++ y ∷ []) k)) long (subst (λ z. P (length lists) z) (sym (at_worker_new lists y)) (subst (λ k. P k y) (sym long) last))))
     (λ (ne : w ≢ n). let less : w < n = omega (arith, lt, ne) in subst (P w) (sym (at_worker_old lists y w (omega (arith, less, long)))) (before w less))
+
+-- replies that were there were put last
+pub share_taken : {A E : Type 0} (r : Result A E) (P : A → Type 0) (old new : List A) → MatchResult r (λ x. new ≡ old ++ x ∷ []) (λ _. ⊥) → IfOk r P → (x : A) × P x × (new ≡ old ++ x ∷ [])
+share_taken (Ok x) P old new is kept = (x, kept, is)
+share_taken (Err e) P old new is kept = absurd is

@@ -1,6 +1,6 @@
 //! Parts of a document that the calling thread answers by itself, with each line written at once.
 
-ghost use Rattle.std.specs.Prelude.{◌≡◌, ◌<◌, ◌≤◌, ◌+◌, ◌^◌, ◌++◌, All, length, map, IfOk, OnOk};
+ghost use Rattle.std.specs.Prelude.{◌≡◌, ◌<◌, ◌≤◌, ◌++◌, All, length, map, vec_len, IfOk, OnOk};
 ghost use Rattle.msg_image.specs.Plain.{item_parts};
 ghost use Rattle.msg_image.specs.Sound.{IsSoundItem};
 ghost use Rattle.msg_tables.specs.History.{BeginsWith};
@@ -12,10 +12,11 @@ ghost use Rattle.msg_runner.specs.Written.{AreWritten};
 
 use crate::asker::Asker;
 use crate::asking::Asking;
-use crate::crew::change_one;
-use crate::deal::Deal;
+use crate::changes::change_one;
+use crate::crew::Crew;
 use crate::gate::Gate;
 use crate::gather::push_outcome;
+use crate::part::Part;
 use crate::text::push_reply;
 use msg_dispatch::{ArenaName, Changer, Sender};
 use msg_image::{Change, Image, Item};
@@ -85,28 +86,56 @@ fn piece_len(left: usize, cut: u32) -> usize
 fn answer_pieces<'r, 'd, N: ArenaName, R: Wait, G: Gate>(
     asking: &mut Asking<'r, 'd, N, R>,
     gate: &G,
-    deal: Deal,
-    image: &Image,
-    items: &[Item],
+    part: Part<'_>,
     text: &mut Vec<u8>,
 ) -> Result<u32, AllocError>
-    requires image { asking.old.sender.seen.front.image ≡ image.now }
-    requires sound { All (IsSoundItem image.now) (map item_parts items.now) }
-    requires places { deal.first + length items.now < 2 ^ 32 }
-    ensures pieces { IfOk result (λ pieces. pieces ≤ length items.now) }
-    ensures written { OnOk result (AreWritten image.now asking.old.sender.seen.front (sends_of image.now (map item_parts items.now)) asking.new.sender.seen.front text.old.items text.new.items) }
+    requires image { asking.old.sender.seen.front.image ≡ part.image.now }
+    requires sound { All (IsSoundItem part.image.now) (map item_parts part.items.now) }
+    ensures pieces { IfOk result (λ pieces. pieces ≤ length part.entry.items.now) }
+    ensures written { OnOk result (AreWritten part.entry.image.now asking.old.sender.seen.front (sends_of part.entry.image.now (map item_parts part.entry.items.now)) asking.new.sender.seen.front text.old.items text.new.items) }
 {
     let mut pieces = 0;
-    let mut rest = items;
+    let mut rest = part.items;
     while !rest.is_empty() {
-        let (piece, later) = rest.split_at(piece_len(rest.len(), deal.cut));
-        gate.piece_starts(0, deal.first + pieces);
-        answer_piece(asking, image, piece, text)?;
-        gate.piece_done(0, deal.first + pieces);
+        let (piece, later) = rest.split_at(piece_len(rest.len(), part.deal.cut));
+        gate.piece_starts(0, part.deal.first + pieces);
+        answer_piece(asking, part.image, piece, text)?;
+        gate.piece_done(0, part.deal.first + pieces);
         pieces += 1;
         rest = later;
     }
     Ok(pieces)
+}
+
+// A sender after its work, and how many pieces that had, where there was memory for their lines.
+#[derive(Drop)]
+struct Answered<'d, N: ArenaName> {
+    sender: Sender<'d, N>,
+    pieces: Result<u32, AllocError>,
+}
+
+// Answers sends by a sender, with a memory for this work.
+fn answer_by<'d, N: ArenaName, R: Wait, G: Gate>(
+    rt: &R,
+    alloc: Global,
+    sender: Sender<'d, N>,
+    gate: &G,
+    part: Part<'_>,
+    text: &mut Vec<u8>,
+) -> Answered<'d, N>
+    requires image { sender.seen.front.image ≡ part.image.now }
+    requires sound { All (IsSoundItem part.image.now) (map item_parts part.items.now) }
+    ensures pieces { IfOk result.pieces (λ pieces. pieces ≤ length part.entry.items.now) }
+    ensures written { OnOk result.pieces (AreWritten part.entry.image.now sender.entry.seen.front (sends_of part.entry.image.now (map item_parts part.entry.items.now)) result.sender.seen.front text.old.items text.new.items) }
+{
+    let sender = Asker::of(alloc, sender, part.items.len());
+    let mut asking = Asking { rt, sender };
+    let pieces = answer_pieces(&mut asking, gate, part, text);
+    let Asking { sender, .. } = asking;
+    Answered {
+        sender: sender.into_sender(),
+        pieces,
+    }
 }
 
 // Meets a changer whose whole history the sender has seen. Where there are no more changes the sender has seen no more, and no lock is taken.
@@ -125,33 +154,28 @@ fn meet_again<'d, N: ArenaName, R: Wait>(
     changer.meet(rt, sender);
 }
 
-// Answers sends between which and beside which no change is made. The sender meets the changer before and after.
+// Answers sends between which and beside which no change is made, on the calling thread, and says how many pieces there were. The sender meets the changer
+// before and after.
 pub(crate) fn answer_sends<'d, N: ArenaName, R: Wait, G: Gate>(
     rt: &R,
     alloc: Global,
-    changer: &mut Changer<'d, N>,
-    sender: Sender<'d, N>,
+    crew: &mut Crew<'d, N>,
     gate: &G,
-    deal: Deal,
-    image: &Image,
-    items: &[Item],
+    part: Part<'_>,
     text: &mut Vec<u8>,
-) -> Result<(Sender<'d, N>, u32), AllocError>
-    requires image { changer.old.image ≡ image.now }
-    requires sound { All (IsSoundItem image.now) (map item_parts items.now) }
-    requires places { deal.first + length items.now < 2 ^ 32 }
-    requires sends { AllSends (map item_parts items.now) }
-    ensures same { changer.new ≡ changer.old }
-    ensures pieces { IfOk result (λ r. r.1 ≤ length items.now) }
-    ensures text { OnOk result (text.new.items ≡ text.old.items ++ text_of image.now (serial_from changer.old (map item_parts items.now))) }
+) -> Result<u32, AllocError>
+    requires image { crew.old.changer.image ≡ part.image.now }
+    requires sound { All (IsSoundItem part.image.now) (map item_parts part.items.now) }
+    requires sends { AllSends (map item_parts part.items.now) }
+    ensures same { crew.new.changer ≡ crew.old.changer }
+    ensures senders { OnOk result (vec_len crew.new.senders ≡ vec_len crew.old.senders) }
+    ensures pieces { IfOk result (λ pieces. pieces ≤ length part.entry.items.now) }
+    ensures text { OnOk result (text.new.items ≡ text.old.items ++ text_of part.entry.image.now (serial_from crew.old.changer (map item_parts part.entry.items.now))) }
 {
-    let mut sender = sender;
-    changer.meet(rt, &mut sender);
-    let sender = Asker::of(alloc, sender, items.len());
-    let mut asking = Asking { rt, sender };
-    let pieces = answer_pieces(&mut asking, gate, deal, image, items, text)?;
-    let Asking { sender, .. } = asking;
-    let mut sender = sender.into_sender();
-    meet_again(rt, changer, &mut sender);
-    Ok((sender, pieces))
+    let sender = crew.send_out(rt)?;
+    let Answered { mut sender, pieces } = answer_by(rt, alloc, sender, gate, part, text);
+    let pieces = pieces?;
+    meet_again(rt, &mut crew.changer, &mut sender);
+    crew.senders.push(sender)?;
+    Ok(pieces)
 }

@@ -7,7 +7,7 @@ ghost use Rattle.msg_runner.specs.Serial.{answer_to_change};
 ghost use Rattle.msg_runner.specs.Serving.{share_of, count_of, worker_of, sends_of, at_worker, IsGathered};
 ghost use Rattle.msg_runner.specs.Text.{answer_line};
 
-use crate::deal::Deal;
+use crate::part::Part;
 use crate::text::{push_accepted, push_refusal, push_reply};
 use msg_eval::Reply;
 use msg_image::{Image, Item};
@@ -41,33 +41,31 @@ pub(crate) fn push_outcome(
 pub(crate) fn gather(
     alloc: Global,
     text: &mut Vec<u8>,
-    image: &Image,
+    part: Part<'_>,
     shares: &[Vec<Reply>],
-    deal: Deal,
-    items: &[Item],
     outcomes: &[Option<ChangeFault>],
 ) -> Result<(), AllocError>
-    requires workers { length shares.now ≡ deal.workers }
-    requires counts { (w : ℕ) → w < deal.workers → length (at_worker (map (λ rs. rs.items) shares.now) w) ≡ count_of (worker_of deal.cut deal.workers) w 0 (length (sends_of image.now (map item_parts items.now))) }
-    ensures { OnOk result (IsGathered image.now (worker_of deal.cut deal.workers) deal.workers (map item_parts items.now) (map (λ rs. rs.items) shares.now) outcomes.now text.old.items text.new.items) }
+    requires workers { length shares.now ≡ part.deal.workers }
+    requires counts { (w : ℕ) → w < part.deal.workers → length (at_worker (map (λ rs. rs.items) shares.now) w) ≡ count_of (worker_of part.deal.cut part.deal.workers) w 0 (length (sends_of part.image.now (map item_parts part.items.now))) }
+    ensures { OnOk result (IsGathered part.entry.image.now (worker_of part.entry.deal.cut part.entry.deal.workers) part.entry.deal.workers (map item_parts part.entry.items.now) (map (λ rs. rs.items) shares.now) outcomes.now text.old.items text.new.items) }
 {
     let mut taken = vec![in alloc; 0usize; shares.len()]?;
     let mut place = 0usize;
     let mut left = outcomes;
-    let mut rest = items;
+    let mut rest = part.items;
     while let Some((item, later)) = rest.split_first() {
         match item {
             Item::Send { .. } => {
-                let worker = deal.worker(place);
+                let worker = part.deal.worker(place);
                 let at = taken[worker];
                 let reply = reply_of(shares, worker, at);
                 taken[worker] = at + 1;
                 place += 1;
-                push_reply(text, image, reply)?;
+                push_reply(text, part.image, reply)?;
             }
             Item::Change(_) => {
                 if let Some((outcome, more)) = left.split_first() {
-                    push_outcome(text, image, *outcome)?;
+                    push_outcome(text, part.image, *outcome)?;
                     left = more;
                 }
             }

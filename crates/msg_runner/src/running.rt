@@ -1,6 +1,6 @@
 //! From bytes to bytes.
 
-ghost use Rattle.std.specs.Prelude.{◌≡◌, ◌≢◌, ◌<◌, ◌≤◌, ◌↔◌, ◌⊎◌, All, length, map, false, true, Ok, Err, IfOk, IfErr, IfSome, OnErr, OnOk};
+ghost use Rattle.std.specs.Prelude.{◌≡◌, ◌≢◌, ◌<◌, ◌≤◌, ◌↔◌, ◌⊎◌, All, ℕ, List, length, map, false, true, Ok, Err, IfOk, IfErr, IfSome, OnErr, OnOk};
 ghost use Rattle.std.specs.Io.KnownBytes.{Appends};
 ghost use Rattle.msg_form.specs.declared.faults.DocumentFault.{DocumentFault};
 ghost use Rattle.msg_form.specs.declared.faults.DocumentFault.TheVariants as documents;
@@ -8,15 +8,18 @@ ghost use Rattle.msg_image.specs.Answer.{IsAnswer};
 ghost use Rattle.msg_image.specs.DocumentParts.{document_parts};
 ghost use Rattle.msg_image.specs.Plain.{item_parts};
 ghost use Rattle.msg_image.specs.Sound.{IsSoundItem};
+ghost use Rattle.msg_tables.specs.History.{empty};
 ghost use Rattle.msg_runner.specs.Device.{Marks};
-ghost use Rattle.msg_runner.specs.Outcome.{Wrote, WroteFront, WroteBeside, WroteFrontBeside, Leaves};
+ghost use Rattle.msg_runner.specs.Lines.{AreLines};
+ghost use Rattle.msg_runner.specs.Outcome.{Wrote, WroteFront, WroteBeside, WroteFrontBeside, WroteBy, WroteFrontBy, Leaves};
 ghost use Rattle.msg_runner.specs.Writing.{AppendsFront};
 
+use crate::changes::Changes;
 use crate::device::{Sink, Source};
 use crate::fault::RunFault;
 use crate::gate::Gate;
 use crate::reading::read_whole;
-use crate::serving::{text, text_beside};
+use crate::serving::text;
 use crate::writing::write_whole;
 use msg_image::{Document, MAX_ITEMS, read_document};
 use std::alloc::Global;
@@ -70,6 +73,60 @@ fn write<W: Sink>(sink: &mut W, text: &[u8]) -> Result<(), RunFault>
     }
 }
 
+// Answers the items of a document, and writes the lines when they are whole.
+fn answer<W: Sink, G: Gate, T: Threads + Wait + Sync>(
+    rt: &T,
+    alloc: Global,
+    document: &Document,
+    sink: &mut W,
+    workers: u32,
+    cut: u32,
+    gate: &G,
+    changes: Changes,
+) -> Result<(), RunFault>
+    requires unwritten { W.mark sink.old ≡ false }
+    requires workers { 1 ≤ workers }
+    requires cut { 1 ≤ cut }
+    requires sound { All (IsSoundItem document.now.image) (map item_parts document.now.items.items) }
+    requires few { length document.now.items.items ≤ MAX_ITEMS }
+    ensures whole { OnOk result ((text : List ℕ) × AreLines changes document.now.image workers cut (empty document.now.image) (map item_parts document.now.items.items) text × Appends (W.contents sink.old) (W.contents sink.new) text) }
+    ensures front { result ≡ Err RunFault.Write → (text : List ℕ) × AreLines changes document.now.image workers cut (empty document.now.image) (map item_parts document.now.items.items) text × AppendsFront (W.contents sink.old) (W.contents sink.new) text }
+    ensures nothing { Leaves (W.contents sink.old) (W.contents sink.new) result }
+    ensures fault { IfErr result (λ f. (f ≡ RunFault.Memory) ⊎ (f ≡ RunFault.Write)) }
+    ensures write { (result ≡ Err RunFault.Write) ↔ (W.mark sink.new ≡ true) }
+{
+    let text = text(rt, alloc, gate, changes, workers, cut, document)?;
+    write(sink, &text)
+}
+
+// Reads a document, answers its items with changes made so, and writes the lines.
+fn run_by<R: Source, W: Sink, G: Gate, T: Threads + Wait + Sync>(
+    rt: &T,
+    alloc: Global,
+    source: &mut R,
+    sink: &mut W,
+    workers: u32,
+    cut: u32,
+    gate: &G,
+    changes: Changes,
+) -> Result<(), RunFault>
+    requires unread { R.mark source.old ≡ false }
+    requires unwritten { W.mark sink.old ≡ false }
+    ensures whole { OnOk result (IfSome (R.remaining source.old) (WroteBy changes workers cut (W.contents sink.old) (W.contents sink.new))) }
+    ensures front { result ≡ Err RunFault.Write → IfSome (R.remaining source.old) (WroteFrontBy changes workers cut (W.contents sink.old) (W.contents sink.new)) }
+    ensures nothing { Leaves (W.contents sink.old) (W.contents sink.new) result }
+    ensures workers { (result ≡ Err RunFault.Workers) ↔ ((workers ≡ 0) ⊎ (MAX_WORKERS < workers)) }
+    ensures cut { (result ≡ Err RunFault.Cut) ↔ ((cut ≡ 0) × (0 < workers) × (workers ≤ MAX_WORKERS)) }
+    ensures document { (f : DocumentFault) → result ≡ Err (RunFault.Document f) → IfSome (R.remaining source.old) (λ bytes. IsAnswer bytes (Err f)) }
+    ensures memory { result ≢ Err (RunFault.Document documents.Memory) }
+    ensures read { (result ≡ Err RunFault.Read) ↔ (R.mark source.new ≡ true) }
+    ensures write { (result ≡ Err RunFault.Write) ↔ (W.mark sink.new ≡ true) }
+{
+    judge(workers, cut)?;
+    let document = document(alloc, source)?;
+    answer(rt, alloc, &document, sink, workers, cut, gate, changes)
+}
+
 /// Reads a document, answers its items in their order, and writes a line for each answer.
 ///
 /// The lines are those of one thread that takes the items one by one and searches the method lists, for every number of workers and every cut. The text is
@@ -95,10 +152,16 @@ pub fn run<R: Source, W: Sink, G: Gate, T: Threads + Wait + Sync>(
     ensures read { (result ≡ Err RunFault.Read) ↔ (R.mark source.new ≡ true) }
     ensures write { (result ≡ Err RunFault.Write) ↔ (W.mark sink.new ≡ true) }
 {
-    judge(workers, cut)?;
-    let document = document(alloc, source)?;
-    let text = text(rt, alloc, gate, workers, cut, &document)?;
-    write(sink, &text)
+    run_by(
+        rt,
+        alloc,
+        source,
+        sink,
+        workers,
+        cut,
+        gate,
+        Changes::Between,
+    )
 }
 
 /// Reads a document, answers all its sends by workers while it makes the changes in their order, and writes a line for each item.
@@ -125,8 +188,5 @@ pub fn run_beside<R: Source, W: Sink, G: Gate, T: Threads + Wait + Sync>(
     ensures read { (result ≡ Err RunFault.Read) ↔ (R.mark source.new ≡ true) }
     ensures write { (result ≡ Err RunFault.Write) ↔ (W.mark sink.new ≡ true) }
 {
-    judge(workers, cut)?;
-    let document = document(alloc, source)?;
-    let text = text_beside(rt, alloc, gate, workers, cut, &document)?;
-    write(sink, &text)
+    run_by(rt, alloc, source, sink, workers, cut, gate, Changes::Beside)
 }

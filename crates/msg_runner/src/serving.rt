@@ -1,27 +1,32 @@
 //! The text of a document, by workers.
 
-ghost use Rattle.std.specs.Prelude.{◌≡◌, ◌≤◌, ◌<◌, ◌+◌, ◌^◌, ◌⊎◌, ◌++◌, [], All, length, map, take, vec_len, IfOk, OnOk};
-ghost use Rattle.msg_image.specs.DocumentParts.{document_parts};
+ghost use Rattle.std.specs.Prelude.{◌≡◌, ◌≤◌, ◌<◌, ◌⊎◌, ◌++◌, [], All, length, map, take, vec_len, IfOk, OnOk};
+ghost use Rattle.std.specs.Thread.{IsSync};
 ghost use Rattle.msg_image.specs.Plain.{item_parts};
 ghost use Rattle.msg_image.specs.Sound.{IsSoundItem};
 ghost use Rattle.msg_tables.specs.History.{empty};
 ghost use Rattle.msg_runtime.specs.Parts.{IsKeeperOf, keeper_history};
+ghost use Rattle.msg_runner.specs.Lines.{AreLines};
 ghost use Rattle.msg_runner.specs.Serial.{serial_from};
-ghost use Rattle.msg_runner.specs.Serving.{AllSends, IsOneChange, AreAnswered, history_of};
-ghost use Rattle.msg_runner.specs.Text.{text_of, output_of};
+ghost use Rattle.msg_runner.specs.Serving.{AllSends, IsOneChange, history_of};
+ghost use Rattle.msg_runner.specs.Text.{text_of};
 
 use crate::alone::{answer_change, answer_sends};
 use crate::arrays::arrays_for;
-use crate::batch::{After, Crew, answer_batch};
+use crate::batch::answer_batch;
+use crate::changes::Changes;
+use crate::crew::Crew;
 use crate::deal::Deal;
 use crate::gate::Gate;
+use crate::part::{Counts, Part};
 use msg_cache::{Arena, Config, Keeper};
-use msg_dispatch::{ArenaName, Changer, Dispatcher, Sender};
+use msg_dispatch::{ArenaName, Dispatcher, Sender};
 use msg_image::{Document, Image, Item, MAX_ITEMS};
 use std::alloc::{AllocError, Global};
 use std::marker::Brand;
 use std::sync::Wait;
-use std::thread::Threads;
+use std::thread;
+use std::thread::{Scope, Threads};
 
 // How many items are a part: the sends before the next change, or one change.
 fn part_len(items: &[Item]) -> usize
@@ -40,179 +45,125 @@ fn part_len(items: &[Item]) -> usize
     count
 }
 
-// Answers sends on the calling thread, and says how many pieces there were.
-fn answer_alone<'d, N: ArenaName, G: Gate, R: Wait>(
-    rt: &R,
-    alloc: Global,
-    crew: &mut Crew<'d, N>,
-    gate: &G,
-    deal: Deal,
-    image: &Image,
-    part: &[Item],
-    text: &mut Vec<u8>,
-) -> Result<u32, AllocError>
-    requires image { crew.old.changer.image ≡ image.now }
-    requires sound { All (IsSoundItem image.now) (map item_parts part.now) }
-    requires places { deal.first + length part.now < 2 ^ 32 }
-    requires sends { AllSends (map item_parts part.now) }
-    ensures text { OnOk result (text.new.items ≡ text.old.items ++ text_of image.now (serial_from crew.old.changer (map item_parts part.now))) }
-    ensures same { crew.new.changer ≡ crew.old.changer }
-    ensures senders { OnOk result (vec_len crew.new.senders ≡ vec_len crew.old.senders) }
-    ensures pieces { IfOk result (λ pieces. pieces ≤ length part.now) }
-{
-    let Some(sender) = crew.senders.pop() else {
-        return Err(AllocError);
-    };
-    let (sender, pieces) = answer_sends(
-        rt,
-        alloc,
-        &mut crew.changer,
-        sender,
-        gate,
-        deal,
-        image,
-        part,
-        text,
-    )?;
-    crew.senders.push(sender)?;
-    Ok(pieces)
-}
-
-// Answers a part that is one change or that the calling thread answers by itself, and says how many pieces and changes there were.
-fn answer_here<'d, N: ArenaName, G: Gate, R: Wait>(
-    rt: &R,
-    alloc: Global,
-    crew: &mut Crew<'d, N>,
-    gate: &G,
-    deal: Deal,
-    first_change: u32,
-    image: &Image,
-    part: &[Item],
-    text: &mut Vec<u8>,
-) -> Result<(u32, u32), AllocError>
-    requires image { crew.old.changer.image ≡ image.now }
-    requires sound { All (IsSoundItem image.now) (map item_parts part.now) }
-    requires places { deal.first + length part.now < 2 ^ 32 }
-    requires changes { first_change + length part.now < 2 ^ 32 }
-    requires part { AllSends (map item_parts part.now) ⊎ IsOneChange (map item_parts part.now) }
-    ensures text { OnOk result (text.new.items ≡ text.old.items ++ text_of image.now (serial_from crew.old.changer (map item_parts part.now))) }
-    ensures history { OnOk result (crew.new.changer ≡ history_of crew.old.changer (map item_parts part.now)) }
-    ensures senders { OnOk result (vec_len crew.new.senders ≡ vec_len crew.old.senders) }
-    ensures few { IfOk result (λ r. (r.0 ≤ length part.now) × (r.1 ≤ length part.now)) }
-{
-    if let Some(Item::Change(change)) = part.first() {
-        answer_change(
-            rt,
-            &mut crew.changer,
-            gate,
-            first_change,
-            image,
-            change,
-            text,
-        )?;
-        return Ok((0, 1));
-    }
-    let pieces = answer_alone(rt, alloc, crew, gate, deal, image, part, text)?;
-    Ok((pieces, 0))
-}
-
 // Whether a part has something for a second worker: more than one piece of sends.
-fn is_shared(deal: Deal, part: &[Item]) -> bool {
-    if let Some(Item::Change(_)) = part.first() {
-        return false;
-    }
-    deal.workers != 1 && part.len() > deal.cut as usize
+fn is_shared(part: Part<'_>) -> bool {
+    part.deal.workers != 1 && part.items.len() > part.deal.cut as usize
 }
 
 // Answers a part: the sends before the next change, or one change. The calling thread does so by itself where it is a change, one worker takes part, or there
 // is one piece.
-fn answer_part<'d, N: ArenaName + Send + Sync + 'd, G: Gate, R: Threads + Wait + Sync>(
-    rt: &'d R,
+fn answer_part<
+    's,
+    'e: 's,
+    'd: 's,
+    N: ArenaName + Send + Sync + 's,
+    G: Gate,
+    R: Threads + Wait + Sync,
+>(
+    rt: &'s R,
+    scope: &'s Scope<'s, &'e ()>,
     alloc: Global,
-    crew: Crew<'d, N>,
-    gate: &'d G,
-    deal: Deal,
-    first_change: u32,
-    image: &'d Image,
-    part: &'d [Item],
+    crew: &mut Crew<'d, N>,
+    gate: &'s G,
+    part: Part<'s>,
     text: &mut Vec<u8>,
-) -> Result<After<'d, N>, AllocError>
-    requires image { crew.changer.image ≡ image.now }
-    requires sound { All (IsSoundItem image.now) (map item_parts part.now) }
-    requires places { deal.first + length part.now < 2 ^ 32 }
-    requires changes { first_change + length part.now < 2 ^ 32 }
-    requires enough { deal.workers ≤ vec_len crew.senders }
-    requires part { AllSends (map item_parts part.now) ⊎ IsOneChange (map item_parts part.now) }
-    ensures text { OnOk result (text.new.items ≡ text.old.items ++ text_of image.now (serial_from crew.entry.changer (map item_parts part.now))) }
-    ensures history { IfOk result (λ a. a.crew.changer ≡ history_of crew.entry.changer (map item_parts part.now)) }
-    ensures senders { IfOk result (λ a. vec_len a.crew.senders ≡ vec_len crew.entry.senders) }
-    ensures pieces { IfOk result (λ a. a.pieces ≤ length part.now) }
-    ensures few_changes { IfOk result (λ a. a.changes ≤ length part.now) }
+) -> Result<Counts, AllocError>
+    requires image { crew.old.changer.image ≡ part.image.now }
+    requires sound { All (IsSoundItem part.image.now) (map item_parts part.items.now) }
+    requires enough { part.deal.workers ≤ vec_len crew.old.senders }
+    requires part { AllSends (map item_parts part.items.now) ⊎ IsOneChange (map item_parts part.items.now) }
+    ensures text { OnOk result (text.new.items ≡ text.old.items ++ text_of part.entry.image.now (serial_from crew.old.changer (map item_parts part.entry.items.now))) }
+    ensures history { OnOk result (crew.new.changer ≡ history_of crew.old.changer (map item_parts part.entry.items.now)) }
+    ensures senders { OnOk result (vec_len crew.new.senders ≡ vec_len crew.old.senders) }
+    ensures pieces { IfOk result (λ c. c.pieces ≤ length part.entry.items.now) }
+    ensures few_changes { IfOk result (λ c. c.changes ≤ length part.entry.items.now) }
 {
-    if is_shared(deal, part) {
-        let after = answer_batch(rt, alloc, crew, gate, deal, first_change, image, part, text)?;
-        return Ok(after);
+    if let Some(Item::Change(change)) = part.items.first() {
+        let number = part.first_change;
+        answer_change(
+            rt,
+            &mut crew.changer,
+            gate,
+            number,
+            part.image,
+            change,
+            text,
+        )?;
+        return Ok(Counts {
+            pieces: 0,
+            changes: 1,
+        });
     }
-    let mut crew = crew;
-    let (pieces, changes) = answer_here(
-        rt,
-        alloc,
-        &mut crew,
-        gate,
-        deal,
-        first_change,
-        image,
-        part,
-        text,
-    )?;
-    Ok(After {
-        crew,
-        pieces,
-        changes,
-    })
+    if is_shared(part) {
+        return answer_batch(rt, scope, alloc, crew, gate, part, text);
+    }
+    let pieces = answer_sends(rt, alloc, crew, gate, part, text)?;
+    Ok(Counts { pieces, changes: 0 })
 }
 
-// The text of all items, part by part.
-fn answer_parts<'d, N: ArenaName + Send + Sync + 'd, G: Gate, R: Threads + Wait + Sync>(
-    rt: &'d R,
+// Answers all items, part by part.
+fn answer_parts<
+    's,
+    'e: 's,
+    'd: 's,
+    N: ArenaName + Send + Sync + 's,
+    G: Gate,
+    R: Threads + Wait + Sync,
+>(
+    rt: &'s R,
+    scope: &'s Scope<'s, &'e ()>,
     alloc: Global,
-    crew: Crew<'d, N>,
-    gate: &'d G,
-    deal: Deal,
-    image: &'d Image,
-    items: &'d [Item],
-) -> Result<Vec<u8>, AllocError>
-    requires image { crew.changer.image ≡ image.now }
-    requires sound { All (IsSoundItem image.now) (map item_parts items.now) }
-    requires few { length items.now ≤ MAX_ITEMS }
-    requires first { deal.first ≡ 0 }
-    requires enough { deal.workers ≤ vec_len crew.senders }
-    ensures { IfOk result (λ text. text.items ≡ text_of image.now (serial_from crew.entry.changer (map item_parts items.now))) }
+    crew: &mut Crew<'d, N>,
+    gate: &'s G,
+    all: Part<'s>,
+    text: &mut Vec<u8>,
+) -> Result<(), AllocError>
+    requires image { crew.old.changer.image ≡ all.image.now }
+    requires sound { All (IsSoundItem all.image.now) (map item_parts all.items.now) }
+    requires enough { all.deal.workers ≤ vec_len crew.old.senders }
+    ensures { OnOk result (text.new.items ≡ text.old.items ++ text_of all.entry.image.now (serial_from crew.old.changer (map item_parts all.entry.items.now))) }
 {
-    let mut text = Vec::new(alloc);
-    let mut crew = crew;
-    let mut deal = deal;
-    let mut first_change = 0;
-    let mut rest = items;
-    while !rest.is_empty() {
-        let (part, later) = rest.split_at(part_len(rest));
-        let after = answer_part(
-            rt,
-            alloc,
-            crew,
-            gate,
-            deal,
-            first_change,
-            image,
-            part,
-            &mut text,
-        )?;
-        deal = deal.after(after.pieces);
-        first_change += after.changes;
-        crew = after.crew;
-        rest = later;
+    let mut rest = all;
+    while !rest.items.is_empty() {
+        let (items, later) = rest.items.split_at(part_len(rest.items));
+        let part = rest.with_items(items);
+        let counts = answer_part(rt, scope, alloc, crew, gate, part, text)?;
+        rest = rest.after(counts, later);
     }
-    Ok(text)
+    Ok(())
+}
+
+// Answers all items, with changes made so.
+fn answer_all<
+    's,
+    'e: 's,
+    'd: 's,
+    N: ArenaName + Send + Sync + 's,
+    G: Gate,
+    R: Threads + Wait + Sync,
+>(
+    rt: &'s R,
+    scope: &'s Scope<'s, &'e ()>,
+    alloc: Global,
+    crew: &mut Crew<'d, N>,
+    gate: &'s G,
+    changes: Changes,
+    all: Part<'s>,
+    text: &mut Vec<u8>,
+) -> Result<(), AllocError>
+    requires image { crew.old.changer.image ≡ all.image.now }
+    requires sound { All (IsSoundItem all.image.now) (map item_parts all.items.now) }
+    requires enough { all.deal.workers ≤ vec_len crew.old.senders }
+    requires none { text.old.items ≡ [] }
+    ensures { OnOk result (AreLines changes all.entry.image.now all.entry.deal.workers all.entry.deal.cut crew.old.changer (map item_parts all.entry.items.now) text.new.items) }
+{
+    match changes {
+        Changes::Between => answer_parts(rt, scope, alloc, crew, gate, all, text),
+        Changes::Beside => {
+            let _counts = answer_batch(rt, scope, alloc, crew, gate, all, text)?;
+            Ok(())
+        }
+    }
 }
 
 // So many senders.
@@ -244,42 +195,66 @@ fn crew_of<'d, N: ArenaName, R: Wait>(
     ensures changer { IfOk result (λ crew. crew.changer ≡ empty N.arena.key.image) }
     ensures senders { IfOk result (λ crew. vec_len crew.senders ≡ workers) }
 {
-    let Ok(changer) = dispatcher.changer(rt) else {
-        return Err(AllocError);
-    };
     let senders = senders_of(rt, alloc, dispatcher, workers)?;
-    Ok(Crew { changer, senders })
+    match dispatcher.changer(rt) {
+        Ok(changer) => Ok(Crew { changer, senders }),
+        Err(_) => Err(AllocError),
+    }
 }
 
-// The text of a document whose sends are all one batch.
-fn answer_all<'d, N: ArenaName + Send + Sync + 'd, G: Gate, R: Threads + Wait + Sync>(
-    rt: &'d R,
+// The text of a document, by a crew of its own.
+fn text_by<'s, 'e: 's, 'd: 's, N: ArenaName + Send + Sync + 's, G: Gate, R: Threads + Wait + Sync>(
+    rt: &'s R,
+    scope: &'s Scope<'s, &'e ()>,
     alloc: Global,
-    crew: Crew<'d, N>,
-    gate: &'d G,
+    dispatcher: &'d Dispatcher<N>,
+    gate: &'s G,
+    changes: Changes,
     deal: Deal,
-    document: &'d Document,
+    document: &'s Document,
 ) -> Result<Vec<u8>, AllocError>
-    requires changer { crew.changer ≡ empty document.now.image }
+    requires image { N.arena.key.image ≡ document.now.image }
     requires sound { All (IsSoundItem document.now.image) (map item_parts document.now.items.items) }
     requires few { length document.now.items.items ≤ MAX_ITEMS }
     requires first { deal.first ≡ 0 }
-    requires enough { deal.workers ≤ vec_len crew.senders }
-    ensures { IfOk result (λ text. AreAnswered document.now.image deal.workers deal.cut (empty document.now.image) (map item_parts document.now.items.items) [] text.items) }
+    ensures { IfOk result (λ text. AreLines changes document.now.image deal.workers deal.cut (empty document.now.image) (map item_parts document.now.items.items) text.items) }
 {
+    let mut crew = crew_of(rt, alloc, dispatcher, deal.workers)?;
     let mut text = Vec::new(alloc);
-    let _after = answer_batch(
-        rt,
-        alloc,
-        crew,
-        gate,
+    let all = Part {
+        image: &document.image,
+        items: &document.items,
         deal,
-        0,
-        &document.image,
-        &document.items,
-        &mut text,
-    )?;
+        first_change: 0,
+    };
+    answer_all(rt, scope, alloc, &mut crew, gate, changes, all, &mut text)?;
     Ok(text)
+}
+
+// The text of a document, with its threads in one scope.
+fn text_over<'r, N: ArenaName + Send + Sync, G: Gate, R: Threads + Wait + Sync>(
+    rt: &'r R,
+    alloc: Global,
+    dispatcher: &'r Dispatcher<N>,
+    gate: &'r G,
+    changes: Changes,
+    deal: Deal,
+    document: &'r Document,
+) -> Result<Vec<u8>, AllocError>
+    requires image { N.arena.key.image ≡ document.now.image }
+    requires sound { All (IsSoundItem document.now.image) (map item_parts document.now.items.items) }
+    requires few { length document.now.items.items ≤ MAX_ITEMS }
+    requires first { deal.first ≡ 0 }
+    ensures lines { IfOk result (λ text. AreLines changes document.now.image deal.workers deal.cut (empty document.now.image) (map item_parts document.now.items.items) text.items) }
+{
+    thread::scope(
+        thread::scope_env(),
+        rt,
+        |scope| -> Result<Vec<u8>, AllocError>
+            requires { IsSync R.row × (N.arena.key.image ≡ document.now.image) × All (IsSoundItem document.now.image) (map item_parts document.now.items.items) × (length document.now.items.items ≤ MAX_ITEMS) × (deal.first ≡ 0) }
+            ensures lines { IfOk result (λ text. AreLines changes document.entry.now.image deal.workers deal.cut (empty document.entry.now.image) (map item_parts document.entry.now.items.items) text.items) }
+        { text_by(rt, scope, alloc, dispatcher, gate, changes, deal, document) },
+    )
 }
 
 // The text of a document, over its arena.
@@ -289,6 +264,7 @@ fn text_in<N: ArenaName + Send + Sync, G: Gate, R: Threads + Wait + Sync>(
     arena: Arena,
     keeper: Keeper,
     gate: &G,
+    changes: Changes,
     deal: Deal,
     document: &Document,
 ) -> Result<Vec<u8>, AllocError>
@@ -299,43 +275,10 @@ fn text_in<N: ArenaName + Send + Sync, G: Gate, R: Threads + Wait + Sync>(
     requires sound { All (IsSoundItem document.now.image) (map item_parts document.now.items.items) }
     requires few { length document.now.items.items ≤ MAX_ITEMS }
     requires first { deal.first ≡ 0 }
-    ensures { IfOk result (λ text. text.items ≡ text_of document.now.image (serial_from (empty document.now.image) (map item_parts document.now.items.items))) }
+    ensures { IfOk result (λ text. AreLines changes document.now.image deal.workers deal.cut (empty document.now.image) (map item_parts document.now.items.items) text.items) }
 {
     let dispatcher: Dispatcher<N> = Dispatcher::open(alloc, arena, keeper, &document.image)?;
-    let crew = crew_of(rt, alloc, &dispatcher, deal.workers)?;
-    answer_parts(
-        rt,
-        alloc,
-        crew,
-        gate,
-        deal,
-        &document.image,
-        &document.items,
-    )
-}
-
-// The same beside the changes: all sends of the document are one batch.
-fn text_beside_in<N: ArenaName + Send + Sync, G: Gate, R: Threads + Wait + Sync>(
-    rt: &R,
-    alloc: Global,
-    arena: Arena,
-    keeper: Keeper,
-    gate: &G,
-    deal: Deal,
-    document: &Document,
-) -> Result<Vec<u8>, AllocError>
-    requires arena { arena ≡ N.arena }
-    requires keeper { IsKeeperOf N.arena keeper }
-    requires image { document.now.image ≡ N.arena.key.image }
-    requires history { keeper_history keeper ≡ empty document.now.image }
-    requires sound { All (IsSoundItem document.now.image) (map item_parts document.now.items.items) }
-    requires few { length document.now.items.items ≤ MAX_ITEMS }
-    requires first { deal.first ≡ 0 }
-    ensures { IfOk result (λ text. AreAnswered document.now.image deal.workers deal.cut (empty document.now.image) (map item_parts document.now.items.items) [] text.items) }
-{
-    let dispatcher: Dispatcher<N> = Dispatcher::open(alloc, arena, keeper, &document.image)?;
-    let crew = crew_of(rt, alloc, &dispatcher, deal.workers)?;
-    answer_all(rt, alloc, crew, gate, deal, document)
+    text_over(rt, alloc, &dispatcher, gate, changes, deal, document)
 }
 
 // The arena of a run.
@@ -354,12 +297,12 @@ fn arena_for(alloc: Global, image: &Image, senders: u32) -> Result<(Arena, Keepe
     }
 }
 
-/// The text of a document, by so many workers and with this cut.
-#[tactic(auto, unfolding(crate::specs::Text::output_of))]
+/// The text of a document, by so many workers and with this cut, where its changes are made so.
 pub(crate) fn text<G: Gate, R: Threads + Wait + Sync>(
     rt: &R,
     alloc: Global,
     gate: &G,
+    changes: Changes,
     workers: u32,
     cut: u32,
     document: &Document,
@@ -368,7 +311,7 @@ pub(crate) fn text<G: Gate, R: Threads + Wait + Sync>(
     requires cut { 1 ≤ cut }
     requires sound { All (IsSoundItem document.now.image) (map item_parts document.now.items.items) }
     requires few { length document.now.items.items ≤ MAX_ITEMS }
-    ensures { IfOk result (λ text. text.items ≡ output_of (document_parts document.now)) }
+    ensures { IfOk result (λ text. AreLines changes document.now.image workers cut (empty document.now.image) (map item_parts document.now.items.items) text.items) }
 {
     let (arena, keeper) = arena_for(alloc, &document.image, workers)?;
     let deal = Deal {
@@ -376,31 +319,5 @@ pub(crate) fn text<G: Gate, R: Threads + Wait + Sync>(
         cut,
         first: 0,
     };
-    text_in::<Brand, G, R>(rt, alloc, arena, keeper, gate, deal, document)
-}
-
-/// The text of a document whose sends are answered by so many workers, with this cut, beside its changes.
-#[tactic(auto, unfolding(crate::specs::Text::output_of))]
-pub(crate) fn text_beside<G: Gate, R: Threads + Wait + Sync>(
-    rt: &R,
-    alloc: Global,
-    gate: &G,
-    workers: u32,
-    cut: u32,
-    document: &Document,
-) -> Result<Vec<u8>, AllocError>
-    requires workers { 1 ≤ workers }
-    requires cut { 1 ≤ cut }
-    requires sound { All (IsSoundItem document.now.image) (map item_parts document.now.items.items) }
-    requires few { length document.now.items.items ≤ MAX_ITEMS }
-    ensures answered { IfOk result (λ text. AreAnswered document.now.image workers cut (empty document.now.image) (map item_parts document.now.items.items) [] text.items) }
-    ensures alone { IfOk result (λ text. AllSends (map item_parts document.now.items.items) → text.items ≡ output_of (document_parts document.now)) }
-{
-    let (arena, keeper) = arena_for(alloc, &document.image, workers)?;
-    let deal = Deal {
-        workers,
-        cut,
-        first: 0,
-    };
-    text_beside_in::<Brand, G, R>(rt, alloc, arena, keeper, gate, deal, document)
+    text_in::<Brand, G, R>(rt, alloc, arena, keeper, gate, changes, deal, document)
 }

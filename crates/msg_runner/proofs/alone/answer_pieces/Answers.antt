@@ -10,7 +10,7 @@ use Rattle.msg_runner.proofs.alone.answer_pieces.Goals as goal
 
 pub answer_piece-requires-clause-sound : goal.answer_piece-requires-clause-sound
 answer_piece-requires-clause-sound g c =
-    let P : ItemParts → Type 0 = IsSoundItem c.args.image.now in
+    let P : ItemParts → Type 0 = IsSoundItem c.args.part.image.now in
     let piece = c.split_at.result.0.now in
     let later = c.split_at.result.1.now in
     let split = split_named c.loop-rest.rest.now piece later c.piece_len.result c.split_at.ensures.front c.split_at.ensures.back in
@@ -18,12 +18,12 @@ answer_piece-requires-clause-sound g c =
 
 pub loop-rest-preserved : goal.loop-rest-preserved
 loop-rest-preserved g c =
-    let image = c.args.image.now in
+    let image = c.args.part.image.now in
     let piece = c.split_at.result.0.now in
     let later = c.split_at.result.1.now in
     let split = split_named c.loop-rest.rest.now piece later c.piece_len.result c.split_at.ensures.front c.split_at.ensures.back in
     record {
       pieces = omega (arith, c.loop-rest.invariant.pieces, c.split_at.ensures.front_len, c.split_at.ensures.back_len, c.piece_len.ensures.some);
-      writing = writing_part image c.args.asking.now.sender.seen.front (sends_of image (map item_parts c.args.items.now)) c.args.text.now.items c.loop-rest.asking.sender.seen.front c.answer_piece.new.asking.sender.seen.front c.loop-rest.text.items c.answer_piece.new.text.items
+      writing = writing_part image c.args.asking.now.sender.seen.front (sends_of image (map item_parts c.args.part.items.now)) c.args.text.now.items c.loop-rest.asking.sender.seen.front c.answer_piece.new.asking.sender.seen.front c.loop-rest.text.items c.answer_piece.new.text.items
           (map item_parts c.loop-rest.rest.now) (map item_parts piece) (map item_parts later) c.loop-rest.invariant.writing split c.in_ok-answer_piece.ensures.image c.in_ok-answer_piece.ensures.written;
     }

@@ -6,8 +6,8 @@ use Rattle.msg_runner.proofs.alone.answer_pieces.Given as goal
 
 abbrev pub invariant-loop-rest : goal.invariant-loop-rest
 invariant-loop-rest g l = record {
-  pieces : l.pieces + length l.rest ≤ length l.fn.items;
-  writing : IsWriting l.image l.fn.asking.sender.seen.front (sends_of l.image (map item_parts l.fn.items)) l.fn.text.items l.asking.sender.seen.front (map item_parts l.rest) l.text.items;
+  pieces : l.pieces + length l.rest ≤ length l.fn.part.items.now;
+  writing : IsWriting l.part.image.now l.fn.asking.sender.seen.front (sends_of l.part.image.now (map item_parts l.fn.part.items.now)) l.fn.text.items l.asking.sender.seen.front (map item_parts l.rest) l.text.items;
 }
 
 abbrev pub decreases-loop-rest : goal.decreases-loop-rest

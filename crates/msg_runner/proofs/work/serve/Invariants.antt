@@ -6,9 +6,9 @@ use Rattle.msg_runner.proofs.work.serve.Given as goal
 
 abbrev pub invariant-loop-item : goal.invariant-loop-item
 invariant-loop-item g l =
-    (l.place + length l.rest ≤ length l.fn.items)
-    × IsServing l.image (worker_of l.deal.cut l.deal.workers) l.me l.fn.asking.sender.seen.front
-    (share_of (worker_of l.deal.cut l.deal.workers) l.me 0 (sends_of l.image (map item_parts l.fn.items)))
+    (l.place + length l.rest ≤ length l.fn.share.part.items.now)
+    × IsServing l.share.part.image.now (worker_of l.share.part.deal.cut l.share.part.deal.workers) l.share.worker l.fn.asking.sender.seen.front
+    (share_of (worker_of l.share.part.deal.cut l.share.part.deal.workers) l.share.worker 0 (sends_of l.share.part.image.now (map item_parts l.fn.share.part.items.now)))
     l.asking.sender.seen.front l.place (map item_parts l.rest) l.replies.items
 
 abbrev pub decreases-loop-item : goal.decreases-loop-item

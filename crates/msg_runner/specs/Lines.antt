@@ -1,0 +1,15 @@
+-- The lines that a run makes.
+use Rattle.std.specs.Prelude.{◌≡◌, ℕ, List, []}
+use Rattle.msg_image.specs.Items.{ItemParts}
+use Rattle.msg_image.specs.Parts.{ImageParts}
+use Rattle.msg_tables.specs.History.{History}
+use Rattle.msg_runner.specs.Serial.{serial_from}
+use Rattle.msg_runner.specs.Serving.{AllSends, AreAnswered}
+use Rattle.msg_runner.specs.Text.{text_of}
+use Rattle.msg_runner.specs.declared.changes.Changes.{Changes}
+use Rattle.msg_runner.specs.declared.changes.Changes.TheVariants.{Between, Beside}
+
+-- the lines of items by so many workers: those of one thread where changes are made between sends, and where they are made beside them, of answers from then on
+abbrev pub AreLines : Changes → ImageParts → ℕ → ℕ → History → List ItemParts → List ℕ → Type 0
+AreLines Between image workers cut h items text = text ≡ text_of image (serial_from h items)
+AreLines Beside image workers cut h items text = AreAnswered image workers cut h items [] text × (AllSends items → text ≡ text_of image (serial_from h items))

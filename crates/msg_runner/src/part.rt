@@ -1,0 +1,66 @@
+//! Items that are answered together.
+
+ghost use Rattle.std.specs.Prelude.{◌≡◌, ◌≤◌, ◌<◌, ◌+◌, ◌^◌, length};
+
+use crate::deal::Deal;
+use msg_image::{Image, Item};
+
+// Items that are answered together, how their sends are shared out, and the number of the first change among them.
+#[derive(Clone, Copy)]
+pub(crate) struct Part<'a> {
+    pub(crate) image: &'a Image,
+    pub(crate) items: &'a [Item],
+    pub(crate) deal: Deal,
+    pub(crate) first_change: u32,
+    pub ghost places: { deal.first + length items.now < 2 ^ 32 },
+    pub ghost changes: { first_change + length items.now < 2 ^ 32 },
+}
+
+// A worker's share of a part.
+#[derive(Clone, Copy)]
+pub(crate) struct Share<'a> {
+    pub(crate) part: Part<'a>,
+    pub(crate) worker: u32,
+    // How many sends the part has.
+    pub(crate) sends: usize,
+}
+
+// How many pieces and changes a part had.
+#[derive(Clone, Copy)]
+pub(crate) struct Counts {
+    pub(crate) pieces: u32,
+    pub(crate) changes: u32,
+}
+
+impl<'a> Part<'a> {
+    // The first of its items.
+    pub(crate) fn with_items(self, items: &'a [Item]) -> Part<'a>
+        requires { length items.now ≤ length self.items.now }
+        ensures image { result.image.now ≡ self.entry.image.now }
+        ensures items { result.items.now ≡ items.entry.now }
+        ensures deal { result.deal ≡ self.entry.deal }
+    {
+        Part {
+            image: self.image,
+            items,
+            deal: self.deal,
+            first_change: self.first_change,
+        }
+    }
+
+    // The last of its items, where those before them had so many pieces and changes.
+    pub(crate) fn after(self, counts: Counts, items: &'a [Item]) -> Part<'a>
+        requires pieces { counts.pieces + length items.now ≤ length self.items.now }
+        requires changes { counts.changes + length items.now ≤ length self.items.now }
+        ensures image { result.image.now ≡ self.entry.image.now }
+        ensures items { result.items.now ≡ items.entry.now }
+        ensures workers { result.deal.workers ≡ self.entry.deal.workers }
+    {
+        Part {
+            image: self.image,
+            items,
+            deal: self.deal.after(counts.pieces),
+            first_change: self.first_change + counts.changes,
+        }
+    }
+}
