@@ -1,8 +1,10 @@
-//! Tests of the dispatcher: in one thread, in many, and of what other runtimes have got wrong.
+//! Tests of the caches that threads share, and of the dispatcher: in one thread, in many, and of what other runtimes have got wrong.
 #![tactic(auto)]
 
 #[cfg(test)]
 mod asker;
+#[cfg(test)]
+mod desk;
 #[cfg(test)]
 mod exchange;
 #[cfg(test)]
@@ -14,8 +16,14 @@ mod one_thread;
 #[cfg(test)]
 mod opening;
 #[cfg(test)]
+mod owners;
+#[cfg(test)]
 mod remembering;
 #[cfg(test)]
+mod rows;
+#[cfg(test)]
 mod same;
+#[cfg(test)]
+mod stops;
 #[cfg(test)]
 mod threads;

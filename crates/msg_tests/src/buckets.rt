@@ -12,101 +12,106 @@ fn selector(rt: &impl Abort, number: u32) -> Selector {
     Selector::of(number).expect(rt, "a number above 0")
 }
 
-#[test]
-fn a_probe_goes_on_to_the_next_place(rt: HostRuntime) {
+// What is done to an array of 4, or what it then has. Selectors and implementations are named by their numbers.
+#[derive(Clone, Copy, Debug)]
+enum Row {
+    Put(u32, u32, Placed),
+    Hits(u32, u32),
+    Misses(u32, Probe),
+    Has([u64; 4]),
+}
+
+// A probe goes on to the next place.
+const NEXT: [Row; 6] = [
+    Row::Put(1, 2, Placed::At(1)),
+    Row::Put(5, 6, Placed::At(2)),
+    Row::Put(9, 10, Placed::At(3)),
+    Row::Hits(1, 2),
+    Row::Hits(5, 6),
+    Row::Hits(9, 10),
+];
+
+// It goes round.
+const ROUND: [Row; 3] = [
+    Row::Put(3, 1, Placed::At(3)),
+    Row::Put(7, 2, Placed::At(0)),
+    Row::Hits(7, 2),
+];
+
+// Selectors 4, 1, 2 and 3 with ten times as much.
+const FOUR: [u64; 4] = [
+    0x0000_0004_0000_0028,
+    0x0000_0001_0000_000a,
+    0x0000_0002_0000_0014,
+    0x0000_0003_0000_001e,
+];
+
+// It ends where it began.
+const FULL: [Row; 10] = [
+    Row::Put(1, 10, Placed::At(1)),
+    Row::Put(2, 20, Placed::At(2)),
+    Row::Put(3, 30, Placed::At(3)),
+    Row::Put(4, 40, Placed::At(0)),
+    Row::Has(FOUR),
+    Row::Put(5, 50, Placed::Full),
+    Row::Misses(5, Probe::Wrapped),
+    Row::Put(2, 50, Placed::Present),
+    Row::Hits(2, 20),
+    Row::Has(FOUR),
+];
+
+// A selector is compared whole.
+const WHOLE: [Row; 4] = [
+    Row::Put(1, 1, Placed::At(1)),
+    Row::Misses(65_537, Probe::Empty(2)),
+    Row::Put(65_537, 2, Placed::At(2)),
+    Row::Hits(65_537, 2),
+];
+
+fn probe_is(rt: &impl Abort, words: &mut [u64; 4], row: Row) {
+    match row {
+        Row::Put(number, imp, placed) => {
+            let put = put(words, selector(rt, number), ImpRef::of(imp));
+            same_at(rt, &row, put, placed);
+        }
+        Row::Hits(number, imp) => {
+            let found = find(words, selector(rt, number));
+            same_at(rt, &row, found, Probe::Hit(ImpRef::of(imp)));
+        }
+        Row::Misses(number, probe) => {
+            same_at(rt, &row, find(words, selector(rt, number)), probe);
+        }
+        Row::Has(wanted) => same_at(rt, &row, words.as_slice(), wanted.as_slice()),
+    }
+}
+
+fn probes_are(rt: &impl Abort, rows: &[Row]) {
     let mut words = [0; 4];
-    for (number, place) in [(1, 1), (5, 2), (9, 3)] {
-        let placed = put(&mut words, selector(&rt, number), ImpRef::of(number + 1));
-        same_at(&rt, &number, placed, Placed::At(place));
+    for row in rows {
+        probe_is(rt, &mut words, *row);
     }
-    for number in [1, 5, 9] {
-        same_at(
-            &rt,
-            &number,
-            find(&words, selector(&rt, number)),
-            Probe::Hit(ImpRef::of(number + 1)),
-        );
-    }
-    let mut larger = [0; 8];
-    same(
-        &rt,
-        put(&mut larger, selector(&rt, 13), ImpRef::FORWARD),
-        Placed::At(5),
-    );
-    same(&rt, find(&larger, selector(&rt, 1)), Probe::Empty(1));
-    same(
-        &rt,
-        find(&larger, selector(&rt, 13)),
-        Probe::Hit(ImpRef::FORWARD),
-    );
+}
+
+fn a_larger_array_is_probed(rt: &impl Abort) {
+    let mut words = [0; 8];
+    let placed = put(&mut words, selector(rt, 13), ImpRef::FORWARD);
+    same(rt, placed, Placed::At(5));
+    same(rt, find(&words, selector(rt, 1)), Probe::Empty(1));
+    let found = find(&words, selector(rt, 13));
+    same(rt, found, Probe::Hit(ImpRef::FORWARD));
 }
 
 #[test]
-fn a_probe_goes_round(rt: HostRuntime) {
-    let mut words = [0; 4];
-    same(
-        &rt,
-        put(&mut words, selector(&rt, 3), ImpRef::of(1)),
-        Placed::At(3),
-    );
-    same(
-        &rt,
-        put(&mut words, selector(&rt, 7), ImpRef::of(2)),
-        Placed::At(0),
-    );
-    same(
-        &rt,
-        find(&words, selector(&rt, 7)),
-        Probe::Hit(ImpRef::of(2)),
-    );
-    let mut full = [0; 4];
-    for number in [1, 2, 3, 4] {
-        let imp = ImpRef::of(10 * number);
-        assert_ne!(rt;
-            put(&mut full, selector(&rt, number), imp),
-            Placed::Full,
-            "{number}"
-        );
+fn probes_go_on_and_round(rt: HostRuntime) {
+    for rows in [
+        NEXT.as_slice(),
+        ROUND.as_slice(),
+        FULL.as_slice(),
+        WHOLE.as_slice(),
+    ] {
+        probes_are(&rt, rows);
     }
-    let before = full;
-    same(
-        &rt,
-        put(&mut full, selector(&rt, 5), ImpRef::of(50)),
-        Placed::Full,
-    );
-    same(&rt, find(&full, selector(&rt, 5)), Probe::Wrapped);
-    same(
-        &rt,
-        put(&mut full, selector(&rt, 2), ImpRef::of(50)),
-        Placed::Present,
-    );
-    same(
-        &rt,
-        find(&full, selector(&rt, 2)),
-        Probe::Hit(ImpRef::of(20)),
-    );
-    same(&rt, full.as_slice(), before.as_slice());
-}
-
-#[test]
-fn a_selector_is_compared_whole(rt: HostRuntime) {
-    let mut words = [0; 4];
-    same(
-        &rt,
-        put(&mut words, selector(&rt, 1), ImpRef::of(1)),
-        Placed::At(1),
-    );
-    same(&rt, find(&words, selector(&rt, 65_537)), Probe::Empty(2));
-    same(
-        &rt,
-        put(&mut words, selector(&rt, 65_537), ImpRef::of(2)),
-        Placed::At(2),
-    );
-    same(
-        &rt,
-        find(&words, selector(&rt, 65_537)),
-        Probe::Hit(ImpRef::of(2)),
-    );
+    a_larger_array_is_probed(&rt);
 }
 
 #[test]

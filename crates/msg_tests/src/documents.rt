@@ -87,14 +87,5 @@ pub(crate) fn edit_is(
     new: &str,
 ) {
     let text = edited(rt, alloc, document, old, new);
-    same_at(rt, &old, number(alloc, text.as_bytes()), want);
-}
-
-/// The document without parts, with this list in place of an empty one, gives the answer.
-pub(crate) fn list_is(rt: &impl Abort, alloc: Global, want: Option<u32>, key: &str, values: &str) {
-    let old = format!(in alloc; "\"{key}\":[]").expect(rt, "memory");
-    let new = format!(in alloc; "\"{key}\":[{values}]").expect(rt, "memory");
-    let text = edited(rt, alloc, EMPTY, old.as_str(), new.as_str());
-    let length = values.len();
-    same_at(rt, &(key, length), number(alloc, text.as_bytes()), want);
+    same_at(rt, &new, number(alloc, text.as_bytes()), want);
 }

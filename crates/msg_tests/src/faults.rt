@@ -1,106 +1,123 @@
 //! Documents at their limits.
 
-use crate::documents::{EMPTY, FULL, SMALL, edit_is, edited, list_is, listed, number};
+use crate::documents::{EMPTY, FULL, SMALL, edit_is, edited, listed, number};
 use crate::same::{same, same_at};
 use std::alloc::Global;
 use std::process::Abort;
 
-// A list of so many pieces has this answer, and one more is refused.
-fn limit_is(
-    rt: &impl Abort,
-    alloc: Global,
-    key: &str,
-    piece: &str,
-    limit: usize,
-    at_limit: Option<u32>,
-) {
-    let most = listed(rt, alloc, piece, limit);
-    list_is(rt, alloc, at_limit, key, most.as_str());
-    let more = format!(in alloc; "{most},{piece}").expect(rt, "memory");
-    list_is(rt, alloc, Some(4), key, more.as_str());
+// An edit of a document by a long list: `old` is replaced by `before`, so many pieces with commas, and `after`.
+#[derive(Clone, Copy)]
+struct Long {
+    document: &'static str,
+    old: &'static str,
+    before: &'static str,
+    piece: &'static str,
+    after: &'static str,
+}
+
+const CLASSES: Long = Long {
+    document: EMPTY,
+    old: r#""classes":[]"#,
+    before: r#""classes":["#,
+    piece: r#"{"name":"A","super":null,"methods":[],"class_methods":[]}"#,
+    after: "]",
+};
+
+const CATEGORIES: Long = Long {
+    document: EMPTY,
+    old: r#""categories":[]"#,
+    before: r#""categories":["#,
+    piece: r#"{"class":"A","methods":[],"class_methods":[]}"#,
+    after: "]",
+};
+
+const OBJECTS: Long = Long {
+    document: EMPTY,
+    old: r#""objects":[]"#,
+    before: r#""objects":["#,
+    piece: r#"{"name":"a","class":"A"}"#,
+    after: "]",
+};
+
+const IMPS: Long = Long {
+    document: EMPTY,
+    old: r#""imps":[]"#,
+    before: r#""imps":["#,
+    piece: r#"{"name":"a","class":"A","meta":true,"args":0,"body":0}"#,
+    after: "]",
+};
+
+const ITEMS: Long = Long {
+    document: EMPTY,
+    old: r#""items":[]"#,
+    before: r#""items":["#,
+    piece: r#"{"send":[0,"a"]}"#,
+    after: "]",
+};
+
+const PAIR: &str = r#"["value","r_value"]"#;
+
+// The entries of a class alone.
+const ENTRIES: Long = Long {
+    document: SMALL,
+    old: PAIR,
+    before: "",
+    piece: PAIR,
+    after: "",
+};
+
+// The lists of changes aren't counted.
+const CHANGED: Long = Long {
+    document: SMALL,
+    old: r#"{"send":[["obj","c"],"value"]}"#,
+    before: r#"{"change":["attach","Root",["#,
+    piece: PAIR,
+    after: "],[]]}",
+};
+
+fn long_is(rt: &impl Abort, alloc: Global, long: &Long, count: usize, want: Option<u32>) {
+    let Long { before, after, .. } = long;
+    let pieces = listed(rt, alloc, long.piece, count);
+    let new = format!(in alloc; "{before}{pieces}{after}").expect(rt, "memory");
+    let text = edited(rt, alloc, long.document, long.old, &new);
+    let row = (long.old, count);
+    same_at(rt, &row, number(alloc, text.as_bytes()), want);
+}
+
+// In a class and a category the entries are counted together.
+fn entries_of_two_lists(rt: &impl Abort, alloc: Global, half: &str, more: &str) {
+    let with_category = format!(in alloc;
+        "\"categories\":[{{\"class\":\"Root\",\"methods\":[],\"class_methods\":[{half}]}}]"
+    ).expect(rt, "memory");
+    let both = edited(rt, alloc, SMALL, r#""categories":[]"#, &with_category);
+    edit_is(rt, alloc, &both, Some(13), PAIR, half);
+    edit_is(rt, alloc, &both, Some(4), PAIR, more);
 }
 
 #[test]
 fn long_lists(rt: HostRuntime) {
-    // Those at the limit have other faults or none.
-    for (key, piece, limit, at_limit) in [
-        (
-            "classes",
-            r#"{"name":"A","super":null,"methods":[],"class_methods":[]}"#,
-            1024,
-            Some(5),
-        ),
-        (
-            "categories",
-            r#"{"class":"A","methods":[],"class_methods":[]}"#,
-            1024,
-            Some(7),
-        ),
-        ("objects", r#"{"name":"a","class":"A"}"#, 4096, Some(7)),
-        (
-            "imps",
-            r#"{"name":"a","class":"A","meta":true,"args":0,"body":0}"#,
-            4096,
-            Some(7),
-        ),
-        ("items", r#"{"send":[0,"a"]}"#, 65536, None),
-    ] {
-        limit_is(&rt, rt.alloc(), key, piece, limit, at_limit);
-    }
-}
-
-const PAIR: &str = r#"["value","r_value"]"#;
-
-// In a class and a category the entries are counted together.
-fn entries_of_two_lists(rt: &impl Abort, alloc: Global, half: &str) {
-    let with_category = format!(in alloc;
-        "\"categories\":[{{\"class\":\"Root\",\"methods\":[],\"class_methods\":[{half}]}}]"
-    ).expect(rt, "memory");
-    let both = edited(
-        rt,
-        alloc,
-        SMALL,
-        r#""categories":[]"#,
-        with_category.as_str(),
-    );
-    edit_is(rt, alloc, both.as_str(), Some(13), PAIR, half);
-    let longer_half = format!(in alloc; "{half},{PAIR}").expect(rt, "memory");
-    edit_is(
-        rt,
-        alloc,
-        both.as_str(),
-        Some(4),
-        PAIR,
-        longer_half.as_str(),
-    );
-}
-
-// The lists of changes aren't counted.
-fn entries_of_a_change(rt: &impl Abort, alloc: Global, more: &str) {
-    let change = format!(in alloc; "{{\"change\":[\"attach\",\"Root\",[{more}],[]]}}").expect(
-        rt, "memory",
-    );
-    edit_is(
-        rt,
-        alloc,
-        SMALL,
-        Some(13),
-        r#"{"send":[["obj","c"],"value"]}"#,
-        change.as_str(),
-    );
-}
-
-#[test]
-fn many_method_entries(rt: HostRuntime) {
     let alloc = rt.alloc();
+    // Those at the limit have other faults or none, as a list with a selector twice has.
+    for (long, count, want) in [
+        (CLASSES, 1024, Some(5)),
+        (CLASSES, 1025, Some(4)),
+        (CATEGORIES, 1024, Some(7)),
+        (CATEGORIES, 1025, Some(4)),
+        (OBJECTS, 4096, Some(7)),
+        (OBJECTS, 4097, Some(4)),
+        (IMPS, 4096, Some(7)),
+        (IMPS, 4097, Some(4)),
+        (ITEMS, 65_536, None),
+        (ITEMS, 65_537, Some(4)),
+        (ENTRIES, 16_384, Some(13)),
+        (ENTRIES, 16_385, Some(4)),
+        (CHANGED, 16_385, Some(13)),
+    ] {
+        long_is(&rt, alloc, &long, count, want);
+    }
     let half = listed(&rt, alloc, PAIR, 8192);
-    // A list of all that may be has a selector twice.
-    let most = format!(in alloc; "{half},{half}").expect(&rt, "memory");
-    let more = format!(in alloc; "{most},{PAIR}").expect(&rt, "memory");
-    edit_is(&rt, alloc, SMALL, Some(13), PAIR, most.as_str());
-    edit_is(&rt, alloc, SMALL, Some(4), PAIR, more.as_str());
-    entries_of_two_lists(&rt, alloc, half.as_str());
-    entries_of_a_change(&rt, alloc, more.as_str());
+    let more = listed(&rt, alloc, PAIR, 8193);
+    entries_of_two_lists(&rt, alloc, &half, &more);
 }
 
 /// So many sends, each of another selector.
@@ -116,28 +133,36 @@ fn numbered_sends(rt: &impl Abort, alloc: Global, count: u32, after: &str) -> St
     text
 }
 
-// Sends of 4,095 selectors and one more item give the answer.
-fn one_item_more(rt: &impl Abort, alloc: Global, most: &str, item: &str, want: Option<u32>) {
-    let items = format!(in alloc; "{most},{item}").expect(rt, "memory");
-    list_is(rt, alloc, want, "items", items.as_str());
+// Sends of so many selectors, whose names end so, and then these items give the answer.
+fn sends_are(
+    rt: &impl Abort,
+    alloc: Global,
+    (count, after, items, want): (u32, &str, &str, Option<u32>),
+) {
+    let sends = numbered_sends(rt, alloc, count, after);
+    let new = format!(in alloc; "\"items\":[{sends}{items}]").expect(rt, "memory");
+    let text = edited(rt, alloc, EMPTY, r#""items":[]"#, &new);
+    let row = (count, after, items);
+    same_at(rt, &row, number(alloc, text.as_bytes()), want);
 }
 
 #[test]
 fn many_selectors(rt: HostRuntime) {
-    let alloc = rt.alloc();
-    // One more is that of forwarding.
-    let most = numbered_sends(&rt, alloc, 4095, "");
-    list_is(&rt, alloc, None, "items", most.as_str());
-    for (item, want) in [
-        (r#"{"send":[null,"forwardingTargetForSelector:",0]}"#, None),
-        (r#"{"send":[["sel","s7"],"s8"]}"#, None),
-        (r#"{"send":[["sel","more"],"s8"]}"#, Some(4)),
+    for row in [
+        // One more is that of forwarding.
+        (4095, "", "", None),
+        (
+            4095,
+            "",
+            r#",{"send":[null,"forwardingTargetForSelector:",0]}"#,
+            None,
+        ),
+        (4095, "", r#",{"send":[["sel","s7"],"s8"]}"#, None),
+        (4095, "", r#",{"send":[["sel","more"],"s8"]}"#, Some(4)),
+        (4095, " ", "", Some(12)),
+        (4096, " ", "", Some(4)),
     ] {
-        one_item_more(&rt, alloc, most.as_str(), item, want);
-    }
-    for (count, want) in [(4095, Some(12)), (4096, Some(4))] {
-        let items = numbered_sends(&rt, alloc, count, " ");
-        list_is(&rt, alloc, want, "items", items.as_str());
+        sends_are(&rt, rt.alloc(), row);
     }
 }
 
@@ -150,10 +175,10 @@ fn a_text_of_more_bytes_is_not_read(rt: HostRuntime) {
     let mut text = format!(in alloc; "{EMPTY}{room}").expect(&rt, "memory");
     same(&rt, text.len(), 16_777_216);
     same(&rt, number(alloc, text.as_bytes()), None);
-    text.push(' ').expect(&rt, "memory");
-    same(&rt, number(alloc, text.as_bytes()), Some(4));
-    text.push('x').expect(&rt, "memory");
-    same(&rt, number(alloc, text.as_bytes()), Some(4));
+    for more in [' ', 'x'] {
+        text.push(more).expect(&rt, "memory");
+        same_at(&rt, &more, number(alloc, text.as_bytes()), Some(4));
+    }
 }
 
 #[test]
@@ -161,19 +186,13 @@ fn arguments_are_numbered_below_their_count(rt: HostRuntime) {
     let alloc = rt.alloc();
     // `r_make` stands in the list of class methods.
     let unlisted = edited(&rt, alloc, FULL, r#"["make","r_make"]"#, "");
+    let old = r#""args":0,"body":["self"]"#;
     for (new, want) in [
         (r#""args":1,"body":["arg",0]"#, None),
         (r#""args":1,"body":["arg",1]"#, Some(15)),
         (r#""args":4,"body":["arg",3]"#, None),
         (r#""args":4,"body":["arg",4]"#, Some(15)),
     ] {
-        let text = edited(
-            &rt,
-            alloc,
-            unlisted.as_str(),
-            r#""args":0,"body":["self"]"#,
-            new,
-        );
-        same_at(&rt, &new, number(alloc, text.as_bytes()), want);
+        edit_is(&rt, alloc, &unlisted, want, old, new);
     }
 }

@@ -1,139 +1,161 @@
 //! Which texts are JSON, and which values have the form of a document.
 
 use crate::documents::{BODY, EMPTY, FULL, SMALL, edit_is, nested, number};
-use crate::same::{same, same_at};
+use crate::same::same_at;
 use std::alloc::Global;
 use std::process::Abort;
 
+// Documents, texts that are not JSON, and values that are no documents.
+const TEXTS: [(&str, Option<u32>); 32] = [
+    (EMPTY, None),
+    (SMALL, None),
+    (FULL, None),
+    ("", Some(1)),
+    (" ", Some(1)),
+    (r#"{"version":1"#, Some(1)),
+    ("[1,]", Some(1)),
+    (r#"{"a":1,}"#, Some(1)),
+    ("{1:2}", Some(1)),
+    ("{'a':1}", Some(1)),
+    ("nul", Some(1)),
+    ("NaN", Some(1)),
+    ("Infinity", Some(1)),
+    ("1 2", Some(1)),
+    ("[] []", Some(1)),
+    ("// none\n[]", Some(1)),
+    ("\u{feff}[]", Some(1)),
+    ("\u{feff}{}", Some(1)),
+    ("\"\n\"", Some(1)),
+    ("\"\t\"", Some(1)),
+    ("\"\\x\"", Some(1)),
+    ("\"\\u12\"", Some(1)),
+    ("\"open", Some(1)),
+    ("\0", Some(1)),
+    ("null", Some(2)),
+    ("true", Some(2)),
+    ("1", Some(2)),
+    ("1.5", Some(2)),
+    (r#""version""#, Some(2)),
+    ("[]", Some(2)),
+    ("{}", Some(2)),
+    (r#"{"version":1}"#, Some(2)),
+];
+
 #[test]
-fn documents_are_read(rt: HostRuntime) {
-    let alloc = rt.alloc();
-    for text in [EMPTY, SMALL, FULL] {
-        same_at(&rt, &text, number(alloc, text.as_bytes()), None);
+fn texts_are_read_or_refused(rt: HostRuntime) {
+    for (text, want) in TEXTS {
+        same_at(&rt, &text, number(rt.alloc(), text.as_bytes()), want);
     }
 }
 
-#[test]
-fn texts_that_are_not_json(rt: HostRuntime) {
-    let alloc = rt.alloc();
-    for text in [
-        "",
-        " ",
-        r#"{"version":1"#,
-        "[1,]",
-        r#"{"a":1,}"#,
-        "{1:2}",
-        "{'a':1}",
-        "nul",
-        "NaN",
-        "Infinity",
-        "1 2",
-        "[] []",
-        "// none\n[]",
-        "\u{feff}[]",
-        "\"\n\"",
-        "\"\t\"",
-        "\"\\x\"",
-        "\"\\u12\"",
-        "\"open",
-        "\0",
+// Before the small document, in place of its send's selector, and after it.
+const BYTES: [(&[u8], &[u8], &[u8], Option<u32>); 17] = [
+    (b"", b"value", b"", None),
+    (b" \n\t\r", b"value", b" \n\t\r", None),
+    (b"\xef\xbb\xbf", b"value", b"", Some(1)),
+    (b"\xc2\xa0", b"value", b"", Some(1)),
+    (b"", b"value", b"x", Some(1)),
+    (b"", b"value", b"\0", Some(1)),
+    (b"", b"value", b"{}", Some(1)),
+    (b"", b"value", b",", Some(1)),
+    (b"[", b"value", b"]", Some(2)),
+    (b"", b"val", b"", None),
+    (b"", b"\xc3\xa9", b"", Some(12)),
+    (b"", b"\xff", b"", Some(1)),
+    (b"", b"\xc3", b"", Some(1)),
+    (b"", b"\x80", b"", Some(1)),
+    (b"", b"\xc0\xa1", b"", Some(1)),
+    (b"", b"\xed\xa0\x80", b"", Some(1)),
+    (b"", b"\xf4\x90\x80\x80", b"", Some(1)),
+];
+
+fn bytes_are(
+    rt: &impl Abort,
+    alloc: Global,
+    (before, selector, after): (&[u8], &[u8], &[u8]),
+    want: Option<u32>,
+) {
+    let (head, tail) = SMALL.split_once(r#"value"]}"#).expect(rt, "a text to edit");
+    let mut text = Vec::new(alloc);
+    for piece in [
+        before,
+        head.as_bytes(),
+        selector,
+        b"\"]}".as_slice(),
+        tail.as_bytes(),
+        after,
     ] {
-        same_at(&rt, &text, number(alloc, text.as_bytes()), Some(1));
-    }
-}
-
-#[test]
-fn what_stands_round_the_value(rt: HostRuntime) {
-    let alloc = rt.alloc();
-    for (before, after, want) in [
-        ("", "", None),
-        (" \n\t\r", " \n\t\r", None),
-        ("\u{feff}", "", Some(1)),
-        ("\u{a0}", "", Some(1)),
-        ("", "x", Some(1)),
-        ("", "\0", Some(1)),
-        ("", "{}", Some(1)),
-        ("", ",", Some(1)),
-        ("[", "]", Some(2)),
-    ] {
-        let text = format!(in alloc; "{before}{SMALL}{after}").expect(&rt, "memory");
-        same_at(&rt, &(before, after), number(alloc, text.as_bytes()), want);
-    }
-}
-
-// The small document with these bytes in place of its send's selector.
-fn with_selector(rt: &impl Abort, alloc: Global, bytes: &[u8]) -> Vec<u8> {
-    let (before, after) = SMALL.split_once(r#"value"]}"#).expect(rt, "a text to edit");
-    let mut text = before.as_bytes().to_vec(alloc).expect(rt, "memory");
-    for piece in [bytes, b"\"]}".as_slice(), after.as_bytes()] {
         text.extend_from_slice(piece).expect(rt, "memory");
     }
-    text
+    let row = (before, selector, after);
+    same_at(rt, &row, number(alloc, &text), want);
 }
 
 #[test]
 fn bytes_that_are_not_utf8(rt: HostRuntime) {
-    let alloc = rt.alloc();
-    for (bytes, want) in [
-        (b"val".as_slice(), None),
-        (b"\xc3\xa9".as_slice(), Some(12)),
-        (b"\xff".as_slice(), Some(1)),
-        (b"\xc3".as_slice(), Some(1)),
-        (b"\x80".as_slice(), Some(1)),
-        (b"\xc0\xa1".as_slice(), Some(1)),
-        (b"\xed\xa0\x80".as_slice(), Some(1)),
-        (b"\xf4\x90\x80\x80".as_slice(), Some(1)),
-    ] {
-        let text = with_selector(&rt, alloc, bytes);
-        same_at(&rt, &bytes, number(alloc, &text), want);
+    for (before, selector, after, want) in BYTES {
+        bytes_are(&rt, rt.alloc(), (before, selector, after), want);
     }
-    same(&rt, number(alloc, b"\xef\xbb\xbf{}"), Some(1));
-    same(&rt, number(alloc, b"[\"\xff\"]"), Some(1));
+    let text = b"[\"\xff\"]".as_slice();
+    same_at(&rt, &text, number(rt.alloc(), text), Some(1));
+}
+
+// A document with `head` and the middle inside so many of two texts in place of `old`.
+#[derive(Clone, Copy)]
+struct Nest {
+    document: &'static str,
+    old: &'static str,
+    head: &'static str,
+    before: &'static str,
+    middle: &'static str,
+    after: &'static str,
+}
+
+const LISTS: Nest = Nest {
+    document: "@",
+    old: "@",
+    head: "",
+    before: "[",
+    middle: "",
+    after: "]",
+};
+
+const OBJECTS: Nest = Nest {
+    document: "@",
+    old: "@",
+    head: "",
+    before: r#"{"a":"#,
+    middle: "1",
+    after: "}",
+};
+
+// A body lies three deep.
+const BODIES: Nest = Nest {
+    document: FULL,
+    old: BODY,
+    head: r#""body":"#,
+    before: r#"["add",1,"#,
+    middle: "1",
+    after: "]",
+};
+
+fn nest_is(rt: &impl Abort, alloc: Global, nest: &Nest, count: usize, want: u32) {
+    let Nest { head, .. } = nest;
+    let value = nested(rt, alloc, nest.before, nest.middle, nest.after, count);
+    let new = format!(in alloc; "{head}{value}").expect(rt, "memory");
+    edit_is(rt, alloc, nest.document, Some(want), nest.old, &new);
 }
 
 #[test]
 fn values_nest_127_deep(rt: HostRuntime) {
-    let alloc = rt.alloc();
-    for (before, middle, after, count, want) in [
-        ("[", "", "]", 127, 2),
-        ("[", "", "]", 128, 1),
-        (r#"{"a":"#, "1", "}", 127, 2),
-        (r#"{"a":"#, "1", "}", 128, 1),
+    for (nest, count, want) in [
+        (LISTS, 127, 2),
+        (LISTS, 128, 1),
+        (OBJECTS, 127, 2),
+        (OBJECTS, 128, 1),
+        (BODIES, 124, 16),
+        (BODIES, 125, 1),
     ] {
-        let text = nested(&rt, alloc, before, middle, after, count);
-        same_at(
-            &rt,
-            &(before, count),
-            number(alloc, text.as_bytes()),
-            Some(want),
-        );
-    }
-}
-
-#[test]
-fn bodies_nest_124_deep(rt: HostRuntime) {
-    let alloc = rt.alloc();
-    // A body lies three deep.
-    for (levels, want) in [(124, 16), (125, 1)] {
-        let body = nested(&rt, alloc, r#"["add",1,"#, "1", "]", levels);
-        let new = format!(in alloc; "\"body\":{body}").expect(&rt, "memory");
-        edit_is(&rt, alloc, FULL, Some(want), BODY, new.as_str());
-    }
-}
-
-#[test]
-fn values_that_are_no_documents(rt: HostRuntime) {
-    let alloc = rt.alloc();
-    for text in [
-        "null",
-        "true",
-        "1",
-        "1.5",
-        r#""version""#,
-        "[]",
-        "{}",
-        r#"{"version":1}"#,
-    ] {
-        same_at(&rt, &text, number(alloc, text.as_bytes()), Some(2));
+        nest_is(&rt, rt.alloc(), &nest, count, want);
     }
 }

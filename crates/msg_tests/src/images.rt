@@ -1,10 +1,7 @@
-//! Documents whose sends and changes are known, and what a run of one writes.
+//! A document whose sends and changes are known.
 
-use msg_runner::{FromReader, OpenGate, RunFault, ToWriter, run};
 use std::alloc::Global;
-use std::sync::Wait;
-use std::test::Fail;
-use std::thread::Threads;
+use std::process::Abort;
 
 /// A document with each form of a body.
 pub(crate) const IMAGE: &str = r#"{"version":1,"classes":[
@@ -53,34 +50,9 @@ pub(crate) const IMAGE: &str = r#"{"version":1,"classes":[
  ["if",["eq",["self"],["obj","p"]],["obj","q"],["obj","p"]]]]]]}],
 "items":[]}"#;
 
-/// How a run ended, and what it wrote.
-#[derive(Drop)]
-pub(crate) struct Outcome {
-    pub(crate) fault: Option<RunFault>,
-    pub(crate) text: Vec<u8>,
-}
-
-/// Runs a document from memory to memory.
-pub(crate) fn ran<T: Threads + Wait + Sync>(
-    rt: &T,
-    alloc: Global,
-    document: &[u8],
-    workers: u32,
-    cut: u32,
-) -> Outcome {
-    let mut source = FromReader::new(document);
-    let mut sink = ToWriter::new(Vec::new(alloc));
-    let fault = run(rt, alloc, &mut source, &mut sink, workers, cut, &OpenGate).err();
-    let ToWriter { writer, .. } = sink;
-    Outcome {
-        fault,
-        text: writer,
-    }
-}
-
 /// The document with these items in place of its own, which come last in it.
-pub(crate) fn with_items(alloc: Global, document: &str, items: &str) -> Result<String, Fail> {
+pub(crate) fn with_items(rt: &impl Abort, alloc: Global, document: &str, items: &str) -> String {
     let list = r#""items":["#;
-    let (before, _own) = document.split_once(list).ok_or("no items")?;
-    Ok(format!(in alloc; "{before}{list}{items}]}}")?)
+    let (before, _own) = document.split_once(list).expect(rt, "no items");
+    format!(in alloc; "{before}{list}{items}]}}").expect(rt, "memory")
 }

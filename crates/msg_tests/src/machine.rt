@@ -35,10 +35,10 @@ const ONE: &[u8] =
 const TWO: &[u8] =
     br#"{"version":1,"classes":[{"name":"Root","super":null,"methods":[["value","r_value"]],"class_methods":[]},{"name":"Child","super":"Root","methods":[],"class_methods":[]}],"categories":[],"objects":[{"name":"c","class":"Child"}],"imps":[{"name":"r_value","class":"Root","meta":false,"args":0,"body":7},{"name":"r_two","class":"Root","meta":false,"args":0,"body":2}],"items":[]}"#;
 
-// The machine of a document's image, with one sender and one array of 4.
-fn machine(alloc: Global, document: &[u8]) -> Option<Machine> {
-    let document = read_document(alloc, document).ok()?;
-    Machine::open(alloc, &document.image, 1, &[4]).ok()
+fn machine(rt: &impl Abort, alloc: Global, document: &[u8]) -> Box<Machine> {
+    let document = read_document(alloc, document).expect(rt, "a document");
+    let machine = Machine::open(alloc, &document.image, 1, &[4]).expect(rt, "memory");
+    Box::new(alloc, machine).expect(rt, "memory")
 }
 
 // An event of a row. A change gives Child the implementation of this number for `value`.
@@ -75,13 +75,7 @@ fn event(rt: &impl Abort, row: Row) -> Event {
     }
 }
 
-// The machine answers each event of the rows.
-fn answers(rt: &impl Abort, machine: &mut Machine, rows: &[(Row, Result<Seen, EventFault>)]) {
-    for (row, answer) in rows {
-        same_at(rt, row, machine.step(event(rt, *row)), *answer);
-    }
-}
-
+// An array is flushed while a sender holds it.
 const FLUSHED: [(Row, Result<Seen, EventFault>); 12] = [
     (Row::Install(CHILD, 0), Ok(Seen::Nothing)),
     (Row::Fill(CHILD, 2, WORD), Ok(Seen::Nothing)),
@@ -97,15 +91,10 @@ const FLUSHED: [(Row, Result<Seen, EventFault>); 12] = [
     (Row::Install(ROOT, 0), Ok(Seen::Nothing)),
 ];
 
-#[test]
-fn an_array_is_flushed_while_a_sender_holds_it(rt: HostRuntime) {
-    let mut machine = machine(rt.alloc(), ONE).expect(&rt, "an image");
-    answers(&rt, &mut machine, &FLUSHED);
-}
-
 // Selector 2 with implementation 2.
 const OTHER: u64 = 0x0000_0002_0000_0002;
 
+// Each refusal is the least.
 const REFUSED: [(Row, Result<Seen, EventFault>); 27] = [
     (Row::Enter(1), Err(EventFault::NoSender)),
     (Row::Header(0, CHILD), Err(EventFault::NotIn)),
@@ -136,10 +125,23 @@ const REFUSED: [(Row, Result<Seen, EventFault>); 27] = [
     (Row::Fill(CHILD, 2, OTHER), Ok(Seen::Nothing)),
 ];
 
+// The machine of a document's image, with one sender and one array of 4, answers each event of the rows.
+fn answers(
+    rt: &impl Abort,
+    alloc: Global,
+    document: &[u8],
+    rows: &[(Row, Result<Seen, EventFault>)],
+) {
+    let mut machine = machine(rt, alloc, document);
+    for (row, answer) in rows {
+        same_at(rt, row, machine.step(event(rt, *row)), *answer);
+    }
+}
+
 #[test]
-fn each_refusal_is_the_least(rt: HostRuntime) {
-    let mut machine = machine(rt.alloc(), TWO).expect(&rt, "an image");
-    answers(&rt, &mut machine, &REFUSED);
+fn events_are_answered_or_refused(rt: HostRuntime) {
+    answers(&rt, rt.alloc(), ONE, &FLUSHED);
+    answers(&rt, rt.alloc(), TWO, &REFUSED);
 }
 
 #[test]

@@ -4,7 +4,6 @@ use crate::same::{same, same_at};
 use msg_names::{ImpRef, NameFault, Names, Selector, Value, is_identifier, is_selector_name};
 use std::alloc::Global;
 use std::process::Abort;
-use std::test::Fail;
 
 fn interned(rt: &impl Abort, names: &mut Names, text: &str, want: Result<u32, NameFault>) {
     let number = names.intern(text).map(Selector::number);
@@ -30,7 +29,7 @@ fn interns<'a>(rt: &impl Abort, names: &mut Names, longest: &'a str, longer: &'a
     }
 }
 
-fn has_interned(rt: &impl Abort, names: &Names, longest: &str) -> Result<(), Fail> {
+fn has_interned(rt: &impl Abort, names: &Names, longest: &str) {
     same(rt, names.len(), 4);
     same(rt, names.is_empty(), false);
     same(rt, names.find("at:put:").map(Selector::number), Some(2));
@@ -43,38 +42,44 @@ fn has_interned(rt: &impl Abort, names: &Names, longest: &str) -> Result<(), Fai
         (5, None, None),
         (4294967295, None, None),
     ] {
-        let selector = Selector::of(number).ok_or("0")?;
+        let selector = Selector::of(number).expect(rt, "a number above 0");
         same_at(rt, &number, names.text(selector), text);
         same_at(rt, &number, names.colons(selector), colons);
     }
-    Ok(())
 }
 
 #[test]
-fn names_are_interned(rt: HostRuntime) -> Result<(), Fail> {
+fn names_are_interned(rt: HostRuntime) {
     let alloc = rt.alloc();
-    let longest = "n".repeat(alloc, 64)?;
-    let longer = "n".repeat(alloc, 65)?;
+    let longest = "n".repeat(alloc, 64).expect(&rt, "memory");
+    let longer = "n".repeat(alloc, 65).expect(&rt, "memory");
     let mut names = Names::new(alloc);
     same(&rt, names.is_empty(), true);
     interns(&rt, &mut names, longest.as_str(), longer.as_str());
-    has_interned(&rt, &names, longest.as_str())
+    has_interned(&rt, &names, longest.as_str());
+}
+
+// Interns all names that fit.
+fn interns_all(rt: &impl Abort, alloc: Global, names: &mut Names) {
+    for number in 1..4097_u32 {
+        let text = format!(in alloc; "n{number}").expect(rt, "memory");
+        interned(rt, names, text.as_str(), Ok(number));
+    }
 }
 
 #[test]
-fn no_more_than_4096_names_fit(rt: HostRuntime) -> Result<(), Fail> {
-    let alloc = rt.alloc();
-    let mut names = Names::new(alloc);
-    for number in 1..4097_u32 {
-        let text = format!(in alloc; "n{number}")?;
-        interned(&rt, &mut names, text.as_str(), Ok(number));
+fn no_more_than_4096_names_fit(rt: HostRuntime) {
+    let mut names = Names::new(rt.alloc());
+    interns_all(&rt, rt.alloc(), &mut names);
+    for (text, want) in [
+        ("n4097", Err(NameFault::TooMany)),
+        ("a b", Err(NameFault::BadName)),
+        ("n1", Ok(1)),
+        ("n4096", Ok(4096)),
+    ] {
+        interned(&rt, &mut names, text, want);
     }
-    interned(&rt, &mut names, "n4097", Err(NameFault::TooMany));
-    interned(&rt, &mut names, "a b", Err(NameFault::BadName));
-    interned(&rt, &mut names, "n1", Ok(1));
-    interned(&rt, &mut names, "n4096", Ok(4096));
     same(&rt, names.len(), 4096);
-    Ok(())
 }
 
 #[test]

@@ -8,10 +8,11 @@ use msg_image::{Change, Document, Expr, Image, Item, MethodList, read_document};
 use msg_names::{ClassRef, ImpRef, ObjectRef, Selector, Value};
 use std::alloc::Global;
 use std::process::Abort;
-use std::test::Fail;
 
-fn read(alloc: Global, text: &str) -> Result<Box<Document>, Fail> {
-    Ok(Box::new(alloc, read_document(alloc, text.as_bytes())?)?)
+// What a test owns lies in a box, since each way out of the test drops it by one call there.
+fn read(rt: &impl Abort, alloc: Global, text: &str) -> Box<Document> {
+    let document = read_document(alloc, text.as_bytes()).expect(rt, "a document");
+    Box::new(alloc, document).expect(rt, "memory")
 }
 
 fn at(class: u32, meta: bool) -> ClassRef
@@ -45,13 +46,6 @@ fn has_names(rt: &impl Abort, image: &Image) {
     same(rt, image.forwarding_selector().number(), 1);
 }
 
-#[test]
-fn names_come_in_the_order_of_the_walk(rt: HostRuntime) -> Result<(), Fail> {
-    let document = read(rt.alloc(), IMAGE)?;
-    has_names(&rt, &document.image);
-    Ok(())
-}
-
 fn has_classes(rt: &impl Abort, image: &Image) {
     same(rt, image.class_count(), 5);
     for (class, name, above, above_meta) in [
@@ -70,6 +64,7 @@ fn has_classes(rt: &impl Abort, image: &Image) {
 
 fn has_objects(rt: &impl Abort, image: &Image) {
     same(rt, image.object_count(), 5);
+    same(rt, image.imp_count(), 14);
     for (object, name, class) in [
         (0, "c", 1),
         (1, "g", 2),
@@ -82,15 +77,6 @@ fn has_objects(rt: &impl Abort, image: &Image) {
         same(rt, text.as_bytes(), name.as_bytes());
         same_at(rt, &name, image.object_class(ObjectRef { object }), class);
     }
-}
-
-#[test]
-fn classes_and_objects_come_as_listed(rt: HostRuntime) -> Result<(), Fail> {
-    let document = read(rt.alloc(), IMAGE)?;
-    has_classes(&rt, &document.image);
-    has_objects(&rt, &document.image);
-    same(&rt, document.image.imp_count(), 14);
-    Ok(())
 }
 
 // The methods have these numbers of selectors and implementations.
@@ -122,14 +108,6 @@ fn has_depths(rt: &impl Abort, image: &Image) {
     same(rt, image.depth(1), 0);
 }
 
-#[test]
-fn depths_are_counted_to_the_root(rt: HostRuntime) -> Result<(), Fail> {
-    let document = read(rt.alloc(), SECOND)?;
-    has_depths(&rt, &document.image);
-    assert!(rt; makes_the_third_class(&document.items));
-    Ok(())
-}
-
 fn has_a_class_to_make(rt: &impl Abort, image: &Image) {
     assert_eq!(rt; image.class_count(), 3);
     same(rt, image.class_name(2).as_bytes(), b"Late".as_slice());
@@ -140,10 +118,11 @@ fn has_a_class_to_make(rt: &impl Abort, image: &Image) {
 }
 
 #[test]
-fn classes_that_may_be_made_come_last(rt: HostRuntime) -> Result<(), Fail> {
-    let document = read(rt.alloc(), SECOND)?;
+fn classes_that_may_be_made_come_last(rt: HostRuntime) {
+    let document = read(&rt, rt.alloc(), SECOND);
+    has_depths(&rt, &document.image);
     has_a_class_to_make(&rt, &document.image);
-    Ok(())
+    assert!(rt; makes_the_third_class(&document.items));
 }
 
 fn has_methods(rt: &impl Abort, image: &Image) {
@@ -175,14 +154,6 @@ fn has_categories(rt: &impl Abort, image: &Image) {
         methods_are(rt, category.methods.as_slice(), &[(12, imp)]);
         methods_are(rt, category.class_methods.as_slice(), &[]);
     }
-}
-
-#[test]
-fn methods_come_as_listed(rt: HostRuntime) -> Result<(), Fail> {
-    let document = read(rt.alloc(), IMAGE)?;
-    has_methods(&rt, &document.image);
-    has_categories(&rt, &document.image);
-    Ok(())
 }
 
 fn is_number(expr: &Expr, want: i64) -> bool {
@@ -272,10 +243,14 @@ fn has_implementations(rt: &impl Abort, image: &Image) {
 }
 
 #[test]
-fn implementations_come_as_listed(rt: HostRuntime) -> Result<(), Fail> {
-    let document = read(rt.alloc(), IMAGE)?;
+fn an_image_is_as_its_document_lists_it(rt: HostRuntime) {
+    let document = read(&rt, rt.alloc(), IMAGE);
+    has_names(&rt, &document.image);
+    has_classes(&rt, &document.image);
+    has_objects(&rt, &document.image);
+    has_methods(&rt, &document.image);
+    has_categories(&rt, &document.image);
     has_implementations(&rt, &document.image);
-    Ok(())
 }
 
 // The change is of the method of this selector and implementation in a class.
@@ -360,22 +335,21 @@ fn items_are(rt: &impl Abort, items: &[Item]) {
     same(rt, seen, 6);
 }
 
+const ITEMS: &str =
+    r#"{"send":[["obj","g"],"down:",31]},{"change":["add","Child",true,"value","r_name"]},{"change":["replace","Side",false,"tag","s_two"]},{"change":["set","Proxy",true,"new","r_value"]},{"change":["exchange","Child",false,"value","Root",true,"name"]},{"change":["attach","Side",[["tag","r_value"],["more","s_three"]],[["make","r_make"]]]}"#;
+
 #[test]
-fn items_come_as_listed(rt: HostRuntime) -> Result<(), Fail> {
-    let items =
-        r#"{"send":[["obj","g"],"down:",31]},{"change":["add","Child",true,"value","r_name"]},{"change":["replace","Side",false,"tag","s_two"]},{"change":["set","Proxy",true,"new","r_value"]},{"change":["exchange","Child",false,"value","Root",true,"name"]},{"change":["attach","Side",[["tag","r_value"],["more","s_three"]],[["make","r_make"]]]}"#;
-    let text = with_items(rt.alloc(), IMAGE, items)?;
-    let document = read(rt.alloc(), &text)?;
+fn items_come_as_listed(rt: HostRuntime) {
+    let text = with_items(&rt, rt.alloc(), IMAGE, ITEMS);
+    let document = read(&rt, rt.alloc(), &text);
     items_are(&rt, &document.items);
-    Ok(())
 }
 
 #[test]
-fn a_method_list_gives_its_pairs_back(rt: HostRuntime) -> Result<(), Fail> {
+fn a_method_list_gives_its_pairs_back(rt: HostRuntime) {
     let sel = Selector::of(2).expect(&rt, "a number above 0");
-    let pairs = vec![in rt.alloc(); (sel, ImpRef::of(1)), (sel, ImpRef::FORWARD)]?;
-    let list = MethodList::new(pairs);
+    let pairs = vec![in rt.alloc(); (sel, ImpRef::of(1)), (sel, ImpRef::FORWARD)];
+    let list = MethodList::new(pairs.expect(&rt, "memory"));
     methods_are(&rt, list.as_slice(), &[(2, 1), (2, 0)]);
     methods_are(&rt, list.into_vec().as_slice(), &[(2, 1), (2, 0)]);
-    Ok(())
 }

@@ -1,10 +1,10 @@
 //! Runs that end before they read, or with nothing to read.
 
 use crate::documents::SMALL;
-use crate::images::ran;
+use crate::runs::{Way, ran};
 use crate::same::same_at;
 use msg_form::DocumentFault;
-use msg_runner::RunFault;
+use msg_runner::{OpenGate, RunFault};
 use std::alloc::Global;
 use std::process::Abort;
 use std::sync::Wait;
@@ -19,7 +19,7 @@ fn run_is<R: Threads + Wait + Abort + Sync>(
     want: Option<RunFault>,
     lines: &str,
 ) {
-    let ended = ran(rt, alloc, text.as_bytes(), workers, cut);
+    let ended = ran(rt, alloc, Way::Between, text, workers, cut, &OpenGate);
     same_at(rt, &(text, workers, cut), ended.fault, want);
     same_at(
         rt,
@@ -29,38 +29,44 @@ fn run_is<R: Threads + Wait + Abort + Sync>(
     );
 }
 
-#[test]
-fn workers_and_cuts_that_are_refused(rt: HostRuntime) {
-    for (workers, cut, want) in [
-        (0, 64, Some(RunFault::Workers)),
-        (65, 64, Some(RunFault::Workers)),
-        (4294967295, 64, Some(RunFault::Workers)),
-        // workers are judged before the cut
-        (0, 0, Some(RunFault::Workers)),
-        (1, 0, Some(RunFault::Cut)),
-        (64, 0, Some(RunFault::Cut)),
-        (64, 4294967295, None),
-    ] {
-        let lines = if want.is_none() { "7\n" } else { "" };
-        run_is(&rt, rt.alloc(), SMALL, (workers, cut), want, lines);
-    }
-}
+const REFUSALS: [(&str, u32, u32, Option<RunFault>, &str); 12] = [
+    (SMALL, 0, 64, Some(RunFault::Workers), ""),
+    (SMALL, 65, 64, Some(RunFault::Workers), ""),
+    (SMALL, 4294967295, 64, Some(RunFault::Workers), ""),
+    // workers are judged before the cut
+    (SMALL, 0, 0, Some(RunFault::Workers), ""),
+    (SMALL, 1, 0, Some(RunFault::Cut), ""),
+    (SMALL, 64, 0, Some(RunFault::Cut), ""),
+    (SMALL, 64, 4294967295, None, "7\n"),
+    // and both before the document
+    ("", 0, 1, Some(RunFault::Workers), ""),
+    ("", 1, 0, Some(RunFault::Cut), ""),
+    (
+        "",
+        1,
+        64,
+        Some(RunFault::Document(DocumentFault::NotJson)),
+        "",
+    ),
+    (
+        r#"{"version":1"#,
+        3,
+        1,
+        Some(RunFault::Document(DocumentFault::NotJson)),
+        "",
+    ),
+    (
+        "{}",
+        64,
+        64,
+        Some(RunFault::Document(DocumentFault::Shape)),
+        "",
+    ),
+];
 
 #[test]
-fn texts_that_are_refused(rt: HostRuntime) {
-    // workers and the cut are judged before the document
-    for (text, workers, cut, want) in [
-        ("", 0, 1, RunFault::Workers),
-        ("", 1, 0, RunFault::Cut),
-        ("", 1, 64, RunFault::Document(DocumentFault::NotJson)),
-        (
-            r#"{"version":1"#,
-            3,
-            1,
-            RunFault::Document(DocumentFault::NotJson),
-        ),
-        ("{}", 64, 64, RunFault::Document(DocumentFault::Shape)),
-    ] {
-        run_is(&rt, rt.alloc(), text, (workers, cut), Some(want), "");
+fn workers_cuts_and_texts_that_are_refused(rt: HostRuntime) {
+    for (text, workers, cut, want, lines) in REFUSALS {
+        run_is(&rt, rt.alloc(), text, (workers, cut), want, lines);
     }
 }

@@ -9,6 +9,7 @@ use msg_image::{Change, Image, MethodList, read_document};
 use msg_names::{ClassRef, ImpRef, Selector};
 use msg_tables::{ChangeFault, MAX_CHANGES, Tables};
 use std::alloc::Global;
+use std::fmt::Debug;
 use std::process::Abort;
 
 const ROOT: ClassRef = ClassRef {
@@ -115,15 +116,6 @@ fn superclasses_are_found(rt: &impl Abort, image: &Image, tables: &Tables)
     }
 }
 
-#[test]
-fn methods_are_found_along_the_superclasses(rt: HostRuntime) {
-    let image = image(&rt, rt.alloc());
-    same(&rt, image.class_count(), 5);
-    let tables = opened(&rt, rt.alloc(), &image);
-    methods_are_found(&rt, &image, &tables);
-    superclasses_are_found(&rt, &image, &tables);
-}
-
 // How many class references descend from this one, whether the other does, and whether it is marked when the marks were taken away.
 fn descendants(
     rt: &impl Abort,
@@ -163,26 +155,30 @@ fn descendants_are(rt: &impl Abort, alloc: Global, image: &Image, tables: &Table
 }
 
 #[test]
-fn descendants_are_marked(rt: HostRuntime) {
+fn lookups_and_descendants_of_fresh_tables(rt: HostRuntime) {
     let image = image(&rt, rt.alloc());
+    same(&rt, image.class_count(), 5);
     let tables = opened(&rt, rt.alloc(), &image);
+    methods_are_found(&rt, &image, &tables);
+    superclasses_are_found(&rt, &image, &tables);
     descendants_are(&rt, rt.alloc(), &image, &tables);
 }
 
 // What fresh tables make of a change. Before it is made they are asked for the fault.
-fn fault_is(
+fn fault_is<K: Debug>(
     rt: &impl Abort,
     alloc: Global,
     image: &Image,
-    change: Change,
+    row: &K,
+    change: &Change,
     want: Option<ChangeFault>,
 ) {
     let mut tables = opened(rt, alloc, image);
-    same(rt, tables.refusal(&change), want);
-    same(rt, tables.apply(&change).err(), want);
+    same_at(rt, row, tables.refusal(change), want);
+    same_at(rt, row, tables.apply(change).err(), want);
 }
 
-// Fresh tables refuse this method with the same fault, whether it is added, replaced or set.
+// Fresh tables refuse this method so, where it is added, replaced and set.
 fn faults_are(
     rt: &impl Abort,
     alloc: Global,
@@ -190,72 +186,75 @@ fn faults_are(
     (class, sel, imp): (ClassRef, Selector, ImpRef),
     [add, replace, set]: [Option<ChangeFault>; 3],
 ) {
-    fault_is(rt, alloc, image, Change::Add { class, sel, imp }, add);
-    fault_is(
-        rt,
-        alloc,
-        image,
-        Change::Replace { class, sel, imp },
-        replace,
-    );
-    fault_is(rt, alloc, image, Change::SetImp { class, sel, imp }, set);
+    let row = (class, sel, imp);
+    let change = Change::Add { class, sel, imp };
+    fault_is(rt, alloc, image, &row, &change, add);
+    let change = Change::Replace { class, sel, imp };
+    fault_is(rt, alloc, image, &row, &change, replace);
+    let change = Change::SetImp { class, sel, imp };
+    fault_is(rt, alloc, image, &row, &change, set);
 }
 
-#[test]
-fn changes_of_no_method_of_the_image(rt: HostRuntime) {
-    let image = image(&rt, rt.alloc());
-    let nowhere = ClassRef {
-        class: 9,
-        meta: false,
-    };
+const NOWHERE: ClassRef = ClassRef {
+    class: 9,
+    meta: false,
+};
+
+const NO_CLASS: Option<ChangeFault> = Some(ChangeFault::NoClass);
+
+const NO_IMP: Option<ChangeFault> = Some(ChangeFault::NoImp);
+
+const COUNT: Option<ChangeFault> = Some(ChangeFault::ArgumentCount);
+
+const PRESENT: Option<ChangeFault> = Some(ChangeFault::MethodPresent);
+
+const NO_METHOD: Option<ChangeFault> = Some(ChangeFault::NoMethod);
+
+fn methods_are_refused(rt: &impl Abort, alloc: Global, image: &Image) {
     for (class, number, imp, want) in [
-        (nowhere, 2, 1, ChangeFault::NoClass),
-        (nowhere, 15, 99, ChangeFault::NoClass),
-        (CHILD, 15, 99, ChangeFault::NoImp),
-        (CHILD, 2, 0, ChangeFault::NoImp),
-        (CHILD, 2, 3, ChangeFault::ArgumentCount),
-        (CHILD, 15, 1, ChangeFault::ArgumentCount),
+        // no method of the image
+        (NOWHERE, 2, 1, [NO_CLASS, NO_CLASS, NO_CLASS]),
+        (NOWHERE, 15, 99, [NO_CLASS, NO_CLASS, NO_CLASS]),
+        (CHILD, 15, 99, [NO_IMP, NO_IMP, NO_IMP]),
+        (CHILD, 2, 0, [NO_IMP, NO_IMP, NO_IMP]),
+        (CHILD, 2, 3, [COUNT, COUNT, COUNT]),
+        (CHILD, 15, 1, [COUNT, COUNT, COUNT]),
+        // one that the class has, that it inherits, and that is not there
+        (CHILD, 3, 1, [PRESENT, None, None]),
+        (CHILD, 2, 1, [None, None, None]),
+        (PROXY, 2, 1, [None, None, NO_METHOD]),
     ] {
-        let method = (class, numbered(&rt, number), ImpRef::of(imp));
-        faults_are(&rt, rt.alloc(), &image, method, [Some(want); 3]);
+        let method = (class, numbered(rt, number), ImpRef::of(imp));
+        faults_are(rt, alloc, image, method, want);
     }
 }
 
-#[test]
-fn methods_present_and_absent(rt: HostRuntime) {
-    let image = image(&rt, rt.alloc());
-    for (class, number, present, absent) in [
-        (CHILD, 3, Some(ChangeFault::MethodPresent), None),
-        (CHILD, 2, None, None),
-        (PROXY, 2, None, Some(ChangeFault::NoMethod)),
-    ] {
-        let method = (class, numbered(&rt, number), ImpRef::of(1));
-        faults_are(&rt, rt.alloc(), &image, method, [present, None, absent]);
-    }
-}
-
-#[test]
-fn exchanges_of_fresh_tables(rt: HostRuntime) {
-    let image = image(&rt, rt.alloc());
-    let sel = selector(&rt, &image, "value");
+fn exchanges_are_refused(rt: &impl Abort, alloc: Global, image: &Image) {
+    let sel = selector(rt, image, "value");
     for (class, other, number, want) in [
-        (9, 1, 4, Some(ChangeFault::NoClass)),
-        (1, 9, 3, Some(ChangeFault::NoClass)),
-        (4, 1, 4, Some(ChangeFault::ArgumentCount)),
-        (1, 1, 15, Some(ChangeFault::ArgumentCount)),
-        (1, 4, 3, Some(ChangeFault::NoMethod)),
-        (4, 1, 3, Some(ChangeFault::NoMethod)),
-        (1, 2, 2, None),
+        (NOWHERE, CHILD, 4, NO_CLASS),
+        (CHILD, NOWHERE, 3, NO_CLASS),
+        (PROXY, CHILD, 4, COUNT),
+        (CHILD, CHILD, 15, COUNT),
+        (CHILD, PROXY, 3, NO_METHOD),
+        (PROXY, CHILD, 3, NO_METHOD),
+        (CHILD, GRAND, 2, None),
     ] {
-        let meta = false;
         let exchange = Change::Exchange {
-            class: ClassRef { class, meta },
+            class,
             sel,
-            other: ClassRef { class: other, meta },
-            other_sel: numbered(&rt, number),
+            other,
+            other_sel: numbered(rt, number),
         };
-        fault_is(&rt, rt.alloc(), &image, exchange, want);
+        fault_is(rt, alloc, image, &(class, other, number), &exchange, want);
     }
+}
+
+#[test]
+fn fresh_tables_refuse_changes(rt: HostRuntime) {
+    let image = image(&rt, rt.alloc());
+    methods_are_refused(&rt, rt.alloc(), &image);
+    exchanges_are_refused(&rt, rt.alloc(), &image);
 }
 
 // The implementation that a lookup finds after a change.
@@ -302,32 +301,28 @@ fn category(rt: &impl Abort, alloc: Global, tag: Selector, value: Selector) -> C
     }
 }
 
-#[test]
-fn lookups_after_an_attachment(rt: HostRuntime) {
-    let image = image(&rt, rt.alloc());
-    let tag = selector(&rt, &image, "tag");
-    let value = selector(&rt, &image, "value");
-    let attach = category(&rt, rt.alloc(), tag, value);
+fn an_attachment_is_found(rt: &impl Abort, alloc: Global, image: &Image) {
+    let tag = selector(rt, image, "tag");
+    let value = selector(rt, image, "value");
+    let attach = category(rt, alloc, tag, value);
     // of two entries of one list the earlier wins
     let wanted = [
         (SIDE, tag, 1),
         (metaclass(SIDE), value, 2),
         (SIDE, value, 1),
     ];
-    are_found_after(&rt, rt.alloc(), &image, attach, &wanted);
+    are_found_after(rt, alloc, image, attach, &wanted);
 }
 
-#[test]
-fn lookups_after_a_change(rt: HostRuntime) {
-    let image = image(&rt, rt.alloc());
-    let sel = selector(&rt, &image, "value");
-    let name = selector(&rt, &image, "name");
+fn a_set_and_an_exchange_are_found(rt: &impl Abort, alloc: Global, image: &Image) {
+    let sel = selector(rt, image, "value");
+    let name = selector(rt, image, "name");
     let set = Change::SetImp {
         class: metaclass(GRAND),
         sel,
         imp: ImpRef::of(12),
     };
-    are_found_after(&rt, rt.alloc(), &image, set, &[(SIDE, sel, 12)]);
+    are_found_after(rt, alloc, image, set, &[(SIDE, sel, 12)]);
     let exchange = Change::Exchange {
         class: CHILD,
         sel,
@@ -335,7 +330,14 @@ fn lookups_after_a_change(rt: HostRuntime) {
         other_sel: name,
     };
     let wanted = [(ROOT, sel, 11), (GRAND, name, 1), (SIDE, name, 2)];
-    are_found_after(&rt, rt.alloc(), &image, exchange, &wanted);
+    are_found_after(rt, alloc, image, exchange, &wanted);
+}
+
+#[test]
+fn lookups_after_a_change(rt: HostRuntime) {
+    let image = image(&rt, rt.alloc());
+    an_attachment_is_found(&rt, rt.alloc(), &image);
+    a_set_and_an_exchange_are_found(&rt, rt.alloc(), &image);
 }
 
 // The change is made again and again.

@@ -1,8 +1,8 @@
 use Rattle.std.proofs.Common.{◌≡◌, ◌<◌}
 use Rattle.msg_names.specs.declared.value.ClassRef.{ClassRef}
 use Rattle.msg_cache.specs.Ours.{IsOf}
-use Rattle.msg_cache_tests.specs.Together.{HasNoArray, history}
-use Rattle.msg_cache_tests.proofs.desk.flush_all.Given as goal
+use Rattle.msg_dispatch_tests.specs.Together.{HasNoArray, history}
+use Rattle.msg_dispatch_tests.proofs.desk.flush_all.Given as goal
 
 abbrev pub invariant-loop-class : goal.invariant-loop-class
 invariant-loop-class l =

@@ -1,13 +1,13 @@
 //! Worked rows of caches.
 
-use crate::desk::{CHILD, Desk, Reader, image, open, selector};
+use crate::desk::{Desk, Reader, open};
+use crate::images::{CHILD, PAIR, image, selector};
 use crate::same::{same, same_at};
 use msg_cache::{Arena, ArenaFault, Config, Filled, Report};
 use msg_image::{Change, Image};
 use msg_names::ImpRef;
 use std::alloc::Global;
 use std::process::Abort;
-use std::test::Fail;
 
 // Why an arena is refused, if it is.
 fn refusal(alloc: Global, image: &Image, senders: u32, arrays: [u16; 9]) -> Option<ArenaFault> {
@@ -15,8 +15,8 @@ fn refusal(alloc: Global, image: &Image, senders: u32, arrays: [u16; 9]) -> Opti
 }
 
 #[test]
-fn an_arena_is_refused(rt: HostRuntime) -> Result<(), Fail> {
-    let image = image(rt.alloc())?;
+fn an_arena_is_refused(rt: HostRuntime) {
+    let image = image(&rt, rt.alloc(), PAIR);
     let many = [0, 0, 0, 0, 0, 0, 0, 0, 65_535];
     // 2 classes, 1 sender and the count of changes leave room for 1,048,570 bucket words.
     for (senders, arrays, fault) in [
@@ -38,7 +38,6 @@ fn an_arena_is_refused(rt: HostRuntime) -> Result<(), Fail> {
             fault,
         );
     }
-    Ok(())
 }
 
 // Neither a second sender nor a second turn is there.
@@ -49,24 +48,18 @@ fn has_no_more(rt: &impl Abort, desk: &mut Desk) {
 }
 
 #[test]
-fn a_number_is_given_once(rt: HostRuntime) -> Result<(), Fail> {
-    let mut desk = open(rt.alloc(), 1, [0; 9])?;
-    let reader = desk.give_out(0)?;
+fn a_number_is_given_once(rt: HostRuntime) {
+    let mut desk = open(&rt, rt.alloc(), 1, [0; 9]);
+    let reader = desk.give_out(&rt, 0);
     same(&rt, reader.number(), 0);
     same(&rt, reader.loads(), 0);
     has_no_more(&rt, &mut desk);
-    Ok(())
 }
 
 // Caches a selector in Child, where it is then found with this implementation after so many loads.
-fn caches(
-    rt: &impl Abort,
-    desk: &mut Desk,
-    reader: &mut Reader,
-    entry: (u32, Filled, u32, u32),
-) -> Result<(), Fail> {
+fn caches(rt: &impl Abort, desk: &mut Desk, reader: &mut Reader, entry: (u32, Filled, u32, u32)) {
     let (number, filled, found, loads) = entry;
-    let sel = selector(number)?;
+    let sel = selector(rt, number);
     same_at(rt, &number, desk.fill(CHILD, sel), filled);
     same_at(
         rt,
@@ -75,24 +68,22 @@ fn caches(
         Some(ImpRef::of(found)),
     );
     same_at(rt, &number, reader.loads(), loads);
-    Ok(())
 }
 
 // Makes the first change, which the sender then sees.
-fn changes(rt: &impl Abort, desk: &mut Desk, reader: &mut Reader) -> Result<(), Fail> {
+fn changes(rt: &impl Abort, desk: &mut Desk, reader: &mut Reader) {
     let change = Change::Add {
         class: CHILD,
-        sel: selector(2)?,
+        sel: selector(rt, 2),
         imp: ImpRef::of(1),
     };
     same(rt, reader.published(), 0);
-    same(rt, desk.change(&change).ok(), Some(1));
+    same(rt, desk.change(rt, &change), 1);
     same(rt, reader.published(), 1);
-    Ok(())
 }
 
 // Caches Child's selectors: the larger array has the last entry alone.
-fn fills(rt: &impl Abort, desk: &mut Desk, reader: &mut Reader) -> Result<(), Fail> {
+fn fills(rt: &impl Abort, desk: &mut Desk, reader: &mut Reader) {
     for entry in [
         (2, Filled::Grown, 1, 1),
         (2, Filled::Present, 1, 1),
@@ -100,24 +91,23 @@ fn fills(rt: &impl Abort, desk: &mut Desk, reader: &mut Reader) -> Result<(), Fa
         (3, Filled::Used, 0, 2),
         (4, Filled::Grown, 0, 1),
     ] {
-        caches(rt, desk, reader, entry)?;
+        caches(rt, desk, reader, entry);
     }
-    assert!(rt; reader.find(CHILD, selector(2)?).is_none());
+    same(rt, reader.find(CHILD, selector(rt, 2)), None);
     same(rt, reader.loads(), 1);
-    Ok(())
 }
 
 // Takes Child's cache away, makes a change, and fills it again.
-fn flushes(rt: &impl Abort, desk: &mut Desk, reader: &mut Reader) -> Result<(), Fail> {
+fn flushes(rt: &impl Abort, desk: &mut Desk, reader: &mut Reader) {
     assert!(rt; desk.flush(CHILD));
     assert!(rt; !desk.flush(CHILD));
-    changes(rt, desk, reader)?;
-    caches(rt, desk, reader, (2, Filled::Grown, 1, 1))
+    changes(rt, desk, reader);
+    caches(rt, desk, reader, (2, Filled::Grown, 1, 1));
 }
 
-fn fills_and_flushes(rt: &impl Abort, desk: &mut Desk, reader: &mut Reader) -> Result<(), Fail> {
-    fills(rt, desk, reader)?;
-    flushes(rt, desk, reader)?;
+fn fills_and_flushes(rt: &impl Abort, desk: &mut Desk, reader: &mut Reader) {
+    fills(rt, desk, reader);
+    flushes(rt, desk, reader);
     let report = Report {
         fills: 5,
         growths: 3,
@@ -126,66 +116,52 @@ fn fills_and_flushes(rt: &impl Abort, desk: &mut Desk, reader: &mut Reader) -> R
         given_again: 1,
     };
     same(rt, desk.report(), report);
-    Ok(())
 }
 
 #[test]
-fn a_cache_is_filled_flushed_and_filled(rt: HostRuntime) -> Result<(), Fail> {
-    let mut desk = open(rt.alloc(), 1, [2, 1, 0, 0, 0, 0, 0, 0, 0])?;
-    let mut reader = desk.give_out(0)?;
-    fills_and_flushes(&rt, &mut desk, &mut reader)
+fn a_cache_is_filled_flushed_and_filled(rt: HostRuntime) {
+    let mut desk = open(&rt, rt.alloc(), 1, [2, 1, 0, 0, 0, 0, 0, 0, 0]);
+    let mut reader = desk.give_out(&rt, 0);
+    fills_and_flushes(&rt, &mut desk, &mut reader);
 }
 
 #[test]
-fn a_number_comes_back(rt: HostRuntime) -> Result<(), Fail> {
-    let mut desk = open(rt.alloc(), 2, [0; 9])?;
-    same(&rt, desk.find_once(1, CHILD, selector(2)?), Some(None));
+fn a_number_comes_back(rt: HostRuntime) {
+    let mut desk = open(&rt, rt.alloc(), 2, [0; 9]);
+    let found = desk.find_once(&rt, 1, CHILD, selector(&rt, 2));
+    same(&rt, found, None);
     assert!(rt; desk.gives_out(1));
     assert!(rt; !desk.gives_out(1));
-    Ok(())
 }
 
 // How often no array is free for one of 1,534 selectors.
-fn refusals(desk: &mut Desk) -> Result<u32, Fail> {
+fn refusals(rt: &impl Abort, desk: &mut Desk) -> u32 {
     let mut refused = 0u32;
     for number in 1..1535 {
-        if desk.fill(CHILD, selector(number)?) == Filled::NoArray {
+        if desk.fill(CHILD, selector(rt, number)) == Filled::NoArray {
             refused = refused.saturating_add(1);
         }
     }
-    Ok(refused)
+    refused
 }
 
 // Fills Child's cache, where so many entries find no array, and the last one is cached if there is none of these.
-fn grows(
-    rt: &impl Abort,
-    desk: &mut Desk,
-    reader: &mut Reader,
-    none: u32,
-    report: Report,
-) -> Result<(), Fail> {
-    same(rt, refusals(desk)?, none);
+fn grows(rt: &impl Abort, desk: &mut Desk, reader: &mut Reader, none: u32, report: Report) {
+    same(rt, refusals(rt, desk), none);
     same(rt, desk.report(), report);
-    let last = reader.find(CHILD, selector(1534)?);
+    let last = reader.find(CHILD, selector(rt, 1534));
     same(rt, last.is_some(), none == 0);
-    Ok(())
 }
 
 // The same where so many of the largest arrays are there. An array is cleared only when it is free, so nothing that was retired is given again.
-fn grows_to(
-    rt: &impl Abort,
-    alloc: Global,
-    largest: u16,
-    none: u32,
-    report: Report,
-) -> Result<(), Fail> {
-    let mut desk = open(alloc, 64, [1, 1, 1, 1, 1, 1, 1, 1, largest])?;
-    let mut reader = desk.give_out(63)?;
-    grows(rt, &mut desk, &mut reader, none, report)
+fn grows_to(rt: &impl Abort, alloc: Global, largest: u16, none: u32, report: Report) {
+    let mut desk = open(rt, alloc, 64, [1, 1, 1, 1, 1, 1, 1, 1, largest]);
+    let mut reader = desk.give_out(rt, 63);
+    grows(rt, &mut desk, &mut reader, none, report);
 }
 
 #[test]
-fn a_cache_grows_to_the_largest(rt: HostRuntime) -> Result<(), Fail> {
+fn a_cache_grows_to_the_largest(rt: HostRuntime) {
     for (largest, none, fills, growths, retired) in [(1, 1, 1533, 9, 8), (2, 0, 1534, 10, 9)] {
         let report = Report {
             fills,
@@ -194,7 +170,6 @@ fn a_cache_grows_to_the_largest(rt: HostRuntime) -> Result<(), Fail> {
             retired,
             given_again: 0,
         };
-        grows_to(&rt, rt.alloc(), largest, none, report)?;
+        grows_to(&rt, rt.alloc(), largest, none, report);
     }
-    Ok(())
 }

@@ -1,8 +1,8 @@
 //! Hundreds of thousands of sends beside thousands of changes. Each line is checked against what the method lists answer, and each worker's points against those before.
 
-use crate::documents::{Way, ran};
 use crate::edits::{CLASSES, Edit, SELECTORS, item};
 use crate::points::{FACTOR, Points, Sent, send_of};
+use crate::runs::{Way, ran};
 use crate::same::{same, same_at};
 use msg_runner::Gate;
 use std::alloc::Global;

@@ -1,63 +1,46 @@
 //! An arena's keeper beside class tables that know what may be cached, and senders of the arena.
 
-ghost use Rattle.std.specs.Prelude.{◌≡◌, ◌<◌, IfOk};
+ghost use Rattle.std.specs.Prelude.{◌≡◌, ◌<◌};
 ghost use Rattle.std.specs.Arc.{arc_value};
 ghost use Rattle.msg_names.specs.declared.value.ClassRef.{ClassRef};
 ghost use Rattle.msg_image.specs.Parts.{class_total};
 ghost use Rattle.msg_cache.specs.Ours.{IsOf};
 ghost use Rattle.msg_cache.specs.Views.{classes, IsSenderOf};
-ghost use Rattle.msg_cache_tests.specs.Together.{Begin, HasNoArray, history};
+ghost use Rattle.msg_dispatch_tests.specs.Together.{Begin, HasNoArray, history};
 
-use msg_cache::{Arena, Config, Filled, Keeper, Pause, Prober, Report, Turn};
-use msg_image::{Change, Image, read_document};
+use crate::images::{self, PAIR, image};
+use msg_cache::{Arena, Filled, Keeper, Pause, Prober, Report, Turn};
+use msg_image::{Change, Image};
 use msg_names::{ClassRef, ImpRef, Selector};
-use msg_tables::{ChangeFault, Tables};
+use msg_tables::Tables;
 use std::alloc::Global;
 use std::marker::Model;
+use std::process::Abort;
 use std::sync::Arc;
-use std::test::Fail;
 
-pub(crate) const ROOT: ClassRef = ClassRef {
-    class: 0,
-    meta: false,
-};
-
-pub(crate) const CHILD: ClassRef = ClassRef {
-    class: 1,
-    meta: false,
-};
-
-// Child below Root, whose method `value` is selector 2 and has implementation 1.
-const DOCUMENT: &[u8] =
-    br#"{"version":1,"classes":[{"name":"Root","super":null,"methods":[["value","r_value"]],"class_methods":[]},{"name":"Child","super":"Root","methods":[],"class_methods":[]}],"categories":[],"objects":[{"name":"c","class":"Child"}],"imps":[{"name":"r_value","class":"Root","meta":false,"args":0,"body":7}],"items":[{"send":[["obj","c"],"value"]}]}"#;
-
-pub(crate) fn selector(number: u32) -> Result<Selector, Fail> {
-    Ok(Selector::of(number).ok_or("0")?)
-}
-
-/// The image of two classes. What a test owns lies in a box, since each way out of the test drops it by one call there.
-pub(crate) fn image(alloc: Global) -> Result<Box<Image>, Fail> {
-    Ok(Box::new(alloc, read_document(alloc, DOCUMENT)?.image)?)
-}
-
-/// An arena of so many senders and arrays, with its keeper beside tables.
-pub(crate) fn open(alloc: Global, senders: u32, arrays: [u16; 9]) -> Result<Box<Desk>, Fail> {
-    let image = image(alloc)?;
-    if image.class_count() != 2 {
-        return Err("not two classes".into());
-    }
-    let (arena, keeper, tables) = opened(alloc, &image, Config { senders, arrays })?;
-    Desk::at(alloc, arena, keeper, tables)
+/// An arena of so many senders and arrays for the image of two classes, with its keeper beside tables.
+pub(crate) fn open(rt: &impl Abort, alloc: Global, senders: u32, arrays: [u16; 9]) -> Box<Desk> {
+    let image = image(rt, alloc, PAIR);
+    assert_eq!(rt; image.class_count(), 2);
+    let (arena, keeper, tables) = opened(rt, alloc, &image, senders, arrays);
+    Desk::at(rt, alloc, arena, keeper, tables)
 }
 
 // An arena of an image of two classes, its keeper, and tables.
-fn opened(alloc: Global, image: &Image, config: Config) -> Result<(Arena, Keeper, Tables), Fail>
+#[tactic(auto, using(crate::proofs::BeginLemmas::begins))]
+fn opened(
+    rt: &impl Abort,
+    alloc: Global,
+    image: &Image,
+    senders: u32,
+    arrays: [u16; 9],
+) -> (Arena, Keeper, Tables)
     requires { class_total image.now ≡ 2 }
-    ensures { IfOk result (λ r. Begin r.0 r.1 r.2) }
+    ensures { Begin result.0 result.1 result.2 }
 {
-    let tables = Tables::open(alloc, image)?;
-    let (arena, keeper) = Arena::open(alloc, image, config)?;
-    Ok((arena, keeper, tables))
+    let tables = Tables::open(alloc, image).expect(rt, "memory");
+    let (arena, keeper) = images::opened(rt, alloc, image, senders, arrays);
+    (arena, keeper, tables)
 }
 
 // Takes the live array of each class reference away.
@@ -108,7 +91,7 @@ impl Model for Desk {
 
     ghost coded = { Prim.hlevel (codes, coded_expression, table_id_coded) };
 
-    ghost use Rattle.msg_cache_tests.specs.Together.{IsDesk};
+    ghost use Rattle.msg_dispatch_tests.specs.Together.{IsDesk};
 
     ghost view = { λ d. arc_value d.arena };
 
@@ -117,22 +100,23 @@ impl Model for Desk {
 
 impl Desk {
     fn at(
+        rt: &impl Abort,
         alloc: Global,
         arena: Arena,
         mut keeper: Keeper,
         tables: Tables,
-    ) -> Result<Box<Desk>, Fail>
+    ) -> Box<Desk>
         requires { Begin arena keeper tables }
     {
-        let turn = keeper.turn(&arena).ok_or("no turn")?;
-        let arena = Arc::new(alloc, arena)?;
+        let turn = keeper.turn(&arena).expect(rt, "the turn");
+        let arena = Arc::new(alloc, arena).expect(rt, "memory");
         let desk = Desk {
             arena,
             keeper,
             tables,
             turn,
         };
-        Ok(Box::new(alloc, desk)?)
+        Box::new(alloc, desk).expect(rt, "memory")
     }
 
     /// Whether there is a second turn.
@@ -140,15 +124,15 @@ impl Desk {
         self.keeper.turn(&self.arena).is_some()
     }
 
-    pub(crate) fn give_out(&mut self, number: u32) -> Result<Reader, Fail> {
+    pub(crate) fn give_out(&mut self, rt: &impl Abort, number: u32) -> Reader {
         let prober = self
             .keeper
             .give_out(&self.arena, number)
-            .ok_or("no sender")?;
-        Ok(Reader {
-            arena: Arc::try_clone(&self.arena)?,
+            .expect(rt, "a sender");
+        Reader {
+            arena: Arc::try_clone(&self.arena).expect(rt, "an owner more"),
             prober,
-        })
+        }
     }
 
     /// Whether a sender of this number, which is then dropped, is given out.
@@ -159,16 +143,20 @@ impl Desk {
     /// What a sender of this number finds, which is then taken in.
     pub(crate) fn find_once(
         &mut self,
+        rt: &impl Abort,
         number: u32,
         class: ClassRef,
         sel: Selector,
-    ) -> Option<Option<ImpRef>>
+    ) -> Option<ImpRef>
         requires { class.class < 2 }
     {
-        let mut prober = self.keeper.give_out(&self.arena, number)?;
+        let mut prober = self
+            .keeper
+            .give_out(&self.arena, number)
+            .expect(rt, "a sender");
         let found = prober.probe(&self.arena, class, sel);
         self.keeper.take_in(&self.arena, prober);
-        Some(found)
+        found
     }
 
     /// Caches what the tables find.
@@ -191,11 +179,11 @@ impl Desk {
     }
 
     /// Makes a change, after all caches were flushed.
-    pub(crate) fn change(&mut self, change: &Change) -> Result<u64, ChangeFault> {
+    pub(crate) fn change(&mut self, rt: &impl Abort, change: &Change) -> u64 {
         self.keeper.face(&self.arena, &mut self.turn);
-        self.tables.apply(change)?;
+        self.tables.apply(change).expect(rt, "no fault");
         flush_all(&mut self.keeper, &self.arena);
-        Ok(self.keeper.commit(&self.arena, &mut self.turn, change))
+        self.keeper.commit(&self.arena, &mut self.turn, change)
     }
 
     pub(crate) fn report(&self) -> Report {

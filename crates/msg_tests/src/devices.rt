@@ -2,7 +2,7 @@
 
 ghost use Rattle.std.specs.Prelude.{◌≡◌, false};
 
-use crate::documents::{Way, document};
+use crate::runs::{Way, document};
 use crate::same::{same, same_at};
 use msg_runner::{Failed, FromReader, OpenGate, RunFault, Sink, Source, ToWriter, run, run_beside};
 use std::alloc::Global;

@@ -1,7 +1,7 @@
 //! What a gate is told, and in which order.
 
-use crate::documents::{Way, document, ran, wrote};
 use crate::holding::Moment;
+use crate::runs::{Way, document, ran, wrote};
 use crate::same::{same, same_at};
 use msg_runner::Gate;
 use std::alloc::Global;

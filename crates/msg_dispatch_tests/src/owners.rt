@@ -1,12 +1,12 @@
 //! An arena that threads share by an `Arc`, while the keeper works.
 
-use crate::desk::{CHILD, Desk, Reader, open, selector};
+use crate::desk::{Desk, Reader, open};
+use crate::images::{CHILD, selector};
 use crate::same::same;
 use msg_cache::Filled;
 use msg_names::{ImpRef, Selector};
 use std::process::Abort;
 use std::sync::Wait;
-use std::test::Fail;
 use std::thread::{self, Threads};
 
 // Asks ten thousand times, and says whether each answer was implementation 1 or none.
@@ -48,15 +48,15 @@ fn ask_beside_work<R: Threads + Wait + Abort>(
     one: Reader,
     other: Reader,
     sel: Selector,
-) -> Result<(Reader, Reader), Fail> {
-    let one = thread::spawn(rt, move || ask(one, sel))?;
-    let other = thread::spawn(rt, move || ask(other, sel))?;
+) -> (Reader, Reader) {
+    let one = thread::spawn(rt, move || ask(one, sel)).expect(rt, "a thread");
+    let other = thread::spawn(rt, move || ask(other, sel)).expect(rt, "a thread");
     works(rt, desk, sel);
     let (one, is_right) = one.join(rt);
     assert!(rt; is_right);
     let (other, is_right) = other.join(rt);
     assert!(rt; is_right);
-    Ok((one, other))
+    (one, other)
 }
 
 // Both are out, so one more collection frees every array.
@@ -75,13 +75,12 @@ fn find_again(
 }
 
 #[test]
-fn threads_own_an_arena(rt: HostRuntime) -> Result<(), Fail> {
-    let value = selector(2)?;
-    let mut desk = open(rt.alloc(), 2, [2, 0, 0, 0, 0, 0, 0, 0, 0])?;
+fn threads_own_an_arena(rt: HostRuntime) {
+    let value = selector(&rt, 2);
+    let mut desk = open(&rt, rt.alloc(), 2, [2, 0, 0, 0, 0, 0, 0, 0, 0]);
     same(&rt, desk.fill(CHILD, value), Filled::Grown);
-    let one = desk.give_out(0)?;
-    let other = desk.give_out(1)?;
-    let (mut one, mut other) = ask_beside_work(&rt, &mut desk, one, other, value)?;
+    let one = desk.give_out(&rt, 0);
+    let other = desk.give_out(&rt, 1);
+    let (mut one, mut other) = ask_beside_work(&rt, &mut desk, one, other, value);
     find_again(&rt, &mut desk, &mut one, &mut other, value);
-    Ok(())
 }
