@@ -240,29 +240,29 @@ module _ (above : Bool) (classes objects : List Text) (args : ℕ) where
 
   -- ---- what the walk over a body finds
 
-  module _ (f : Found) (body : Expression) where
-    pub found-class : (fold (with_part above classes objects args) f (parts_at MAX_DEPTH body)).faults.unknown_class ≡ (f.faults.unknown_class || list_any (is_unknown classes) (classes_in body))
+  module _ (l : ℕ) (f : Found) (body : Expression) where
+    pub found-class : (fold (with_part above classes objects args) f (parts_at l body)).faults.unknown_class ≡ (f.faults.unknown_class || list_any (is_unknown classes) (classes_in body))
     found-class =
-        by_parts (λ b. b.unknown_class) (λ e. list_any (λ c. list_any (is_unknown classes) (own_class c)) (own_constants e)) own_unknown_class MAX_DEPTH f body
+        by_parts (λ b. b.unknown_class) (λ e. list_any (λ c. list_any (is_unknown classes) (own_class c)) (own_constants e)) own_unknown_class l f body
         ∙ ap (λ b. f.faults.unknown_class || b) (sym (list_any-flat_map (is_unknown classes) own_class (flat_map own_constants (parts body)) ∙ list_any-flat_map (λ c. list_any (is_unknown classes) (own_class c)) own_constants (parts body)))
 
-    pub found-object : (fold (with_part above classes objects args) f (parts_at MAX_DEPTH body)).faults.unknown_object ≡ (f.faults.unknown_object || list_any (is_unknown objects) (objects_in body))
+    pub found-object : (fold (with_part above classes objects args) f (parts_at l body)).faults.unknown_object ≡ (f.faults.unknown_object || list_any (is_unknown objects) (objects_in body))
     found-object =
-        by_parts (λ b. b.unknown_object) (λ e. list_any (λ c. list_any (is_unknown objects) (own_object c)) (own_constants e)) own_unknown_object MAX_DEPTH f body
+        by_parts (λ b. b.unknown_object) (λ e. list_any (λ c. list_any (is_unknown objects) (own_object c)) (own_constants e)) own_unknown_object l f body
         ∙ ap (λ b. f.faults.unknown_object || b) (sym (list_any-flat_map (is_unknown objects) own_object (flat_map own_constants (parts body)) ∙ list_any-flat_map (λ c. list_any (is_unknown objects) (own_object c)) own_constants (parts body)))
 
-    pub found-count : (fold (with_part above classes objects args) f (parts_at MAX_DEPTH body)).faults.argument_count ≡ (f.faults.argument_count || list_any is_miscounted_send (sends_in body))
+    pub found-count : (fold (with_part above classes objects args) f (parts_at l body)).faults.argument_count ≡ (f.faults.argument_count || list_any is_miscounted_send (sends_in body))
     found-count =
-        by_parts (λ b. b.argument_count) (λ e. list_any is_miscounted_send (own_sends e)) own_argument_count MAX_DEPTH f body
+        by_parts (λ b. b.argument_count) (λ e. list_any is_miscounted_send (own_sends e)) own_argument_count l f body
         ∙ ap (λ b. f.faults.argument_count || b) (sym (list_any-flat_map is_miscounted_send own_sends (parts body)))
 
-    pub found-index : (fold (with_part above classes objects args) f (parts_at MAX_DEPTH body)).faults.argument_index ≡ (f.faults.argument_index || list_any (nat_le args) (indices_in body))
+    pub found-index : (fold (with_part above classes objects args) f (parts_at l body)).faults.argument_index ≡ (f.faults.argument_index || list_any (nat_le args) (indices_in body))
     found-index =
-        by_parts (λ b. b.argument_index) (λ e. list_any (nat_le args) (own_indices e)) own_argument_index MAX_DEPTH f body
+        by_parts (λ b. b.argument_index) (λ e. list_any (nat_le args) (own_indices e)) own_argument_index l f body
         ∙ ap (λ b. f.faults.argument_index || b) (sym (list_any-flat_map (nat_le args) own_indices (parts body)))
 
-    pub found-above : (fold (with_part above classes objects args) f (parts_at MAX_DEPTH body)).faults.sends_above ≡ (f.faults.sends_above || (above && list_any is_super_send (parts body)))
-    found-above = by_parts (λ b. b.sends_above) (λ e. is_super_send e && above) own_above MAX_DEPTH f body ∙ ap (λ b. f.faults.sends_above || b) (gate above (parts body))
+    pub found-above : (fold (with_part above classes objects args) f (parts_at l body)).faults.sends_above ≡ (f.faults.sends_above || (above && list_any is_super_send (parts body)))
+    found-above = by_parts (λ b. b.sends_above) (λ e. is_super_send e && above) own_above l f body ∙ ap (λ b. f.faults.sends_above || b) (gate above (parts body))
       where
         never : (ps : List Expression) → list_any (λ _. false) ps ≡ false
         never [] = refl
@@ -280,10 +280,10 @@ module _ (above : Bool) (classes objects : List Text) (args : ℕ) where
         gate true ps = λ i. list_any (λ e. and-true (is_super_send e) i) ps
         gate false ps = (λ i. list_any (λ e. and-false (is_super_send e) i) ps) ∙ never ps
 
-    pub found-deep : f.room ≡ MAX_EXPRESSIONS → (fold (with_part above classes objects args) f (parts_at MAX_DEPTH body)).faults.too_deep ≡ (f.faults.too_deep || is_too_deep body)
-    found-deep room =
-        let count : length (parts_at MAX_DEPTH body) ≡ length (parts body) = sym (length-map (parts_at MAX_DEPTH body) (λ p. p.1)) ∙ ap length (parts_at-parts MAX_DEPTH body) in
-        full f (parts_at MAX_DEPTH body) ∙ (λ i. f.faults.too_deep || (levels MAX_DEPTH body i || nat_lt (room i) (count i)))
+  pub found-deep : (f : Found) (body : Expression) → f.room ≡ MAX_EXPRESSIONS → (fold (with_part above classes objects args) f (parts_at MAX_DEPTH body)).faults.too_deep ≡ (f.faults.too_deep || is_too_deep body)
+  found-deep f body room =
+      let count : length (parts_at MAX_DEPTH body) ≡ length (parts body) = sym (length-map (parts_at MAX_DEPTH body) (λ p. p.1)) ∙ ap length (parts_at-parts MAX_DEPTH body) in
+      full f (parts_at MAX_DEPTH body) ∙ (λ i. f.faults.too_deep || (levels MAX_DEPTH body i || nat_lt (room i) (count i)))
 
 -- a super send looks above a root class in a method of such a class
 pub above_root : (r m a s : Bool) → r ≡ (m && a) → (r && s) ≡ (m && a && s)

@@ -16,7 +16,7 @@ ghost use Rattle.msg_image.specs.Sound.{IsSoundItem};
 
 use crate::change::Item;
 use crate::image::Image;
-use crate::resolve::{both, each};
+use crate::resolve::each;
 use msg_form::{DocumentFault, Form, FormNames, MAX_ITEMS};
 use msg_json::{Bump, JsonFault, Scratch, Tree};
 use std::alloc::{AllocError, Global};
@@ -57,8 +57,8 @@ fn numbered(alloc: Global, form: &Form, names: &FormNames) -> Result<Document, A
     ensures sound { IfOk result (λ d. All (IsSoundItem d.image) (map item_parts d.items.items)) }
     ensures few { IfOk result (λ d. length d.items.items ≤ MAX_ITEMS) }
 {
-    let items = each(alloc, names, &form.items);
-    let (items, image) = both(items, Image::of(alloc, form, names))?;
+    let items = each(alloc, names, &form.items)?;
+    let image = Image::of(alloc, form, names)?;
     Ok(Document { image, items })
 }
 
@@ -86,9 +86,7 @@ pub fn judge_form(alloc: Global, form: &Form) -> Result<Document, DocumentFault>
     ensures few { IfOk result (λ d. length d.items.items ≤ MAX_ITEMS) }
 {
     let names = FormNames::of(alloc, form)?;
-    let judged = by_names(alloc, form, &names);
-    drop(names);
-    judged
+    by_names(alloc, form, &names)
 }
 
 // Room for the tree of most texts, taken at once: then the list that grows last grows in place. Where so much can't be had, the arena begins small.
@@ -128,9 +126,7 @@ pub fn read_document(alloc: Global, bytes: &[u8]) -> Result<Document, DocumentFa
     }
     let mut scratch = Scratch::new(alloc);
     let form = spelled(alloc, bytes, &mut scratch)?;
-    let judged = judge_form(alloc, &form);
-    drop(form);
-    judged
+    judge_form(alloc, &form)
 }
 
 /// Bytes have one answer.

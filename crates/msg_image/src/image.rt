@@ -147,10 +147,9 @@ impl Image {
         requires names { AreNamesOf names.now (form_view form.now) }
         ensures { IfOk result (λ i. i ≡ image_of (form_view form.now)) }
     {
-        let classes = classes_of(alloc, form, names);
-        let members = members_of(alloc, form, names);
-        let selectors = selector_names(alloc, names.selectors.as_slice());
-        let (classes, (members, selectors)) = both(classes, both(members, selectors))?;
+        let classes = classes_of(alloc, form, names)?;
+        let members = members_of(alloc, form, names)?;
+        let selectors = selector_names(alloc, names.selectors.as_slice())?;
         Ok(Image {
             names: selectors,
             classes: classes.listed,

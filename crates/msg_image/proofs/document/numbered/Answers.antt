@@ -6,10 +6,10 @@ use Rattle.msg_image.proofs.ImageLemmas.{numbers_are, items_are, document_is, so
 use Rattle.msg_image.proofs.document.numbered.Goals as goal
 
 pub returns-clause-document : goal.returns-clause-document
-returns-clause-document c = document_is c.args.form.now c.in_ok-items.image (map item_parts c.in_ok-items.items.items) (rw c.in_ok-items.ensures.1 at c.of.ensures) (items_are (numbers_by c.args.names.now) c.args.form.now c.in_ok-items.items.items c.deref.result.now (numbers_are (form_view c.args.form.now) c.args.names.now c.requires.fault c.requires.names) c.deref.ensures.value (rw c.in_ok-items.ensures.0 at c.each-items.ensures))
+returns-clause-document c = document_is c.args.form.now c.in_ok-image.image (map item_parts c.in_ok-items.items.items) c.in_ok-image.ensures (items_are (numbers_by c.args.names.now) c.args.form.now c.in_ok-items.items.items c.deref.result.now (numbers_are (form_view c.args.form.now) c.args.names.now c.requires.fault c.requires.names) c.deref.ensures.value c.in_ok-items.ensures)
 
 pub returns-clause-sound : goal.returns-clause-sound
-returns-clause-sound c = sound_items c.args.form.now c.in_ok-items.image (map item_parts c.in_ok-items.items.items) c.requires.fault (rw c.in_ok-items.ensures.1 at c.of.ensures) (items_are (numbers_by c.args.names.now) c.args.form.now c.in_ok-items.items.items c.deref.result.now (numbers_are (form_view c.args.form.now) c.args.names.now c.requires.fault c.requires.names) c.deref.ensures.value (rw c.in_ok-items.ensures.0 at c.each-items.ensures))
+returns-clause-sound c = sound_items c.args.form.now c.in_ok-image.image (map item_parts c.in_ok-items.items.items) c.requires.fault c.in_ok-image.ensures (items_are (numbers_by c.args.names.now) c.args.form.now c.in_ok-items.items.items c.deref.result.now (numbers_are (form_view c.args.form.now) c.args.names.now c.requires.fault c.requires.names) c.deref.ensures.value c.in_ok-items.ensures)
 
 pub returns-clause-few : goal.returns-clause-few
-returns-clause-few c = few_items c.args.form.now c.in_ok-items.items.items c.deref.result.now (numbers_by c.args.names.now) c.requires.fault c.deref.ensures.value (rw c.in_ok-items.ensures.0 at c.each-items.ensures)
+returns-clause-few c = few_items c.args.form.now c.in_ok-items.items.items c.deref.result.now (numbers_by c.args.names.now) c.requires.fault c.deref.ensures.value c.in_ok-items.ensures
