@@ -5,6 +5,7 @@ ghost use Rattle.msg_names.specs.Number.{selector_number, imp_number};
 ghost use Rattle.msg_tables.specs.History.{BeginsWith, and_then, empty, lookup};
 ghost use Rattle.msg_tables.specs.Refusal.{refusal};
 ghost use Rattle.msg_tables.specs.declared.fault.ChangeFault.{ChangeFault};
+ghost use Rattle.msg_cache.specs.Counts.{AreCounts};
 ghost use Rattle.msg_cache.specs.Plays.{taken_in};
 ghost use Rattle.msg_cache.specs.Views.{classes, IsSenderOf};
 ghost use Rattle.msg_runtime.specs.Parts.{IsNew};
@@ -130,7 +131,8 @@ impl<N: ArenaName> Desk<N> {
     }
 
     pub(crate) fn report(&self) -> Report
-        ensures { result ≡ self.now.report }
+        ensures value { result ≡ self.now.report }
+        ensures counts { AreCounts result }
     {
         self.runtime.report()
     }

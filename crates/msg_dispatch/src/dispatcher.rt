@@ -5,6 +5,7 @@ ghost use Rattle.std.specs.Coded.{codes};
 ghost use Rattle.msg_image.specs.Coding.{coded_expression};
 ghost use Rattle.atomic_table.specs.Seated.{table_id_coded};
 ghost use Rattle.msg_tables.specs.History.{empty};
+ghost use Rattle.msg_cache.specs.Counts.{AreCounts};
 ghost use Rattle.msg_runtime.specs.Parts.{IsKeeperOf, keeper_history};
 
 use crate::changer::Changer;
@@ -95,8 +96,11 @@ impl<N: ArenaName> Dispatcher<N> {
 
     /// What was done to caches so far: the keeper's report.
     ///
-    /// No clause says what it is: until the lock is taken and once it is let go others may have counted more. Behind the lock it is the runtime's own.
-    pub fn report<R: Wait>(&self, rt: &R) -> Report {
+    /// The clause says only that its counts are in proportion: until the lock is taken and once it is let go others may have counted more. Behind the lock it is the
+    /// runtime's own.
+    pub fn report<R: Wait>(&self, rt: &R) -> Report
+        ensures { AreCounts result }
+    {
         self.desk.lock(rt).report()
     }
 }
