@@ -24,13 +24,14 @@
 #include <stdbool.h>
 #include <stddef.h>
 #include <stdint.h>
+#include <string.h>
 
 #ifdef __cplusplus
 extern "C" {
 #endif
 
 /* What a sender has noted of one lookup, and how many notes it keeps, in its handle: 48 KiB. */
-typedef struct { size_t slot; uint64_t count; uint32_t sel; uint32_t imp; } msg_note;
+typedef struct { uint32_t sel; uint32_t slot; uint64_t count; uint32_t imp; } msg_note;
 enum { MSG_NOTES = 2048 };
 
 typedef struct { void *at; bool open; } msg_runtime;
@@ -191,14 +192,24 @@ static inline uint32_t msg_open_arrays(msg_runtime *runtime, const msg_arrays *a
 #define MSG_TEST(what) ((void)0)
 #endif
 
+/* The slot and the selector of a lookup as one word, as they lie in a note. A host may keep msg_key(slot, 0) with each class, and add a selector's number to it. */
+static inline uint64_t msg_key(uint32_t slot, uint32_t sel) { return (uint64_t)slot << 32 | sel; }
+
 /* msg_recall without a call, for where each instruction counts: what the note at the one place of slot and selector says. Trusted: this code. With MSG_CHECK
  * each answer is compared with the proved one. */
-static inline uint32_t msg_recall_inline(const msg_sender *sender, size_t slot, uint32_t sel, uint64_t count)
+static inline uint32_t msg_recall_key(const msg_sender *sender, uint64_t key, uint64_t count)
 {
-    const msg_note *note = &sender->notes[((uint32_t)slot * 32 + sel) % MSG_NOTES];
-    bool is_of = note->sel == sel && note->slot == slot && note->count == count;
-    MSG_TEST((is_of ? note->imp : 0) == msg_recall(sender, slot, sel, count));
+    const msg_note *note = &sender->notes[(uint32_t)((key >> 27) + key) % MSG_NOTES]; /* slot * 32 + sel: no selector's number has more than 27 bits */
+    uint64_t noted;
+    memcpy(&noted, note, sizeof noted);
+    bool is_of = noted == key && note->count == count;
+    MSG_TEST((is_of ? note->imp : 0) == msg_recall(sender, key >> 32, (uint32_t)key, count));
     return is_of ? note->imp : 0;
+}
+
+static inline uint32_t msg_recall_inline(const msg_sender *sender, uint32_t slot, uint32_t sel, uint64_t count)
+{
+    return msg_recall_key(sender, msg_key(slot, sel), count);
 }
 
 /* objc_msg_lookup: the implementation's number, which is what a lookup finds at a point not before what the sender had seen. Trusted: this code, and the lock. */

@@ -35,14 +35,14 @@ IMP shim_find(struct record *record, uint32_t sel);
 
 static inline IMP shim_function(struct life *life, uint32_t imp) { return atomic_load_explicit(&life->functions[imp], memory_order_acquire); }
 
-/* Whether the thread's sender has noted a method, by all changes that were begun before; then it is written. No sender notes anything for slot 0, which all
+/* Whether the thread's sender has noted a method, by all changes that were begun before; then it is written. No sender notes anything for key 0, which all
  * classes have until they were initialized. */
 static inline bool shim_recall(Class class_, SEL sel, IMP *imp)
 {
     struct seat *seat = shim_seat;
     struct life *life = seat->life;
     uint64_t count = atomic_load_explicit(&life->count, memory_order_acquire);
-    uint32_t number = msg_recall_inline(&seat->sender, __atomic_load_n(&class_->slot, __ATOMIC_ACQUIRE), (uint32_t)sel->name.number, count);
+    uint32_t number = msg_recall_key(&seat->sender, __atomic_load_n(&class_->key, __ATOMIC_ACQUIRE) + sel->name.number, count);
     if (__builtin_expect(!number, 0)) return false;
     *imp = shim_function(life, number);
     return true;

@@ -43,8 +43,8 @@ static void initialize(Class class_)
     IMP imp = shim_look(class_->isa, sel);
     if (imp) imp((id)class_, sel);
     atomic_store(&class_->record->initialized, DONE);
-    __atomic_store_n(&class_->slot, 2 * class_->record->number, __ATOMIC_RELEASE);
-    __atomic_store_n(&class_->isa->slot, 2 * class_->record->number + 1, __ATOMIC_RELEASE);
+    __atomic_store_n(&class_->key, msg_key(2 * class_->record->number, 0), __ATOMIC_RELEASE);
+    __atomic_store_n(&class_->isa->key, msg_key(2 * class_->record->number + 1, 0), __ATOMIC_RELEASE);
 }
 
 static Class plain_class(Class class_) { return class_->record->meta ? shim_classes[class_->record->number] : class_; }

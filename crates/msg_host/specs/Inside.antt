@@ -1,6 +1,7 @@
 -- The fields of what handles hold.
-use Rattle.std.specs.Prelude.{◌≡◌, length, IfSome}
+use Rattle.std.specs.Prelude.{◌≡◌, ◌≤◌, length, IfSome}
 use Rattle.std.specs.Arc.{arc_value}
+use Rattle.msg_form.specs.declared.limits.TheConstants.{MAX_CLASSES}
 use Rattle.msg_cache.specs.Views.{IsSenderOf, classes}
 use Rattle.msg_host.specs.View.{RuntimeView, SenderView}
 use Rattle.msg_host.specs.declared.runtime.HostedRuntime.TheInside.{Inside as RuntimeInside}
@@ -26,5 +27,6 @@ pub record IsOfArena (s : SenderInside) : Type 0 where
   pub prober : IsSenderOf (arc_value s.arena) s.prober
   pub image : s.prober.sender.front.image ≡ (arc_value s.arena).key.image
   pub classes : s.classes ≡ classes (arc_value s.arena)
+  pub few_classes : s.classes ≤ MAX_CLASSES
   -- how many changes were seen, where it is known
   pub count : IfSome s.count (λ n. n ≡ length s.prober.sender.front.changes)

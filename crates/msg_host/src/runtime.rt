@@ -26,7 +26,7 @@ use msg_cache::{Arena, Report, Turn};
 use msg_form::DocumentFault;
 use msg_image::{Change, Document, Image, read_document};
 use msg_memory::Memory;
-use msg_memory::laws::a_longer_history_has_what_is_remembered;
+use msg_memory::laws::{a_longer_history_has_what_is_remembered, a_slot_of_few_classes_is_short};
 use msg_names::{ClassRef, ImpRef, Selector};
 use msg_rows::Rows;
 use msg_runtime::Runtime;
@@ -235,6 +235,7 @@ impl HostedRuntime {
         ensures noted { recalled memory.new (length self.old.history.changes) (slot_of class) (selector_number sel) ≡ imp_number result }
     {
         a_longer_history_has_what_is_remembered();
+        a_slot_of_few_classes_is_short();
         sender.count = None;
         let imp = self
             .runtime

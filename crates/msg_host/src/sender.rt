@@ -14,7 +14,10 @@ ghost use Rattle.msg_memory.specs.Remembered.{IsMemoryOf, recalled};
 
 use msg_cache::{Arena, Prober};
 use msg_memory::Memory;
-use msg_memory::laws::{a_history_no_longer_is_the_same, a_longer_history_has_what_is_remembered};
+use msg_memory::laws::{
+    a_history_no_longer_is_the_same, a_longer_history_has_what_is_remembered,
+    a_slot_of_few_classes_is_short,
+};
 use msg_names::{ClassRef, ImpRef, Selector};
 use msg_tables::laws::a_found_implementation_is_listed;
 use std::alloc::Global;
@@ -164,6 +167,7 @@ impl HostedSender {
     {
         a_longer_history_has_what_is_remembered();
         a_history_no_longer_is_the_same();
+        a_slot_of_few_classes_is_short();
         let _ = &self.arena;
         let before = self.seen();
         if let Some(imp) = self.recall_at(memory, before, class, sel) {

@@ -1,9 +1,9 @@
 -- What is remembered stays right where the history grows.
-use Rattle.std.proofs.Common.{◌≡◌, ◌≢◌, ◌<◌, ◌≤◌, ℕ, List, [], ◌∷◌, ◌++◌, length, get_or, refl, sym, ap, subst, ◌∙◌, arith, length-append, append-nil}
+use Rattle.std.proofs.Common.{◌≡◌, ◌≢◌, ◌<◌, ◌≤◌, ℕ, List, [], ◌∷◌, ◌++◌, ◌^◌, length, get_or, refl, sym, ap, subst, ◌∙◌, arith, length-append, append-nil}
 use Rattle.std.proofs.lemmas.List.{take-append-le, take_all}
 use Rattle.msg_image.specs.Parts.{ImageParts}
 use Rattle.msg_image.specs.declared.change.Change.{Change}
-use Rattle.msg_names.proofs.ClassRefLemmas.{slot_of-same}
+use Rattle.msg_names.proofs.ClassRefLemmas.{slot_of-same, slot_of-inside}
 use Rattle.msg_names.specs.ClassRef.{slot_of}
 use Rattle.msg_names.specs.declared.value.ClassRef.{ClassRef}
 use Rattle.msg_tables.specs.History.{History, BeginsWith, lookup}
@@ -79,3 +79,6 @@ memory_begins p h m b is = record { notes = λ k d inside. note-begins p h (get_
 
 pub site_begins : (p h : History) (s : Site) → BeginsWith p h → IsSiteOf h s → IsSiteOf p s
 site_begins p h s b is = record { note = note-begins p h s.note b is.note }
+
+pub short_slot : (c : ClassRef) → c.class < 2 ^ 31 → slot_of c < 2 ^ 32
+short_slot c few = slot_of-inside c (2 ^ 31) (2 ^ 32) refl few

@@ -39,7 +39,7 @@ abbrev pub place_of : ℕ → ℕ → ℕ
 place_of slot sel = (slot % 64 * 32 + sel % 2048) % 2048
 
 abbrev pub blank : Noted
-blank = record { slot = 0; count = 0; sel = 0; imp = 0 }
+blank = record { sel = 0; slot = 0; count = 0; imp = 0 }
 
 -- the implementation's number that a note has of a lookup, or 0
 abbrev pub found_by : Noted → ℕ → ℕ → ℕ → ℕ

@@ -1,6 +1,6 @@
 //! What a sender remembers of its lookups. No thread but its own sees it, and no call here takes a lock or reads a shared word.
 
-ghost use Rattle.std.specs.Prelude.{◌≡◌, ◌<◌, ◌≤◌, ◌≢◌, ◌==◌, ◌&&◌, length, IfSome, IsNone};
+ghost use Rattle.std.specs.Prelude.{◌≡◌, ◌<◌, ◌≤◌, ◌≢◌, ◌==◌, ◌&&◌, ◌^◌, length, IfSome, IsNone};
 ghost use Rattle.msg_names.specs.Number.{selector_number, imp_number};
 ghost use Rattle.msg_tables.specs.History.{History, lookup};
 ghost use Rattle.msg_names.specs.ClassRef.{slot_of};
@@ -11,21 +11,22 @@ use msg_names::{ClassRef, ImpRef, Selector};
 // How many lookups a memory holds. 32 classes with 64 selectors each have a place for every one.
 const PLACES: usize = 2048;
 
-// What a lookup found in the slot of a class reference, and how many changes there were. Blank, it has selector number 0, which is no selector's.
+// What a lookup found in the slot of a class reference, and how many changes there were. Blank, it has selector number 0, which is no selector's. Selector and slot
+// lie beside each other, so that a host in C compares them as one word.
 #[repr(C)]
 #[derive(Clone, Copy)]
 struct Noted {
-    slot: usize,
-    count: u64,
     sel: u32,
+    slot: u32,
+    count: u64,
     imp: u32,
 }
 
 impl Noted {
     const BLANK: Noted = Noted {
+        sel: 0,
         slot: 0,
         count: 0,
-        sel: 0,
         imp: 0,
     };
 
@@ -34,7 +35,7 @@ impl Noted {
     fn is_of(&self, count: u64, slot: usize, sel: u32) -> bool
         ensures { result ≡ (self.now.sel == sel && self.now.slot == slot && self.now.count == count) }
     {
-        self.sel == sel && self.slot == slot && self.count == count
+        self.sel == sel && self.slot as usize == slot && self.count == count
     }
 
     // The implementation, where this is a note of that lookup.
@@ -61,23 +62,26 @@ impl Noted {
         ensures recalled { result ≢ 0 → (h : History) → IsNoteOf h self.now → IsRecalled h count slot sel result }
         ensures answer { result ≡ found_by self.now count slot sel }
     {
-        let is_of = (self.sel == sel) & (self.slot == slot) & (self.count == count);
+        let is_of = (self.sel == sel) & (self.slot as usize == slot) & (self.count == count);
         u32::from(is_of) * self.imp
     }
 
-    // A note of a lookup after so many changes.
+    // A note of a lookup after so many changes, or a blank one where the slot takes more than 32 bits.
     #[inline(always)]
     #[tactic(auto, using(crate::proofs::MemoryLemmas::recalled_now))]
     fn of(count: u64, class: ClassRef, sel: Selector, imp: ImpRef) -> Noted
-        ensures kept { found_by result count (slot_of class) (selector_number sel) ≡ imp_number imp }
+        ensures kept { slot_of class < 2 ^ 32 → found_by result count (slot_of class) (selector_number sel) ≡ imp_number imp }
         ensures note { (h : History) → count ≡ length h.changes → imp_number imp ≡ lookup h class (selector_number sel) → imp_number imp ≤ length h.image.imps
             → IsNoteOf h result }
     {
-        Noted {
-            slot: class.slot(),
-            count,
-            sel: sel.number(),
-            imp: imp.number(),
+        match u32::try_from(class.slot()) {
+            Ok(slot) => Noted {
+                sel: sel.number(),
+                slot,
+                count,
+                imp: imp.number(),
+            },
+            Err(_) => Noted::BLANK,
         }
     }
 }
@@ -107,12 +111,12 @@ impl Site {
         self.note.answer(count, class, sel)
     }
 
-    /// Keeps what a lookup found after so many changes.
+    /// Keeps what a lookup found after so many changes. Of a class reference whose slot takes more than 32 bits, which no arena has a word for, it keeps nothing.
     #[inline]
     pub fn keep(&mut self, count: u64, class: ClassRef, sel: Selector, imp: ImpRef)
         ensures site { (h : History) → count ≡ length h.changes → imp_number imp ≡ lookup h class (selector_number sel) → imp_number imp ≤ length h.image.imps
             → IsSiteOf h self.new }
-        ensures kept { recalled_at self.new count (slot_of class) (selector_number sel) ≡ imp_number imp }
+        ensures kept { slot_of class < 2 ^ 32 → recalled_at self.new count (slot_of class) (selector_number sel) ≡ imp_number imp }
     {
         self.note = Noted::of(count, class, sel, imp);
     }
@@ -173,12 +177,12 @@ impl Memory {
         self.notes[place(slot, sel)].method(count, slot, sel)
     }
 
-    /// Remembers what a lookup found after so many changes.
+    /// Remembers what a lookup found after so many changes. Of a class reference whose slot takes more than 32 bits, which no arena has a word for, it remembers nothing.
     #[inline]
     pub fn keep(&mut self, count: u64, class: ClassRef, sel: Selector, imp: ImpRef)
         ensures memory { (h : History) → IsMemoryOf h self.old → count ≡ length h.changes → imp_number imp ≡ lookup h class (selector_number sel) → imp_number imp ≤ length h.image.imps
             → IsMemoryOf h self.new }
-        ensures kept { recalled self.new count (slot_of class) (selector_number sel) ≡ imp_number imp }
+        ensures kept { slot_of class < 2 ^ 32 → recalled self.new count (slot_of class) (selector_number sel) ≡ imp_number imp }
     {
         self.notes[place(class.slot(), sel.number())] = Noted::of(count, class, sel, imp);
     }

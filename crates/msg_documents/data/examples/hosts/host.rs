@@ -18,13 +18,13 @@ struct SenderHandle {
 #[repr(C)]
 #[derive(Clone, Copy)]
 struct Note {
-    slot: usize,
-    count: u64,
     sel: u32,
+    slot: u32,
+    count: u64,
     imp: u32,
 }
 
-const BLANK: Note = Note { slot: 0, count: 0, sel: 0, imp: 0 };
+const BLANK: Note = Note { sel: 0, slot: 0, count: 0, imp: 0 };
 
 const CLOSED: Handle = Handle { at: std::ptr::null_mut(), open: false };
 const DONE: u32 = 0;

@@ -6,5 +6,6 @@ invariant_of-result c = record {
   prober = search rules;
   image = search rules;
   classes = search rules;
+  few_classes = search rules;
   count = tt;
 }
