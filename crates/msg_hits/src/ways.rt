@@ -214,6 +214,51 @@ fn sum_over<N: ArenaName, R: Wait>(
     sum_by_sender(rt, alloc, &dispatcher, way, queries, lookups)
 }
 
+// What so many lookups along the chain find, added up.
+fn sum_along(alloc: Global, image: &Image, queries: &Queries, lookups: u64) -> Result<u64>
+    requires { class_total image.now ≡ 32 }
+{
+    let tables = Tables::open(alloc, image).context("opening the tables")?;
+    Ok(sum_by_tables(&tables, queries, lookups))
+}
+
+// What so many lookups by a sender find in a way, added up.
+fn sum_in<R: Wait>(
+    rt: &R,
+    alloc: Global,
+    image: &Image,
+    way: Way,
+    queries: &Queries,
+    lookups: u64,
+) -> Result<u64>
+    requires { class_total image.now ≡ 32 }
+{
+    let config = Config {
+        senders: 1,
+        arrays: ARRAYS,
+    };
+    let (arena, keeper) = Arena::open(alloc, image, config).context("opening the arena")?;
+    sum_over::<Brand, R>(rt, alloc, arena, keeper, image, way, queries, lookups)
+}
+
+// What so many lookups of an image find in a way, added up.
+fn sum_of_image<R: Wait>(
+    rt: &R,
+    alloc: Global,
+    image: &Image,
+    way: Way,
+    queries: &Queries,
+    lookups: u64,
+) -> Result<u64> {
+    if image.class_count() != 32 {
+        bail!("not 32 classes");
+    }
+    match way {
+        Way::Tables => sum_along(alloc, image, queries, lookups),
+        _ => sum_in(rt, alloc, image, way, queries, lookups),
+    }
+}
+
 /// What so many lookups of a load find in a way, added up.
 pub(crate) fn sum_of<R: Wait>(
     rt: &R,
@@ -223,18 +268,6 @@ pub(crate) fn sum_of<R: Wait>(
     lookups: u64,
 ) -> Result<u64> {
     let image = image(alloc)?;
-    if image.class_count() != 32 {
-        bail!("not 32 classes");
-    }
-    let (_entries, queries) = drawn(alloc, load)?;
-    if let Way::Tables = way {
-        let tables = Tables::open(alloc, &image).context("opening the tables")?;
-        return Ok(sum_by_tables(&tables, &queries, lookups));
-    }
-    let config = Config {
-        senders: 1,
-        arrays: ARRAYS,
-    };
-    let (arena, keeper) = Arena::open(alloc, &image, config).context("opening the arena")?;
-    sum_over::<Brand, R>(rt, alloc, arena, keeper, &image, way, &queries, lookups)
+    let queries = drawn(alloc, load)?.1;
+    sum_of_image(rt, alloc, &image, way, &queries, lookups)
 }
