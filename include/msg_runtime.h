@@ -192,7 +192,7 @@ static inline uint32_t msg_open_arrays(msg_runtime *runtime, const msg_arrays *a
 #define MSG_TEST(what) ((void)0)
 #endif
 
-/* The slot and the selector of a lookup as one word, as they lie in a note. A host may keep msg_key(slot, 0) with each class, and add a selector's number to it. */
+/* The slot and the selector of a lookup as one word, as they lie in a note on a little-endian machine, which the library is for. A host may keep msg_key(slot, 0) with each class, and add a selector's number to it. */
 static inline uint64_t msg_key(uint32_t slot, uint32_t sel) { return (uint64_t)slot << 32 | sel; }
 
 /* msg_recall without a call, for where each instruction counts: what the note at the one place of slot and selector says. Trusted: this code. With MSG_CHECK
