@@ -7,8 +7,8 @@ use Rattle.atomic_table.specs.Table.{State, step, keeps, carried_after, Allows, 
 use Rattle.atomic_table.proofs.Lists.{set_here}
 use Rattle.msg_names.specs.declared.value.ClassRef.{ClassRef}
 use Rattle.msg_buckets.specs.Word.{sel_of, imp_of}
-use Rattle.msg_image.specs.Parts.{ImageParts, class_total}
-use Rattle.msg_image.specs.declared.change.Change.{Change}
+use Rattle.msg_tables.specs.Origin.{OriginView, class_total}
+use Rattle.msg_tables.specs.declared.change.Change.{Change}
 use Rattle.msg_tables.specs.History.{History, and_then}
 use Rattle.msg_tables.specs.Refusal.{refusal as change_refusal}
 use Rattle.msg_core.specs.declared.state.Standing.TheVariants.{Free, Live}
@@ -31,8 +31,8 @@ use Rattle.msg_cache.proofs.SeatLemmas.{at_below}
 use Rattle.msg_cache.proofs.TokenLemmas.{give_step, take_step, lend_step, home_step}
 
 -- the rule makes the keeper's view sound by itself
-pub tidy_of : (look : History → ClassRef → ℕ → ℕ) (z : Layout) (image : ImageParts) (words : List ℕ) (views : List View) (r : Ruled look z image words views) → IsTidy look z image r.keeper
-tidy_of look z image words views r =
+pub tidy_of : (look : History → ClassRef → ℕ → ℕ) (z : Layout) (origin : OriginView) (words : List ℕ) (views : List View) (r : Ruled look z origin words views) → IsTidy look z origin r.keeper
+tidy_of look z origin words views r =
     let k = r.keeper in
     record {
       kept = r.kept;
@@ -63,7 +63,7 @@ module _ (look : History → ClassRef → ℕ → ℕ) (key : SettingView) (slot
         keeps,
         tt,
         subst (λ (x : KeeperView). RuledBy look key (slice_set st.words i w) (slice_set st.views id (Keeper (stored i w x)))) e
-            (fill_step look (layout_of key) key.image st.words st.views r id (at_own st r at) c a p w (ap (λ (x : KeeperView). standing_at x.standings a) e ∙ live) lt
+            (fill_step look (layout_of key) key.origin st.words st.views r id (at_own st r at) c a p w (ap (λ (x : KeeperView). standing_at x.standings a) e ∙ live) lt
             (ap (λ (x : KeeperView). slice_index x.words i) e ∙ clear) sel (imp ∙ ap (λ (x : KeeperView). look x.history c (sel_of w)) (sym e))).1.0,
         sat_is (stored i w (keeper_of m.0)),
       )
@@ -77,7 +77,7 @@ module _ (look : History → ClassRef → ℕ → ℕ) (key : SettingView) (slot
         keeps,
         tt,
         subst (λ (x : KeeperView). RuledBy look key (slice_set st.words i 0) (slice_set st.views id (Keeper (stored i 0 x)))) e
-            (clear_step look (layout_of key) key.image st.words st.views r id (at_own st r at) a p (ap (λ (x : KeeperView). standing_at x.standings a) e ∙ free) lt).1.0,
+            (clear_step look (layout_of key) key.origin st.words st.views r id (at_own st r at) a p (ap (λ (x : KeeperView). standing_at x.standings a) e ∙ free) lt).1.0,
         sat_is (stored i 0 (keeper_of m.0)),
       )
 
@@ -88,18 +88,18 @@ module _ (look : History → ClassRef → ℕ → ℕ) (key : SettingView) (slot
       → Allows (holds look key) slots id m 0 (λ _. w) (λ _. Commits x (step slots 0 w 0 none) m w)
   commit_allowed x g home accepted good w is_w st r homes at bound =
       let e : r.keeper ≡ keeper_of m.0 = own st r at in
-      let legal = may_commit look (layout_of key) (shown_by look (layout_of key) key.image r) x (ap (λ (y : KeeperView). change_refusal y.history x) e ∙ accepted)
+      let legal = may_commit look (layout_of key) (shown_by look (layout_of key) key.origin r) x (ap (λ (y : KeeperView). change_refusal y.history x) e ∙ accepted)
       (subst (λ (y : KeeperView). (c : ClassRef) (b q : ℕ) → b < length key.capacities → standing_at y.standings b ≡ Live c → q < capacity (layout_of key) b
       → Agrees (look (and_then y.history x)) c (word_in (layout_of key) y.words b q)) (sym e) good) in (
         Keeper (committed x (keeper_of m.0)),
         keeps,
         tt,
         subst (λ (y : ℕ × KeeperView). RuledBy look key (slice_set st.words 0 y.0) (slice_set st.views id (Keeper (committed x y.1)))) (λ i. ((ap (λ (y : KeeperView). size y.history + 1) e ∙ sym is_w) i, e i))
-            (commit_step look (layout_of key) key.image st.words st.views r id (at_own st r at) x g (ap (λ (y : KeeperView). y.turn) e ∙ home) legal).1.0,
+            (commit_step look (layout_of key) key.origin st.words st.views r id (at_own st r at) x g (ap (λ (y : KeeperView). y.turn) e ∙ home) legal).1.0,
         (sat_is (committed x (keeper_of m.0)), recalls st r e),
       )
 
-  pub flush_allowed : (c : ClassRef) (a : ℕ) → c.class < class_total key.image → slice_index (keeper_of m.0).words (header_at c) ≡ suc a
+  pub flush_allowed : (c : ClassRef) (a : ℕ) → c.class < class_total key.origin → slice_index (keeper_of m.0).words (header_at c) ≡ suc a
       → Allows (holds look key) slots id m (header_at c) (λ _. 0) (λ _. Flushes (step slots (header_at c) 0 0 none) m 0)
   flush_allowed c a lt here st r homes at bound =
       let e : r.keeper ≡ keeper_of m.0 = own st r at in (
@@ -107,11 +107,11 @@ module _ (look : History → ClassRef → ℕ → ℕ) (key : SettingView) (slot
         keeps,
         tt,
         subst (λ (x : KeeperView). RuledBy look key (slice_set st.words (header_at c) 0) (slice_set st.views id (Keeper (flushed c x)))) e
-            (flush_step look (layout_of key) key.image st.words st.views r id (at_own st r at) c a lt (ap (λ (x : KeeperView). slice_index x.words (header_at c)) e ∙ here)).1.0,
+            (flush_step look (layout_of key) key.origin st.words st.views r id (at_own st r at) c a lt (ap (λ (x : KeeperView). slice_index x.words (header_at c)) e ∙ here)).1.0,
         λ d same. sat_is (flushed c (keeper_of m.0)) ∙ ap (λ (x : ClassRef). kept (flushed x (keeper_of m.0))) (header_same c d same),
       )
 
-  pub install_allowed : (c : ClassRef) (a : ℕ) → c.class < class_total key.image → a < length key.capacities → standing_at (keeper_of m.0).standings a ≡ Free
+  pub install_allowed : (c : ClassRef) (a : ℕ) → c.class < class_total key.origin → a < length key.capacities → standing_at (keeper_of m.0).standings a ≡ Free
       → ((q : ℕ) → q < capacity (layout_of key) a → slice_index (keeper_of m.0).words (base (layout_of key) a + q) ≡ 0)
       → Allows (holds look key) slots id m (header_at c) (λ _. suc a) (λ _. Installs (step slots (header_at c) (suc a) 0 none) m (suc a))
   install_allowed c a lt al free clear st r homes at bound =
@@ -120,7 +120,7 @@ module _ (look : History → ClassRef → ℕ → ℕ) (key : SettingView) (slot
         keeps,
         tt,
         subst (λ (x : KeeperView). RuledBy look key (slice_set st.words (header_at c) (suc a)) (slice_set st.views id (Keeper (installed c a x)))) e
-            (install_step look (layout_of key) key.image st.words st.views r id (at_own st r at) c a lt al (ap (λ (x : KeeperView). standing_at x.standings a) e ∙ free)
+            (install_step look (layout_of key) key.origin st.words st.views r id (at_own st r at) c a lt al (ap (λ (x : KeeperView). standing_at x.standings a) e ∙ free)
             (λ q ql. ap (λ (x : KeeperView). slice_index x.words (base (layout_of key) a + q)) e ∙ clear q ql)).1.0,
         λ d b same one. sat_is (installed c a (keeper_of m.0)) ∙ ap (λ (x : ClassRef × ℕ). kept (installed x.0 x.1 (keeper_of m.0))) (let u : a ≡ b = cc in λ i. (header_same c d same i, u i)),
       )
@@ -133,7 +133,7 @@ module _ (look : History → ClassRef → ℕ → ℕ) (key : SettingView) (slot
         Keeper (if f == 0 then looked n (keeper_of m.0) else keeper_of m.0),
         keeps,
         tt,
-        subst (λ (x : KeeperView). RuledBy look key (slice_set st.words i f) (slice_set st.views id (Keeper (if f == 0 then looked n x else x)))) e (look_step look (layout_of key) key.image st.words st.views r id (at_own st r at) n lt).1.0,
+        subst (λ (x : KeeperView). RuledBy look key (slice_set st.words i f) (slice_set st.views id (Keeper (if f == 0 then looked n x else x)))) e (look_step look (layout_of key) key.origin st.words st.views r id (at_own st r at) n lt).1.0,
         sat_is (if f == 0 then looked n (keeper_of m.0) else keeper_of m.0),
       )
 
@@ -143,7 +143,7 @@ module _ (look : History → ClassRef → ℕ → ℕ) (key : SettingView) (slot
         Keeper (keeper_of m.0),
         keeps,
         tt,
-        subst (λ (x : KeeperView). RuledBy look key (slice_set st.words 0 (slice_index st.words 0)) (slice_set st.views id (Keeper x))) e (idle_step look (layout_of key) key.image st.words st.views r id (at_own st r at) 0).0,
+        subst (λ (x : KeeperView). RuledBy look key (slice_set st.words 0 (slice_index st.words 0)) (slice_set st.views id (Keeper x))) e (idle_step look (layout_of key) key.origin st.words st.views r id (at_own st r at) 0).0,
         (sat_is (keeper_of m.0) ∙ sym is, recalls st r e),
       )
 
@@ -151,25 +151,25 @@ module _ (look : History → ClassRef → ℕ → ℕ) (key : SettingView) (slot
   give_allowed n lt free st r at =
       let e : r.keeper ≡ keeper_of m.0 = own st r at in
       subst (λ (x : KeeperView). RuledBy look key st.words (slice_set st.views id (Keeper (given_out n x)) ++ Sender (newcomer n x.history) ∷ [])) e
-      (give_step look (layout_of key) key.image st.words st.views r id (at_own st r at) n lt (ap (λ (x : KeeperView). awaits x.given n) e ∙ free)).0
+      (give_step look (layout_of key) key.origin st.words st.views r id (at_own st r at) n lt (ap (λ (x : KeeperView). awaits x.given n) e ∙ free)).0
 
   pub lend_allowed : (keeper_of m.0).turn ≢ Away → Splits (holds look key) id m.0 (Keeper (lent (keeper_of m.0))) (Turn (keeper_of m.0).history)
   lend_allowed home st r at =
       let e : r.keeper ≡ keeper_of m.0 = own st r at in
       subst (λ (x : KeeperView). RuledBy look key st.words (slice_set st.views id (Keeper (lent x)) ++ Turn x.history ∷ [])) e
-      (lend_step look (layout_of key) key.image st.words st.views r id (at_own st r at) (λ a. home (ap (λ (x : KeeperView). x.turn) (sym e) ∙ a))).0
+      (lend_step look (layout_of key) key.origin st.words st.views r id (at_own st r at) (λ a. home (ap (λ (x : KeeperView). x.turn) (sym e) ∙ a))).0
 
   pub take_allowed : (other : ℕ) (v : SenderView) → v.whereabouts ≡ Out → Joins (holds look key) id m.0 other (Sender v) (Keeper (taken_in v (keeper_of m.0))) Spent
   take_allowed other v out st r at apart there =
       let e : r.keeper ≡ keeper_of m.0 = own st r at in
       subst (λ (x : KeeperView). RuledBy look key st.words (slice_set (slice_set st.views id (Keeper (taken_in v x))) other Spent)) e
-      (take_step look (layout_of key) key.image st.words st.views r id (at_own st r at) other v apart out (ap (λ (x : KeeperView). get_elem? (slice_set st.views id (Keeper (taken_in v x))) other) e ∙ there)).0
+      (take_step look (layout_of key) key.origin st.words st.views r id (at_own st r at) other v apart out (ap (λ (x : KeeperView). get_elem? (slice_set st.views id (Keeper (taken_in v x))) other) e ∙ there)).0
 
   pub home_allowed : (other : ℕ) (g : History) → Joins (holds look key) id m.0 other (Turn g) (Keeper (at_home g (keeper_of m.0))) Spent
   home_allowed other g st r at apart there =
       let e : r.keeper ≡ keeper_of m.0 = own st r at in
       subst (λ (x : KeeperView). RuledBy look key st.words (slice_set (slice_set st.views id (Keeper (at_home g x))) other Spent)) e
-      (home_step look (layout_of key) key.image st.words st.views r id (at_own st r at) other g apart (ap (λ (x : KeeperView). get_elem? (slice_set st.views id (Keeper (at_home g x))) other) e ∙ there)).0
+      (home_step look (layout_of key) key.origin st.words st.views r id (at_own st r at) other g apart (ap (λ (x : KeeperView). get_elem? (slice_set st.views id (Keeper (at_home g x))) other) e ∙ there)).0
 
   -- a step of the keeper also tells what the rule says of its new view
   pub tidied : (i : ℕ) (f : ℕ → ℕ) (tells : ℕ → Sat → Type 0) → Allows (holds look key) slots id m i f tells
@@ -180,7 +180,7 @@ module _ (look : History → ClassRef → ℕ → ℕ) (key : SettingView) (slot
       let w = keeps_is (slice_index st.words i) (t.0, carried_after m.1 t.1) t.4 in
       let here : get_elem? (slice_set st.views id t.0) id ≡ some (Keeper (keeper_of t.0)) = set_here st.views id t.0 (at_below st.views id m.0 at) ∙ ap (λ (x : Sat). some x.0) w in
       let is_own : t.3.keeper ≡ keeper_of t.0 = (t.3.views_fit id (Keeper (keeper_of t.0)) here).1 in
-      (t.0, t.1, t.2, t.3, (t.4, subst (TidyBy look key) is_own (tidy_of look (layout_of key) key.image _ _ t.3)))
+      (t.0, t.1, t.2, t.3, (t.4, subst (TidyBy look key) is_own (tidy_of look (layout_of key) key.origin _ _ t.3)))
 
 pub kept_is : (x : KeeperView) (m' : Sat) → m' ≡ kept x → m' ≡ kept (keeper_of m'.0)
 kept_is x m' e = e ∙ ap (λ (y : Sat). kept (keeper_of y.0)) (sym e)

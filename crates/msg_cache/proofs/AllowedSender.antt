@@ -1,6 +1,6 @@
 -- A sender's steps are allowed by the rule, in the form that the table asks for.
 use Rattle.std.proofs.Common.{◌≡◌, ◌≢◌, ℕ, ◌+◌, ◌<◌, List, length, refl, ap, ◌∙◌}
-use Rattle.msg_image.specs.Parts.{class_total}
+use Rattle.msg_tables.specs.Origin.{class_total}
 use Rattle.std.specs.Prelude.{slice_index, slice_set}
 use mathlib.Core.Option.{some, none}
 use lib.ListN.{get_elem?}
@@ -29,16 +29,16 @@ module _ (look : History → ClassRef → ℕ → ℕ) (key : SettingView) (slot
   sat_is v = λ i. (Sender v, (is i).1)
 
   -- a sender's front is a history that was accepted
-  front_accepted : (words : List ℕ) (views : List View) (w : SenderView) (r : Ruled look (layout_of key) key.image words (slice_set views id (Sender w))) → get_elem? views id ≡ some m.0 → IsAccepted w.front
+  front_accepted : (words : List ℕ) (views : List View) (w : SenderView) (r : Ruled look (layout_of key) key.origin words (slice_set views id (Sender w))) → get_elem? views id ≡ some m.0 → IsAccepted w.front
   front_accepted words views w r at =
       let f = r.views_fit id (Sender w) (set_here views id (Sender w) (at_below views id m.0 at)) in accepted_before r.keeper.history w.front f.begins r.kept.accepted
 
-  pub header_allowed : (c : ClassRef) (s : ℕ) → (sender_of m.0).whereabouts ≡ In → c.class < class_total key.image
+  pub header_allowed : (c : ClassRef) (s : ℕ) → (sender_of m.0).whereabouts ≡ In → c.class < class_total key.origin
       → Allows (holds look key) slots id m (header_at c) (λ n. n) (Headed (length key.capacities) c s (step slots (header_at c) 0 0 none) m)
   header_allowed c s inside lt st r homes at bound =
       let v = sender_of m.0 in
       let n : ℕ = slice_index st.words (header_at c) in
-      let t = header_step look (layout_of key) key.image st.words st.views r id v (seen st.views at) c s n inside lt refl in (
+      let t = header_step look (layout_of key) key.origin st.words st.views r id v (seen st.views at) c s n inside lt refl in (
         Sender (headed c s r.keeper.history v n),
         keeps,
         tt,
@@ -52,7 +52,7 @@ module _ (look : History → ClassRef → ℕ → ℕ) (key : SettingView) (slot
       let v = sender_of m.0 in
       let i : ℕ = base (layout_of key) a + p in
       let n : ℕ = slice_index st.words i in
-      let t = bucket_step look (layout_of key) key.image st.words st.views r id v (seen st.views at) a p n holding lt sought refl in
+      let t = bucket_step look (layout_of key) key.origin st.words st.views r id v (seen st.views at) a p n holding lt sought refl in
       (Sender (read_on t.0 v i n), keeps, tt, t.1.1.0, record { front = t.0; seat = sat_is (read_on t.0 v i n); begins = t.2; accepted = front_accepted (slice_set st.words i n) st.views (read_on t.0 v i n) t.1.1.0 at; hit = t.3; miss = t.4 })
 
   pub version_allowed : ((c : ClassRef) (a : ℕ) → (sender_of m.0).whereabouts ≢ Holding c a)
@@ -60,19 +60,19 @@ module _ (look : History → ClassRef → ℕ → ℕ) (key : SettingView) (slot
   version_allowed free st r homes at bound =
       let v = sender_of m.0 in
       let n : ℕ = slice_index st.words 0 in
-      let t = version_step look (layout_of key) key.image st.words st.views r id v (seen st.views at) n free refl in
+      let t = version_step look (layout_of key) key.origin st.words st.views r id v (seen st.views at) n free refl in
       (Sender (gone_to v r.keeper.history v.whereabouts), keeps, tt, t.0.0, record { front = r.keeper.history; seat = sat_is (gone_to v r.keeper.history v.whereabouts); begins = t.1; accepted = r.kept.accepted; length_is = t.2 })
 
   pub enter_allowed : (sender_of m.0).whereabouts ≡ Out
       → Allows (holds look key) slots id m (probe_at (layout_of key) (sender_of m.0).number) (λ _. 1) (λ _. Goes In (step slots (probe_at (layout_of key) (sender_of m.0).number) 1 0 none) m 1)
   enter_allowed out st r homes at bound =
       let v = sender_of m.0 in
-      let t = enter_step look (layout_of key) key.image st.words st.views r id v (seen st.views at) out in
+      let t = enter_step look (layout_of key) key.origin st.words st.views r id v (seen st.views at) out in
       (Sender (gone_to v v.front In), keeps, tt, t.1.0, sat_is (gone_to v v.front In))
 
   pub leave_allowed : (sender_of m.0).whereabouts ≢ Out
       → Allows (holds look key) slots id m (probe_at (layout_of key) (sender_of m.0).number) (λ _. 0) (λ _. Goes Out (step slots (probe_at (layout_of key) (sender_of m.0).number) 0 0 none) m 0)
   leave_allowed in_it st r homes at bound =
       let v = sender_of m.0 in
-      let t = leave_step look (layout_of key) key.image st.words st.views r id v (seen st.views at) in_it in
+      let t = leave_step look (layout_of key) key.origin st.words st.views r id v (seen st.views at) in_it in
       (Sender (gone_to v v.front Out), keeps, tt, t.1.0, sat_is (gone_to v v.front Out))

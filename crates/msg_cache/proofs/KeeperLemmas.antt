@@ -7,8 +7,8 @@ use mathlib.Core.Option.{some}
 use lib.ListN.{get_elem?}
 use Rattle.msg_names.specs.declared.value.ClassRef.{ClassRef}
 use Rattle.msg_buckets.specs.Word.{sel_of, imp_of}
-use Rattle.msg_image.specs.Parts.{ImageParts}
-use Rattle.msg_image.specs.declared.change.Change.{Change}
+use Rattle.msg_tables.specs.Origin.{OriginView}
+use Rattle.msg_tables.specs.declared.change.Change.{Change}
 use Rattle.msg_tables.specs.History.{History, BeginsWith, and_then, empty}
 use Rattle.msg_core.specs.declared.event.Event.{Event}
 use Rattle.msg_core.specs.declared.event.Event.TheVariants.{Fill, Install, Flush, Look, Clear, Commit}
@@ -60,9 +60,9 @@ copies_same : (z : Layout) (k : KeeperView) (whereabouts : ℕ → Whereabouts) 
 copies_same z k whereabouts words i s = subst (IsCopied z k whereabouts) (sym (set-get_or words i 0)) s
 
 -- the keeper's view, with words and standings of the same number, and other stores
-kept_as : (z : Layout) (image : ImageParts) (k : KeeperView) (words : List ℕ) (standings : List Standing) (stores : List (ℕ × ℕ)) → IsKept z image k → length words ≡ length k.words → length standings ≡ length k.standings
-    → slice_index words 0 ≡ slice_index k.words 0 → IsKept z image (record k { words = words; standings = standings; stores = stores })
-kept_as z image k words standings stores s count same version = record {
+kept_as : (z : Layout) (origin : OriginView) (k : KeeperView) (words : List ℕ) (standings : List Standing) (stores : List (ℕ × ℕ)) → IsKept z origin k → length words ≡ length k.words → length standings ≡ length k.standings
+    → slice_index words 0 ≡ slice_index k.words 0 → IsKept z origin (record k { words = words; standings = standings; stores = stores })
+kept_as z origin k words standings stores s count same version = record {
   words = count ∙ s.words;
   standings = same ∙ s.standings;
   given = s.given;
@@ -98,34 +98,34 @@ module _ (z : Layout) (k : KeeperView) (whereabouts : ℕ → Whereabouts) where
       (λ (ne : b ≢ a). inl (aw, sym (at_other (standing_at k.standings) a (Retired c (size k.history) (everyone z.senders)) b ne) ∙ e))
       (number_or b a)
 
-module _ (look : History → ClassRef → ℕ → ℕ) (z : Layout) (image : ImageParts) (words : List ℕ) (views : List View) (r : Ruled look z image words views) (id : ℕ) (at_id : get_elem? views id ≡ some (Keeper r.keeper)) where
+module _ (look : History → ClassRef → ℕ → ℕ) (z : Layout) (origin : OriginView) (words : List ℕ) (views : List View) (r : Ruled look z origin words views) (id : ℕ) (at_id : get_elem? views id ≡ some (Keeper r.keeper)) where
   now : State
-  now = shown_by look z image r
+  now = shown_by look z origin r
 
   -- a step of the keeper that is an event
-  by_event : (words' : List ℕ) (k' : KeeperView) (e : Event) → IsKept z image k' → IsCopied z k' r.whereabouts words' → Legal look z (shown_by look z image r) e → shown z k' r.whereabouts ≡ after z (shown_by look z image r) e
+  by_event : (words' : List ℕ) (k' : KeeperView) (e : Event) → IsKept z origin k' → IsCopied z k' r.whereabouts words' → Legal look z (shown_by look z origin r) e → shown z k' r.whereabouts ≡ after z (shown_by look z origin r) e
       → k'.given ≡ r.keeper.given → BeginsWith k'.history r.keeper.history
       → ((c : ClassRef) (a m : ℕ) (aw : List Bool) → standing_at k'.standings a ≡ Retired c m aw
       → ((old : List Bool) × (standing_at r.keeper.standings a ≡ Retired c m old)) ⊎ (size r.keeper.history ≤ m))
       → ((k'.turn ≡ r.keeper.turn) × (k'.history ≡ r.keeper.history)) ⊎ (r.keeper.turn ≢ Away)
-      → GoesBy look z image r e words' (slice_set views id (Keeper k'))
+      → GoesBy look z origin r e words' (slice_set views id (Keeper k'))
   by_event words' k' e kept copies legal is given grows behind turn =
-      let next = keeper_goes look z image words words' views r id k' at_id kept copies
-      (subst (Sound look z) (sym is) (sound_after look z r.kept.some_sender (shown_by look z image r) e r.sound legal)) given grows behind turn in
+      let next = keeper_goes look z origin words words' views r id k' at_id kept copies
+      (subst (Sound look z) (sym is) (sound_after look z r.kept.some_sender (shown_by look z origin r) e r.sound legal)) given grows behind turn in
       (legal, (next.0, next.1 ∙ is))
 
   -- an entry is stored in an empty bucket of an array that is live for c
   pub fill_step : (c : ClassRef) (a p w : ℕ) → standing_at r.keeper.standings a ≡ Live c → p < capacity z a → slice_index r.keeper.words (base z a + p) ≡ 0 → 0 < sel_of w → imp_of w ≡ look r.keeper.history c (sel_of w)
-      → GoesBy look z image r (Fill c p w) (slice_set words (base z a + p) w) (slice_set views id (Keeper (stored (base z a + p) w r.keeper)))
+      → GoesBy look z origin r (Fill c p w) (slice_set words (base z a + p) w) (slice_set views id (Keeper (stored (base z a + p) w r.keeper)))
   fill_step c a p w lives lt clear sel imp =
       let k = r.keeper in
       let i : ℕ = base z a + p in
       let il : i < probes z = inside z a p lt in
-      let m = shown_by look z image r in
+      let m = shown_by look z origin r in
       let live : m.live c ≡ Some a = r.sound.lawful.stands_live c a lives in
       let words_are = word_set z k.words a p w lt r.kept.words ∙ sym (ap (λ o. stored_at m.word o p w) live) in
       by_event (slice_set words i w) (stored i w k) (Fill c p w)
-      (kept_as z image k (slice_set k.words i w) k.standings (stored i w k).stores r.kept (length-set k.words i w) refl (get_or-set_other k.words i 0 w 0 (λ e. omega arith)))
+      (kept_as z origin k (slice_set k.words i w) k.standings (stored i w k).stores r.kept (length-set k.words i w) refl (get_or-set_other k.words i 0 w 0 (λ e. omega arith)))
       (copies_store z k (stored i w k) r.whereabouts words i w il r.kept.words refl r.copies)
       (may_fill look z m c a p w (r.sound.in_range.live_class c a lives) live lt (word_is z k.words a p lt ∙ clear) sel imp)
       (λ j. state_from k.history (live_bucket z k.words a p w j) (words_are j) (standing_at k.standings) r.whereabouts)
@@ -133,20 +133,20 @@ module _ (look : History → ClassRef → ℕ → ℕ) (z : Layout) (image : Ima
 
   -- a word of a free array is cleared
   pub clear_step : (a p : ℕ) → standing_at r.keeper.standings a ≡ Free → p < capacity z a
-      → GoesBy look z image r (Clear a p) (slice_set words (base z a + p) 0) (slice_set views id (Keeper (stored (base z a + p) 0 r.keeper)))
+      → GoesBy look z origin r (Clear a p) (slice_set words (base z a + p) 0) (slice_set views id (Keeper (stored (base z a + p) 0 r.keeper)))
   clear_step a p free lt =
       let k = r.keeper in
       let i : ℕ = base z a + p in
       by_event (slice_set words i 0) (stored i 0 k) (Clear a p)
-      (kept_as z image k (slice_set k.words i 0) k.standings (stored i 0 k).stores r.kept (length-set k.words i 0) refl (get_or-set_other k.words i 0 0 0 (λ e. omega arith)))
+      (kept_as z origin k (slice_set k.words i 0) k.standings (stored i 0 k).stores r.kept (length-set k.words i 0) refl (get_or-set_other k.words i 0 0 0 (λ e. omega arith)))
       (copies_store z k (stored i 0 k) r.whereabouts words i 0 (inside z a p lt) r.kept.words refl r.copies)
-      (may_clear look z (shown_by look z image r) a p (below_entry z.capacities a p lt) lt free)
+      (may_clear look z (shown_by look z origin r) a p (below_entry z.capacities a p lt) lt free)
       (λ j. state_from k.history (live_bucket z k.words a p 0 j) (word_set z k.words a p 0 lt r.kept.words j) (standing_at k.standings) r.whereabouts)
       refl (begins_refl k.history) (λ d b n aw e. inl (aw, e)) (inl (refl, refl))
 
   -- the version word is stored, with the turn at home
-  pub commit_step : (x : Change) (g : History) → r.keeper.turn ≡ Home g → Legal look z (shown_by look z image r) (Commit x)
-      → GoesBy look z image r (Commit x) (slice_set words 0 (size r.keeper.history + 1)) (slice_set views id (Keeper (committed x r.keeper)))
+  pub commit_step : (x : Change) (g : History) → r.keeper.turn ≡ Home g → Legal look z (shown_by look z origin r) (Commit x)
+      → GoesBy look z origin r (Commit x) (slice_set words 0 (size r.keeper.history + 1)) (slice_set views id (Keeper (committed x r.keeper)))
   commit_step x g home legal =
       let k = r.keeper in
       let w : ℕ = size k.history + 1 in
@@ -158,8 +158,8 @@ module _ (look : History → ClassRef → ℕ → ℕ) (z : Layout) (image : Ima
         standings = r.kept.standings;
         given = r.kept.given;
         version = get_or-set_same k.words 0 w 0 (let t = r.kept.words in omega arith) ∙ sym (length-append k.history.changes (x ∷ []));
-        begins = begins_trans k'.history k.history (empty image) more r.kept.begins;
-        accepted = accepted_next k.history x r.kept.accepted (legal_commit look z (shown_by look z image r) x legal).0;
+        begins = begins_trans k'.history k.history (empty origin) more r.kept.begins;
+        accepted = accepted_next k.history x r.kept.accepted (legal_commit look z (shown_by look z origin r) x legal).0;
         told = begins_trans k'.history k.history k.told more r.kept.told;
         home = λ g' e. home_is g' k'.history e;
         never = λ e. absurd (cc);
@@ -182,16 +182,16 @@ module _ (look : History → ClassRef → ℕ → ℕ) (z : Layout) (image : Ima
 
   -- the live array of a class reference is retired
   pub flush_step : (c : ClassRef) (a : ℕ) → c.class < z.classes → slice_index r.keeper.words (header_at c) ≡ suc a
-      → GoesBy look z image r (Flush c) (slice_set words (header_at c) 0) (slice_set views id (Keeper (flushed c r.keeper)))
+      → GoesBy look z origin r (Flush c) (slice_set words (header_at c) 0) (slice_set views id (Keeper (flushed c r.keeper)))
   flush_step c a lt here =
       let k = r.keeper in
-      let m = shown_by look z image r in
+      let m = shown_by look z origin r in
       let i : ℕ = header_at c in
       let o = named (slice_index k.words (header_at c)) in
       let is : m.live c ≡ o = live_is z k.words c lt in
       let stands = retire_is z k r.whereabouts c o r.kept.given (listed c lt) ∙ sym (ap (retired z m c) is) in
       by_event (slice_set words i 0) (flushed c k) (Flush c)
-      (kept_as z image k (slice_set k.words i 0) (retire c o k) (flushed c k).stores r.kept (length-set k.words i 0) (retire_length z k r.whereabouts c o) (get_or-set_other k.words i 0 0 0 (λ e. omega arith)))
+      (kept_as z origin k (slice_set k.words i 0) (retire c o k) (flushed c k).stores r.kept (length-set k.words i 0) (retire_length z k r.whereabouts c o) (get_or-set_other k.words i 0 0 0 (λ e. omega arith)))
       (copies_store z k (flushed c k) r.whereabouts words i 0 (header_inside z c lt) r.kept.words refl r.copies)
       (may_flush look z m c a lt (is ∙ ap named here))
       (λ j. state_from k.history (live_set z k.words c 0 lt r.kept.words j) (word_header z k.words c 0 lt j) (stands j) r.whereabouts)
@@ -199,17 +199,17 @@ module _ (look : History → ClassRef → ℕ → ℕ) (z : Layout) (image : Ima
 
   -- an empty array that is free becomes the live one of a class reference; the one before is retired
   pub install_step : (c : ClassRef) (a : ℕ) → c.class < z.classes → a < length z.capacities → standing_at r.keeper.standings a ≡ Free → ((q : ℕ) → q < capacity z a → slice_index r.keeper.words (base z a + q) ≡ 0)
-      → GoesBy look z image r (Install c a) (slice_set words (header_at c) (suc a)) (slice_set views id (Keeper (installed c a r.keeper)))
+      → GoesBy look z origin r (Install c a) (slice_set words (header_at c) (suc a)) (slice_set views id (Keeper (installed c a r.keeper)))
   install_step c a lt there free clear =
       let k = r.keeper in
-      let m = shown_by look z image r in
+      let m = shown_by look z origin r in
       let i : ℕ = header_at c in
       let o = named (slice_index k.words (header_at c)) in
       let is : m.live c ≡ o = live_is z k.words c lt in
       let stands = set_as_at (retire c o k) a (Live c) Free (let s = retire_length z k r.whereabouts c o in let t = r.kept.standings in omega arith)
       ∙ ap (λ f. at f a (Live c)) (retire_is z k r.whereabouts c o r.kept.given (listed c lt) ∙ sym (ap (retired z m c) is)) in
       by_event (slice_set words i (suc a)) (installed c a k) (Install c a)
-      (kept_as z image k (slice_set k.words i (suc a)) (slice_set (retire c o k) a (Live c)) (installed c a k).stores r.kept (length-set k.words i (suc a)) (length-set (retire c o k) a (Live c) ∙ retire_length z k r.whereabouts c o)
+      (kept_as z origin k (slice_set k.words i (suc a)) (slice_set (retire c o k) a (Live c)) (installed c a k).stores r.kept (length-set k.words i (suc a)) (length-set (retire c o k) a (Live c) ∙ retire_length z k r.whereabouts c o)
       (get_or-set_other k.words i 0 (suc a) 0 (λ e. omega arith)))
       (copies_store z k (installed c a k) r.whereabouts words i (suc a) (header_inside z c lt) r.kept.words refl r.copies)
       (may_install look z m c a lt there free (λ q ql. word_is z k.words a q ql ∙ clear q ql))
@@ -223,7 +223,7 @@ module _ (look : History → ClassRef → ℕ → ℕ) (z : Layout) (image : Ima
 
   -- a probe word is loaded: where it is 0, its sender is out, and awaited no more
   pub look_step : (n : ℕ) → n < z.senders
-      → GoesBy look z image r (Look n) (slice_set words (probe_at z n) (slice_index words (probe_at z n))) (slice_set views id (Keeper (if slice_index words (probe_at z n) == 0 then looked n r.keeper else r.keeper)))
+      → GoesBy look z origin r (Look n) (slice_set words (probe_at z n) (slice_index words (probe_at z n))) (slice_set views id (Keeper (if slice_index words (probe_at z n) == 0 then looked n r.keeper else r.keeper)))
   look_step n lt = by_place (r.whereabouts n) refl
     where
       k : KeeperView
@@ -233,7 +233,7 @@ module _ (look : History → ClassRef → ℕ → ℕ) (z : Layout) (image : Ima
       i = probe_at z n
 
       Goal : Bool → Type 0
-      Goal b = GoesBy look z image r (Look n) (slice_set words i (slice_index words i)) (slice_set views id (Keeper (if b then looked n r.keeper else r.keeper)))
+      Goal b = GoesBy look z origin r (Look n) (slice_set words i (slice_index words i)) (slice_set views id (Keeper (if b then looked n r.keeper else r.keeper)))
 
       still : (p : Whereabouts) → is_out p ≡ false → shown z r.keeper r.whereabouts ≡ record (shown z r.keeper r.whereabouts) { standing = if is_out p then (λ a. seen_out n (standing_at r.keeper.standings a)) else standing_at r.keeper.standings }
       still p e j = state_from r.keeper.history (live_in z r.keeper.words) (word_in z r.keeper.words) (ap (λ b. if b then (λ a. seen_out n (standing_at r.keeper.standings a)) else standing_at r.keeper.standings) (sym e) j) r.whereabouts
@@ -242,7 +242,7 @@ module _ (look : History → ClassRef → ℕ → ℕ) (z : Layout) (image : Ima
       inside_it p e isnt set_ =
           let apart : slice_index words i ≢ 0 = λ h. set_ (sym (r.copies.probed n lt ∙ ap in_word e) ∙ h) in
           subst Goal (sym (ne_eqb (slice_index words i) 0 apart))
-          (by_event (slice_set words i (slice_index words i)) r.keeper (Look n) r.kept (copies_same z r.keeper r.whereabouts words i r.copies) (may_look look z (shown_by look z image r) n lt) (still (r.whereabouts n) (ap is_out e ∙ isnt))
+          (by_event (slice_set words i (slice_index words i)) r.keeper (Look n) r.kept (copies_same z r.keeper r.whereabouts words i r.copies) (may_look look z (shown_by look z origin r) n lt) (still (r.whereabouts n) (ap is_out e ∙ isnt))
           refl (begins_refl r.keeper.history) (λ d b m aw h. inl (aw, h)) (inl (refl, refl)))
 
       by_place : (p : Whereabouts) → r.whereabouts n ≡ p → Goal (slice_index words i == 0)
@@ -252,9 +252,9 @@ module _ (look : History → ClassRef → ℕ → ℕ) (z : Layout) (image : Ima
           standings_looked n r.keeper.standings ∙ sym (ap (λ p. if is_out p then (λ a. seen_out n (standing_at r.keeper.standings a)) else standing_at r.keeper.standings) e) in
           subst Goal (sym (eq-eqb (slice_index words i) 0 found))
           (by_event (slice_set words i (slice_index words i)) (looked n r.keeper) (Look n)
-          (kept_as z image r.keeper r.keeper.words (map (seen_out n) r.keeper.standings) r.keeper.stores r.kept refl (length-map r.keeper.standings (seen_out n)) refl)
+          (kept_as z origin r.keeper r.keeper.words (map (seen_out n) r.keeper.standings) r.keeper.stores r.kept refl (length-map r.keeper.standings (seen_out n)) refl)
           (let s = copies_same z r.keeper r.whereabouts words i r.copies in record { copied = s.copied; probed = s.probed; count = s.count })
-          (may_look look z (shown_by look z image r) n lt)
+          (may_look look z (shown_by look z origin r) n lt)
           (λ j. state_from r.keeper.history (live_in z r.keeper.words) (word_in z r.keeper.words) (seen j) r.whereabouts)
           refl (begins_refl r.keeper.history)
           (λ d b m aw h. let t = looked_retired n d m aw (standing_at r.keeper.standings b) (sym (ap (λ f. f b) (standings_looked n r.keeper.standings)) ∙ h) in inl (t.0, t.1)) (inl (refl, refl)))
@@ -262,6 +262,6 @@ module _ (look : History → ClassRef → ℕ → ℕ) (z : Layout) (image : Ima
       by_place (Holding c a) e = inside_it (Holding c a) e refl (λ h. cc)
 
   -- a load that changes no view
-  pub idle_step : (i : ℕ) → Stays look z image r (slice_set words i (slice_index words i)) (slice_set views id (Keeper r.keeper))
-  idle_step i = keeper_goes look z image words (slice_set words i (slice_index words i)) views r id r.keeper at_id r.kept (copies_same z r.keeper r.whereabouts words i r.copies) r.sound
+  pub idle_step : (i : ℕ) → Stays look z origin r (slice_set words i (slice_index words i)) (slice_set views id (Keeper r.keeper))
+  idle_step i = keeper_goes look z origin words (slice_set words i (slice_index words i)) views r id r.keeper at_id r.kept (copies_same z r.keeper r.whereabouts words i r.copies) r.sound
       refl (begins_refl r.keeper.history) (λ d b m aw e. inl (aw, e)) (inl (refl, refl))

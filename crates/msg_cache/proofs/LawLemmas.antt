@@ -4,7 +4,7 @@ use mathlib.Core.Option.{some}
 use lib.ListN.{get_elem?}
 use Rattle.atomic_table.specs.Table.{State as Table}
 use Rattle.msg_names.specs.declared.value.ClassRef.{ClassRef}
-use Rattle.msg_image.specs.Parts.{ImageParts}
+use Rattle.msg_tables.specs.Origin.{OriginView}
 use Rattle.msg_tables.specs.History.{History, lookup}
 use Rattle.msg_core.specs.declared.event.Event.{Event}
 use Rattle.msg_core.specs.State.{Layout, awaits}
@@ -19,7 +19,7 @@ use Rattle.msg_cache.proofs.OpeningLemmas.{opens}
 use Rattle.msg_cache.proofs.SenderLemmas.{header_step, bucket_step, version_step, enter_step, leave_step}
 use Rattle.msg_cache.proofs.TokenLemmas.{give_step, take_step, lend_step, home_step}
 
-module _ (look : History → ClassRef → ℕ → ℕ) (z : Layout) (image : ImageParts) (words : List ℕ) (views : List View) (r r' : Ruled look z image words views) where
+module _ (look : History → ClassRef → ℕ → ℕ) (z : Layout) (origin : OriginView) (words : List ℕ) (views : List View) (r r' : Ruled look z origin words views) where
   one_keeper : r.keeper ≡ r'.keeper
   one_keeper = sym (r'.views_fit r.chair (Keeper r.keeper) r.chair_is).1
 
@@ -32,21 +32,21 @@ module _ (look : History → ClassRef → ℕ → ℕ) (z : Layout) (image : Ima
           ap r.whereabouts (sym t.2) ∙ (r.views_fit (r.seat n) (Sender t.0) t.1).placed ∙ sym (r'.views_fit (r.seat n) (Sender t.0) t.1).placed ∙ ap r'.whereabouts t.2
       step false e = r.outside n e ∙ sym (r'.outside n (ap (λ (k : KeeperView). awaits k.given n) (sym one_keeper) ∙ e))
 
-  pub one_shown : shown_by look z image r ≡ shown_by look z image r'
+  pub one_shown : shown_by look z origin r ≡ shown_by look z origin r'
   one_shown = λ i. shown z (one_keeper i) (λ n. one_place n i)
 
-event : (key : SettingView) (s s' : Table ℕ View) (r : holds lookup key s) (e : Event) → GoesBy lookup (layout_of key) key.image r e s'.words s'.views → IsEvent key s r e s'
-event key s s' r e t = record { legal = t.0; keeps_rule = t.1.0; shows = λ r'. one_shown lookup (layout_of key) key.image s'.words s'.views r' t.1.0 ∙ t.1.1 }
+event : (key : SettingView) (s s' : Table ℕ View) (r : holds lookup key s) (e : Event) → GoesBy lookup (layout_of key) key.origin r e s'.words s'.views → IsEvent key s r e s'
+event key s s' r e t = record { legal = t.0; keeps_rule = t.1.0; shows = λ r'. one_shown lookup (layout_of key) key.origin s'.words s'.views r' t.1.0 ∙ t.1.1 }
 
-none : (key : SettingView) (s s' : Table ℕ View) (r : holds lookup key s) → Stays lookup (layout_of key) key.image r s'.words s'.views → IsNone key s r s'
-none key s s' r t = record { keeps_rule = t.0; shows = λ r'. one_shown lookup (layout_of key) key.image s'.words s'.views r' t.0 ∙ t.1 }
+none : (key : SettingView) (s s' : Table ℕ View) (r : holds lookup key s) → Stays lookup (layout_of key) key.origin r s'.words s'.views → IsNone key s r s'
+none key s s' r t = record { keeps_rule = t.0; shows = λ r'. one_shown lookup (layout_of key) key.origin s'.words s'.views r' t.0 ∙ t.1 }
 
 -- what holds of the rule's keeper holds of the view that the seat has
 of_keeper : (key : SettingView) (s : Table ℕ View) (r : holds lookup key s) (id : ℕ) (P : KeeperView → Type 0) → (get_elem? s.views id ≡ some (Keeper r.keeper) → P r.keeper) → (k : KeeperView) → get_elem? s.views id ≡ some (Keeper k) → P k
 of_keeper key s r id P f k at = let is = (r.views_fit id (Keeper k) at).1 in subst P is (f (at ∙ ap (λ (x : KeeperView). some (Keeper x)) (sym is)))
 
 pub one_is_shown : OneIsShown
-one_is_shown key s r r' = one_shown lookup (layout_of key) key.image s.words s.views r r'
+one_is_shown key s r r' = one_shown lookup (layout_of key) key.origin s.words s.views r r'
 
 pub shown_is_lawful : ShownIsLawful
 shown_is_lawful key s r = r.sound.lawful
@@ -57,54 +57,54 @@ shown_is_sound key s r = r.sound
 pub opening_is_shown : OpeningIsShown
 opening_is_shown key sound_image some_sender =
     let t = opens lookup key (word_count (layout_of key)) sound_image some_sender refl in
-    (t.0, λ r. one_shown lookup (layout_of key) key.image _ _ r t.0 ∙ t.1)
+    (t.0, λ r. one_shown lookup (layout_of key) key.origin _ _ r t.0 ∙ t.1)
 
 pub enter_is_enter : EnterIsEnter
-enter_is_enter key s r id v at out = event key s _ r _ (enter_step lookup (layout_of key) key.image s.words s.views r id v at out)
+enter_is_enter key s r id v at out = event key s _ r _ (enter_step lookup (layout_of key) key.origin s.words s.views r id v at out)
 
 pub leave_is_leave : LeaveIsLeave
-leave_is_leave key s r id v at in_it = event key s _ r _ (leave_step lookup (layout_of key) key.image s.words s.views r id v at in_it)
+leave_is_leave key s r id v at in_it = event key s _ r _ (leave_step lookup (layout_of key) key.origin s.words s.views r id v at in_it)
 
 pub header_is_header : HeaderIsHeader
-header_is_header key s r id v at c sel is_in lt = event key s _ r _ (header_step lookup (layout_of key) key.image s.words s.views r id v at c sel _ is_in lt refl).0
+header_is_header key s r id v at c sel is_in lt = event key s _ r _ (header_step lookup (layout_of key) key.origin s.words s.views r id v at c sel _ is_in lt refl).0
 
 pub bucket_is_read : BucketIsRead
 bucket_is_read key s r id v at a p holds lt sought =
-    let t = bucket_step lookup (layout_of key) key.image s.words s.views r id v at a p _ holds lt sought refl in
+    let t = bucket_step lookup (layout_of key) key.origin s.words s.views r id v at a p _ holds lt sought refl in
     (t.0, event key s _ r _ t.1)
 
 pub version_is_none : VersionIsNone
-version_is_none key s r id v at free = none key s _ r (version_step lookup (layout_of key) key.image s.words s.views r id v at _ free refl).0
+version_is_none key s r id v at free = none key s _ r (version_step lookup (layout_of key) key.origin s.words s.views r id v at _ free refl).0
 
 pub store_is_fill : StoreIsFill
-store_is_fill key s r id k at = of_keeper key s r id (Fills key s r id) (λ own c a p w live lt clear sel imp. event key s _ r _ (fill_step lookup (layout_of key) key.image s.words s.views r id own c a p w live lt clear sel imp)) k at
+store_is_fill key s r id k at = of_keeper key s r id (Fills key s r id) (λ own c a p w live lt clear sel imp. event key s _ r _ (fill_step lookup (layout_of key) key.origin s.words s.views r id own c a p w live lt clear sel imp)) k at
 
 pub store_is_install : StoreIsInstall
-store_is_install key s r id k at = of_keeper key s r id (Installs key s r id) (λ own c a lt there free clear. event key s _ r _ (install_step lookup (layout_of key) key.image s.words s.views r id own c a lt there free clear)) k at
+store_is_install key s r id k at = of_keeper key s r id (Installs key s r id) (λ own c a lt there free clear. event key s _ r _ (install_step lookup (layout_of key) key.origin s.words s.views r id own c a lt there free clear)) k at
 
 pub store_is_flush : StoreIsFlush
-store_is_flush key s r id k at = of_keeper key s r id (Flushes key s r id) (λ own c a lt here. event key s _ r _ (flush_step lookup (layout_of key) key.image s.words s.views r id own c a lt here)) k at
+store_is_flush key s r id k at = of_keeper key s r id (Flushes key s r id) (λ own c a lt here. event key s _ r _ (flush_step lookup (layout_of key) key.origin s.words s.views r id own c a lt here)) k at
 
 pub load_is_look : LoadIsLook
-load_is_look key s r id k at = of_keeper key s r id (Looks key s r id) (λ own n lt. event key s _ r _ (look_step lookup (layout_of key) key.image s.words s.views r id own n lt)) k at
+load_is_look key s r id k at = of_keeper key s r id (Looks key s r id) (λ own n lt. event key s _ r _ (look_step lookup (layout_of key) key.origin s.words s.views r id own n lt)) k at
 
 pub store_is_clear : StoreIsClear
-store_is_clear key s r id k at = of_keeper key s r id (Clears key s r id) (λ own a p free lt. event key s _ r _ (clear_step lookup (layout_of key) key.image s.words s.views r id own a p free lt)) k at
+store_is_clear key s r id k at = of_keeper key s r id (Clears key s r id) (λ own a p free lt. event key s _ r _ (clear_step lookup (layout_of key) key.origin s.words s.views r id own a p free lt)) k at
 
 pub store_is_commit : StoreIsCommit
-store_is_commit key s r id k at = of_keeper key s r id (Commits key s r id) (λ own x g home legal. event key s _ r _ (commit_step lookup (layout_of key) key.image s.words s.views r id own x g home legal)) k at
+store_is_commit key s r id k at = of_keeper key s r id (Commits key s r id) (λ own x g home legal. event key s _ r _ (commit_step lookup (layout_of key) key.origin s.words s.views r id own x g home legal)) k at
 
 pub recall_is_none : RecallIsNone
-recall_is_none key s r id k at = of_keeper key s r id (Recalls key s r id) (λ own. none key s _ r (idle_step lookup (layout_of key) key.image s.words s.views r id own 0)) k at
+recall_is_none key s r id k at = of_keeper key s r id (Recalls key s r id) (λ own. none key s _ r (idle_step lookup (layout_of key) key.origin s.words s.views r id own 0)) k at
 
 pub split_is_none : SplitIsNone
-split_is_none key s r id k at = of_keeper key s r id (Splits key s r id) (λ own n lt free. none key s _ r (give_step lookup (layout_of key) key.image s.words s.views r id own n lt free)) k at
+split_is_none key s r id k at = of_keeper key s r id (Splits key s r id) (λ own n lt free. none key s _ r (give_step lookup (layout_of key) key.origin s.words s.views r id own n lt free)) k at
 
 pub join_is_none : JoinIsNone
-join_is_none key s r id k at = of_keeper key s r id (Joins key s r id) (λ own other v apart out e. none key s _ r (take_step lookup (layout_of key) key.image s.words s.views r id own other v apart out e)) k at
+join_is_none key s r id k at = of_keeper key s r id (Joins key s r id) (λ own other v apart out e. none key s _ r (take_step lookup (layout_of key) key.origin s.words s.views r id own other v apart out e)) k at
 
 pub split_turn_is_none : SplitTurnIsNone
-split_turn_is_none key s r id k at = of_keeper key s r id (SplitsTurn key s r id) (λ own home. none key s _ r (lend_step lookup (layout_of key) key.image s.words s.views r id own home)) k at
+split_turn_is_none key s r id k at = of_keeper key s r id (SplitsTurn key s r id) (λ own home. none key s _ r (lend_step lookup (layout_of key) key.origin s.words s.views r id own home)) k at
 
 pub join_turn_is_none : JoinTurnIsNone
-join_turn_is_none key s r id k at = of_keeper key s r id (JoinsTurn key s r id) (λ own other g apart e. none key s _ r (home_step lookup (layout_of key) key.image s.words s.views r id own other g apart e)) k at
+join_turn_is_none key s r id k at = of_keeper key s r id (JoinsTurn key s r id) (λ own other g apart e. none key s _ r (home_step lookup (layout_of key) key.origin s.words s.views r id own other g apart e)) k at

@@ -1,6 +1,6 @@
 -- The rule holds when the table is made, and the state that is shown is the machine's before the first event.
 use Rattle.std.proofs.Common.{◌≡◌, ℕ, zero, suc, ◌+◌, ◌<◌, ◌≤◌, List, [], ◌∷◌, length, take, Bool, true, false, true≢false, None, cond, refl, sym, ap, ◌∙◌, subst, arith}
-use Rattle.msg_image.specs.Parts.{class_total}
+use Rattle.msg_tables.specs.Origin.{class_total}
 use Rattle.std.specs.Prelude.{slice_index, slice_index_or, replicate, nat_lt}
 use Rattle.std.proofs.lemmas.List.{length-replicate}
 use mathlib.Core.Option.{some, some-injective, some-ne-none}
@@ -12,7 +12,7 @@ use Rattle.msg_core.specs.declared.state.Whereabouts.TheVariants.{Out}
 use Rattle.msg_core.specs.Runs.{opening}
 use Rattle.msg_core.specs.State.{state_from, capacity, Sound}
 use Rattle.msg_core.proofs.RunLemmas.{sound_opening}
-use Rattle.msg_image.specs.Sound.{IsSound}
+use Rattle.msg_tables.specs.Origin.{IsSound}
 use Rattle.msg_cache.specs.declared.view.View.{View}
 use Rattle.msg_cache.specs.declared.view.View.TheVariants.{Keeper}
 use Rattle.msg_cache.specs.Layout.{SettingView, layout_of, total, header_at, base, probes, probe_at, word_count}
@@ -26,14 +26,14 @@ same_everywhere (suc n) zero x = refl
 same_everywhere (suc n) (suc i) x = same_everywhere n i x
 
 -- the first keeper's view shows the machine before the first event
-shown_first : (key : SettingView) → shown (layout_of key) (first_keeper key) (λ n. Out) ≡ opening key.image
-shown_first key = λ j. state_from (empty key.image) (λ c. live c j) (λ a p. word a p j) (λ a. same_everywhere (length key.capacities) a Free j) (λ n. Out)
+shown_first : (key : SettingView) → shown (layout_of key) (first_keeper key) (λ n. Out) ≡ opening key.origin
+shown_first key = λ j. state_from (empty key.origin) (λ c. live c j) (λ a p. word a p j) (λ a. same_everywhere (length key.capacities) a Free j) (λ n. Out)
   where
     n : ℕ
     n = probes (layout_of key)
 
     live : (c : ClassRef) → live_in (layout_of key) (replicate (probes (layout_of key)) 0) c ≡ None
-    live c = step (nat_lt c.class (class_total key.image))
+    live c = step (nat_lt c.class (class_total key.origin))
       where
         step : (b : Bool) → cond b (named (slice_index (replicate (probes (layout_of key)) 0) (header_at c))) None ≡ None
         step true = ap named (same_everywhere (probes (layout_of key)) (header_at c) 0)
@@ -46,8 +46,8 @@ shown_first key = λ j. state_from (empty key.image) (λ c. live c j) (λ a p. w
         step true = same_everywhere (probes (layout_of key)) (base (layout_of key) a + p) 0
         step false = refl
 
-pub opens : (look : History → ClassRef → ℕ → ℕ) (key : SettingView) (n : ℕ) → IsSound key.image → 0 < key.senders → n ≡ word_count (layout_of key)
-    → (r : RuledBy look key (replicate n 0) (Keeper (first_keeper key) ∷ [])) × (shown_by look (layout_of key) key.image r ≡ opening key.image)
+pub opens : (look : History → ClassRef → ℕ → ℕ) (key : SettingView) (n : ℕ) → IsSound key.origin → 0 < key.senders → n ≡ word_count (layout_of key)
+    → (r : RuledBy look key (replicate n 0) (Keeper (first_keeper key) ∷ [])) × (shown_by look (layout_of key) key.origin r ≡ opening key.origin)
 opens look key n sound_image some_sender count =
     let z = layout_of key in (
       record {
@@ -61,15 +61,15 @@ opens look key n sound_image some_sender count =
           standings = length-replicate (length z.capacities) Free;
           given = length-replicate z.senders false;
           version = same_everywhere (probes z) 0 0;
-          begins = begins_refl (empty key.image);
-          accepted = accepted_empty key.image sound_image;
-          told = begins_refl (empty key.image);
+          begins = begins_refl (empty key.origin);
+          accepted = accepted_empty key.origin sound_image;
+          told = begins_refl (empty key.origin);
           home = λ g e. absurd (cc);
           never = λ _. refl;
           some_sender = some_sender;
         };
         copies = record { copied = λ i lt. same_everywhere n i 0 ∙ sym (same_everywhere (probes z) i 0); probed = λ i lt. same_everywhere n (probe_at z i) 0; count = length-replicate n 0 ∙ count };
-        sound = subst (Sound look z) (sym (shown_first key)) (sound_opening look z some_sender key.image);
+        sound = subst (Sound look z) (sym (shown_first key)) (sound_opening look z some_sender key.origin);
         outside = λ i e. refl;
         views_fit = λ j v e. one j v e;
         chair_is = refl;
@@ -96,7 +96,7 @@ total_part (x ∷ xs) zero = omega arith
 total_part (x ∷ xs) (suc i) = let t = total_part xs i in omega arith
 
 -- the first keeper's view is sound by itself
-pub first_tidy : (look : History → ClassRef → ℕ → ℕ) (key : SettingView) → IsSound key.image → 0 < key.senders → TidyBy look key (first_keeper key)
+pub first_tidy : (look : History → ClassRef → ℕ → ℕ) (key : SettingView) → IsSound key.origin → 0 < key.senders → TidyBy look key (first_keeper key)
 first_tidy look key sound_image some_sender =
     let r = (opens look key (word_count (layout_of key)) sound_image some_sender refl).0 in
-    subst (TidyBy look key) (r.views_fit 0 (Keeper (first_keeper key)) refl).1 (tidy_of look (layout_of key) key.image _ _ r)
+    subst (TidyBy look key) (r.views_fit 0 (Keeper (first_keeper key)) refl).1 (tidy_of look (layout_of key) key.origin _ _ r)

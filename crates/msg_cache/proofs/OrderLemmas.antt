@@ -1,7 +1,7 @@
 -- What each of the keeper's changes leaves between calls.
 use Rattle.std.proofs.Common.{◌≡◌, ◌≢◌, ℕ, zero, suc, ◌+◌, ◌-◌, ◌*◌, ◌<◌, ◌≤◌, List, [], ◌∷◌, map, length, take, drop, get_or, Bool, true, false, cond, refl, sym, ap, ◌∙◌, subst, ⊎_elim, arith, eq-eqb, ne_eqb}
-use Rattle.msg_image.specs.Parts.{class_total}
-use Rattle.msg_image.specs.Sound.{IsSound}
+use Rattle.msg_tables.specs.Origin.{class_total}
+use Rattle.msg_tables.specs.Origin.{IsSound}
 use Rattle.std.specs.Prelude.{slice_index, slice_index_or, slice_set, replicate, find, ◌&&◌, ◌==◌, nat_le, nat_lt, Option, Some, None, MatchOption, IfSome, IfNone}
 use Rattle.std.specs.List.{range_with_len}
 use Rattle.std.specs.Int.{trailing_zeros}
@@ -12,7 +12,7 @@ use lib.Seq.{take-set-lt}
 use lib.Count.{count_trailing_zeros}
 use mir.Syntax.{w32}
 use Rattle.msg_names.specs.declared.value.ClassRef.{ClassRef}
-use Rattle.msg_image.specs.declared.change.Change.{Change}
+use Rattle.msg_tables.specs.declared.change.Change.{Change}
 use Rattle.msg_buckets.specs.Word.{sel_of}
 use Rattle.msg_buckets.specs.Capacity.{IsCapacity, fill_limit, capacities, plan_of}
 use Rattle.msg_buckets.specs.Probing.{empty, probe_place}
@@ -152,7 +152,7 @@ header_word : (z : Layout) (ws : List ℕ) (c : ClassRef) (b q w : ℕ) → c.cl
 header_word z ws c b q w lt = get_or-set_other ws (header_at c) (base z b + q) w 0 (λ e. let t = header_before z c b lt in absurd (omega arith))
 
 -- a header word that names an array, and an array that is live
-pub header_live : (look : History → ClassRef → ℕ → ℕ) (key : SettingView) (k : KeeperView) → TidyBy look key k → (c : ClassRef) (a : ℕ) → c.class < class_total key.image → header k c ≡ suc a → standing_of k a ≡ Live c
+pub header_live : (look : History → ClassRef → ℕ → ℕ) (key : SettingView) (k : KeeperView) → TidyBy look key k → (c : ClassRef) (a : ℕ) → c.class < class_total key.origin → header k c ≡ suc a → standing_of k a ≡ Live c
 header_live look key k t c a lt e = t.sound.lawful.live_stands c a lt (live_is (layout_of key) k.words c lt ∙ ap named e)
 
 pub live_array : (look : History → ClassRef → ℕ → ℕ) (key : SettingView) (k : KeeperView) → TidyBy look key k → (c : ClassRef) (a : ℕ) → standing_of k a ≡ Live c → a < length key.capacities
@@ -209,7 +209,7 @@ module _ (look : History → ClassRef → ℕ → ℕ) (key : SettingView) (k : 
   pub free_array : (a : ℕ) → a < length (layout_of key).capacities → standing_of k a ≡ Free → array_words (layout_of key) k a ≡ replicate (capacity (layout_of key) a) 0
   free_array a lt free = array_zero (layout_of key) k a (words_within a lt) (λ p pl. kept.cleared a p free pl)
 
-  pub kept_installed : (c : ClassRef) (a : ℕ) → c.class < class_total key.image → a < length (layout_of key).capacities → standing_of k a ≡ Free → TidyBy look key (installed c a k) → InOrder look key (installed c a k) rem has
+  pub kept_installed : (c : ClassRef) (a : ℕ) → c.class < class_total key.origin → a < length (layout_of key).capacities → standing_of k a ≡ Free → TidyBy look key (installed c a k) → InOrder look key (installed c a k) rem has
   kept_installed c a cl al free tidy =
       let z = layout_of key in
       let k' = installed c a k in
@@ -231,7 +231,7 @@ module _ (look : History → ClassRef → ℕ → ℕ) (key : SettingView) (k : 
       not_free : (c : ClassRef) → Live c ≡ Free → ⊥
       not_free c u = cc
 
-  pub kept_flushed : ((a : ℕ) → a < length key.capacities → IsCapacity (capacity (layout_of key) a)) → (c : ClassRef) → c.class < class_total key.image → TidyBy look key (flushed c k)
+  pub kept_flushed : ((a : ℕ) → a < length key.capacities → IsCapacity (capacity (layout_of key) a)) → (c : ClassRef) → c.class < class_total key.origin → TidyBy look key (flushed c k)
       → InOrder look key (flushed c k) (remember (layout_of key) c (header k c) rem) has
   kept_flushed sizes c cl tidy =
       let z = layout_of key in
@@ -255,7 +255,7 @@ module _ (look : History → ClassRef → ℕ → ℕ) (key : SettingView) (k : 
       at : (n : ℕ) → slice_index k.words (header_at c) ≡ n → (i : ℕ) → IsCapacity (or_least (slice_index (remember (layout_of key) c n rem) i))
       at zero e i = kept.capacities i
       at (suc a) e i = ⊎_elim
-          (λ (eq : i ≡ slot_of c). let inner : slot_of c < length rem = let t = slot_of-inside c (class_total key.image) (2 * class_total key.image) refl cl in omega (arith, kept.classes) in
+          (λ (eq : i ≡ slot_of c). let inner : slot_of c < length rem = let t = slot_of-inside c (class_total key.origin) (2 * class_total key.origin) refl cl in omega (arith, kept.classes) in
           let h : slice_index (slice_set rem (slot_of c) (capacity (layout_of key) a)) i ≡ capacity (layout_of key) a = ap (slice_index (slice_set rem (slot_of c) (capacity (layout_of key) a))) eq ∙ get_or-set_same rem (slot_of c) (capacity (layout_of key) a) 0 inner in
           subst (λ (m : ℕ). IsCapacity (or_least m)) (sym h) (some (capacity (layout_of key) a) (sizes a (live_array look key k kept.tidy c a (header_live look key k kept.tidy c a cl e)))))
           (λ (ne : i ≢ slot_of c). subst (λ (m : ℕ). IsCapacity (or_least m)) (sym (get_or-set_other rem (slot_of c) i (capacity (layout_of key) a) 0 ne)) (kept.capacities i))
@@ -284,7 +284,7 @@ pub header_read : (words l : List ℕ) (i n m : ℕ) → words ≡ l → n ≡ g
 header_read words l i n m is read long lt = read ∙ ap (λ (x : List ℕ). get_or x i n) is ∙ get_or_default l i n 0 (omega arith)
 
 module _ (look : History → ClassRef → ℕ → ℕ) (key : SettingView) (k : KeeperView) (rem has : List ℕ) (kept : InOrder look key k rem has) where
-  pub live_of : (c : ClassRef) (n : ℕ) → c.class < class_total key.image → n ≡ header k c → n ≢ 0 → (standing_of k (n - 1) ≡ Live c) × (n - 1 < length (layout_of key).capacities) × (header k c ≡ suc (n - 1))
+  pub live_of : (c : ClassRef) (n : ℕ) → c.class < class_total key.origin → n ≡ header k c → n ≢ 0 → (standing_of k (n - 1) ≡ Live c) × (n - 1 < length (layout_of key).capacities) × (header k c ≡ suc (n - 1))
   live_of c n lt e some =
       let is : n ≡ suc (n - 1) = omega arith in
       let h : header k c ≡ suc (n - 1) = sym e ∙ is in
@@ -292,12 +292,12 @@ module _ (look : History → ClassRef → ℕ → ℕ) (key : SettingView) (k : 
       (alive, live_array look key k kept.tidy c (n - 1) alive, h)
 
   -- the array of a header word is noted as live
-  pub live_noted : (c : ClassRef) (n b : ℕ) (notes : List Note) → c.class < class_total key.image → n ≡ header k c → n ≡ suc b → notes ≡ map note_of k.standings → note_at notes b ≡ live
+  pub live_noted : (c : ClassRef) (n b : ℕ) (notes : List Note) → c.class < class_total key.origin → n ≡ header k c → n ≡ suc b → notes ≡ map note_of k.standings → note_at notes b ≡ live
   live_noted c n b notes lt e is are =
       let at : n - 1 ≡ b = omega arith in
       ap (λ l. note_at l b) are ∙ noted_at k.standings b ∙ ap (λ (x : ℕ). note_of (standing_of k x)) (sym at) ∙ ap note_of (live_of c n lt e (λ z. absurd (omega arith))).0
 
-  pub header_small : (c : ClassRef) (n : ℕ) → c.class < class_total key.image → n ≡ header k c → n ≤ length k.standings
+  pub header_small : (c : ClassRef) (n : ℕ) → c.class < class_total key.origin → n ≡ header k c → n ≤ length k.standings
   header_small c zero lt e = omega arith
   header_small c (suc a) lt e = let l = (live_of c (suc a) lt e (λ z. absurd (omega arith))).1 in let s = kept.tidy.kept.standings in omega arith
 
@@ -319,7 +319,7 @@ on_use (Use a p) P Q f h = f a p h
 on_use (Take n) P Q f h = tt
 
 -- an array that was installed has no entries
-pub fresh_find : (look : History → ClassRef → ℕ → ℕ) (key : SettingView) (k k' : KeeperView) (rem has : List ℕ) → InOrder look key k rem has → (c : ClassRef) (a s : ℕ) → c.class < class_total key.image → a < length (layout_of key).capacities → standing_of k a ≡ Free → 0 < capacity (layout_of key) a
+pub fresh_find : (look : History → ClassRef → ℕ → ℕ) (key : SettingView) (k k' : KeeperView) (rem has : List ℕ) → InOrder look key k rem has → (c : ClassRef) (a s : ℕ) → c.class < class_total key.origin → a < length (layout_of key).capacities → standing_of k a ≡ Free → 0 < capacity (layout_of key) a
     → k' ≡ installed c a k → (find_in (array_words (layout_of key) k' a) s ≡ empty (probe_place s (capacity (layout_of key) a) 0)) × (occupied_in (array_words (layout_of key) k' a) ≡ 0)
 fresh_find look key k k' rem has kept c a s cl al free some is =
     let z = layout_of key in
@@ -393,7 +393,7 @@ no_live zero a c e = cc
 no_live (suc n) zero c e = cc
 no_live (suc n) (suc a) c e = no_live n a c e
 
-pub kept_first : (look : History → ClassRef → ℕ → ℕ) (key : SettingView) → IsSound key.image → 0 < key.senders → InOrder look key (first_keeper key) (replicate (2 * class_total key.image) 0) (replicate (length key.capacities) 0)
+pub kept_first : (look : History → ClassRef → ℕ → ℕ) (key : SettingView) → IsSound key.origin → 0 < key.senders → InOrder look key (first_keeper key) (replicate (2 * class_total key.origin) 0) (replicate (length key.capacities) 0)
 kept_first look key sound_image some_sender =
     let z = layout_of key in
     let n = length key.capacities in record {
@@ -402,6 +402,6 @@ kept_first look key sound_image some_sender =
       counted = λ a lt. same_everywhere n a 0 ∙ sym (no_words (probes z) (base z a) (capacity z a));
       counts = length-replicate n 0;
       within = λ c a e. absurd (no_live n a c e);
-      capacities = λ i. subst (λ (m : ℕ). IsCapacity (or_least m)) (sym (same_everywhere (2 * class_total key.image) i 0)) refl;
-      classes = length-replicate (2 * class_total key.image) 0;
+      capacities = λ i. subst (λ (m : ℕ). IsCapacity (or_least m)) (sym (same_everywhere (2 * class_total key.origin) i 0)) refl;
+      classes = length-replicate (2 * class_total key.origin) 0;
     }

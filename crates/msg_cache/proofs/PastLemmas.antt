@@ -2,9 +2,9 @@
 use Rattle.std.proofs.Common.{◌≡◌, ℕ, ◌+◌, ◌-◌, ◌≤◌, [], ◌∷◌, ◌++◌, length, take, drop, None, subst, refl, sym, ap, ◌∙◌, arith, length-append, append_assoc}
 use Rattle.std.proofs.lemmas.List.{append-nil, take-append-drop}
 use Rattle.std.proofs.Math.Seq.{take-append-add}
-use Rattle.msg_image.specs.declared.change.Change.{Change}
-use Rattle.msg_image.specs.Parts.{ImageParts}
-use Rattle.msg_image.specs.Sound.{IsSound}
+use Rattle.msg_tables.specs.declared.change.Change.{Change}
+use Rattle.msg_tables.specs.Origin.{OriginView}
+use Rattle.msg_tables.specs.Origin.{IsSound}
 use Rattle.msg_tables.specs.History.{History, BeginsWith, and_then, empty}
 use Rattle.msg_tables.specs.Refusal.{refusal}
 use Rattle.msg_tables.proofs.HistoryLemmas.{history-and_then, history-before, history-empty}
@@ -41,11 +41,11 @@ begins_first h g r p le =
 
 -- ---- accepted histories
 
-pub accepted_empty : (image : ImageParts) → IsSound image → IsAccepted (empty image)
-accepted_empty image sound = record { image = sound; changes = history-empty (empty image) refl }
+pub accepted_empty : (origin : OriginView) → IsSound origin → IsAccepted (empty origin)
+accepted_empty origin sound = record { origin = sound; changes = history-empty (empty origin) refl }
 
 pub accepted_next : (h : History) (x : Change) → IsAccepted h → refusal h x ≡ None → IsAccepted (and_then h x)
-accepted_next h x old none = record { image = old.image; changes = history-and_then h x old.changes none }
+accepted_next h x old none = record { origin = old.origin; changes = history-and_then h x old.changes none }
 
 pub accepted_before : (h g : History) → BeginsWith h g → IsAccepted h → IsAccepted g
-accepted_before h g begins later = record { image = subst IsSound begins.same later.image; changes = history-before h g begins later.changes }
+accepted_before h g begins later = record { origin = subst IsSound begins.same later.origin; changes = history-before h g begins later.changes }

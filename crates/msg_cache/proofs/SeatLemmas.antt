@@ -5,7 +5,7 @@ use mathlib.Core.Option.{some, some-injective, some-ne-none}
 use lib.ListN.{get_elem?}
 use Rattle.atomic_table.proofs.Lists.{at_set, set_here, set_else}
 use Rattle.msg_names.specs.declared.value.ClassRef.{ClassRef}
-use Rattle.msg_image.specs.Parts.{ImageParts}
+use Rattle.msg_tables.specs.Origin.{OriginView}
 use Rattle.msg_tables.specs.History.{History, BeginsWith}
 use Rattle.msg_core.specs.declared.state.Standing.TheVariants.{Retired}
 use Rattle.msg_core.specs.declared.state.Whereabouts.{Whereabouts}
@@ -63,7 +63,7 @@ not_sender u v ne e = ne (ap number e)
     number (Turn h) = 0
     number Spent = 0
 
-module _ (look : History → ClassRef → ℕ → ℕ) (z : Layout) (image : ImageParts) (words words' : List ℕ) (views : List View) (r : Ruled look z image words views) where
+module _ (look : History → ClassRef → ℕ → ℕ) (z : Layout) (origin : OriginView) (words words' : List ℕ) (views : List View) (r : Ruled look z origin words views) where
   -- a sender's number is below the number of senders
   pub number_below : (id : ℕ) (v : SenderView) → get_elem? views id ≡ some (Sender v) → v.number < z.senders
   number_below id v at =
@@ -76,7 +76,7 @@ module _ (look : History → ClassRef → ℕ → ℕ) (z : Layout) (image : Ima
       → ((c : ClassRef) (a n : ℕ) (aw : List Bool) → w.whereabouts ≡ Holding c a → standing_at r.keeper.standings a ≡ Retired c n aw → size w.front ≤ n)
       → IsCopied z r.keeper whereabouts' words'
       → Sound look z (shown z r.keeper whereabouts')
-      → (r' : Ruled look z image words' (slice_set views id (Sender w))) × (shown_by look z image r' ≡ shown z r.keeper whereabouts')
+      → (r' : Ruled look z origin words' (slice_set views id (Sender w))) × (shown_by look z origin r' ≡ shown z r.keeper whereabouts')
   sender_goes id v w whereabouts' at same here away begins behind copies sound =
       let k = r.keeper in
       let mine : FitsSender k r.seat r.whereabouts id v = r.views_fit id (Sender v) at in (
@@ -118,12 +118,12 @@ module _ (look : History → ClassRef → ℕ → ℕ) (z : Layout) (image : Ima
       }
 
   -- the keeper steps: its new view
-  pub keeper_goes : (id : ℕ) (k' : KeeperView) → get_elem? views id ≡ some (Keeper r.keeper) → IsKept z image k' → IsCopied z k' r.whereabouts words' → Sound look z (shown z k' r.whereabouts)
+  pub keeper_goes : (id : ℕ) (k' : KeeperView) → get_elem? views id ≡ some (Keeper r.keeper) → IsKept z origin k' → IsCopied z k' r.whereabouts words' → Sound look z (shown z k' r.whereabouts)
       → k'.given ≡ r.keeper.given → BeginsWith k'.history r.keeper.history
       → ((c : ClassRef) (a m : ℕ) (aw : List Bool) → standing_at k'.standings a ≡ Retired c m aw
       → ((old : List Bool) × (standing_at r.keeper.standings a ≡ Retired c m old)) ⊎ (size r.keeper.history ≤ m))
       → ((k'.turn ≡ r.keeper.turn) × (k'.history ≡ r.keeper.history)) ⊎ (r.keeper.turn ≢ Away)
-      → (r' : Ruled look z image words' (slice_set views id (Keeper k'))) × (shown_by look z image r' ≡ shown z k' r.whereabouts)
+      → (r' : Ruled look z origin words' (slice_set views id (Keeper k'))) × (shown_by look z origin r' ≡ shown z k' r.whereabouts)
   keeper_goes id k' at kept copies sound given grows behind turn =
       let mine : (r.chair ≡ id) × (r.keeper ≡ r.keeper) = r.views_fit id (Keeper r.keeper) at in (
         record {

@@ -7,7 +7,7 @@ use mathlib.Core.Option.{some}
 use lib.ListN.{get_elem?}
 use Rattle.msg_names.specs.declared.value.ClassRef.{ClassRef}
 use Rattle.msg_buckets.specs.Word.{sel_of, imp_of}
-use Rattle.msg_image.specs.Parts.{ImageParts}
+use Rattle.msg_tables.specs.Origin.{OriginView}
 use Rattle.msg_tables.specs.History.{History, BeginsWith}
 use Rattle.msg_core.specs.declared.event.Event.TheVariants.{Enter, Header, Read, Leave}
 use Rattle.msg_core.specs.declared.state.Standing.TheVariants.{Live, Retired}
@@ -31,9 +31,9 @@ use Rattle.msg_cache.proofs.SeatLemmas.{number_below, sender_goes}
 use Rattle.msg_cache.proofs.ShownLemmas.{live_is, word_is}
 
 -- a load leaves the words, and they show a sender that is in as it was
-copies_load : (look : History → ClassRef → ℕ → ℕ) (z : Layout) (image : ImageParts) (words : List ℕ) (views : List View) (r : Ruled look z image words views) (i n num : ℕ) (whereabouts' : ℕ → Whereabouts)
+copies_load : (look : History → ClassRef → ℕ → ℕ) (z : Layout) (origin : OriginView) (words : List ℕ) (views : List View) (r : Ruled look z origin words views) (i n num : ℕ) (whereabouts' : ℕ → Whereabouts)
     → n ≡ slice_index words i → in_word (whereabouts' num) ≡ in_word (r.whereabouts num) → ((m : ℕ) → m ≢ num → whereabouts' m ≡ r.whereabouts m) → IsCopied z r.keeper whereabouts' (slice_set words i n)
-copies_load look z image words views r i n num whereabouts' found same away =
+copies_load look z origin words views r i n num whereabouts' found same away =
     let back : slice_set words i n ≡ words = ap (slice_set words i) found ∙ set-get_or words i 0 in
     subst (IsCopied z r.keeper whereabouts') (sym back) (record {
       copied = r.copies.copied;
@@ -44,12 +44,12 @@ copies_load look z image words views r i n num whereabouts' found same away =
       count = r.copies.count;
     })
 
-module _ (look : History → ClassRef → ℕ → ℕ) (z : Layout) (image : ImageParts) (words : List ℕ) (views : List View) (r : Ruled look z image words views) (id : ℕ) (v : SenderView) (at_id : get_elem? views id ≡ some (Sender v)) where
+module _ (look : History → ClassRef → ℕ → ℕ) (z : Layout) (origin : OriginView) (words : List ℕ) (views : List View) (r : Ruled look z origin words views) (id : ℕ) (v : SenderView) (at_id : get_elem? views id ≡ some (Sender v)) where
   mine : FitsSender r.keeper r.seat r.whereabouts id v
   mine = r.views_fit id (Sender v) at_id
 
   below : v.number < z.senders
-  below = number_below look z image words words views r id v at_id
+  below = number_below look z origin words words views r id v at_id
 
   -- a store of the sender's own probe word
   copies_probe : (n : ℕ) (p : Whereabouts) → n ≡ in_word p → IsCopied z r.keeper (at r.whereabouts v.number p) (slice_set words (probe_at z v.number) n)
@@ -64,36 +64,36 @@ module _ (look : History → ClassRef → ℕ → ℕ) (z : Layout) (image : Ima
         count = length-set words (probe_at z v.number) n ∙ len;
       }
 
-  pub enter_step : v.whereabouts ≡ Out → GoesBy look z image r (Enter v.number) (slice_set words (probe_at z v.number) 1) (slice_set views id (Sender (gone_to v v.front In)))
+  pub enter_step : v.whereabouts ≡ Out → GoesBy look z origin r (Enter v.number) (slice_set words (probe_at z v.number) 1) (slice_set views id (Sender (gone_to v v.front In)))
   enter_step out =
-      let legal = may_enter look z (shown_by look z image r) v.number below (mine.placed ∙ out) in (
+      let legal = may_enter look z (shown_by look z origin r) v.number below (mine.placed ∙ out) in (
         legal,
-        sender_goes look z image words (slice_set words (probe_at z v.number) 1) views r id v (gone_to v v.front In) (at r.whereabouts v.number In) at_id refl (at_same r.whereabouts v.number In) (at_other r.whereabouts v.number In)
-            mine.begins (λ c a m aw e. absurd (cc)) (copies_probe 1 In refl) (sound_after look z r.kept.some_sender (shown_by look z image r) (Enter v.number) r.sound legal),
+        sender_goes look z origin words (slice_set words (probe_at z v.number) 1) views r id v (gone_to v v.front In) (at r.whereabouts v.number In) at_id refl (at_same r.whereabouts v.number In) (at_other r.whereabouts v.number In)
+            mine.begins (λ c a m aw e. absurd (cc)) (copies_probe 1 In refl) (sound_after look z r.kept.some_sender (shown_by look z origin r) (Enter v.number) r.sound legal),
       )
 
-  pub leave_step : v.whereabouts ≢ Out → GoesBy look z image r (Leave v.number) (slice_set words (probe_at z v.number) 0) (slice_set views id (Sender (gone_to v v.front Out)))
+  pub leave_step : v.whereabouts ≢ Out → GoesBy look z origin r (Leave v.number) (slice_set words (probe_at z v.number) 0) (slice_set views id (Sender (gone_to v v.front Out)))
   leave_step in_it =
-      let legal = may_leave look z (shown_by look z image r) v.number below (λ e. in_it (sym mine.placed ∙ e)) in (
+      let legal = may_leave look z (shown_by look z origin r) v.number below (λ e. in_it (sym mine.placed ∙ e)) in (
         legal,
-        sender_goes look z image words (slice_set words (probe_at z v.number) 0) views r id v (gone_to v v.front Out) (at r.whereabouts v.number Out) at_id refl (at_same r.whereabouts v.number Out) (at_other r.whereabouts v.number Out)
-            mine.begins (λ c a m aw e. absurd (cc)) (copies_probe 0 Out refl) (sound_after look z r.kept.some_sender (shown_by look z image r) (Leave v.number) r.sound legal),
+        sender_goes look z origin words (slice_set words (probe_at z v.number) 0) views r id v (gone_to v v.front Out) (at r.whereabouts v.number Out) at_id refl (at_same r.whereabouts v.number Out) (at_other r.whereabouts v.number Out)
+            mine.begins (λ c a m aw e. absurd (cc)) (copies_probe 0 Out refl) (sound_after look z r.kept.some_sender (shown_by look z origin r) (Leave v.number) r.sound legal),
       )
 
   -- the front afterwards is the history now
   pub header_step : (c : ClassRef) (s n : ℕ) → v.whereabouts ≡ In → c.class < z.classes → n ≡ slice_index words (header_at c)
-      → GoesBy look z image r (Header v.number c) (slice_set words (header_at c) n) (slice_set views id (Sender (headed c s r.keeper.history v n))) × (n ≤ length z.capacities)
+      → GoesBy look z origin r (Header v.number c) (slice_set words (header_at c) n) (slice_set views id (Sender (headed c s r.keeper.history v n))) × (n ≤ length z.capacities)
   header_step c s n is_in lt found =
       let k = r.keeper in
-      let m = shown_by look z image r in
+      let m = shown_by look z origin r in
       let legal = may_load look z m v.number c below lt (mine.placed ∙ is_in) in
       let copy : n ≡ slice_index k.words (header_at c) = found ∙ r.copies.copied (header_at c) (header_inside z c lt) in
       let is : m.live c ≡ named n = live_is z k.words c lt ∙ ap named (sym copy) in
       let goes : at r.whereabouts v.number (seeing c (m.live c)) ≡ at r.whereabouts v.number (seeing c (named n)) = ap (λ o. at r.whereabouts v.number (seeing c o)) is in
-      let next = sender_goes look z image words (slice_set words (header_at c) n) views r id v (headed c s k.history v n) (at r.whereabouts v.number (seeing c (named n))) at_id refl (at_same r.whereabouts v.number (seeing c (named n)))
+      let next = sender_goes look z origin words (slice_set words (header_at c) n) views r id v (headed c s k.history v n) (at r.whereabouts v.number (seeing c (named n))) at_id refl (at_same r.whereabouts v.number (seeing c (named n)))
       (at_other r.whereabouts v.number (seeing c (named n))) (begins_refl k.history)
       (λ d a y aw e gone. let lives = (holds_seen look z r.kept.some_sender m c (named n) r.sound lt is d a e).0 in let u : Live d ≡ Retired d y aw = sym lives ∙ gone in absurd (cc))
-      (copies_load look z image words views r (header_at c) n v.number (at r.whereabouts v.number (seeing c (named n))) found
+      (copies_load look z origin words views r (header_at c) n v.number (at r.whereabouts v.number (seeing c (named n))) found
       (ap in_word (at_same r.whereabouts v.number (seeing c (named n))) ∙ in_is n ∙ sym (ap in_word (mine.placed ∙ is_in))) (at_other r.whereabouts v.number (seeing c (named n))))
       (subst (λ f. Sound look z (shown z k f)) goes (sound_after look z r.kept.some_sender m (Header v.number c) r.sound legal)) in
       ((legal, (next.0, next.1 ∙ sym (ap (λ f. shown z k f) goes))), among n is)
@@ -102,13 +102,13 @@ module _ (look : History → ClassRef → ℕ → ℕ) (z : Layout) (image : Ima
       in_is zero = refl
       in_is (suc n) = refl
 
-      among : (n : ℕ) → (shown_by look z image r).live c ≡ named n → n ≤ length z.capacities
+      among : (n : ℕ) → (shown_by look z origin r).live c ≡ named n → n ≤ length z.capacities
       among zero e = omega arith
       among (suc a) e = let t = r.sound.in_range.live_array c a (r.sound.lawful.live_stands c a lt e) in omega arith
 
   -- The front is raised where the word has the selector that is sought: to the history now, where the array is live, and else to what it was when the array was retired.
   pub bucket_step : (a p n : ℕ) → v.whereabouts ≡ Holding v.last.class a → p < capacity z a → 0 < v.last.sel → n ≡ slice_index words (base z a + p)
-      → (g : History) × GoesBy look z image r (Read v.number p) (slice_set words (base z a + p) n) (slice_set views id (Sender (read_on g v (base z a + p) n))) × BeginsWith g v.front
+      → (g : History) × GoesBy look z origin r (Read v.number p) (slice_set words (base z a + p) n) (slice_set views id (Sender (read_on g v (base z a + p) n))) × BeginsWith g v.front
       × (sel_of n ≡ v.last.sel → imp_of n ≡ look g v.last.class v.last.sel) × (sel_of n ≢ v.last.sel → g ≡ v.front)
   bucket_step a p n holds lt sought found =
       ⊎_elim (λ (eq : sel_of n ≡ v.last.sel). hit eq (r.sound.lawful.held v.number v.last.class a (mine.placed ∙ holds))) miss (number_or (sel_of n) v.last.sel)
@@ -120,15 +120,15 @@ module _ (look : History → ClassRef → ℕ → ℕ) (z : Layout) (image : Ima
       copy = found ∙ r.copies.copied i (inside z a p lt) ∙ sym (word_is z r.keeper.words a p lt)
 
       Goal : Type 0
-      Goal = (g : History) × GoesBy look z image r (Read v.number p) (slice_set words i n) (slice_set views id (Sender (read_on g v i n))) × BeginsWith g v.front
+      Goal = (g : History) × GoesBy look z origin r (Read v.number p) (slice_set words i n) (slice_set views id (Sender (read_on g v i n))) × BeginsWith g v.front
           × (sel_of n ≡ v.last.sel → imp_of n ≡ look g v.last.class v.last.sel) × (sel_of n ≢ v.last.sel → g ≡ v.front)
 
       goes : (g : History) → BeginsWith r.keeper.history g → ((c : ClassRef) (b m : ℕ) (aw : List Bool) → v.whereabouts ≡ Holding c b → standing_at r.keeper.standings b ≡ Retired c m aw → size g ≤ m)
-          → GoesBy look z image r (Read v.number p) (slice_set words i n) (slice_set views id (Sender (read_on g v i n)))
+          → GoesBy look z origin r (Read v.number p) (slice_set words i n) (slice_set views id (Sender (read_on g v i n)))
       goes g begins behind = (
-        may_read look z (shown_by look z image r) v.number p v.last.class a below (mine.placed ∙ holds) lt,
-        sender_goes look z image words (slice_set words i n) views r id v (read_on g v i n) r.whereabouts at_id refl mine.placed (λ m ne. refl) begins behind
-            (copies_load look z image words views r i n v.number r.whereabouts found refl (λ m ne. refl)) r.sound,
+        may_read look z (shown_by look z origin r) v.number p v.last.class a below (mine.placed ∙ holds) lt,
+        sender_goes look z origin words (slice_set words i n) views r id v (read_on g v i n) r.whereabouts at_id refl mine.placed (λ m ne. refl) begins behind
+            (copies_load look z origin words views r i n v.number r.whereabouts found refl (λ m ne. refl)) r.sound,
       )
 
       good : (there : ClassRef → ℕ → ℕ) → sel_of n ≡ v.last.sel → Agrees there v.last.class (word_in z r.keeper.words a p) → imp_of n ≡ there v.last.class v.last.sel
@@ -163,10 +163,10 @@ module _ (look : History → ClassRef → ℕ → ℕ) (z : Layout) (image : Ima
       miss ne = (v.front, goes v.front mine.begins mine.behind, record { same = refl; rest = (begins_refl v.front).rest }, (λ eq. absurd (ne eq)), (λ _. refl))
 
   pub version_step : (n : ℕ) → ((c : ClassRef) (a : ℕ) → v.whereabouts ≢ Holding c a) → n ≡ slice_index words 0
-      → Stays look z image r (slice_set words 0 n) (slice_set views id (Sender (gone_to v r.keeper.history v.whereabouts))) × BeginsWith r.keeper.history v.front × (size r.keeper.history ≡ n)
+      → Stays look z origin r (slice_set words 0 n) (slice_set views id (Sender (gone_to v r.keeper.history v.whereabouts))) × BeginsWith r.keeper.history v.front × (size r.keeper.history ≡ n)
   version_step n free found = (
-    sender_goes look z image words (slice_set words 0 n) views r id v (gone_to v r.keeper.history v.whereabouts) r.whereabouts at_id refl mine.placed (λ m ne. refl) (begins_refl r.keeper.history)
-        (λ c a m aw e. absurd (free c a e)) (copies_load look z image words views r 0 n v.number r.whereabouts found refl (λ m ne. refl)) r.sound,
+    sender_goes look z origin words (slice_set words 0 n) views r id v (gone_to v r.keeper.history v.whereabouts) r.whereabouts at_id refl mine.placed (λ m ne. refl) (begins_refl r.keeper.history)
+        (λ c a m aw e. absurd (free c a e)) (copies_load look z origin words views r 0 n v.number r.whereabouts found refl (λ m ne. refl)) r.sound,
     mine.begins,
     sym (found ∙ r.copies.copied 0 (omega arith) ∙ r.kept.version),
   )

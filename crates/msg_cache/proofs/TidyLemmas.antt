@@ -1,10 +1,10 @@
 -- What stays of the keeper's view by itself, and what it gives.
 use Rattle.std.proofs.Common.{◌≡◌, ◌≢◌, ℕ, zero, suc, ◌-◌, ◌<◌, length, Bool, true, false, Some, None, refl, sym, ap, ◌∙◌, arith}
-use Rattle.msg_image.specs.Parts.{class_total}
+use Rattle.msg_tables.specs.Origin.{class_total}
 use Rattle.std.specs.Prelude.{slice_index}
 use Rattle.std.proofs.Math.ListN.{length-set}
 use Rattle.msg_names.specs.declared.value.ClassRef.{ClassRef}
-use Rattle.msg_image.specs.declared.change.Change.{Change}
+use Rattle.msg_tables.specs.declared.change.Change.{Change}
 use Rattle.msg_tables.specs.Affected.{is_affected}
 use Rattle.msg_tables.specs.History.{History, and_then}
 use Rattle.msg_core.specs.declared.state.Standing.TheVariants.{Live}
@@ -53,7 +53,7 @@ tidy_given look key k n t = record {
 }
 
 -- a header word names one of the arrays
-pub header_below : (look : History → ClassRef → ℕ → ℕ) (key : SettingView) (k : KeeperView) (c : ClassRef) (n : ℕ) → TidyBy look key k → c.class < class_total key.image → n ≡ slice_index k.words (header_at c) → n ≢ 0 → n - 1 < length k.standings
+pub header_below : (look : History → ClassRef → ℕ → ℕ) (key : SettingView) (k : KeeperView) (c : ClassRef) (n : ℕ) → TidyBy look key k → c.class < class_total key.origin → n ≡ slice_index k.words (header_at c) → n ≢ 0 → n - 1 < length k.standings
 header_below look key k c zero t lt e entry = absurd (entry refl)
 header_below look key k c (suc a) t lt e entry =
     let live = t.sound.lawful.live_stands c a lt (live_is (layout_of key) k.words c lt ∙ ap named (sym e)) in
@@ -61,7 +61,7 @@ header_below look key k c (suc a) t lt e entry =
 
 -- Where a change affects no class reference that has a live array, words of live arrays agree after it as before.
 pub agrees_after : (look : History → ClassRef → ℕ → ℕ) (key : SettingView) (k : KeeperView) (x : Change) → ((c : ClassRef) (s : ℕ) → is_affected k.history x c ≡ false → look (and_then k.history x) c s ≡ look k.history c s) → TidyBy look key k
-    → ((c : ClassRef) → c.class < class_total key.image → is_affected k.history x c ≡ true → live_in (layout_of key) k.words c ≡ None)
+    → ((c : ClassRef) → c.class < class_total key.origin → is_affected k.history x c ≡ true → live_in (layout_of key) k.words c ≡ None)
     → (c : ClassRef) (b q : ℕ) → b < length key.capacities → standing_at k.standings b ≡ Live c → q < capacity (layout_of key) b → Agrees (look (and_then k.history x)) c (word_in (layout_of key) k.words b q)
 agrees_after look key k x unchanged t flushed c b q there live lt entry =
     let before = t.sound.lawful.live_words c b q live lt entry in

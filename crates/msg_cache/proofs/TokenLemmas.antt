@@ -7,7 +7,7 @@ use mathlib.Core.Option.{some}
 use lib.ListN.{get_elem?}
 use Rattle.atomic_table.proofs.Lists.{set_here, set_else, at_longer, at_last}
 use Rattle.msg_names.specs.declared.value.ClassRef.{ClassRef}
-use Rattle.msg_image.specs.Parts.{ImageParts}
+use Rattle.msg_tables.specs.Origin.{OriginView}
 use Rattle.msg_tables.specs.History.{History}
 use Rattle.msg_core.specs.declared.state.Whereabouts.TheVariants.{Out}
 use Rattle.msg_core.specs.State.{Layout, awaits}
@@ -23,7 +23,7 @@ use Rattle.msg_cache.proofs.LayoutLemmas.{awaits_length}
 use Rattle.msg_cache.proofs.PastLemmas.{begins_refl}
 use Rattle.msg_cache.proofs.SeatLemmas.{views_set, at_last_or, at_below, views_apart, not_keeper, not_turn, not_sender}
 
-module _ (look : History → ClassRef → ℕ → ℕ) (z : Layout) (image : ImageParts) (words : List ℕ) (views : List View) (r : Ruled look z image words views) (id : ℕ) (at_id : get_elem? views id ≡ some (Keeper r.keeper)) where
+module _ (look : History → ClassRef → ℕ → ℕ) (z : Layout) (origin : OriginView) (words : List ℕ) (views : List View) (r : Ruled look z origin words views) (id : ℕ) (at_id : get_elem? views id ≡ some (Keeper r.keeper)) where
   -- a sender's seat is not the keeper's
   seat_apart : (n : ℕ) (given : awaits r.keeper.given n ≡ true) → r.seat n ≢ id
   seat_apart n given = views_apart views (r.seat n) id (Sender (r.sits n given).0) (Keeper r.keeper) (r.sits n given).1 at_id (not_keeper (r.sits n given).0 r.keeper)
@@ -33,7 +33,7 @@ module _ (look : History → ClassRef → ℕ → ℕ) (z : Layout) (image : Ima
 
   -- a seat for the sender n is split off
   pub give_step : (n : ℕ) → n < z.senders → awaits r.keeper.given n ≡ false
-      → Stays look z image r words (slice_set views id (Keeper (given_out n r.keeper)) ++ Sender (newcomer n r.keeper.history) ∷ [])
+      → Stays look z origin r words (slice_set views id (Keeper (given_out n r.keeper)) ++ Sender (newcomer n r.keeper.history) ∷ [])
   give_step n lt free =
       let k' = given_out n r.keeper in
       let seat' = at r.seat n (length views) in
@@ -112,7 +112,7 @@ module _ (look : History → ClassRef → ℕ → ℕ) (z : Layout) (image : Ima
 
   -- the seat of a sender that is out is joined
   pub take_step : (other : ℕ) (v : SenderView) → ¬ (other ≡ id) → v.whereabouts ≡ Out → get_elem? (slice_set views id (Keeper (taken_in v r.keeper))) other ≡ some (Sender v)
-      → Stays look z image r words (slice_set (slice_set views id (Keeper (taken_in v r.keeper))) other Spent)
+      → Stays look z origin r words (slice_set (slice_set views id (Keeper (taken_in v r.keeper))) other Spent)
   take_step other v apart out e =
       let k' = taken_in v r.keeper in
       let here : r.chair ≡ id = (r.views_fit id (Keeper r.keeper) at_id).0 in
@@ -171,7 +171,7 @@ module _ (look : History → ClassRef → ℕ → ℕ) (z : Layout) (image : Ima
       }
 
   -- the turn is split off
-  pub lend_step : r.keeper.turn ≢ Away → Stays look z image r words (slice_set views id (Keeper (lent r.keeper)) ++ Turn r.keeper.history ∷ [])
+  pub lend_step : r.keeper.turn ≢ Away → Stays look z origin r words (slice_set views id (Keeper (lent r.keeper)) ++ Turn r.keeper.history ∷ [])
   lend_step home =
       let k' = lent r.keeper in
       let here : r.chair ≡ id = (r.views_fit id (Keeper r.keeper) at_id).0 in (
@@ -218,7 +218,7 @@ module _ (look : History → ClassRef → ℕ → ℕ) (z : Layout) (image : Ima
 
   -- the turn's seat is joined
   pub home_step : (other : ℕ) (g : History) → ¬ (other ≡ id) → get_elem? (slice_set views id (Keeper (at_home g r.keeper))) other ≡ some (Turn g)
-      → Stays look z image r words (slice_set (slice_set views id (Keeper (at_home g r.keeper))) other Spent)
+      → Stays look z origin r words (slice_set (slice_set views id (Keeper (at_home g r.keeper))) other Spent)
   home_step other g apart e =
       let k' = at_home g r.keeper in
       let here : r.chair ≡ id = (r.views_fit id (Keeper r.keeper) at_id).0 in

@@ -1,7 +1,7 @@
 -- Which arrays an arena has, and when it can't be made.
 use Rattle.std.specs.Prelude.{ℕ, ◌+◌, ◌*◌, ◌==◌, nat_lt, List, [], ◌∷◌, ◌++◌, replicate, Option, Some, None, if◌then◌else◌}
 use Rattle.msg_buckets.specs.Capacity.{capacities}
-use Rattle.msg_image.specs.Parts.{ImageParts, class_total}
+use Rattle.msg_tables.specs.Origin.{OriginView, class_total}
 use Rattle.msg_core.specs.declared.state.TheConstants.{MAX_SENDERS}
 use Rattle.msg_cache.specs.declared.config.TheConstants.{MOST_WORDS}
 use Rattle.msg_cache.specs.declared.config.Config.{Config}
@@ -21,18 +21,18 @@ weigh [] cs = 0
 weigh (n ∷ ns) [] = 0
 weigh (n ∷ ns) (c ∷ cs) = n * c + weigh ns cs
 
--- the setting of an image and a config: so many arrays of 4 words, then of 8, and so on
-abbrev pub setting_of : ImageParts → Config → SettingView
-setting_of image config = record { image = image; senders = config.senders; capacities = spread config.arrays capacities }
+-- the setting of an origin and a config: so many arrays of 4 words, then of 8, and so on
+abbrev pub setting_of : OriginView → Config → SettingView
+setting_of origin config = record { origin = origin; senders = config.senders; capacities = spread config.arrays capacities }
 
 -- The words in use: the count of changes, the headers, the buckets, and a probe word for each sender. The padding of probe words isn't counted.
-abbrev pub words_of : ImageParts → Config → ℕ
-words_of image config = 2 * class_total image + weigh config.arrays capacities + config.senders + 1
+abbrev pub words_of : OriginView → Config → ℕ
+words_of origin config = 2 * class_total origin + weigh config.arrays capacities + config.senders + 1
 
 -- the least fault for which an arena isn't made, but for memory
-abbrev pub refusal_of : ImageParts → Config → Option ArenaFault
-refusal_of image config =
+abbrev pub refusal_of : OriginView → Config → Option ArenaFault
+refusal_of origin config =
     if config.senders == 0 then Some NoSenders
     else if nat_lt MAX_SENDERS config.senders then Some TooManySenders
-    else if nat_lt MOST_WORDS (words_of image config) then Some TooLarge
+    else if nat_lt MOST_WORDS (words_of origin config) then Some TooLarge
     else None

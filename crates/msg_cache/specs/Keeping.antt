@@ -1,6 +1,6 @@
 -- What the keeper's calls do, as changes of its view.
 use Rattle.std.specs.Prelude.{◌≡◌, ◌↔◌, ℕ, zero, suc, ◌+◌, ◌*◌, ◌<◌, ◌≤◌, ◌==◌, ◌&&◌, not, List, [], ◌∷◌, length, take, drop, find, Bool, slice_index, slice_set, if◌then◌else◌, Option, None, MatchOption}
-use Rattle.msg_image.specs.Parts.{class_total}
+use Rattle.msg_tables.specs.Origin.{class_total}
 use Rattle.std.specs.List.{range_with_len, filter}
 use Rattle.std.specs.List.Sorted.{IsPermutation}
 use Rattle.msg_names.specs.declared.value.ClassRef.{ClassRef}
@@ -211,4 +211,4 @@ pub record InOrder (look : History → ClassRef → ℕ → ℕ) (key : SettingV
   pub counts : length occupied ≡ length key.capacities
   pub within : (c : ClassRef) (a : ℕ) → standing_of k a ≡ Live c → slice_index occupied a ≤ fill_limit (capacity (layout_of key) a)
   pub capacities : (i : ℕ) → IsCapacity (or_least (slice_index remembered i))
-  pub classes : length remembered ≡ 2 * class_total key.image
+  pub classes : length remembered ≡ 2 * class_total key.origin

@@ -1,13 +1,13 @@
 -- What the steps on a table are to the machine of events.
 use Rattle.std.specs.Prelude.{◌≡◌, ◌≢◌, ℕ, suc, ◌+◌, ◌==◌, ◌<◌, [], ◌∷◌, ◌++◌, length, false, slice_index, slice_set, replicate, if◌then◌else◌}
-use Rattle.msg_image.specs.Parts.{class_total}
+use Rattle.msg_tables.specs.Origin.{class_total}
 use mathlib.Core.Option.{some}
 use lib.ListN.{get_elem?}
 use Rattle.atomic_table.specs.Table.{State as Table, keeps, stepped, opening as opened}
 use Rattle.msg_names.specs.declared.value.ClassRef.{ClassRef}
 use Rattle.msg_buckets.specs.Word.{sel_of, imp_of}
-use Rattle.msg_image.specs.Sound.{IsSound}
-use Rattle.msg_image.specs.declared.change.Change.{Change}
+use Rattle.msg_tables.specs.Origin.{IsSound}
+use Rattle.msg_tables.specs.declared.change.Change.{Change}
 use Rattle.msg_tables.specs.History.{History, lookup}
 use Rattle.msg_core.specs.declared.event.Event.{Event}
 use Rattle.msg_core.specs.declared.event.Event.TheVariants.{Enter, Header, Read, Leave, Fill, Install, Flush, Look, Clear, Commit}
@@ -28,7 +28,7 @@ use Rattle.msg_cache.specs.Rule.{holds, shown_by, first_keeper}
 
 -- the state that a table shows, while the rule holds of it
 abbrev pub shown_at : (key : SettingView) (s : Table ℕ View) → holds lookup key s → State
-shown_at key s r = shown_by lookup (layout_of key) key.image r
+shown_at key s r = shown_by lookup (layout_of key) key.origin r
 
 -- From one state of the table to the next is this event: at the state that was shown it isn't refused, the rule holds of the next one, and that shows the state after the event.
 pub record IsEvent (key : SettingView) (s : Table ℕ View) (r : holds lookup key s) (e : Event) (s' : Table ℕ View) : Type 0 where
@@ -57,9 +57,9 @@ ShownIsSound = (key : SettingView) (s : Table ℕ View) (r : holds lookup key s)
 
 -- a table of zeros, with the keeper's first view, shows the machine before the first event
 abbrev pub OpeningIsShown : Type 0
-OpeningIsShown = (key : SettingView) → IsSound key.image → 0 < key.senders
+OpeningIsShown = (key : SettingView) → IsSound key.origin → 0 < key.senders
     → let s = opened (replicate (word_count (layout_of key)) 0) [] (Keeper (first_keeper key)) in
-    holds lookup key s × ((r : holds lookup key s) → shown_at key s r ≡ opening key.image)
+    holds lookup key s × ((r : holds lookup key s) → shown_at key s r ≡ opening key.origin)
 
 -- ---- a sender's steps
 
@@ -76,7 +76,7 @@ LeaveIsLeave = OfSender (λ key s r id v. v.whereabouts ≢ Out → IsEvent key 
 
 -- the sender's front is then the history
 abbrev pub HeaderIsHeader : Type 0
-HeaderIsHeader = OfSender (λ key s r id v. (c : ClassRef) (sel : ℕ) → v.whereabouts ≡ In → c.class < class_total key.image
+HeaderIsHeader = OfSender (λ key s r id v. (c : ClassRef) (sel : ℕ) → v.whereabouts ≡ In → c.class < class_total key.origin
     → let n = slice_index s.words (header_at c) in
     IsEvent key s r (Header v.number c) (stepped s (header_at c) n id [] (Sender (headed c sel (shown_at key s r).history v n)) keeps))
 
@@ -109,7 +109,7 @@ abbrev pub StoreIsFill : Type 0
 StoreIsFill = OfKeeper Fills
 
 abbrev pub Installs : OfAKeeper
-Installs key s r id k = (c : ClassRef) (a : ℕ) → c.class < class_total key.image → a < length key.capacities → standing_at k.standings a ≡ Free
+Installs key s r id k = (c : ClassRef) (a : ℕ) → c.class < class_total key.origin → a < length key.capacities → standing_at k.standings a ≡ Free
     → ((q : ℕ) → q < capacity (layout_of key) a → slice_index k.words (base (layout_of key) a + q) ≡ 0)
     → IsEvent key s r (Install c a) (stepped s (header_at c) (suc a) id [] (Keeper (installed c a k)) keeps)
 
@@ -118,7 +118,7 @@ abbrev pub StoreIsInstall : Type 0
 StoreIsInstall = OfKeeper Installs
 
 abbrev pub Flushes : OfAKeeper
-Flushes key s r id k = (c : ClassRef) (a : ℕ) → c.class < class_total key.image → slice_index k.words (header_at c) ≡ suc a
+Flushes key s r id k = (c : ClassRef) (a : ℕ) → c.class < class_total key.origin → slice_index k.words (header_at c) ≡ suc a
     → IsEvent key s r (Flush c) (stepped s (header_at c) 0 id [] (Keeper (flushed c k)) keeps)
 
 -- a store of 0 in the header word of a class reference that has a live array is Flush

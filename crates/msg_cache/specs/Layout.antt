@@ -1,18 +1,18 @@
 -- Where the words of a table stand.
 use Rattle.std.specs.Prelude.{ℕ, ◌+◌, ◌*◌, List, [], ◌∷◌, take}
 use Rattle.msg_names.specs.declared.value.ClassRef.{ClassRef}
-use Rattle.msg_image.specs.Parts.{ImageParts, class_total}
+use Rattle.msg_tables.specs.Origin.{OriginView, class_total}
 use Rattle.msg_names.specs.ClassRef.{slot_of}
 use Rattle.msg_core.specs.State.{Layout}
 
--- what a table is made for: an image, so many senders, and arrays of these capacities
+-- what a table is made for: an origin, so many senders, and arrays of these capacities
 pub record SettingView : Type 0 where
-  pub image : ImageParts
+  pub origin : OriginView
   pub senders : ℕ
   pub capacities : List ℕ
 
 abbrev pub layout_of : SettingView → Layout
-layout_of key = record { classes = class_total key.image; senders = key.senders; capacities = key.capacities }
+layout_of key = record { classes = class_total key.origin; senders = key.senders; capacities = key.capacities }
 
 -- numbers, added up
 abbrev pub total : List ℕ → ℕ

@@ -2,8 +2,8 @@
 use Rattle.std.specs.Prelude.{◌≡◌, ◌≢◌, ℕ, suc, ◌+◌, ◌==◌, ◌≤◌, List, [], ◌∷◌, ◌++◌, length, map, Bool, true, false, Option, Some, None, slice_set, slice_index, if◌then◌else◌}
 use Rattle.atomic_table.specs.Table.{Me, Step}
 use Rattle.msg_names.specs.declared.value.ClassRef.{ClassRef}
-use Rattle.msg_image.specs.declared.change.Change.{Change}
-use Rattle.msg_image.specs.declared.change.Change.TheVariants.{Attach}
+use Rattle.msg_tables.specs.declared.change.Change.{Change}
+use Rattle.msg_tables.specs.declared.change.Change.TheVariants.{Attach}
 use Rattle.msg_tables.specs.History.{History, BeginsWith, and_then}
 use Rattle.msg_core.specs.declared.state.Standing.{Standing}
 use Rattle.msg_core.specs.declared.state.Standing.TheVariants.{Live, Retired}
@@ -30,7 +30,7 @@ Telling = Step ℕ → Sat → ℕ → Sat → Type 0
 -- ---- what is said where a seat has no such view
 
 abbrev pub no_history : History
-no_history = record { image = record { names = []; classes = []; made = []; categories = []; objects = []; imps = [] }; changes = [] }
+no_history = record { origin = record { superclasses = []; made = 0; lists = []; counts = None; limits = record { rows = 0; changes = 0 } }; changes = [] }
 
 -- a class reference
 abbrev pub no_class : ClassRef
@@ -44,7 +44,7 @@ no_keeper = record { history = no_history; words = []; standings = []; given = [
 
 -- a setting
 abbrev pub no_setting : SettingView
-no_setting = record { image = no_history.image; senders = 0; capacities = [] }
+no_setting = record { origin = no_history.origin; senders = 0; capacities = [] }
 
 -- a change
 abbrev pub no_change : Change

@@ -4,8 +4,8 @@ use mathlib.Core.Option.{some}
 use lib.ListN.{get_elem?}
 use Rattle.atomic_table.specs.Table.{State as Table}
 use Rattle.msg_names.specs.declared.value.ClassRef.{ClassRef}
-use Rattle.msg_image.specs.Parts.{ImageParts}
-use Rattle.msg_image.specs.Sound.{IsSound}
+use Rattle.msg_tables.specs.Origin.{OriginView}
+use Rattle.msg_tables.specs.Origin.{IsSound}
 use Rattle.msg_tables.specs.History.{History, BeginsWith, empty}
 use Rattle.msg_tables.specs.Refusal.{IsHistory}
 use Rattle.msg_core.specs.declared.event.Event.{Event}
@@ -43,9 +43,9 @@ shown z k whereabouts = state_from k.history (live_in z k.words) (word_in z k.wo
 
 -- ---- the rule
 
--- changes of a sound image that were accepted one after another
+-- changes of a sound origin that were accepted one after another
 pub record IsAccepted (h : History) : Type 0 where
-  pub image : IsSound h.image
+  pub origin : IsSound h.origin
   pub changes : IsHistory h
 
 -- a probe word
@@ -78,20 +78,20 @@ pub record IsCopied (z : Layout) (k : KeeperView) (whereabouts : ℕ → Whereab
   pub count : length words ≡ word_count z
 
 -- the keeper's view by itself
-pub record IsKept (z : Layout) (image : ImageParts) (k : KeeperView) : Type 0 where
+pub record IsKept (z : Layout) (origin : OriginView) (k : KeeperView) : Type 0 where
   pub words : length k.words ≡ probes z
   pub standings : length k.standings ≡ length z.capacities
   pub given : length k.given ≡ z.senders
   -- word 0 counts the changes
   pub version : slice_index k.words 0 ≡ size k.history
-  pub begins : BeginsWith k.history (empty image)
+  pub begins : BeginsWith k.history (empty origin)
   pub accepted : IsAccepted k.history
   pub told : BeginsWith k.history k.told
   pub home : (h : History) → k.turn ≡ Home h → h ≡ k.history
-  pub never : k.turn ≡ Never → k.history ≡ empty image
+  pub never : k.turn ≡ Never → k.history ≡ empty origin
   pub some_sender : 0 < z.senders
 
-module _ (look : History → ClassRef → ℕ → ℕ) (z : Layout) (image : ImageParts) where
+module _ (look : History → ClassRef → ℕ → ℕ) (z : Layout) (origin : OriginView) where
   pub record Ruled (words : List ℕ) (views : List View) : Type 0 where
     pub keeper : KeeperView
     -- the keeper's seat, the turn's, and each sender's
@@ -100,7 +100,7 @@ module _ (look : History → ClassRef → ℕ → ℕ) (z : Layout) (image : Ima
     pub seat : ℕ → ℕ
     -- where each sender is
     pub whereabouts : ℕ → Whereabouts
-    pub kept : IsKept z image keeper
+    pub kept : IsKept z origin keeper
     pub copies : IsCopied z keeper whereabouts words
     pub sound : Sound look z (shown z keeper whereabouts)
     -- a number that isn't given out is out
@@ -124,15 +124,15 @@ module _ (look : History → ClassRef → ℕ → ℕ) (z : Layout) (image : Ima
 
   -- what the rule says of the keeper's view alone: it is sound, wherever senders are
   pub record IsTidy (k : KeeperView) : Type 0 where
-    pub kept : IsKept z image k
+    pub kept : IsKept z origin k
     pub sound : Sound look z (shown z k (λ n. Out))
 
 abbrev pub RuledBy : (History → ClassRef → ℕ → ℕ) → SettingView → List ℕ → List View → Type 0
-RuledBy look key words views = Ruled look (layout_of key) key.image words views
+RuledBy look key words views = Ruled look (layout_of key) key.origin words views
 
 -- what the rule says of the keeper's view alone, on a table of this setting
 abbrev pub TidyBy : (History → ClassRef → ℕ → ℕ) → SettingView → KeeperView → Type 0
-TidyBy look key k = IsTidy look (layout_of key) key.image k
+TidyBy look key k = IsTidy look (layout_of key) key.origin k
 
 -- the rule of a table of this setting: it speaks of the words and of the seats' views
 abbrev pub holds : (History → ClassRef → ℕ → ℕ) → SettingView → Table ℕ View → Type 0
@@ -142,4 +142,4 @@ holds look key s = RuledBy look key s.words s.views
 abbrev pub first_keeper : SettingView → KeeperView
 first_keeper key =
     let z = layout_of key in
-    record { history = empty key.image; words = replicate (probes z) 0; standings = replicate (length z.capacities) Free; given = replicate z.senders false; turn = Never; told = empty key.image; stores = [] }
+    record { history = empty key.origin; words = replicate (probes z) 0; standings = replicate (length z.capacities) Free; given = replicate z.senders false; turn = Never; told = empty key.origin; stores = [] }

@@ -1,7 +1,7 @@
 -- What contracts see of an arena, of senders and of the right to change.
 use Rattle.std.specs.Prelude.{◌≡◌, ◌<◌, ℕ}
 use Rattle.atomic_table.specs.Seated.{TableId}
-use Rattle.msg_image.specs.Parts.{class_total}
+use Rattle.msg_tables.specs.Origin.{class_total}
 use Rattle.msg_tables.specs.History.{History}
 use Rattle.msg_core.specs.State.{Layout}
 use Rattle.msg_cache.specs.declared.view.SenderView.{SenderView}
@@ -18,7 +18,7 @@ layout a = layout_of a.key
 
 -- how many classes have numbers
 abbrev pub classes : ArenaView → ℕ
-classes a = class_total a.key.image
+classes a = class_total a.key.origin
 
 -- what a sender knows, of which table, and where its probe word stands
 pub record ProberView : Type 0 where

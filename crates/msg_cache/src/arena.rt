@@ -19,7 +19,7 @@ use crate::steps::{Seat, Words};
 use crate::view::View;
 use atomic_table::Table;
 use msg_core::MAX_SENDERS;
-use msg_image::Image;
+use msg_tables::{HasOrigin, Origin};
 use std::alloc::{AllocError, Global};
 use std::marker::Model;
 use std::snapshot::Snapshot;
@@ -31,7 +31,7 @@ struct Span {
     capacity: u32,
 }
 
-/// The words of the caches of an image.
+/// The words of the caches of an origin.
 #[derive(Drop)]
 pub struct Arena {
     table: Table<u8, View, Setting, Law, Global>,
@@ -48,10 +48,9 @@ impl Model for Arena {
     ghost Value = { ArenaView };
 
     ghost use Rattle.std.specs.Coded.{codes};
-    ghost use Rattle.msg_image.specs.Coding.{coded_expression};
     ghost use Rattle.atomic_table.specs.Seated.{table_id_coded};
 
-    ghost coded = { Prim.hlevel (codes, coded_expression, table_id_coded) };
+    ghost coded = { Prim.hlevel (codes, table_id_coded) };
 
     ghost use Rattle.msg_cache.specs.Inside.{arena_view, IsArena};
 
@@ -63,25 +62,38 @@ impl Model for Arena {
 impl Arena {
     ghost use Rattle.msg_cache.specs.Ours.{view, IsOf};
 
-    /// An arena of an image, with no live array, and its keeper, who stands at the image's empty history.
-    pub fn open(alloc: Global, image: &Image, config: Config) -> Result<(Arena, Keeper), ArenaFault>
-        ensures ok { IfOk result (λ r. (refusal_of image.now config ≡ None) × (r.0.key ≡ setting_of image.now config)
-            × (view r.1 ≡ first_keeper (setting_of image.now config)) × IsOf r.0 r.1) }
-        ensures fault { IfErr result (λ fault. fault ≢ Memory → refusal_of image.now config ≡ Some fault) }
-        ensures memory { IfErr result (λ fault. fault ≡ Memory → refusal_of image.now config ≡ None) }
+    /// An arena of classes, with no live array, and its keeper, who stands at their empty history.
+    pub fn open<C: HasOrigin>(
+        alloc: Global,
+        classes: &C,
+        config: Config,
+    ) -> Result<(Arena, Keeper), ArenaFault>
+        ensures ok { IfOk result (λ r. (refusal_of (C.given classes.now) config ≡ None) × (r.0.key ≡ setting_of (C.given classes.now) config)
+            × (view r.1 ≡ first_keeper (setting_of (C.given classes.now) config)) × IsOf r.0 r.1) }
+        ensures fault { IfErr result (λ fault. fault ≢ Memory → refusal_of (C.given classes.now) config ≡ Some fault) }
+        ensures memory { IfErr result (λ fault. fault ≡ Memory → refusal_of (C.given classes.now) config ≡ None) }
     {
-        if let Some(fault) = config.refusal(image) {
+        Arena::made(alloc, classes.origin(), config)
+    }
+
+    fn made(alloc: Global, origin: &Origin, config: Config) -> Result<(Arena, Keeper), ArenaFault>
+        ensures ok { IfOk result (λ r. (refusal_of origin.now config ≡ None) × (r.0.key ≡ setting_of origin.now config)
+            × (view r.1 ≡ first_keeper (setting_of origin.now config)) × IsOf r.0 r.1) }
+        ensures fault { IfErr result (λ fault. fault ≢ Memory → refusal_of origin.now config ≡ Some fault) }
+        ensures memory { IfErr result (λ fault. fault ≡ Memory → refusal_of origin.now config ≡ None) }
+    {
+        if let Some(fault) = config.refusal(origin) {
             return Err(fault);
         }
         let capacities = capacities_of(alloc, &config.arrays)?;
         let (arena, seat) = Arena::of(
             alloc,
-            image,
+            origin,
             config.senders,
             capacities,
             firsts_of(&config.arrays),
         )?;
-        let classes = image.class_count() as usize;
+        let classes = origin.class_count() as usize;
         let senders = config.senders as usize;
         let arrays = arena.arrays();
         let keeper = Keeper::first(alloc, seat, arena.probes(), arrays, classes, senders)?;
@@ -166,7 +178,7 @@ impl Arena {
     // An arena of these arrays, all empty, and the seat of its keeper.
     pub(crate) fn of(
         alloc: Global,
-        image: &Image,
+        origin: &Origin,
         senders: u32,
         capacities: Vec<u32>,
         firsts: [usize; 10],
@@ -176,15 +188,15 @@ impl Arena {
         requires firsts { (i : ℕ) → i < 9 → IsGroup capacities.items (slice_index all_capacities i) (slice_index firsts i) (slice_index firsts (i + 1)) }
         requires room { total capacities.items < 2 ^ 21 }
         ensures seat { IfOk result (λ r. (r.1.table_id ≡ r.0.table) × (r.1.me ≡ kept (first_keeper r.0.key))) }
-        ensures key { IfOk result (λ r. r.0.key ≡ record { image = image.now; senders = senders; capacities = capacities.items }) }
+        ensures key { IfOk result (λ r. r.0.key ≡ record { origin = origin.now; senders = senders; capacities = capacities.items }) }
     {
         let setting = Setting {
-            image: Snapshot::of(image),
+            origin: Snapshot::of(origin),
             senders,
             capacities: Snapshot::of(&capacities),
         };
         let mut spans = Vec::new(alloc);
-        let mut probes = 1 + 2 * image.class_count() as usize;
+        let mut probes = 1 + 2 * origin.class_count() as usize;
         for capacity in &capacities {
             spans.push(Span {
                 base: probes as u32,

@@ -21,7 +21,7 @@ ghost use Rattle.msg_cache.specs.Keeping.{header as header_of, standing_of, arra
 ghost use Rattle.msg_cache.specs.Rule.{live_in};
 ghost use Rattle.msg_cache.specs.Notes.{free, settled};
 ghost use Rattle.msg_cache.specs.Views.{layout, classes, IsSenderOf};
-ghost use Rattle.msg_image.specs.Parts.{class_total};
+ghost use Rattle.msg_tables.specs.Origin.{class_total};
 
 use crate::answer::{Filled, Report, Way};
 use crate::arena::Arena;
@@ -37,8 +37,8 @@ use crate::view::View;
 use atomic_table::Badge;
 use msg_buckets::{first_place, pack};
 use msg_core::MAX_SENDERS;
-use msg_image::Change;
 use msg_names::{ClassRef, ImpRef, Selector};
+use msg_tables::Change;
 use std::alloc::{AllocError, Global};
 use std::marker::Model;
 use std::mem::replace;
@@ -141,10 +141,9 @@ impl Model for Turn {
     ghost Value = { TurnView };
 
     ghost use Rattle.std.specs.Coded.{codes};
-    ghost use Rattle.msg_image.specs.Coding.{coded_expression};
     ghost use Rattle.atomic_table.specs.Seated.{table_id_coded};
 
-    ghost coded = { Prim.hlevel (codes, coded_expression, table_id_coded) };
+    ghost coded = { Prim.hlevel (codes, table_id_coded) };
 
     ghost use Rattle.msg_cache.specs.Inside.{turn_of_badge, IsTurn};
 
@@ -454,7 +453,7 @@ impl Keeper {
         ensures remembered { self.new.remembered.items ≡ self.old.remembered.items }
         ensures view { view self.new ≡ cond (is_some result) (lent (view self.old)) (view self.old) }
         ensures once { is_some result ≡ not (is_lent (view self.old).turn) }
-        ensures turn { IfSome result (λ turn. (turn.table ≡ arena.now.table) × (turn.history ≡ empty arena.now.key.image)) }
+        ensures turn { IfSome result (λ turn. (turn.table ≡ arena.now.table) × (turn.history ≡ empty arena.now.key.origin)) }
     {
         if self.lent {
             return None;

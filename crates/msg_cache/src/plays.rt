@@ -69,7 +69,7 @@ impl Play<u8, View> for Leave {
 
 /// What a table was made for, and what a step is about. Each call picks it.
 pub(crate) trait About {
-    ghost use Rattle.msg_image.specs.declared.change.Change.{Change};
+    ghost use Rattle.msg_tables.specs.declared.change.Change.{Change};
     ghost use Rattle.msg_cache.specs.Layout.{SettingView};
 
     ghost key: { SettingView };

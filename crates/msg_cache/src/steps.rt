@@ -5,8 +5,8 @@ ghost use mathlib.Core.Option.{none};
 ghost use Rattle.atomic_table.specs.Table.{step};
 ghost use Rattle.msg_names.specs.Number.{selector_number};
 ghost use Rattle.msg_names.specs.declared.value.ClassRef.{ClassRef};
-ghost use Rattle.msg_image.specs.Parts.{class_total};
-ghost use Rattle.msg_image.specs.declared.change.Change.{Change};
+ghost use Rattle.msg_tables.specs.Origin.{class_total};
+ghost use Rattle.msg_tables.specs.declared.change.Change.{Change};
 ghost use Rattle.msg_buckets.specs.Word.{sel_of, imp_of};
 ghost use Rattle.msg_tables.specs.History.{History, lookup, and_then};
 ghost use Rattle.msg_tables.specs.Refusal.{refusal};
@@ -27,8 +27,8 @@ use crate::plays::{
 use crate::setting::Setting;
 use crate::view::View;
 use atomic_table::Shared;
-use msg_image::Change;
 use msg_names::{ClassRef, Selector};
+use msg_tables::Change;
 use std::marker::Brand;
 
 pub(crate) type Words = Shared<u8, View, Setting, Law>;
@@ -54,7 +54,7 @@ pub(crate) fn load_header<Q: Asks>(
     requires asks { (Q.class ≡ class) × (Q.sel ≡ selector_number _sel) × (Q.arrays ≡ length words.now.key.capacities) }
     requires sender { seat.old.me ≡ seated (sender_of seat.old.me.0) }
     requires inside { (sender_of seat.old.me.0).whereabouts ≡ In }
-    requires class { class.class < class_total words.now.key.image }
+    requires class { class.class < class_total words.now.key.origin }
     ensures seat { (seat.new.table_id ≡ seat.old.table_id) × (seat.new.id ≡ seat.old.id) }
     ensures told { Headed (length words.now.key.capacities) class (selector_number _sel) (step words.now.table_id.slots (header_at class) 0 0 none) seat.old.me result seat.new.me }
 {
@@ -191,7 +191,7 @@ fn flush_as<Q: About>(words: &Words, seat: &mut Seat, class: ClassRef, _array: u
     requires table { (seat.old.table_id ≡ words.now.table_id) × (header_at class < words.now.table_id.words) }
     requires about { Q.key ≡ words.now.key }
     requires keeper { seat.old.me ≡ kept (keeper_of seat.old.me.0) }
-    requires class { class.class < class_total words.now.key.image }
+    requires class { class.class < class_total words.now.key.origin }
     requires live { slice_index (keeper_of seat.old.me.0).words (header_at class) ≡ suc _array }
     ensures seat { (seat.new.table_id ≡ seat.old.table_id) × (seat.new.id ≡ seat.old.id) }
     ensures told { seat.new.me ≡ kept (flushed class (keeper_of seat.old.me.0)) }
@@ -204,7 +204,7 @@ fn flush_as<Q: About>(words: &Words, seat: &mut Seat, class: ClassRef, _array: u
 pub(crate) fn store_none(words: &Words, seat: &mut Seat, class: ClassRef, array: usize)
     requires table { (seat.old.table_id ≡ words.now.table_id) × (header_at class < words.now.table_id.words) }
     requires keeper { seat.old.me ≡ kept (keeper_of seat.old.me.0) }
-    requires class { class.class < class_total words.now.key.image }
+    requires class { class.class < class_total words.now.key.origin }
     requires live { slice_index (keeper_of seat.old.me.0).words (header_at class) ≡ suc array }
     ensures seat { (seat.new.table_id ≡ seat.old.table_id) × (seat.new.id ≡ seat.old.id) }
     ensures told { seat.new.me ≡ kept (flushed class (keeper_of seat.old.me.0)) }
@@ -217,7 +217,7 @@ fn install_as<Q: About>(words: &Words, seat: &mut Seat, class: ClassRef, array: 
     requires table { (seat.old.table_id ≡ words.now.table_id) × (header_at class < words.now.table_id.words) }
     requires about { Q.key ≡ words.now.key }
     requires keeper { seat.old.me ≡ kept (keeper_of seat.old.me.0) }
-    requires class { class.class < class_total words.now.key.image }
+    requires class { class.class < class_total words.now.key.origin }
     requires array { array < length words.now.key.capacities }
     requires free { standing_at (keeper_of seat.old.me.0).standings array ≡ Free }
     requires clear { (q : ℕ) → q < capacity (layout_of words.now.key) array → slice_index (keeper_of seat.old.me.0).words (base_of (layout_of words.now.key) array + q) ≡ 0 }
@@ -232,7 +232,7 @@ fn install_as<Q: About>(words: &Words, seat: &mut Seat, class: ClassRef, array: 
 pub(crate) fn store_array(words: &Words, seat: &mut Seat, class: ClassRef, array: u32)
     requires table { (seat.old.table_id ≡ words.now.table_id) × (header_at class < words.now.table_id.words) }
     requires keeper { seat.old.me ≡ kept (keeper_of seat.old.me.0) }
-    requires class { class.class < class_total words.now.key.image }
+    requires class { class.class < class_total words.now.key.origin }
     requires array { array < length words.now.key.capacities }
     requires free { standing_at (keeper_of seat.old.me.0).standings array ≡ Free }
     requires clear { (q : ℕ) → q < capacity (layout_of words.now.key) array → slice_index (keeper_of seat.old.me.0).words (base_of (layout_of words.now.key) array + q) ≡ 0 }

@@ -1,14 +1,14 @@
 //! What seats know. No value of these types is made: they are for contracts alone.
 
 use msg_core::{Standing, Whereabouts};
-use msg_image::{Change, Image};
 use msg_names::ClassRef;
+use msg_tables::{Change, Origin};
 use std::collections::LinkedList;
 use std::marker::Model;
 
 /// A history: contracts see it as that of the class tables.
 pub struct Past {
-    image: Image,
+    origin: Origin,
     changes: LinkedList<Change>,
 }
 
@@ -17,12 +17,7 @@ impl Model for Past {
 
     ghost Value = { History };
 
-    ghost use Rattle.std.specs.Coded.{codes};
-    ghost use Rattle.msg_image.specs.Coding.{coded_expression};
-
-    ghost coded = { Prim.hlevel (codes, coded_expression) };
-
-    ghost view = { λ p. record { image = p.image; changes = p.changes } };
+    ghost view = { λ p. record { origin = p.origin; changes = p.changes } };
 }
 
 /// The last probe: what was sought, the array that the header word named, and the words then read, each with its place in the table.

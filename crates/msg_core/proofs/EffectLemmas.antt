@@ -4,7 +4,7 @@ use Rattle.std.specs.Prelude.{◌==◌, slice_index, slice_index_or, slice_set}
 use Rattle.std.proofs.lemmas.Grind.{get_or-set_at}
 use Rattle.std.proofs.lemmas.List.{get_or-set_other, length-set, length-map}
 use Rattle.std.proofs.Math.Seq.{map-set_same}
-use Rattle.msg_image.specs.Parts.{class_total}
+use Rattle.msg_tables.specs.Origin.{class_total}
 use Rattle.msg_names.specs.declared.value.ClassRef.{ClassRef}
 use Rattle.msg_names.specs.ClassRef.{slot_of}
 use Rattle.msg_names.proofs.ClassRefLemmas.{slot_of-inside, slot_of-same}
@@ -68,11 +68,11 @@ module _ (v : MachineView) (whole : IsWhole v) where
 
   pub whereabouts_set : (n : ℕ) (p : Whereabouts) → n < length v.whereabouts → Becomes v (record v { whereabouts = slice_set v.whereabouts n p }) (record (state_of v) { whereabouts = at (state_of v).whereabouts n p })
   whereabouts_set n p lt = record {
-    layout = λ i. record { classes = class_total v.history.image; senders = length-set v.whereabouts n p i; capacities = map length v.arrays };
+    layout = λ i. record { classes = class_total v.history.origin; senders = length-set v.whereabouts n p i; capacities = map length v.arrays };
     state = λ i. record (state_of v) { whereabouts = λ m. read_set v.whereabouts n p Out lt m i };
   }
 
-  pub live_set : (c : ClassRef) (o : Option ℕ) → c.class < class_total v.history.image
+  pub live_set : (c : ClassRef) (o : Option ℕ) → c.class < class_total v.history.origin
       → Becomes v (record v { live = slice_set v.live (slot_of c) o }) (record (state_of v) { live = at_class (state_of v).live c o })
   live_set c o inside = record {
     layout = refl;
@@ -81,7 +81,7 @@ module _ (v : MachineView) (whole : IsWhole v) where
     where
       read : (d : ClassRef) → live_at (slice_set v.live (slot_of c) o) d ≡ at_class (live_at v.live) c o d
       read d = ⊎_elim
-          (λ (e : d ≡ c). get_or-set_at v.live (slot_of c) (slot_of d) o None (ap slot_of e) (slot_of-inside c (class_total v.history.image) (length v.live) whole.headers inside)
+          (λ (e : d ≡ c). get_or-set_at v.live (slot_of c) (slot_of d) o None (ap slot_of e) (slot_of-inside c (class_total v.history.origin) (length v.live) whole.headers inside)
           ∙ sym (ap (at_class (live_at v.live) c o) e ∙ at_class_same (live_at v.live) c o))
           (λ (ne : d ≢ c). get_or-set_other v.live (slot_of c) (slot_of d) o None (λ e. ne (slot_of-same d c e)) ∙ sym (at_class_other (live_at v.live) c o d ne))
           (class_or d c)
@@ -95,7 +95,7 @@ module _ (v : MachineView) (whole : IsWhole v) where
   pub word_set : (a p w : ℕ) → a < length (layout_of v).capacities → p < capacity (layout_of v) a
       → Becomes v (record v { arrays = slice_set v.arrays a (slice_set (slice_index_or v.arrays a []) p w) }) (record (state_of v) { word = stored (state_of v).word (Some a) p w })
   word_set a p w lt below = record {
-    layout = λ i. record { classes = class_total v.history.image; senders = length v.whereabouts; capacities = map-set_same length v.arrays a (slice_set words p w) [] (length-set words p w) i };
+    layout = λ i. record { classes = class_total v.history.origin; senders = length v.whereabouts; capacities = map-set_same length v.arrays a (slice_set words p w) [] (length-set words p w) i };
     state = λ i. record (state_of v) { word = λ b q. (read b q ∙ by_array b q) i };
   }
     where

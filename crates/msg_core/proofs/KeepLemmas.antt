@@ -16,7 +16,7 @@ use Rattle.msg_core.proofs.PointLemmas.{class_or}
 
 -- all changes are the first changes, as many as there are
 pub first_all : (h : History) (r : ℕ) → size h ≡ r → h ≡ first r h
-first_all h r e = λ i. record { image = h.image; changes = (sym (take-length h.changes) ∙ ap (λ n. take n h.changes) e) i }
+first_all h r e = λ i. record { origin = h.origin; changes = (sym (take-length h.changes) ∙ ap (λ n. take n h.changes) e) i }
 
 pub live_same : (c d : ClassRef) → Live c ≡ Live d → c ≡ d
 live_same c d e = cc

@@ -2,7 +2,7 @@
 use Rattle.std.proofs.Common.{◌≡◌, ◌≤◌, ◌*◌, ℕ, zero, suc, List, [], ◌∷◌, length, map, replicate, get_or, Some, None, refl, sym, ap, ◌∙◌, subst}
 use Rattle.std.proofs.lemmas.List.{length-map, length-replicate}
 use Rattle.msg_names.specs.declared.value.ClassRef.{ClassRef}
-use Rattle.msg_image.specs.Parts.{class_total, ImageParts}
+use Rattle.msg_tables.specs.Origin.{class_total, OriginView}
 use Rattle.msg_tables.specs.History.{History, empty}
 use Rattle.msg_names.specs.ClassRef.{slot_of}
 use Rattle.msg_core.specs.declared.state.Standing.TheVariants.{Free, Live}
@@ -25,17 +25,17 @@ empty_lengths : (capacities : List ℕ) → map (length {A = ℕ}) (map (λ n. r
 empty_lengths [] = refl
 empty_lengths (n ∷ ns) = let zero : ℕ = 0 in λ i. length-replicate n zero i ∷ empty_lengths ns i
 
--- a machine of an image that was just opened
-pub record IsNew (image : ImageParts) (senders : ℕ) (capacities : List ℕ) (v : MachineView) : Type 0 where
-  pub history : v.history ≡ empty image
-  pub live : v.live ≡ replicate (2 * class_total image) None
+-- a machine of an origin that was just opened
+pub record IsNew (origin : OriginView) (senders : ℕ) (capacities : List ℕ) (v : MachineView) : Type 0 where
+  pub history : v.history ≡ empty origin
+  pub live : v.live ≡ replicate (2 * class_total origin) None
   pub arrays : v.arrays ≡ map (λ n. replicate n 0) capacities
   pub standings : v.standings ≡ replicate (length capacities) Free
   pub whereabouts : v.whereabouts ≡ replicate senders Out
 
-module _ (image : ImageParts) (senders : ℕ) (capacities : List ℕ) (v : MachineView) (new : IsNew image senders capacities v) where
+module _ (origin : OriginView) (senders : ℕ) (capacities : List ℕ) (v : MachineView) (new : IsNew origin senders capacities v) where
   no_live : (c : ClassRef) → live_at v.live c ≡ None
-  no_live c = ap (λ live. live_at live c) new.live ∙ same_everywhere (2 * class_total image) None (slot_of c)
+  no_live c = ap (λ live. live_at live c) new.live ∙ same_everywhere (2 * class_total origin) None (slot_of c)
 
   all_free : (a : ℕ) → standing_at v.standings a ≡ Free
   all_free a = ap (λ standings. standing_at standings a) new.standings ∙ same_everywhere (length capacities) Free a
@@ -43,14 +43,14 @@ module _ (image : ImageParts) (senders : ℕ) (capacities : List ℕ) (v : Machi
   all_out : (n : ℕ) → sender_at v.whereabouts n ≡ Out
   all_out n = ap (λ whereabouts. sender_at whereabouts n) new.whereabouts ∙ same_everywhere senders Out n
 
-  pub new_layout : layout_of v ≡ record { classes = class_total image; senders = senders; capacities = capacities }
+  pub new_layout : layout_of v ≡ record { classes = class_total origin; senders = senders; capacities = capacities }
   new_layout = λ i. record {
-    classes = class_total (new.history i).image;
+    classes = class_total (new.history i).origin;
     senders = (ap length new.whereabouts ∙ length-replicate senders Out) i;
     capacities = (ap (map (length {A = ℕ})) new.arrays ∙ empty_lengths capacities) i;
   }
 
-  pub new_state : state_of v ≡ opening image
+  pub new_state : state_of v ≡ opening origin
   new_state = λ i. record {
     history = new.history i;
     live = λ c. no_live c i;
@@ -61,7 +61,7 @@ module _ (image : ImageParts) (senders : ℕ) (capacities : List ℕ) (v : Machi
 
   pub new_whole : senders ≤ MAX_SENDERS → IsWhole v
   new_whole few = record {
-    headers = ap length new.live ∙ length-replicate (2 * class_total image) None ∙ ap (λ (h : History). 2 * class_total h.image) (sym new.history);
+    headers = ap length new.live ∙ length-replicate (2 * class_total origin) None ∙ ap (λ (h : History). 2 * class_total h.origin) (sym new.history);
     standings = ap length new.standings ∙ length-replicate (length capacities) Free ∙ sym (ap length new.arrays ∙ length-map capacities (λ n. replicate n 0));
     few_senders = subst (λ n. n ≤ MAX_SENDERS) (sym (ap length new.whereabouts ∙ length-replicate senders Out)) few;
     live_arrays = λ c a e. let u : None ≡ Some a = sym (no_live c) ∙ e in absurd (cc);

@@ -4,7 +4,7 @@ use Rattle.std.specs.Prelude.{All, if◌then◌else◌}
 use Rattle.std.proofs.lemmas.List.Elements.{All-head, All-tail, All-nil, All-cons}
 use Rattle.msg_names.specs.declared.value.ClassRef.{ClassRef}
 use Rattle.msg_buckets.specs.Word.{sel_of, imp_of}
-use Rattle.msg_image.specs.Parts.{ImageParts}
+use Rattle.msg_tables.specs.Origin.{OriginView}
 use Rattle.msg_tables.specs.History.{History}
 use Rattle.msg_core.specs.declared.event.Event.{Event}
 use Rattle.msg_core.specs.declared.event.Event.TheVariants.{Enter, Header, Read, Leave, Fill, Install, Flush, Look, Clear, Commit}
@@ -192,13 +192,13 @@ module _ (z : Layout) (n : ℕ) (c : ClassRef) (a : ℕ) where
           let same : d ≡ c = loaded_class d (m.live d) (sym (at_same m.whereabouts n (seeing d (m.live d))) ∙ held') in
           ap (λ x. x ∷ es) (is ∙ ap (λ k. Header n k) same)
 
-  pub loaded_law : (image : ImageParts) (es : List Event) → (after_all z (opening image) es).whereabouts n ≡ Holding c a → HasLoaded n c es
-  loaded_law image es h = ⊎_elim (λ (t : All (IsNoHeader n) es × (Out ≡ Holding c a)). let u = t.1 in absurd (cc)) (λ (t : HasLoaded n c es). t) (loaded (opening image) es h)
+  pub loaded_law : (origin : OriginView) (es : List Event) → (after_all z (opening origin) es).whereabouts n ≡ Holding c a → HasLoaded n c es
+  loaded_law origin es h = ⊎_elim (λ (t : All (IsNoHeader n) es × (Out ≡ Holding c a)). let u = t.1 in absurd (cc)) (λ (t : HasLoaded n c es). t) (loaded (opening origin) es h)
 
 -- a sender whose read is not refused holds an array
-pub read_holds : (look : History → ClassRef → ℕ → ℕ) (z : Layout) (image : ImageParts) (es : List Event) (n p : ℕ) → AreLegal look z (opening image) (es ++ Read n p ∷ [])
-    → (c : ClassRef) × (a : ℕ) × ((after_all z (opening image) es).whereabouts n ≡ Holding c a) × HasLoaded n c es
-read_holds look z image es n p legal =
-    let (run, read) = legal_append look z (opening image) es (Read n p ∷ []) legal in
-    let (lt, (c, a, holds, inside)) = legal_read look z (after_all z (opening image) es) n p read.0 in
-    (c, a, holds, loaded_law z n c a image es holds)
+pub read_holds : (look : History → ClassRef → ℕ → ℕ) (z : Layout) (origin : OriginView) (es : List Event) (n p : ℕ) → AreLegal look z (opening origin) (es ++ Read n p ∷ [])
+    → (c : ClassRef) × (a : ℕ) × ((after_all z (opening origin) es).whereabouts n ≡ Holding c a) × HasLoaded n c es
+read_holds look z origin es n p legal =
+    let (run, read) = legal_append look z (opening origin) es (Read n p ∷ []) legal in
+    let (lt, (c, a, holds, inside)) = legal_read look z (after_all z (opening origin) es) n p read.0 in
+    (c, a, holds, loaded_law z n c a origin es holds)

@@ -4,7 +4,7 @@ use Rattle.std.specs.Prelude.{if◌then◌else◌}
 use Rattle.std.proofs.lemmas.List.{take-append-le}
 use Rattle.msg_names.specs.declared.value.ClassRef.{ClassRef}
 use Rattle.msg_buckets.specs.Word.{sel_of, imp_of}
-use Rattle.msg_image.specs.Parts.{ImageParts}
+use Rattle.msg_tables.specs.Origin.{OriginView}
 use Rattle.msg_tables.specs.History.{History, and_then, empty}
 use Rattle.msg_core.specs.declared.event.Event.{Event}
 use Rattle.msg_core.specs.declared.event.Event.TheVariants.{Enter, Header, Read, Leave, Fill, Install, Flush, Look, Clear, Commit}
@@ -126,15 +126,15 @@ module _ (look : History → ClassRef → ℕ → ℕ) (z : Layout) (some_sender
       let (accepted, agree) = legal.legal_commit look z m x e in
       keep.commits look z m.history m.live m.live m.word m.word m.standing m.standing m.whereabouts m.whereabouts s (and_then m.history x)
       (let t = length-append m.history.changes (x ∷ []) in omega arith)
-      (λ r le i. record { image = m.history.image; changes = take-append-le r m.history.changes (x ∷ []) le i })
+      (λ r le i. record { origin = m.history.origin; changes = take-append-le r m.history.changes (x ∷ []) le i })
       (λ d dl. refl) (λ b q bl. refl) (λ c b q live lt. agree c b q (s.in_range.live_array c b live) live lt)
 
   pub sound_run : (m : State) (es : List Event) → Sound look z m → AreLegal look z m es → Sound look z (after_all z m es)
   sound_run m [] s legal = s
   sound_run m (e ∷ es) s legal = sound_run (after z m e) es (sound_after m e s legal.0) legal.1
 
-  pub sound_opening : (image : ImageParts) → Sound look z (opening image)
-  sound_opening image = keep.sound_from look z (empty image) (λ c. None) (λ a p. 0) (λ a. Free) (λ n. Out)
+  pub sound_opening : (origin : OriginView) → Sound look z (opening origin)
+  sound_opening origin = keep.sound_from look z (empty origin) (λ c. None) (λ a p. 0) (λ a. Free) (λ n. Out)
       (λ n c a e. absurd (cc)) (λ c a e. absurd (cc)) (λ c r a aw e. absurd (cc)) (λ c a lt e. absurd (cc))
 
 -- ---- lists of events

@@ -1,11 +1,11 @@
 -- What a whole machine's lists give.
-use Rattle.std.proofs.Common.{◌≡◌, ◌<◌, ℕ, List, length, map, drop, Option, Some, None, sym, subst, ap, ◌∙◌, Bool, true, false, [], ◌∷◌, refl, arith}
-use Rattle.std.specs.Prelude.{IfSome, slice_index_or, nat_le, ◌||◌, slice_index}
+use Rattle.std.proofs.Common.{◌≡◌, ◌<◌, ℕ, List, length, map, Option, Some, None, sym, subst, ap, ◌∙◌, []}
+use Rattle.std.specs.Prelude.{IfSome, slice_index_or, slice_index}
 use Rattle.std.proofs.lemmas.List.{length-map, get_or_default, get_or-map}
 use Rattle.msg_names.specs.ClassRef.{slot_of}
 use Rattle.msg_names.proofs.ClassRefLemmas.{slot_of-inside}
 use Rattle.msg_names.specs.declared.value.ClassRef.{ClassRef}
-use Rattle.msg_image.specs.Parts.{class_total}
+use Rattle.msg_tables.specs.Origin.{class_total}
 use Rattle.msg_tables.specs.History.{History}
 use Rattle.msg_tables.specs.Stands.{StandsAt}
 use Rattle.msg_tables.specs.View.{TablesView}
@@ -28,8 +28,8 @@ pub listed : (v : MachineView) → IsWhole v → (c : ClassRef) (o : Option ℕ)
 listed v whole c o is = if_some _ o (λ a e. subst (λ n. a < n) (sym (array_count v.arrays)) (whole.live_arrays c a (sym is ∙ e)))
 
 -- a header word that was read at the place of its class reference
-pub header_read : (v : MachineView) → IsWhole v → (c : ClassRef) (k : ℕ) (o : Option ℕ) → c.class < class_total v.history.image → k ≡ slot_of c → o ≡ slice_index_or v.live k o → o ≡ live_at v.live c
-header_read v whole c k o inside at read = read ∙ ap (λ n. slice_index_or v.live n o) at ∙ get_or_default v.live (slot_of c) o None (slot_of-inside c (class_total v.history.image) (length v.live) whole.headers inside)
+pub header_read : (v : MachineView) → IsWhole v → (c : ClassRef) (k : ℕ) (o : Option ℕ) → c.class < class_total v.history.origin → k ≡ slot_of c → o ≡ slice_index_or v.live k o → o ≡ live_at v.live c
+header_read v whole c k o inside at read = read ∙ ap (λ n. slice_index_or v.live n o) at ∙ get_or_default v.live (slot_of c) o None (slot_of-inside c (class_total v.history.origin) (length v.live) whole.headers inside)
 
 pub if_holding : (P : ℕ → Type 0) (p : Whereabouts) → ((c : ClassRef) (a : ℕ) → p ≡ Holding c a → P a) → IfHolding p P
 if_holding P Out f = tt
@@ -46,11 +46,11 @@ pub held_listed : (v : MachineView) → IsWhole v → (n : ℕ) (p : Whereabouts
 held_listed v whole n p is = if_holding _ p (λ c a e. subst (λ k. a < k) (sym (array_count v.arrays)) (whole.held_arrays n c a (sym is ∙ e)))
 
 -- an array is live for one of the classes
-pub live_listed : (v : MachineView) → IsWhole v → (a : ℕ) (s : Standing) → s ≡ standing_at v.standings a → IfLive s (λ c. c.class < class_total v.history.image)
+pub live_listed : (v : MachineView) → IsWhole v → (a : ℕ) (s : Standing) → s ≡ standing_at v.standings a → IfLive s (λ c. c.class < class_total v.history.origin)
 live_listed v whole a s is = if_live _ s (λ c e. whole.live_classes a c (sym is ∙ e))
 
--- a class of the image is one of the tables
-pub class_listed : (t : TablesView) (h : History) → StandsAt t h → (k : ℕ) → k < class_total h.image → k < length t.supers
+-- a class of the origin is one of the tables
+pub class_listed : (t : TablesView) (h : History) → StandsAt t h → (k : ℕ) → k < class_total h.origin → k < length t.supers
 class_listed t h stands k inside = subst (λ n. k < n) (sym (class_count t h stands)) inside
 
 -- a sender's place that was read

@@ -6,7 +6,7 @@ use Rattle.msg_core.specs.View.{MachineView, IsWhole}
 -- what contracts see of a machine
 abbrev pub view_of : Inside → MachineView
 view_of i = record {
-  history = record { image = i.image.value; changes = i.changes.items };
+  history = record { origin = i.origin.value; changes = i.changes.items };
   live = i.live.items;
   arrays = i.arrays.items;
   standings = i.standings.items;

@@ -1,7 +1,7 @@
 -- Lists of events.
 use Rattle.std.specs.Prelude.{◌≡◌, ◌≢◌, ◌≤◌, ℕ, List, [], ◌∷◌, ◌++◌, None, All}
 use Rattle.msg_names.specs.declared.value.ClassRef.{ClassRef}
-use Rattle.msg_image.specs.Parts.{ImageParts}
+use Rattle.msg_tables.specs.Origin.{OriginView}
 use Rattle.msg_tables.specs.History.{History, empty}
 use Rattle.msg_core.specs.declared.event.Event.{Event}
 use Rattle.msg_core.specs.declared.event.Event.TheVariants.{Enter, Header, Read, Leave, Fill, Install, Flush, Look, Clear, Commit}
@@ -12,9 +12,9 @@ use Rattle.msg_core.specs.State.{Layout, State, size, first}
 use Rattle.msg_core.specs.Steps.{after, Legal}
 
 -- before the first event: no live arrays, all arrays free with words 0, all senders out
-abbrev pub opening : ImageParts → State
-opening image = record {
-  history = empty image;
+abbrev pub opening : OriginView → State
+opening origin = record {
+  history = empty origin;
   live = λ c. None;
   word = λ a p. 0;
   standing = λ a. Free;

@@ -34,7 +34,7 @@ size h = length h.changes
 
 -- the history after its first n changes
 abbrev pub first : ℕ → History → History
-first n h = record { image = h.image; changes = take n h.changes }
+first n h = record { origin = h.origin; changes = take n h.changes }
 
 -- a word that isn't 0 has a selector, and the implementation that is looked up for it
 abbrev pub Agrees : (ClassRef → ℕ → ℕ) → ClassRef → ℕ → Type 0

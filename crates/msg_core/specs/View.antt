@@ -1,6 +1,6 @@
 -- What contracts see of `Machine`, and the state that it is.
 use Rattle.std.specs.Prelude.{◌≡◌, ◌<◌, ◌≤◌, ◌*◌, ℕ, List, [], length, map, Option, Some, None, slice_index, slice_index_or}
-use Rattle.msg_image.specs.Parts.{class_total}
+use Rattle.msg_tables.specs.Origin.{class_total}
 use Rattle.msg_names.specs.declared.value.ClassRef.{ClassRef}
 use Rattle.msg_tables.specs.History.{History}
 use Rattle.msg_names.specs.ClassRef.{slot_of}
@@ -37,7 +37,7 @@ sender_at whereabouts n = slice_index_or whereabouts n Out
 -- the layout of a machine
 abbrev pub layout_of : MachineView → Layout
 layout_of v = record {
-  classes = class_total v.history.image;
+  classes = class_total v.history.origin;
   senders = length v.whereabouts;
   capacities = map length v.arrays;
 }
@@ -55,12 +55,12 @@ state_of v = record {
 -- numbers that are kept name what is there
 pub record IsWhole (v : MachineView) : Type 0 where
   -- there is a header word for each class reference, and a standing for each array
-  pub headers : length v.live ≡ 2 * class_total v.history.image
+  pub headers : length v.live ≡ 2 * class_total v.history.origin
   pub standings : length v.standings ≡ length v.arrays
   pub few_senders : length v.whereabouts ≤ MAX_SENDERS
   pub live_arrays : (c : ClassRef) (a : ℕ) → live_at v.live c ≡ Some a → a < length v.arrays
   pub held_arrays : (n : ℕ) (c : ClassRef) (a : ℕ) → sender_at v.whereabouts n ≡ Holding c a → a < length v.arrays
-  pub live_classes : (a : ℕ) (c : ClassRef) → standing_at v.standings a ≡ Live c → c.class < class_total v.history.image
+  pub live_classes : (a : ℕ) (c : ClassRef) → standing_at v.standings a ≡ Live c → c.class < class_total v.history.origin
 
 -- a fact about the array that is held, where one is
 abbrev pub IfHolding : Whereabouts → (ℕ → Type 0) → Type 0

@@ -13,8 +13,8 @@ use crate::event::{Event, Seen};
 use crate::fault::EventFault;
 use crate::machine::Machine;
 use crate::state::{Standing, Whereabouts};
-use msg_image::Change;
 use msg_names::ClassRef;
+use msg_tables::Change;
 
 // ---- one word, or what one word means
 

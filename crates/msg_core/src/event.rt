@@ -1,7 +1,7 @@
 //! Events, and what is seen at each.
 
-use msg_image::Change;
 use msg_names::ClassRef;
+use msg_tables::Change;
 
 /// One load or one store of one word that threads share.
 ///

@@ -10,8 +10,8 @@ use crate::event::Event;
 use crate::fault::EventFault;
 use crate::machine::Machine;
 use crate::state::{Standing, Whereabouts};
-use msg_image::Change;
 use msg_names::ClassRef;
+use msg_tables::Change;
 
 impl Machine {
     /// The fault for which an event is refused, and none where it would happen.

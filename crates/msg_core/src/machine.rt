@@ -12,16 +12,15 @@ use crate::buckets::Buckets;
 use crate::spoiled::has_spoiled_word;
 use crate::state::{Standing, Whereabouts};
 use msg_buckets::unpack;
-use msg_image::{Change, Image};
 use msg_names::ClassRef;
-use msg_tables::{ChangeFault, Tables};
+use msg_tables::{Change, ChangeFault, Origin, Tables};
 use std::marker::Model;
 use std::snapshot::Snapshot;
 
-/// The state of the caches of an image, on which events happen one at a time.
+/// The state of the caches of an origin, on which events happen one at a time.
 #[derive(Drop)]
 pub struct Machine {
-    pub(crate) image: Snapshot<Image>,
+    pub(crate) origin: Snapshot<Origin>,
     pub(crate) changes: Vec<Change>,
     pub(crate) tables: Tables,
     pub(crate) live: Vec<Option<u32>>,
@@ -34,11 +33,6 @@ impl Model for Machine {
     ghost use Rattle.msg_core.specs.View.{MachineView};
 
     ghost Value = { MachineView };
-
-    ghost use Rattle.std.specs.Coded.{codes};
-    ghost use Rattle.msg_image.specs.Coding.{coded_expression};
-
-    ghost coded = { Prim.hlevel (codes, coded_expression) };
 
     ghost use Rattle.msg_core.specs.Inside.{view_of, IsSoundMachine};
 

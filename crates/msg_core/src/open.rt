@@ -2,15 +2,14 @@
 
 ghost use Rattle.std.specs.Prelude.{◌≡◌, ◌≤◌, IfOk, All, length, map, replicate};
 ghost use Rattle.msg_buckets.specs.Capacity.{IsCapacity};
-ghost use Rattle.msg_image.specs.Parts.{class_total};
+ghost use Rattle.msg_tables.specs.Origin.{class_total};
 ghost use Rattle.msg_core.specs.Runs.{opening};
 ghost use Rattle.msg_core.specs.View.{layout_of, state_of};
 
 use crate::buckets::Buckets;
 use crate::machine::Machine;
 use crate::state::{MAX_SENDERS, Standing, Whereabouts};
-use msg_image::Image;
-use msg_tables::Tables;
+use msg_tables::{HasOrigin, Origin, Tables};
 use std::alloc::{AllocError, Global};
 use std::snapshot::Snapshot;
 
@@ -27,28 +26,44 @@ fn empty_arrays(alloc: Global, capacities: &[u32]) -> Result<Vec<Buckets>, Alloc
 }
 
 impl Machine {
-    /// The machine of an image with so many senders, and arrays of these capacities.
-    pub fn open(
+    // The machine of an origin.
+    fn of(
         alloc: Global,
-        image: &Image,
+        origin: &Origin,
         senders: u32,
         arrays: &[u32],
     ) -> Result<Machine, AllocError>
         requires some_sender { 1 ≤ senders }
         requires few_senders { senders ≤ MAX_SENDERS }
         requires arrays { All IsCapacity arrays.now }
-        ensures layout { IfOk result (λ machine. layout_of machine ≡ record { classes = class_total image.now; senders = senders; capacities = arrays.now }) }
-        ensures state { IfOk result (λ machine. state_of machine ≡ opening image.now) }
+        ensures layout { IfOk result (λ machine. layout_of machine ≡ record { classes = class_total origin.now; senders = senders; capacities = arrays.now }) }
+        ensures state { IfOk result (λ machine. state_of machine ≡ opening origin.now) }
     {
-        let classes = image.class_count() as usize;
+        let classes = origin.class_count() as usize;
         Ok(Machine {
-            image: Snapshot::of(image),
+            origin: Snapshot::of(origin),
             changes: Vec::new(alloc),
-            tables: Tables::open(alloc, image)?,
+            tables: Tables::open(alloc, origin)?,
             live: vec![in alloc; None; 2 * classes]?,
             arrays: empty_arrays(alloc, arrays)?,
             standings: vec![in alloc; Standing::Free; arrays.len()]?,
             whereabouts: vec![in alloc; Whereabouts::Out; senders as usize]?,
         })
+    }
+
+    /// The machine of classes with so many senders, and arrays of these capacities.
+    pub fn open<C: HasOrigin>(
+        alloc: Global,
+        classes: &C,
+        senders: u32,
+        arrays: &[u32],
+    ) -> Result<Machine, AllocError>
+        requires some_sender { 1 ≤ senders }
+        requires few_senders { senders ≤ MAX_SENDERS }
+        requires arrays { All IsCapacity arrays.now }
+        ensures layout { IfOk result (λ machine. layout_of machine ≡ record { classes = class_total (C.given classes.now); senders = senders; capacities = arrays.now }) }
+        ensures state { IfOk result (λ machine. state_of machine ≡ opening (C.given classes.now)) }
+    {
+        Machine::of(alloc, classes.origin(), senders, arrays)
     }
 }

@@ -9,9 +9,8 @@ ghost use Rattle.msg_core.specs.Steps.{is_entry, disagrees, is_spoiled};
 
 use crate::buckets::Buckets;
 use msg_buckets::unpack;
-use msg_image::Change;
 use msg_names::ClassRef;
-use msg_tables::Tables;
+use msg_tables::{Change, Tables};
 
 // Whether a word is an entry that will not agree with the method lists.
 fn would_disagree(tables: &Tables, change: &Change, class: ClassRef, word: u64) -> bool

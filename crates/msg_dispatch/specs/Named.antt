@@ -1,5 +1,5 @@
 -- Which arena it is.
-use Rattle.std.specs.Prelude.{[]}
+use Rattle.std.specs.Prelude.{[], None}
 use Rattle.msg_cache.specs.Views.{ArenaView}
 
 -- what a name is where none was picked
@@ -7,7 +7,7 @@ abbrev pub no_arena : ArenaView
 no_arena = record {
   table = record { words = 0; slots = 0; views_name = 0; atom = 0; block = 0; offset = 0; slot_names = [] };
   key = record {
-    image = record { names = []; classes = []; made = []; categories = []; objects = []; imps = [] };
+    origin = record { superclasses = []; made = 0; lists = []; counts = None; limits = record { rows = 0; changes = 0 } };
     senders = 0;
     capacities = [];
   };

@@ -9,8 +9,7 @@ use crate::dispatcher::Dispatcher;
 use crate::name::ArenaName;
 use crate::sender::Sender;
 use msg_cache::Turn;
-use msg_image::Change;
-use msg_tables::ChangeFault;
+use msg_tables::{Change, ChangeFault};
 use std::marker::Model;
 use std::sync::Wait;
 
@@ -36,13 +35,12 @@ impl<'d, N: ArenaName> Model for Changer<'d, N> {
     ghost Value = { History };
 
     ghost use Rattle.std.specs.Coded.{codes};
-    ghost use Rattle.msg_image.specs.Coding.{coded_expression};
 
-    ghost coded = { Prim.hlevel (codes, coded_expression) };
+    ghost coded = { Prim.hlevel codes };
 
     ghost view = { λ c. c.turn.history };
 
-    ghost invariant = { λ c. (c.turn.table ≡ N.arena.table) × (c.turn.history.image ≡ N.arena.key.image) × (c.count ≡ length c.turn.history.changes) };
+    ghost invariant = { λ c. (c.turn.table ≡ N.arena.table) × (c.turn.history.origin ≡ N.arena.key.origin) × (c.count ≡ length c.turn.history.changes) };
 }
 
 impl<'d, N: ArenaName> Changer<'d, N> {

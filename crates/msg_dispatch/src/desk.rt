@@ -1,6 +1,7 @@
 //! What stands behind the runtime lock.
 
 ghost use Rattle.std.specs.Prelude.{◌≡◌, ◌≢◌, ◌<◌, ◌≤◌, length, IfOk, IfErr, IfSome, OnErr, None, Some};
+ghost use Rattle.msg_tables.specs.Origin.{last_imp};
 ghost use Rattle.msg_names.specs.Number.{selector_number, imp_number};
 ghost use Rattle.msg_tables.specs.History.{BeginsWith, and_then, empty, lookup};
 ghost use Rattle.msg_tables.specs.Refusal.{refusal};
@@ -12,10 +13,9 @@ ghost use Rattle.msg_runtime.specs.Parts.{IsNew};
 
 use crate::name::ArenaName;
 use msg_cache::{Arena, Prober, Report, Turn};
-use msg_image::Change;
 use msg_names::{ClassRef, ImpRef, Selector};
 use msg_runtime::Runtime;
-use msg_tables::ChangeFault;
+use msg_tables::{Change, ChangeFault};
 use std::marker::{Model, PhantomData};
 
 // What a lookup found, and how many changes there were.
@@ -39,9 +39,8 @@ impl<N: ArenaName> Model for Desk<N> {
     ghost Value = { RuntimeView };
 
     ghost use Rattle.std.specs.Coded.{codes};
-    ghost use Rattle.msg_image.specs.Coding.{coded_expression};
 
-    ghost coded = { Prim.hlevel (codes, coded_expression) };
+    ghost coded = { Prim.hlevel codes };
 
     ghost view = { λ d. d.runtime };
 
@@ -61,10 +60,10 @@ impl<N: ArenaName> Desk<N> {
         requires prober { IsSenderOf N.arena prober.old }
         requires class { class.class < classes N.arena }
         ensures prober { IsSenderOf N.arena prober.new }
-        ensures image { prober.new.sender.front.image ≡ N.arena.key.image }
+        ensures origin { prober.new.sender.front.origin ≡ N.arena.key.origin }
         ensures begins { BeginsWith prober.new.sender.front prober.old.sender.front }
         ensures found { imp_number result.imp ≡ lookup prober.new.sender.front class (selector_number sel) }
-        ensures listed { imp_number result.imp ≤ length N.arena.key.image.imps }
+        ensures listed { imp_number result.imp ≤ last_imp N.arena.key.origin.counts }
         ensures count { result.count ≡ length prober.new.sender.front.changes }
     {
         let imp = self.runtime.answer(arena, prober, class, sel);
@@ -107,7 +106,7 @@ impl<N: ArenaName> Desk<N> {
         requires arena { arena.now ≡ N.arena }
         ensures prober { IfSome result (IsSenderOf N.arena) }
         ensures new { IfSome result (λ p. IsNew p.sender self.old.keeper self.new.keeper) }
-        ensures image { IfSome result (λ p. p.sender.front.image ≡ N.arena.key.image) }
+        ensures origin { IfSome result (λ p. p.sender.front.origin ≡ N.arena.key.origin) }
     {
         self.runtime.sender(arena)
     }
@@ -125,7 +124,7 @@ impl<N: ArenaName> Desk<N> {
     pub(crate) fn turn(&mut self, arena: &Arena) -> Option<Turn>
         requires arena { arena.now ≡ N.arena }
         ensures turn { IfSome result (λ t. t.table ≡ N.arena.table) }
-        ensures empty { IfSome result (λ t. t.history ≡ empty N.arena.key.image) }
+        ensures empty { IfSome result (λ t. t.history ≡ empty N.arena.key.origin) }
     {
         self.runtime.turn(arena)
     }

@@ -2,7 +2,6 @@
 
 ghost use Rattle.std.specs.Prelude.{◌≡◌, IfOk};
 ghost use Rattle.std.specs.Coded.{codes};
-ghost use Rattle.msg_image.specs.Coding.{coded_expression};
 ghost use Rattle.atomic_table.specs.Seated.{table_id_coded};
 ghost use Rattle.msg_tables.specs.History.{empty};
 ghost use Rattle.msg_cache.specs.Counts.{AreCounts};
@@ -13,8 +12,8 @@ use crate::desk::Desk;
 use crate::name::ArenaName;
 use crate::sender::Sender;
 use msg_cache::{Arena, Keeper, Report};
-use msg_image::Image;
 use msg_runtime::Runtime;
+use msg_tables::HasOrigin;
 use std::alloc::{AllocError, Global};
 use std::marker::PhantomData;
 use std::sync::{Mutex, Wait};
@@ -35,28 +34,28 @@ pub struct ChangerOut;
 pub struct Dispatcher<N: ArenaName> {
     pub(crate) arena: Arena,
     pub(crate) desk: Mutex<Desk<N>>,
-    pub ghost arena_is: { arena ≡ N.arena } by { Prim.hlevel (codes, coded_expression, table_id_coded) },
+    pub ghost arena_is: { arena ≡ N.arena } by { Prim.hlevel (codes, table_id_coded) },
 }
 
 impl<N: ArenaName> Dispatcher<N> {
-    /// The dispatcher of an arena that was just opened. Its history is the image's without changes, at which the changer begins.
+    /// The dispatcher of an arena that was just opened. Its history is the origin's without changes, at which the changer begins.
     ///
     /// The error is want of memory: for the tables, or for the marks of class references that a change reaches. Nothing is left of arena and keeper then. No
     /// clause says that memory was really wanted: tests with ample memory do.
-    pub fn open(
+    pub fn open<C: HasOrigin>(
         alloc: Global,
         arena: Arena,
         keeper: Keeper,
-        image: &Image,
+        given: &C,
     ) -> Result<Dispatcher<N>, AllocError>
         requires arena { arena ≡ N.arena }
         requires keeper { IsKeeperOf N.arena keeper }
-        requires image { image.now ≡ N.arena.key.image }
-        requires history { keeper_history keeper ≡ empty image.now }
+        requires origin { C.given given.now ≡ N.arena.key.origin }
+        requires history { keeper_history keeper ≡ empty (C.given given.now) }
         ensures { IfOk result (λ d. d.arena ≡ N.arena) }
     {
         let desk = Desk {
-            runtime: Runtime::open(alloc, &arena, keeper, image)?,
+            runtime: Runtime::open(alloc, &arena, keeper, given)?,
             of: PhantomData,
         };
         Ok(Dispatcher {
@@ -67,7 +66,7 @@ impl<N: ArenaName> Dispatcher<N> {
 
     /// A sender, where a number is free.
     pub fn sender<R: Wait>(&self, rt: &R) -> Result<Sender<'_, N>, NoSenderFree>
-        ensures { IfOk result (λ s. (s.takings ≡ 0) × (s.seen.front.image ≡ N.arena.key.image)) }
+        ensures { IfOk result (λ s. (s.takings ≡ 0) × (s.seen.front.origin ≡ N.arena.key.origin)) }
     {
         match self.desk.lock(rt).sender(&self.arena) {
             Some(prober) => Ok(Sender {
@@ -82,7 +81,7 @@ impl<N: ArenaName> Dispatcher<N> {
 
     /// The changer: once in the dispatcher's life.
     pub fn changer<R: Wait>(&self, rt: &R) -> Result<Changer<'_, N>, ChangerOut>
-        ensures { IfOk result (λ c. c ≡ empty N.arena.key.image) }
+        ensures { IfOk result (λ c. c ≡ empty N.arena.key.origin) }
     {
         match self.desk.lock(rt).turn(&self.arena) {
             Some(turn) => Ok(Changer {

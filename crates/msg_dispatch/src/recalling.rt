@@ -2,7 +2,7 @@
 
 ghost use Rattle.std.specs.Prelude.{◌≡◌, ◌<◌, ◌≤◌, ◌+◌, length, IfErr, IfOk, IfSome};
 ghost use Rattle.msg_names.specs.Number.{selector_number, imp_number};
-ghost use Rattle.msg_image.specs.Parts.{class_total};
+ghost use Rattle.msg_tables.specs.Origin.{class_total, last_imp};
 ghost use Rattle.msg_tables.specs.History.{BeginsWith, lookup};
 ghost use Rattle.msg_memory.specs.Remembered.{IsSiteOf};
 
@@ -28,9 +28,8 @@ impl<'d, N: ArenaName> Model for Recalling<'d, N> {
     ghost Value = { SenderView };
 
     ghost use Rattle.std.specs.Coded.{codes};
-    ghost use Rattle.msg_image.specs.Coding.{coded_expression};
 
-    ghost coded = { Prim.hlevel (codes, coded_expression) };
+    ghost coded = { Prim.hlevel codes };
 
     ghost use Rattle.msg_memory.specs.Remembered.{IsMemoryOf};
 
@@ -61,10 +60,10 @@ impl<'d, N: ArenaName> Recalling<'d, N> {
     /// The implementation that a lookup finds at what the sender has then seen. What it remembers of that point it answers with no load of a shared word.
     #[inline]
     pub fn find<R: Wait>(&mut self, rt: &R, class: ClassRef, sel: Selector) -> ImpRef
-        requires class { class.class < class_total self.old.seen.front.image }
+        requires class { class.class < class_total self.old.seen.front.origin }
         ensures begins { BeginsWith self.new.seen.front self.old.seen.front }
         ensures found { imp_number result ≡ lookup self.new.seen.front class (selector_number sel) }
-        ensures listed { imp_number result ≤ length self.new.seen.front.image.imps }
+        ensures listed { imp_number result ≤ last_imp self.new.seen.front.origin.counts }
         ensures takings { (self.old.takings ≤ self.new.takings) × (self.new.takings ≤ self.old.takings + 1) }
     {
         match self.recall(class, sel) {
@@ -77,10 +76,10 @@ impl<'d, N: ArenaName> Recalling<'d, N> {
     #[cold]
     #[inline(never)]
     fn find_unremembered<R: Wait>(&mut self, rt: &R, class: ClassRef, sel: Selector) -> ImpRef
-        requires class { class.class < class_total self.old.seen.front.image }
+        requires class { class.class < class_total self.old.seen.front.origin }
         ensures begins { BeginsWith self.new.seen.front self.old.seen.front }
         ensures found { imp_number result ≡ lookup self.new.seen.front class (selector_number sel) }
-        ensures listed { imp_number result ≤ length self.new.seen.front.image.imps }
+        ensures listed { imp_number result ≤ last_imp self.new.seen.front.origin.counts }
         ensures takings { (self.old.takings ≤ self.new.takings) × (self.new.takings ≤ self.old.takings + 1) }
     {
         self.sender.find_by(rt, &mut self.memory, class, sel)
@@ -95,11 +94,11 @@ impl<'d, N: ArenaName> Recalling<'d, N> {
         class: ClassRef,
         sel: Selector,
     ) -> ImpRef
-        requires class { class.class < class_total self.old.seen.front.image }
+        requires class { class.class < class_total self.old.seen.front.origin }
         requires site { IsSiteOf self.old.seen.front site.old }
         ensures begins { BeginsWith self.new.seen.front self.old.seen.front }
         ensures found { imp_number result ≡ lookup self.new.seen.front class (selector_number sel) }
-        ensures listed { imp_number result ≤ length self.new.seen.front.image.imps }
+        ensures listed { imp_number result ≤ last_imp self.new.seen.front.origin.counts }
         ensures site { IsSiteOf self.new.seen.front site.new }
         ensures takings { (self.old.takings ≤ self.new.takings) × (self.new.takings ≤ self.old.takings + 1) }
     {
@@ -110,7 +109,7 @@ impl<'d, N: ArenaName> Recalling<'d, N> {
     #[inline]
     pub fn recall(&self, class: ClassRef, sel: Selector) -> Option<ImpRef>
         ensures found { IfSome result (λ i. imp_number i ≡ lookup self.now.seen.front class (selector_number sel)) }
-        ensures listed { IfSome result (λ i. imp_number i ≤ length self.now.seen.front.image.imps) }
+        ensures listed { IfSome result (λ i. imp_number i ≤ last_imp self.now.seen.front.origin.counts) }
     {
         self.sender.recall(&self.memory, class, sel)
     }

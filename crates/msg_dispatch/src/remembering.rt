@@ -5,7 +5,7 @@
 
 ghost use Rattle.std.specs.Prelude.{◌≡◌, ◌<◌, ◌≤◌, ◌+◌, length, IfSome};
 ghost use Rattle.msg_names.specs.Number.{selector_number, imp_number};
-ghost use Rattle.msg_image.specs.Parts.{class_total};
+ghost use Rattle.msg_tables.specs.Origin.{class_total, last_imp};
 ghost use Rattle.msg_tables.specs.History.{BeginsWith, lookup};
 ghost use Rattle.msg_memory.specs.Remembered.{IsMemoryOf, IsSiteOf};
 
@@ -33,10 +33,10 @@ impl<'d, N: ArenaName> Sender<'d, N> {
 
     // As `find`, with how many changes the sender has then seen. Where a change fell into a probe that hit, its answer is left and the lock is taken.
     fn find_counted<R: Wait>(&mut self, rt: &R, class: ClassRef, sel: Selector) -> Answer
-        requires class { class.class < class_total self.old.seen.front.image }
+        requires class { class.class < class_total self.old.seen.front.origin }
         ensures begins { BeginsWith self.new.seen.front self.old.seen.front }
         ensures found { imp_number result.imp ≡ lookup self.new.seen.front class (selector_number sel) }
-        ensures listed { imp_number result.imp ≤ length self.new.seen.front.image.imps }
+        ensures listed { imp_number result.imp ≤ last_imp self.new.seen.front.origin.counts }
         ensures count { result.count ≡ length self.new.seen.front.changes }
         ensures takings { (self.old.takings ≤ self.new.takings) × (self.new.takings ≤ self.old.takings + 1) }
     {
@@ -56,7 +56,7 @@ impl<'d, N: ArenaName> Sender<'d, N> {
     pub fn recall(&self, memory: &Memory, class: ClassRef, sel: Selector) -> Option<ImpRef>
         requires memory { IsMemoryOf self.now.seen.front memory.now }
         ensures found { IfSome result (λ i. imp_number i ≡ lookup self.now.seen.front class (selector_number sel)) }
-        ensures listed { IfSome result (λ i. imp_number i ≤ length self.now.seen.front.image.imps) }
+        ensures listed { IfSome result (λ i. imp_number i ≤ last_imp self.now.seen.front.origin.counts) }
     {
         match self.count {
             Some(count) => memory.recall(count, class, sel),
@@ -69,7 +69,7 @@ impl<'d, N: ArenaName> Sender<'d, N> {
     pub fn recall_at(&self, site: &Site, class: ClassRef, sel: Selector) -> Option<ImpRef>
         requires site { IsSiteOf self.now.seen.front site.now }
         ensures found { IfSome result (λ i. imp_number i ≡ lookup self.now.seen.front class (selector_number sel)) }
-        ensures listed { IfSome result (λ i. imp_number i ≤ length self.now.seen.front.image.imps) }
+        ensures listed { IfSome result (λ i. imp_number i ≤ last_imp self.now.seen.front.origin.counts) }
     {
         match self.count {
             Some(count) => site.recall(count, class, sel),
@@ -86,11 +86,11 @@ impl<'d, N: ArenaName> Sender<'d, N> {
         class: ClassRef,
         sel: Selector,
     ) -> ImpRef
-        requires class { class.class < class_total self.old.seen.front.image }
+        requires class { class.class < class_total self.old.seen.front.origin }
         requires memory { IsMemoryOf self.old.seen.front memory.old }
         ensures begins { BeginsWith self.new.seen.front self.old.seen.front }
         ensures found { imp_number result ≡ lookup self.new.seen.front class (selector_number sel) }
-        ensures listed { imp_number result ≤ length self.new.seen.front.image.imps }
+        ensures listed { imp_number result ≤ last_imp self.new.seen.front.origin.counts }
         ensures memory { IsMemoryOf self.new.seen.front memory.new }
         ensures takings { (self.old.takings ≤ self.new.takings) × (self.new.takings ≤ self.old.takings + 1) }
     {
@@ -110,11 +110,11 @@ impl<'d, N: ArenaName> Sender<'d, N> {
         class: ClassRef,
         sel: Selector,
     ) -> ImpRef
-        requires class { class.class < class_total self.old.seen.front.image }
+        requires class { class.class < class_total self.old.seen.front.origin }
         requires memory { IsMemoryOf self.old.seen.front memory.old }
         ensures begins { BeginsWith self.new.seen.front self.old.seen.front }
         ensures found { imp_number result ≡ lookup self.new.seen.front class (selector_number sel) }
-        ensures listed { imp_number result ≤ length self.new.seen.front.image.imps }
+        ensures listed { imp_number result ≤ last_imp self.new.seen.front.origin.counts }
         ensures memory { IsMemoryOf self.new.seen.front memory.new }
         ensures takings { (self.old.takings ≤ self.new.takings) × (self.new.takings ≤ self.old.takings + 1) }
     {
@@ -137,11 +137,11 @@ impl<'d, N: ArenaName> Sender<'d, N> {
         class: ClassRef,
         sel: Selector,
     ) -> ImpRef
-        requires class { class.class < class_total self.old.seen.front.image }
+        requires class { class.class < class_total self.old.seen.front.origin }
         requires site { IsSiteOf self.old.seen.front site.old }
         ensures begins { BeginsWith self.new.seen.front self.old.seen.front }
         ensures found { imp_number result ≡ lookup self.new.seen.front class (selector_number sel) }
-        ensures listed { imp_number result ≤ length self.new.seen.front.image.imps }
+        ensures listed { imp_number result ≤ last_imp self.new.seen.front.origin.counts }
         ensures site { IsSiteOf self.new.seen.front site.new }
         ensures takings { (self.old.takings ≤ self.new.takings) × (self.new.takings ≤ self.old.takings + 1) }
     {
@@ -161,11 +161,11 @@ impl<'d, N: ArenaName> Sender<'d, N> {
         class: ClassRef,
         sel: Selector,
     ) -> ImpRef
-        requires class { class.class < class_total self.old.seen.front.image }
+        requires class { class.class < class_total self.old.seen.front.origin }
         requires site { IsSiteOf self.old.seen.front site.old }
         ensures begins { BeginsWith self.new.seen.front self.old.seen.front }
         ensures found { imp_number result ≡ lookup self.new.seen.front class (selector_number sel) }
-        ensures listed { imp_number result ≤ length self.new.seen.front.image.imps }
+        ensures listed { imp_number result ≤ last_imp self.new.seen.front.origin.counts }
         ensures site { IsSiteOf self.new.seen.front site.new }
         ensures takings { (self.old.takings ≤ self.new.takings) × (self.new.takings ≤ self.old.takings + 1) }
     {

@@ -2,7 +2,7 @@
 
 ghost use Rattle.std.specs.Prelude.{◌≡◌, ◌<◌, ◌≤◌, ◌+◌, ◌-◌, ◌^◌, length, IfSome, IfNone};
 ghost use Rattle.msg_names.specs.Number.{selector_number, imp_number};
-ghost use Rattle.msg_image.specs.Parts.{class_total};
+ghost use Rattle.msg_tables.specs.Origin.{class_total, last_imp};
 ghost use Rattle.msg_tables.specs.History.{BeginsWith, lookup};
 ghost use Rattle.msg_cache.specs.Record.{Probes, Hits, Misses};
 ghost use Rattle.msg_cache.specs.Views.{layout};
@@ -34,20 +34,19 @@ impl<'d, N: ArenaName> Model for Sender<'d, N> {
     ghost Value = { SenderView };
 
     ghost use Rattle.std.specs.Coded.{codes};
-    ghost use Rattle.msg_image.specs.Coding.{coded_expression};
 
-    ghost coded = { Prim.hlevel (codes, coded_expression) };
+    ghost coded = { Prim.hlevel codes };
 
     ghost view = { λ s. record { seen = s.prober.sender; takings = s.takings } };
 
-    ghost invariant = { λ s. IsSenderOf N.arena s.prober × (s.prober.sender.front.image ≡ N.arena.key.image) × IfSome s.count (λ n. n ≡ length s.prober.sender.front.changes) };
+    ghost invariant = { λ s. IsSenderOf N.arena s.prober × (s.prober.sender.front.origin ≡ N.arena.key.origin) × IfSome s.count (λ n. n ≡ length s.prober.sender.front.changes) };
 }
 
 impl<'d, N: ArenaName> Sender<'d, N> {
     /// The implementation that the cache of a class reference has, which is the lookup's at what the sender has then seen. No lock is taken.
     #[inline]
     pub fn find_cached(&mut self, class: ClassRef, sel: Selector) -> Option<ImpRef>
-        requires class { class.class < class_total self.old.seen.front.image }
+        requires class { class.class < class_total self.old.seen.front.origin }
         ensures probes { Probes (layout N.arena) class (selector_number sel) self.old.seen self.new.seen }
         ensures takings { self.new.takings ≡ self.old.takings }
         ensures some { IfSome result (λ i. Hits self.new.seen.last (imp_number i) × (imp_number i ≡ lookup self.new.seen.front class (selector_number sel))) }
@@ -59,10 +58,10 @@ impl<'d, N: ArenaName> Sender<'d, N> {
 
     // After a miss: takes the lock. The sender then knows how many changes it has seen.
     pub(crate) fn find_locked<R: Wait>(&mut self, rt: &R, class: ClassRef, sel: Selector) -> Answer
-        requires class { class.class < class_total self.old.seen.front.image }
+        requires class { class.class < class_total self.old.seen.front.origin }
         ensures begins { BeginsWith self.new.seen.front self.old.seen.front }
         ensures found { imp_number result.imp ≡ lookup self.new.seen.front class (selector_number sel) }
-        ensures listed { imp_number result.imp ≤ length self.new.seen.front.image.imps }
+        ensures listed { imp_number result.imp ≤ last_imp self.new.seen.front.origin.counts }
         ensures count { result.count ≡ length self.new.seen.front.changes }
         ensures takings { (self.old.takings ≤ self.new.takings) × (self.new.takings ≤ self.old.takings + 1) }
         ensures counted { self.old.takings < 2 ^ 64 - 1 → self.new.takings ≡ self.old.takings + 1 }
@@ -80,10 +79,10 @@ impl<'d, N: ArenaName> Sender<'d, N> {
     /// The implementation that a lookup finds at what the sender has then seen. After a miss it takes the lock, once.
     #[inline]
     pub fn find<R: Wait>(&mut self, rt: &R, class: ClassRef, sel: Selector) -> ImpRef
-        requires class { class.class < class_total self.old.seen.front.image }
+        requires class { class.class < class_total self.old.seen.front.origin }
         ensures begins { BeginsWith self.new.seen.front self.old.seen.front }
         ensures found { imp_number result ≡ lookup self.new.seen.front class (selector_number sel) }
-        ensures listed { imp_number result ≤ length self.new.seen.front.image.imps }
+        ensures listed { imp_number result ≤ last_imp self.new.seen.front.origin.counts }
         ensures takings { (self.old.takings ≤ self.new.takings) × (self.new.takings ≤ self.old.takings + 1) }
         ensures hit { self.new.takings ≡ self.old.takings → self.old.takings < 2 ^ 64 - 1
             → Probes (layout N.arena) class (selector_number sel) self.old.seen self.new.seen × Hits self.new.seen.last (imp_number result) }

@@ -2,8 +2,8 @@
 use Rattle.std.proofs.Common.{◌≡◌, ◌≤◌, ◌+◌, ℕ, zero, suc, List, [], ◌∷◌, ◌++◌, length, take, Some, slice_get, refl, sym, ap, ◌∙◌, subst, arith, length-append}
 use Rattle.msg_names.specs.declared.value.ClassRef.{ClassRef}
 use Rattle.msg_tables.specs.History.{History, lookup, BeginsWith}
-use Rattle.msg_image.specs.declared.change.Change.{Change}
-use Rattle.msg_image.specs.Parts.{ImageParts}
+use Rattle.msg_tables.specs.declared.change.Change.{Change}
+use Rattle.msg_tables.specs.Origin.{OriginView}
 use Rattle.msg_eval.specs.declared.reply.Reply.{Reply}
 use Rattle.msg_eval.specs.Meaning.{Meaning, Ends, Asks}
 use Rattle.msg_eval.specs.Points.{Rise, last_of, EndsAfter, RepliesFrom, plain_reply, AllAre, HasOneReply, Ended, Asking, with_answers, HasAnswersAt}
@@ -40,10 +40,10 @@ one_reply h m = record { exists = plain_exists h m; only = plain_only h m }
 -- ---- points that rise no further
 
 -- no change of the longer one is more
-no_more : (p h : History) (more : List Change) → p.image ≡ h.image → p.changes ≡ h.changes ++ more → length p.changes ≤ length h.changes → p ≡ h
+no_more : (p h : History) (more : List Change) → p.origin ≡ h.origin → p.changes ≡ h.changes ++ more → length p.changes ≤ length h.changes → p ≡ h
 no_more p h [] same rest le =
     let is : p.changes ≡ h.changes = rest ∙ append-nil h.changes in
-    ap (λ (i : ImageParts). (let x : History = record { image = i; changes = p.changes } in x)) same ∙ ap (λ (xs : List Change). (let x : History = record { image = h.image; changes = xs } in x)) is
+    ap (λ (i : OriginView). (let x : History = record { origin = i; changes = p.changes } in x)) same ∙ ap (λ (xs : List Change). (let x : History = record { origin = h.origin; changes = xs } in x)) is
   where
     append-nil : (xs : List Change) → xs ++ [] ≡ xs
     append-nil [] = refl

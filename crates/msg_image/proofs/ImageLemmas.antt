@@ -28,7 +28,7 @@ use Rattle.msg_image.specs.Parts.{ImageParts}
 use Rattle.msg_image.specs.declared.change.Item.{Item}
 use Rattle.msg_image.proofs.ItemLemmas.{items_sound}
 use Rattle.msg_image.specs.declared.image.Category.{Category}
-use Rattle.msg_image.specs.declared.image.Image.TheInside.{Inside}
+use Rattle.msg_image.specs.declared.image.Base.TheInside.{Inside}
 use Rattle.msg_image.proofs.FaultlessLemmas.{faultless}
 use Rattle.msg_image.proofs.SoundLemmas.{image_sound, items_few}
 

@@ -11,3 +11,5 @@ pub mod SoundLemmas
 pub mod ItemLemmas
 pub mod AnswerLemmas
 pub mod ImageLemmas
+pub mod OpenedLemmas
+pub mod CategoryLemmas

@@ -4,7 +4,7 @@ use Rattle.std.specs.Prelude.{All, IfSome, string_bytes}
 use Rattle.std.proofs.lemmas.List.{length-map}
 use Rattle.std.proofs.lemmas.Option.{slice_get-map, slice_get_read, slice_get_within, get_or_from_slice_get, same_Some}
 use Rattle.msg_names.specs.declared.value.ClassRef.{ClassRef}
-use Rattle.msg_image.specs.declared.image.Image.TheInside.{Inside}
+use Rattle.msg_image.specs.declared.image.Base.TheInside.{Inside}
 use Rattle.msg_image.specs.declared.image.Class.{Class}
 use Rattle.msg_image.specs.declared.image.Object.{Object}
 use Rattle.msg_image.specs.declared.image.Imp.{Imp}

@@ -8,8 +8,8 @@ use Rattle.msg_form.specs.declared.form.Operator.{Operator}
 use Rattle.msg_form.specs.declared.form.Operator.TheVariants as operators
 use Rattle.msg_form.specs.Expression as form
 use Rattle.msg_form.specs.Form.{PairForm, ClassForm, CategoryForm, ObjectForm, ImpForm, MethodForm, ChangeForm, add, replace, set_imp, exchange, attach, make, ItemForm, send_item, change_item, Form}
-use Rattle.msg_image.specs.declared.change.Change.{Change}
-use Rattle.msg_image.specs.declared.change.Change.TheVariants as changes
+use Rattle.msg_tables.specs.declared.change.Change.{Change}
+use Rattle.msg_tables.specs.declared.change.Change.TheVariants as changes
 use Rattle.msg_image.specs.declared.image.Category.{Category}
 use Rattle.msg_image.specs.Items.{ItemParts, SendItem, ChangeItem, DocumentParts}
 use Rattle.msg_image.specs.Numbers.{Numbers, numbers_of, selector_named, class_named, object_named, imp_named}

@@ -2,8 +2,8 @@ pub mod Coding
 pub mod Contents
 pub mod Document
 pub mod Items
-pub mod Methods
 pub mod Numbers
+pub mod Opened
 pub mod Parts
 pub mod Plain
 pub mod Sizes

@@ -9,7 +9,7 @@ use Rattle.msg_image.specs.declared.change.Item.{Item}
 use Rattle.msg_image.specs.declared.change.Item.TheVariants as items
 use Rattle.msg_image.specs.declared.image.Class.{Class}
 use Rattle.msg_image.specs.declared.image.Object.{Object}
-use Rattle.msg_image.specs.declared.image.Image.TheInside.{Inside}
+use Rattle.msg_image.specs.declared.image.Base.TheInside.{Inside}
 
 -- one level of an expression, with each expression inside already seen
 abbrev pub expr_step : Expr-F Expression → Expression

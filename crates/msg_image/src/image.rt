@@ -14,11 +14,11 @@ ghost use Rattle.msg_image.specs.Plain.{class_parts, imp_parts, object_parts};
 ghost use Rattle.msg_names.specs.Number.{selector_number, imp_number};
 
 use crate::expr::Expr;
-use crate::methods::MethodList;
 use crate::numbers::{forwarding_selector, selector_names};
 use crate::resolve::{both, each};
 use msg_form::{Form, FormNames, MAX_CLASSES};
 use msg_names::{ClassRef, ImpRef, Names, ObjectRef, Selector};
+use msg_tables::MethodList;
 use std::alloc::{AllocError, Global};
 use std::marker::Model;
 
@@ -54,11 +54,9 @@ pub(crate) struct Object {
     pub(crate) class: u32,
 }
 
-/// What a document says of classes, categories, objects and implementations.
-///
-/// Contracts see the parts without their pointers. The reading calls take no memory, and each indexes once.
+// What a document says of classes, categories, objects and implementations.
 #[derive(Drop)]
-pub struct Image {
+pub(crate) struct Base {
     names: Names,
     classes: Vec<Class>,
     // The names of the classes that may be made at run time.
@@ -68,7 +66,7 @@ pub struct Image {
     imps: Vec<Imp>,
 }
 
-impl Model for Image {
+impl Model for Base {
     ghost use Rattle.msg_image.specs.Parts.{ImageParts};
 
     ghost Value = { ImageParts };
@@ -140,9 +138,9 @@ fn members_of(alloc: Global, form: &Form, names: &FormNames) -> Result<Members, 
     })
 }
 
-impl Image {
+impl Base {
     // The image of a form without fault.
-    pub(crate) fn of(alloc: Global, form: &Form, names: &FormNames) -> Result<Image, AllocError>
+    pub(crate) fn of(alloc: Global, form: &Form, names: &FormNames) -> Result<Base, AllocError>
         requires fault { fault_of (form_view form.now) ≡ None }
         requires names { AreNamesOf names.now (form_view form.now) }
         ensures { IfOk result (λ i. i ≡ image_of (form_view form.now)) }
@@ -150,7 +148,7 @@ impl Image {
         let classes = classes_of(alloc, form, names)?;
         let members = members_of(alloc, form, names)?;
         let selectors = selector_names(alloc, names.selectors.as_slice())?;
-        Ok(Image {
+        Ok(Base {
             names: selectors,
             classes: classes.listed,
             made: classes.made,
@@ -160,50 +158,47 @@ impl Image {
         })
     }
 
-    ghost use Rattle.msg_image.specs.Methods.{method_numbers};
+    ghost use Rattle.msg_tables.specs.Methods.{method_numbers};
     ghost use Rattle.msg_image.specs.Parts.{ObjectParts, class_total, class_names, forwarding_selector, superclass_in, superclasses, depth_in, methods_in};
     ghost use Rattle.msg_names.specs.Numbering.{name_at};
     ghost use Rattle.msg_form.specs.Walk.{forwarding_text};
     ghost use Rattle.msg_image.specs.Plain.{plain, imp_parts};
     ghost use Rattle.msg_image.specs.Sound.{IsSound, IsSoundCategory, IsSoundImp, AreListed};
 
-    /// The selectors' names. The first is `forwardingTargetForSelector:`.
-    pub fn names(&self) -> &Names
+    pub(crate) fn names(&self) -> &Names
         ensures names { result.now ≡ self.now.names }
         ensures forwarding { name_at self.now.names (selector_number forwarding_selector) ≡ Some forwarding_text }
     {
         &self.names
     }
 
-    /// How many classes have numbers: the listed ones, and after them those that may be made.
-    pub fn class_count(&self) -> u32
+    pub(crate) fn class_count(&self) -> u32
         ensures count { result ≡ class_total self.now }
         ensures sound { IsSound self.now }
     {
         (self.classes.len() + self.made.len()) as u32
     }
 
-    /// How many classes are listed.
-    pub fn listed_count(&self) -> u32
+    pub(crate) fn listed_count(&self) -> u32
         ensures count { result ≡ length self.now.classes }
         ensures sound { IsSound self.now }
     {
         self.classes.len() as u32
     }
 
-    pub fn object_count(&self) -> u32
+    pub(crate) fn object_count(&self) -> u32
         ensures { result ≡ length self.now.objects }
     {
         self.objects.len() as u32
     }
 
-    pub fn imp_count(&self) -> u32
+    pub(crate) fn imp_count(&self) -> u32
         ensures { result ≡ length self.now.imps }
     {
         self.imps.len() as u32
     }
 
-    pub fn class_name(&self, class: u32) -> &str
+    pub(crate) fn class_name(&self, class: u32) -> &str
         requires { class < class_total self.now }
         ensures { slice_get (class_names self.now) class ≡ Some result.now }
     {
@@ -215,8 +210,7 @@ impl Image {
         }
     }
 
-    /// The superclass, or for a metaclass the superclass's metaclass, and for a root metaclass the root class itself.
-    pub fn superclass(&self, class: ClassRef) -> Option<ClassRef>
+    pub(crate) fn superclass(&self, class: ClassRef) -> Option<ClassRef>
         requires { class.class < length self.now.classes }
         ensures value { result ≡ superclass_in self.now class }
         ensures listed { IfSome result (λ above. above.class < length self.now.classes) }
@@ -224,10 +218,7 @@ impl Image {
         class.above(self.classes[class.class as usize].superclass)
     }
 
-    /// How many superclasses stand above a listed class: none above a root class, and else one more than above its superclass.
-    ///
-    /// Takes time in the order of what it answers.
-    pub fn depth(&self, class: u32) -> u32
+    pub(crate) fn depth(&self, class: u32) -> u32
         requires { class < length self.now.classes }
         ensures depth { result ≡ depth_in self.now class }
         ensures above { result ≡ option_map_or (λ d. suc (depth_in self.now d)) (slice_index_or (superclasses self.now) class None) 0 }
@@ -235,8 +226,7 @@ impl Image {
         superclass_count(&self.classes, class)
     }
 
-    /// The methods that the class itself lists, without those of categories. A class that may be made lists none.
-    pub fn methods(&self, class: ClassRef) -> &[(Selector, ImpRef)]
+    pub(crate) fn methods(&self, class: ClassRef) -> &[(Selector, ImpRef)]
         requires { class.class < class_total self.now }
         ensures methods { method_numbers result.now ≡ methods_in self.now class }
         ensures listed { AreListed self.now (method_numbers result.now) }
@@ -252,21 +242,21 @@ impl Image {
         }
     }
 
-    pub fn categories(&self) -> &[Category]
+    pub(crate) fn categories(&self) -> &[Category]
         ensures categories { result.now ≡ self.now.categories }
         ensures sound { All (IsSoundCategory self.now) result.now }
     {
         self.categories.as_slice()
     }
 
-    pub fn object_name(&self, object: ObjectRef) -> &str
+    pub(crate) fn object_name(&self, object: ObjectRef) -> &str
         requires { object.object < length self.now.objects }
         ensures { option_map (λ o. o.name) (slice_get self.now.objects object.object) ≡ Some result.now }
     {
         self.objects[object.object as usize].name.as_str()
     }
 
-    pub fn object_class(&self, object: ObjectRef) -> u32
+    pub(crate) fn object_class(&self, object: ObjectRef) -> u32
         requires { object.object < length self.now.objects }
         ensures class { option_map (λ o. o.class) (slice_get self.now.objects object.object) ≡ Some result }
         ensures listed { result < class_total self.now }
@@ -274,7 +264,7 @@ impl Image {
         self.objects[object.object as usize].class
     }
 
-    pub fn imp(&self, imp: ImpRef) -> &Imp
+    pub(crate) fn imp(&self, imp: ImpRef) -> &Imp
         requires real { 0 < imp_number imp }
         requires listed { imp_number imp ≤ length self.now.imps }
         ensures imp { slice_get self.now.imps (imp_number imp - 1) ≡ Some (imp_parts result.now) }
@@ -283,8 +273,7 @@ impl Image {
         &self.imps[imp.number() as usize - 1]
     }
 
-    /// The selector `forwardingTargetForSelector:`, which every image has as its first.
-    pub fn forwarding_selector(&self) -> Selector
+    pub(crate) fn forwarding_selector(&self) -> Selector
         ensures { result ≡ forwarding_selector }
     {
         forwarding_selector()

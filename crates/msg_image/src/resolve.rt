@@ -12,14 +12,14 @@ ghost use Rattle.msg_image.specs.Parts.{Two, ClassParts, ObjectParts, ImpParts};
 ghost use Rattle.msg_image.specs.Plain.{plain, plain_all, class_parts, object_parts, imp_parts, item_parts};
 ghost use Rattle.msg_image.specs.declared.image.Category.{Category};
 
-use crate::change::{Change, Item};
+use crate::change::Item;
 use crate::expr::Expr;
 use crate::image::{Category, Class, Imp, Object};
-use crate::methods::MethodList;
 use crate::numbers::{class_named, imp_named, object_named, selector_named};
 use arrayvec::ArrayVec;
 use msg_form::{self as form, Constant, FormNames, MethodName, Operator, Pair};
 use msg_names::{ClassRef, Value};
+use msg_tables::{Change, MethodList};
 use std::alloc::{AllocError, Global};
 
 /// A part of a document, of which the form has the names.

@@ -2,6 +2,7 @@
 use Rattle.std.specs.Prelude.{◌≡◌, ◌<◌, ◌≤◌, ◌+◌, ◌*◌, ◌%◌, ◌==◌, ◌&&◌, ℕ, if◌then◌else◌, length, slice_index_or, take, All}
 use Rattle.msg_names.specs.ClassRef.{slot_of}
 use Rattle.msg_names.specs.declared.value.ClassRef.{ClassRef}
+use Rattle.msg_tables.specs.Origin.{last_imp}
 use Rattle.msg_tables.specs.History.{History, lookup}
 use Rattle.msg_memory.specs.declared.memory.Noted.{Noted}
 use Rattle.msg_memory.specs.declared.memory.Site.{Site}
@@ -9,12 +10,12 @@ use Rattle.msg_memory.specs.declared.memory.Memory.{Memory}
 
 -- the point of a history after its first n changes
 abbrev pub point_at : ℕ → History → History
-point_at n h = record { image = h.image; changes = take n h.changes }
+point_at n h = record { origin = h.origin; changes = take n h.changes }
 
 -- The lookup of a selector by the class reference of a slot, at the point of the history after its first n changes, finds this implementation.
 pub record IsRecalled (h : History) (n slot sel imp : ℕ) : Type 0 where
   pub seen : n ≤ length h.changes
-  pub listed : imp ≤ length h.image.imps
+  pub listed : imp ≤ last_imp h.origin.counts
   pub found : (c : ClassRef) → slot_of c ≡ slot → imp ≡ lookup (point_at n h) c sel
 
 -- A note is what a lookup found at a point of the history, or blank: the selector's number is 0, and so is the implementation's.

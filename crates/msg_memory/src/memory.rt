@@ -2,6 +2,7 @@
 
 ghost use Rattle.std.specs.Prelude.{◌≡◌, ◌<◌, ◌≤◌, ◌≢◌, ◌==◌, ◌&&◌, ◌^◌, length, IfSome, IsNone};
 ghost use Rattle.msg_names.specs.Number.{selector_number, imp_number};
+ghost use Rattle.msg_tables.specs.Origin.{last_imp};
 ghost use Rattle.msg_tables.specs.History.{History, lookup};
 ghost use Rattle.msg_names.specs.ClassRef.{slot_of};
 ghost use Rattle.msg_memory.specs.Remembered.{IsBlank, IsNoteOf, IsMemoryOf, IsRecalled, IsSiteOf, found_by, place_of, recalled, recalled_at};
@@ -43,7 +44,7 @@ impl Noted {
     #[tactic(auto, using(crate::proofs::MemoryLemmas::as_noted, crate::proofs::MemoryLemmas::recalled_whole))]
     fn answer(&self, count: u64, class: ClassRef, sel: Selector) -> Option<ImpRef>
         ensures found { IfSome result (λ i. (h : History) → IsNoteOf h self.now → count ≡ length h.changes
-            → (imp_number i ≡ lookup h class (selector_number sel)) × (imp_number i ≤ length h.image.imps)) }
+            → (imp_number i ≡ lookup h class (selector_number sel)) × (imp_number i ≤ last_imp h.origin.counts)) }
         ensures some { IfSome result (λ i. imp_number i ≡ found_by self.now count (slot_of class) (selector_number sel)) }
         ensures none { IsNone result → found_by self.now count (slot_of class) (selector_number sel) ≡ 0 }
     {
@@ -71,7 +72,7 @@ impl Noted {
     #[tactic(auto, using(crate::proofs::MemoryLemmas::recalled_now))]
     fn of(count: u64, class: ClassRef, sel: Selector, imp: ImpRef) -> Noted
         ensures kept { slot_of class < 2 ^ 32 → found_by result count (slot_of class) (selector_number sel) ≡ imp_number imp }
-        ensures note { (h : History) → count ≡ length h.changes → imp_number imp ≡ lookup h class (selector_number sel) → imp_number imp ≤ length h.image.imps
+        ensures note { (h : History) → count ≡ length h.changes → imp_number imp ≡ lookup h class (selector_number sel) → imp_number imp ≤ last_imp h.origin.counts
             → IsNoteOf h result }
     {
         match u32::try_from(class.slot()) {
@@ -104,7 +105,7 @@ impl Site {
     #[inline]
     pub fn recall(&self, count: u64, class: ClassRef, sel: Selector) -> Option<ImpRef>
         ensures found { IfSome result (λ i. (h : History) → IsSiteOf h self.now → count ≡ length h.changes
-            → (imp_number i ≡ lookup h class (selector_number sel)) × (imp_number i ≤ length h.image.imps)) }
+            → (imp_number i ≡ lookup h class (selector_number sel)) × (imp_number i ≤ last_imp h.origin.counts)) }
         ensures some { IfSome result (λ i. imp_number i ≡ recalled_at self.now count (slot_of class) (selector_number sel)) }
         ensures none { IsNone result → recalled_at self.now count (slot_of class) (selector_number sel) ≡ 0 }
     {
@@ -114,7 +115,7 @@ impl Site {
     /// Keeps what a lookup found after so many changes. Of a class reference whose slot takes more than 32 bits, which no arena has a word for, it keeps nothing.
     #[inline]
     pub fn keep(&mut self, count: u64, class: ClassRef, sel: Selector, imp: ImpRef)
-        ensures site { (h : History) → count ≡ length h.changes → imp_number imp ≡ lookup h class (selector_number sel) → imp_number imp ≤ length h.image.imps
+        ensures site { (h : History) → count ≡ length h.changes → imp_number imp ≡ lookup h class (selector_number sel) → imp_number imp ≤ last_imp h.origin.counts
             → IsSiteOf h self.new }
         ensures kept { slot_of class < 2 ^ 32 → recalled_at self.new count (slot_of class) (selector_number sel) ≡ imp_number imp }
     {
@@ -160,7 +161,7 @@ impl Memory {
     #[inline]
     pub fn recall(&self, count: u64, class: ClassRef, sel: Selector) -> Option<ImpRef>
         ensures found { IfSome result (λ i. (h : History) → IsMemoryOf h self.now → count ≡ length h.changes
-            → (imp_number i ≡ lookup h class (selector_number sel)) × (imp_number i ≤ length h.image.imps)) }
+            → (imp_number i ≡ lookup h class (selector_number sel)) × (imp_number i ≤ last_imp h.origin.counts)) }
         ensures some { IfSome result (λ i. imp_number i ≡ recalled self.now count (slot_of class) (selector_number sel)) }
         ensures none { IsNone result → recalled self.now count (slot_of class) (selector_number sel) ≡ 0 }
     {
@@ -180,7 +181,7 @@ impl Memory {
     /// Remembers what a lookup found after so many changes. Of a class reference whose slot takes more than 32 bits, which no arena has a word for, it remembers nothing.
     #[inline]
     pub fn keep(&mut self, count: u64, class: ClassRef, sel: Selector, imp: ImpRef)
-        ensures memory { (h : History) → IsMemoryOf h self.old → count ≡ length h.changes → imp_number imp ≡ lookup h class (selector_number sel) → imp_number imp ≤ length h.image.imps
+        ensures memory { (h : History) → IsMemoryOf h self.old → count ≡ length h.changes → imp_number imp ≡ lookup h class (selector_number sel) → imp_number imp ≤ last_imp h.origin.counts
             → IsMemoryOf h self.new }
         ensures kept { slot_of class < 2 ^ 32 → recalled self.new count (slot_of class) (selector_number sel) ≡ imp_number imp }
     {

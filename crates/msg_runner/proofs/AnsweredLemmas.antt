@@ -81,35 +81,35 @@ sends_stay h [] all = refl
 sends_stay h (SendItem r s args ∷ items) all = sends_stay h items all
 sends_stay h (ChangeItem x ∷ items) all = absurd all
 
-sends_serial : (h : History) (items : List ItemParts) (os : List (Option ChangeFault)) → AllSends items → woven items (map (plain_reply h) (sends_of h.image items)) os ≡ serial_from h items
-sends_serial h [] os all = refl
-sends_serial h (SendItem r s args ∷ items) os all = ap (λ zs. Replied (plain_reply h (send_of h.image r s args)) ∷ zs) (sends_serial h items os all)
-sends_serial h (ChangeItem x ∷ items) os all = absurd all
+sends_serial : (image : ImageParts) (h : History) (items : List ItemParts) (os : List (Option ChangeFault)) → AllSends items → woven items (map (plain_reply h) (sends_of image items)) os ≡ serial_from image h items
+sends_serial image h [] os all = refl
+sends_serial image h (SendItem r s args ∷ items) os all = ap (λ zs. Replied (plain_reply h (send_of image r s args)) ∷ zs) (sends_serial image h items os all)
+sends_serial image h (ChangeItem x ∷ items) os all = absurd all
 
-change_serial : (h : History) (items : List ItemParts) (replies : List Reply) → IsOneChange items → length replies ≡ length (sends_of h.image items) → woven items replies (refusals_of h items) ≡ serial_from h items
-change_serial h [] replies one count = absurd one
-change_serial h (SendItem r s args ∷ items) replies one count = absurd one
-change_serial h (ChangeItem x ∷ []) replies one count = refl
-change_serial h (ChangeItem x ∷ item ∷ items) replies one count = absurd (cc one)
+change_serial : (image : ImageParts) (h : History) (items : List ItemParts) (replies : List Reply) → IsOneChange items → length replies ≡ length (sends_of image items) → woven items replies (refusals_of h items) ≡ serial_from image h items
+change_serial image h [] replies one count = absurd one
+change_serial image h (SendItem r s args ∷ items) replies one count = absurd one
+change_serial image h (ChangeItem x ∷ []) replies one count = refl
+change_serial image h (ChangeItem x ∷ item ∷ items) replies one count = absurd (cc one)
 
 -- the lines of sends that were answered are those of one thread
-pub answers_serial : (who : ℕ → ℕ) (workers : ℕ) (h : History) (items : List ItemParts) (old new : List ℕ) → ((i : ℕ) → who i < workers) → AllSends items ⊎ IsOneChange items
-    → IsAnswered h.image who workers h items old new → new ≡ old ++ text_of h.image (serial_from h items)
-answers_serial who workers h items old new few (inl all) a =
-    let sends = sends_of h.image items in
+pub answers_serial : (image : ImageParts) (who : ℕ → ℕ) (workers : ℕ) (h : History) (items : List ItemParts) (old new : List ℕ) → ((i : ℕ) → who i < workers) → AllSends items ⊎ IsOneChange items
+    → IsAnswered image who workers h items old new → new ≡ old ++ text_of image (serial_from image h items)
+answers_serial image who workers h items old new few (inl all) a =
+    let sends = sends_of image items in
     let each : (w : ℕ) → w < workers → share_of who w 0 a.replies ≡ share_of who w 0 (map (plain_reply h) sends) =
     λ w below. let (last, s, b) = a.points w below in
     served_plain h (share_of who w 0 sends) (share_of who w 0 a.replies) last s (subst (λ k. BeginsWith k last) (sends_stay h items all) b) ∙ sym (share_map (plain_reply h) who w 0 sends) in
     let is : a.replies ≡ map (plain_reply h) sends = shares_same who workers few 0 a.replies (map (plain_reply h) sends) (a.count ∙ sym (length-map sends (plain_reply h))) each in
-    a.text ∙ ap (λ rs. old ++ text_of h.image (woven items rs (refusals_of h items))) is ∙ ap (λ zs. old ++ text_of h.image zs) (sends_serial h items (refusals_of h items) all)
-answers_serial who workers h items old new few (inr one) a =
-    a.text ∙ ap (λ zs. old ++ text_of h.image zs) (change_serial h items a.replies one a.count)
+    a.text ∙ ap (λ rs. old ++ text_of image (woven items rs (refusals_of h items))) is ∙ ap (λ zs. old ++ text_of image zs) (sends_serial image h items (refusals_of h items) all)
+answers_serial image who workers h items old new few (inr one) a =
+    a.text ∙ ap (λ zs. old ++ text_of image zs) (change_serial image h items a.replies one a.count)
 
 -- ---- parts one after another
 
-pub serial_split : (h : History) (xs ys : List ItemParts) → serial_from h (xs ++ ys) ≡ serial_from h xs ++ serial_from (history_of h xs) ys
-serial_split h [] ys = refl
-serial_split h (x ∷ xs) ys = ap (λ zs. answer_at h x ∷ zs) (serial_split (history_after h x) xs ys)
+pub serial_split : (image : ImageParts) (h : History) (xs ys : List ItemParts) → serial_from image h (xs ++ ys) ≡ serial_from image h xs ++ serial_from image (history_of h xs) ys
+serial_split image h [] ys = refl
+serial_split image h (x ∷ xs) ys = ap (λ zs. answer_at image h x ∷ zs) (serial_split image (history_after h x) xs ys)
 
 pub text_split : (image : ImageParts) (xs ys : List Answer) → text_of image (xs ++ ys) ≡ text_of image xs ++ text_of image ys
 text_split image [] ys = refl

@@ -4,6 +4,7 @@ use Rattle.std.specs.Prelude.{OnOk, IfSome}
 use Rattle.std.specs.Io.KnownBytes.{Appends}
 use Rattle.msg_image.specs.Answer.{IsAnswer}
 use Rattle.msg_image.specs.Items.{DocumentParts}
+use Rattle.msg_image.specs.Opened.{origin_of}
 use Rattle.msg_tables.specs.History.{empty}
 use Rattle.msg_runner.specs.Lines.{AreLines}
 use Rattle.msg_runner.specs.Outcome.{WroteBy, WroteFrontBy}
@@ -14,7 +15,7 @@ use Rattle.msg_runner.specs.declared.changes.Changes.TheVariants.{Between, Besid
 
 -- lines of a document that the bytes spell
 abbrev pub AreOf : Changes → ℕ → ℕ → DocumentParts → List ℕ → Type 0
-AreOf changes workers cut d text = AreLines changes d.image workers cut (empty d.image) d.items text
+AreOf changes workers cut d text = AreLines changes d.image workers cut (empty (origin_of d.image)) d.items text
 
 wrote : (changes : Changes) (workers cut : ℕ) (old new : Option (List ℕ)) (bytes : List ℕ) (d : DocumentParts) (text : List ℕ) → IsAnswer bytes (Ok d) → AreOf changes workers cut d text → Appends old new text → WroteBy changes workers cut old new bytes
 unfolding output_of

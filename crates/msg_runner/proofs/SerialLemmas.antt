@@ -2,9 +2,10 @@
 use Rattle.std.proofs.Common.{◌≡◌, ◌<◌, ◌≤◌, ◌+◌, ℕ, suc, List, [], ◌∷◌, ◌++◌, append_assoc, add-one, drop-cons, drop, map, length, get_or, Option, Some, None, refl, sym, ap, ◌∙◌, subst, arith}
 use Rattle.std.specs.Prelude.{All}
 use Rattle.std.proofs.lemmas.List.{drop_all, append-nil, get_or-map, length-map}
-use Rattle.msg_image.specs.declared.change.Change.{Change}
+use Rattle.msg_tables.specs.declared.change.Change.{Change}
 use Rattle.msg_image.specs.declared.change.Item.{Item}
 use Rattle.msg_image.specs.Items.{ItemParts, SendItem, ChangeItem, DocumentParts}
+use Rattle.msg_image.specs.Opened.{origin_of}
 use Rattle.msg_image.specs.Plain.{item_parts}
 use Rattle.msg_tables.specs.History.{History, empty}
 use Rattle.msg_tables.specs.Refusal.{refusal}
@@ -18,30 +19,30 @@ use Rattle.msg_runner.specs.Text.{answer_line, text_of, output_of}
 pub record IsSoFar (d : DocumentParts) (tables : TablesView) (text : List ℕ) (left : List ItemParts) : Type 0 where
   pub history : History
   pub stands : StandsAt tables history
-  pub image : history.image ≡ d.image
-  pub whole : text ++ text_of d.image (serial_from history left) ≡ output_of d
+  pub origin : history.origin ≡ origin_of d.image
+  pub whole : text ++ text_of d.image (serial_from d.image history left) ≡ output_of d
 
-pub at_start : (d : DocumentParts) (tables : TablesView) (text : List ℕ) → text ≡ [] → StandsAt tables (empty d.image) → IsSoFar d tables text d.items
+pub at_start : (d : DocumentParts) (tables : TablesView) (text : List ℕ) → text ≡ [] → StandsAt tables (empty (origin_of d.image)) → IsSoFar d tables text d.items
 unfolding output_of
-at_start d tables text none stands = record { history = empty d.image; stands = stands; image = refl; whole = ap (λ t. t ++ text_of d.image (serial d)) none }
+at_start d tables text none stands = record { history = empty (origin_of d.image); stands = stands; origin = refl; whole = ap (λ t. t ++ text_of d.image (serial d)) none }
 
-same_image : (h : History) (x : Change) (r : Option ChangeFault) → (longer_by h x r).image ≡ h.image
-same_image h x None = refl
-same_image h x (Some f) = refl
+same_origin : (h : History) (x : Change) (r : Option ChangeFault) → (longer_by h x r).origin ≡ h.origin
+same_origin h x None = refl
+same_origin h x (Some f) = refl
 
-pub image_after : (h : History) (item : ItemParts) → (history_after h item).image ≡ h.image
-image_after h (SendItem r s args) = refl
-image_after h (ChangeItem x) = same_image h x (refusal h x)
+pub origin_after : (h : History) (item : ItemParts) → (history_after h item).origin ≡ h.origin
+origin_after h (SendItem r s args) = refl
+origin_after h (ChangeItem x) = same_origin h x (refusal h x)
 
 pub step : (d : DocumentParts) (old new : TablesView) (text more : List ℕ) (item : ItemParts) (left : List ItemParts) (so_far : IsSoFar d old text (item ∷ left))
-    → (more ≡ text ++ answer_line d.image (answer_at so_far.history item)) × StandsAt new (history_after so_far.history item) → IsSoFar d new more left
+    → (more ≡ text ++ answer_line d.image (answer_at d.image so_far.history item)) × StandsAt new (history_after so_far.history item) → IsSoFar d new more left
 step d old new text more item left so_far made = record {
   history = history_after so_far.history item;
   stands = made.1;
-  image = image_after so_far.history item ∙ so_far.image;
+  origin = origin_after so_far.history item ∙ so_far.origin;
   whole =
-      let line = answer_line d.image (answer_at so_far.history item) in
-      let rest = text_of d.image (serial_from (history_after so_far.history item) left) in
+      let line = answer_line d.image (answer_at d.image so_far.history item) in
+      let rest = text_of d.image (serial_from d.image (history_after so_far.history item) left) in
       ap (λ t. t ++ rest) made.0 ∙ append_assoc text line rest ∙ so_far.whole;
 }
 
@@ -51,7 +52,7 @@ left_at items i x inside at = rw add-one (ap (map item_parts) (drop-cons items i
 
 pub at_end : (d : DocumentParts) (tables : TablesView) (text : List ℕ) (items : List Item) (i : ℕ) → length items ≤ i → IsSoFar d tables text (map item_parts (drop i items)) → text ≡ output_of d
 at_end d tables text items i past so_far =
-    sym (append-nil text) ∙ ap (λ rest. text ++ text_of d.image (serial_from so_far.history (map item_parts rest))) (sym (drop_all i items past)) ∙ so_far.whole
+    sym (append-nil text) ∙ ap (λ rest. text ++ text_of d.image (serial_from d.image so_far.history (map item_parts rest))) (sym (drop_all i items past)) ∙ so_far.whole
 
 pub item_at : (P : ItemParts → Type 0) (items : List Item) (i : ℕ) (x : Item) → i < length items → x ≡ get_or items i x → All P (map item_parts items) → P (item_parts x)
 item_at P items i x inside at all = subst P (get_or-map item_parts items i x (item_parts x) inside ∙ ap item_parts (sym at)) (all i (item_parts x) (omega (arith, inside, length-map items item_parts)))

@@ -6,12 +6,13 @@ use mathlib.Core.Logic.{dite}
 use native.Mathlib.Decide.{ℕ_discrete}
 use Rattle.msg_names.specs.declared.value.Selector.{Selector}
 use Rattle.msg_names.specs.declared.value.Value.{Value}
-use Rattle.msg_image.specs.declared.change.Change.{Change}
+use Rattle.msg_tables.specs.declared.change.Change.{Change}
 use Rattle.msg_image.specs.declared.change.Item.{Item}
 use Rattle.msg_image.specs.Plain.{item_parts}
 use Rattle.msg_image.specs.Sound.{IsSoundItem}
 use Rattle.msg_eval.specs.Evaluation.{send_of}
 use Rattle.msg_image.specs.Items.{ItemParts, SendItem, ChangeItem}
+use Rattle.msg_image.specs.Opened.{origin_of}
 use Rattle.msg_image.specs.Parts.{ImageParts}
 use Rattle.msg_tables.specs.History.{History, BeginsWith}
 use Rattle.msg_cache.proofs.PastLemmas.{begins_refl, begins_trans}
@@ -55,7 +56,7 @@ all_tail P x xs all = λ i y lt. all (suc i) y (omega (arith, lt))
 
 -- a worker is at a place, with these items left, and with these replies done
 pub record IsServing (image : ImageParts) (who : ℕ → ℕ) (me : ℕ) (h0 : History) (start : List Meaning) (h : History) (place : ℕ) (rest : List ItemParts) (done : List Reply) : Type 0 where
-  pub same : h.image ≡ image
+  pub same : h.origin ≡ origin_of image
   pub sound : All (IsSoundItem image) rest
   pub serves : Serves h0 start done h (share_of who me place (sends_of image rest))
 
@@ -65,7 +66,7 @@ module _ (image : ImageParts) (who : ℕ → ℕ) (me : ℕ) (h0 : History) (sta
   serving_here h place rest done item x later so_far is item_is = subst (λ xs. IsServing image who me h0 start h place xs done) (ap (map item_parts) is ∙ ap (λ y. y ∷ map item_parts later) item_is) so_far
 
   pub serving_send : (h now : History) (place : ℕ) (done more : List Reply) (r : Value) (s : Selector) (args : List Value) (later : List ItemParts)
-      → IsServing image who me h0 start h place (SendItem r s args ∷ later) done → now.image ≡ image → Goes (who place == me) h (send_of image r s args) done more now
+      → IsServing image who me h0 start h place (SendItem r s args ∷ later) done → now.origin ≡ origin_of image → Goes (who place == me) h (send_of image r s args) done more now
       → IsServing image who me h0 start now (place + 1) later more
   serving_send h now place done more r s args later so_far same goes = record {
     same = same;
@@ -86,7 +87,7 @@ module _ (image : ImageParts) (who : ℕ → ℕ) (me : ℕ) (h0 : History) (sta
       subst (λ z. Served h0 start z h) (append-nil done) (ended.serves [] h (begins_refl h))
 
 -- a worker before the first place
-pub serving_start : (image : ImageParts) (who : ℕ → ℕ) (me : ℕ) (h : History) (all : List ItemParts) → h.image ≡ image → All (IsSoundItem image) all
+pub serving_start : (image : ImageParts) (who : ℕ → ℕ) (me : ℕ) (h : History) (all : List ItemParts) → h.origin ≡ origin_of image → All (IsSoundItem image) all
     → IsServing image who me h (share_of who me 0 (sends_of image all)) h 0 all []
 serving_start image who me h all same sound = record { same = same; sound = sound; serves = λ later last s. s }
 

@@ -5,10 +5,11 @@ use Rattle.std.proofs.lemmas.List.{append-nil}
 use Rattle.msg_names.specs.declared.value.Selector.{Selector}
 use Rattle.msg_names.specs.declared.value.Value.{Value}
 use Rattle.msg_image.specs.Items.{ItemParts, SendItem, ChangeItem}
+use Rattle.msg_image.specs.Opened.{origin_of}
 use Rattle.msg_image.specs.Parts.{ImageParts}
 use Rattle.msg_image.specs.Plain.{item_parts}
 use Rattle.msg_image.specs.Sound.{IsSoundItem}
-use Rattle.msg_image.specs.declared.change.Change.{Change}
+use Rattle.msg_tables.specs.declared.change.Change.{Change}
 use Rattle.msg_image.specs.declared.change.Item.{Item}
 use Rattle.msg_tables.specs.History.{History, BeginsWith}
 use Rattle.msg_eval.specs.declared.reply.Reply.{Reply}
@@ -64,11 +65,11 @@ both_written image h mid last ms ns old text new a b =
 
 -- what is written before these items, with what will be written of them, is the whole
 pub record IsWriting (image : ImageParts) (h0 : History) (all : List Meaning) (old : List ℕ) (h : History) (rest : List ItemParts) (text : List ℕ) : Type 0 where
-  pub same : h.image ≡ image
+  pub same : h.origin ≡ origin_of image
   pub sound : All (IsSoundItem image) rest
   pub goes_on : GoesOn image h0 all old h (sends_of image rest) text
 
-pub writing_start : (image : ImageParts) (h : History) (items : List ItemParts) (text : List ℕ) → h.image ≡ image → All (IsSoundItem image) items
+pub writing_start : (image : ImageParts) (h : History) (items : List ItemParts) (text : List ℕ) → h.origin ≡ origin_of image → All (IsSoundItem image) items
     → IsWriting image h (sends_of image items) text h items text
 writing_start image h items text same sound = record { same = same; sound = sound; goes_on = λ last new w. w }
 
@@ -77,19 +78,17 @@ sends_split image [] ys = refl
 sends_split image (SendItem r s args ∷ xs) ys = ap (λ z. send_of image r s args ∷ z) (sends_split image xs ys)
 sends_split image (ChangeItem x ∷ xs) ys = sends_split image xs ys
 
-plain_serial : (h : History) (items : List ItemParts) → AllSends items → map Replied (map (plain_reply h) (sends_of h.image items)) ≡ serial_from h items
-plain_serial h [] all = refl
-plain_serial h (SendItem r s args ∷ items) all = ap (λ zs. Replied (plain_reply h (send_of h.image r s args)) ∷ zs) (plain_serial h items all)
-plain_serial h (ChangeItem x ∷ items) all = absurd all
+plain_serial : (image : ImageParts) (h : History) (items : List ItemParts) → AllSends items → map Replied (map (plain_reply h) (sends_of image items)) ≡ serial_from image h items
+plain_serial image h [] all = refl
+plain_serial image h (SendItem r s args ∷ items) all = ap (λ zs. Replied (plain_reply h (send_of image r s args)) ∷ zs) (plain_serial image h items all)
+plain_serial image h (ChangeItem x ∷ items) all = absurd all
 
 -- where the last history is no longer, the lines are those of one thread
-pub written_serial : (image : ImageParts) (h last : History) (items : List ItemParts) (old new : List ℕ) → h.image ≡ image → AllSends items → BeginsWith h last
-    → AreWritten image h (sends_of image items) last old new → new ≡ old ++ text_of image (serial_from h items)
-written_serial image h last items old new same all below w =
-    let mine : AreWritten h.image h (sends_of h.image items) last old new = subst (λ m. AreWritten m h (sends_of m items) last old new) (sym same) w in
-    let plain : mine.replies ≡ map (plain_reply h) (sends_of h.image items) = served_plain h (sends_of h.image items) mine.replies last mine.served below in
-    let here : new ≡ old ++ text_of h.image (serial_from h items) = mine.text ∙ ap (λ rs. old ++ text_of h.image (map Replied rs)) plain ∙ ap (λ zs. old ++ text_of h.image zs) (plain_serial h items all) in
-    here ∙ ap (λ m. old ++ text_of m (serial_from h items)) same
+pub written_serial : (image : ImageParts) (h last : History) (items : List ItemParts) (old new : List ℕ) → AllSends items → BeginsWith h last
+    → AreWritten image h (sends_of image items) last old new → new ≡ old ++ text_of image (serial_from image h items)
+written_serial image h last items old new all below w =
+    let plain : w.replies ≡ map (plain_reply h) (sends_of image items) = served_plain h (sends_of image items) w.replies last w.served below in
+    w.text ∙ ap (λ rs. old ++ text_of image (map Replied rs)) plain ∙ ap (λ zs. old ++ text_of image zs) (plain_serial image h items all)
 
 rise_begins : (h : History) (points : List History) → Rise h points → BeginsWith (last_of h points) h
 rise_begins h [] rise = begins_refl h
@@ -112,7 +111,7 @@ module _ (image : ImageParts) (h0 : History) (all : List Meaning) (old : List �
   writing_here h rest text item x later so_far is item_is = subst (λ xs. IsWriting image h0 all old h xs text) (ap (map item_parts) is ∙ ap (λ y. y ∷ map item_parts later) item_is) so_far
 
   pub writing_send : (h now : History) (text more : List ℕ) (r : Value) (s : Selector) (args : List Value) (later : List ItemParts) (points : List History) (reply : Reply)
-      → IsWriting image h0 all old h (SendItem r s args ∷ later) text → now.image ≡ image → Rise h points → EndsAfter (send_of image r s args) points reply → now ≡ last_of h points
+      → IsWriting image h0 all old h (SendItem r s args ∷ later) text → now.origin ≡ origin_of image → Rise h points → EndsAfter (send_of image r s args) points reply → now ≡ last_of h points
       → more ≡ text ++ answer_line image (Replied reply) → IsWriting image h0 all old now later more
   writing_send h now text more r s args later points reply so_far same rise ends is grown = record {
     same = same;
@@ -123,7 +122,7 @@ module _ (image : ImageParts) (h0 : History) (all : List Meaning) (old : List �
   pub writing_change : (h : History) (text : List ℕ) (x : Change) (later : List ItemParts) → IsWriting image h0 all old h (ChangeItem x ∷ later) text → IsWriting image h0 all old h later text
   writing_change h text x later so_far = record { same = so_far.same; sound = all_tail (IsSoundItem image) (ChangeItem x) later so_far.sound; goes_on = so_far.goes_on }
 
-  pub writing_part : (h now : History) (text more : List ℕ) (rest xs ys : List ItemParts) → IsWriting image h0 all old h rest text → rest ≡ xs ++ ys → now.image ≡ image
+  pub writing_part : (h now : History) (text more : List ℕ) (rest xs ys : List ItemParts) → IsWriting image h0 all old h rest text → rest ≡ xs ++ ys → now.origin ≡ origin_of image
       → AreWritten image h (sends_of image xs) now text more → IsWriting image h0 all old now ys more
   writing_part h now text more rest xs ys so_far is same w =
       let here : IsWriting image h0 all old h (xs ++ ys) text = subst (λ zs. IsWriting image h0 all old h zs text) is so_far in

@@ -11,5 +11,5 @@ use Rattle.msg_runner.specs.declared.changes.Changes.TheVariants.{Between, Besid
 
 -- the lines of items by so many workers: those of one thread where changes are made between sends, and where they are made beside them, of answers from then on
 abbrev pub AreLines : Changes → ImageParts → ℕ → ℕ → History → List ItemParts → List ℕ → Type 0
-AreLines Between image workers cut h items text = text ≡ text_of image (serial_from h items)
-AreLines Beside image workers cut h items text = AreAnswered image workers cut h items [] text × (AllSends items → text ≡ text_of image (serial_from h items))
+AreLines Between image workers cut h items text = text ≡ text_of image (serial_from image h items)
+AreLines Beside image workers cut h items text = AreAnswered image workers cut h items [] text × (AllSends items → text ≡ text_of image (serial_from image h items))

@@ -1,6 +1,7 @@
 //! Parts of a document that the calling thread answers by itself, with each line written at once.
 
 ghost use Rattle.std.specs.Prelude.{◌≡◌, ◌<◌, ◌≤◌, ◌++◌, All, length, map, vec_len, IfOk, OnOk};
+ghost use Rattle.msg_image.specs.Opened.{origin_of};
 ghost use Rattle.msg_image.specs.Plain.{item_parts};
 ghost use Rattle.msg_image.specs.Sound.{IsSoundItem};
 ghost use Rattle.msg_tables.specs.History.{BeginsWith};
@@ -49,9 +50,9 @@ fn answer_piece<'r, 'd, N: ArenaName, R: Wait>(
     items: &[Item],
     text: &mut Vec<u8>,
 ) -> Result<(), AllocError>
-    requires image { asking.old.sender.seen.front.image ≡ image.now }
+    requires image { asking.old.sender.seen.front.origin ≡ origin_of image.now }
     requires sound { All (IsSoundItem image.now) (map item_parts items.now) }
-    ensures image { OnOk result (asking.new.sender.seen.front.image ≡ image.now) }
+    ensures image { OnOk result (asking.new.sender.seen.front.origin ≡ origin_of image.now) }
     ensures written { OnOk result (AreWritten image.now asking.old.sender.seen.front (sends_of image.now (map item_parts items.now)) asking.new.sender.seen.front text.old.items text.new.items) }
 {
     let mut rest = items;
@@ -89,7 +90,7 @@ fn answer_pieces<'r, 'd, N: ArenaName, R: Wait, G: Gate>(
     part: Part<'_>,
     text: &mut Vec<u8>,
 ) -> Result<u32, AllocError>
-    requires image { asking.old.sender.seen.front.image ≡ part.image.now }
+    requires image { asking.old.sender.seen.front.origin ≡ origin_of part.image.now }
     requires sound { All (IsSoundItem part.image.now) (map item_parts part.items.now) }
     ensures pieces { IfOk result (λ pieces. pieces ≤ length part.entry.items.now) }
     ensures written { OnOk result (AreWritten part.entry.image.now asking.old.sender.seen.front (sends_of part.entry.image.now (map item_parts part.entry.items.now)) asking.new.sender.seen.front text.old.items text.new.items) }
@@ -123,7 +124,7 @@ fn answer_by<'d, N: ArenaName, R: Wait, G: Gate>(
     part: Part<'_>,
     text: &mut Vec<u8>,
 ) -> Answered<'d, N>
-    requires image { sender.seen.front.image ≡ part.image.now }
+    requires image { sender.seen.front.origin ≡ origin_of part.image.now }
     requires sound { All (IsSoundItem part.image.now) (map item_parts part.items.now) }
     ensures pieces { IfOk result.pieces (λ pieces. pieces ≤ length part.entry.items.now) }
     ensures written { OnOk result.pieces (AreWritten part.entry.image.now sender.entry.seen.front (sends_of part.entry.image.now (map item_parts part.entry.items.now)) result.sender.seen.front text.old.items text.new.items) }
@@ -164,13 +165,13 @@ pub(crate) fn answer_sends<'d, N: ArenaName, R: Wait, G: Gate>(
     part: Part<'_>,
     text: &mut Vec<u8>,
 ) -> Result<u32, AllocError>
-    requires image { crew.old.changer.image ≡ part.image.now }
+    requires image { crew.old.changer.origin ≡ origin_of part.image.now }
     requires sound { All (IsSoundItem part.image.now) (map item_parts part.items.now) }
     requires sends { AllSends (map item_parts part.items.now) }
     ensures same { crew.new.changer ≡ crew.old.changer }
     ensures senders { OnOk result (vec_len crew.new.senders ≡ vec_len crew.old.senders) }
     ensures pieces { IfOk result (λ pieces. pieces ≤ length part.entry.items.now) }
-    ensures text { OnOk result (text.new.items ≡ text.old.items ++ text_of part.entry.image.now (serial_from crew.old.changer (map item_parts part.entry.items.now))) }
+    ensures text { OnOk result (text.new.items ≡ text.old.items ++ text_of part.entry.image.now (serial_from part.entry.image.now crew.old.changer (map item_parts part.entry.items.now))) }
 {
     let sender = crew.send_out(rt)?;
     let Answered { mut sender, pieces } = answer_by(rt, alloc, sender, gate, part, text);

@@ -2,7 +2,7 @@
 
 ghost use Rattle.std.specs.Prelude.{◌≡◌, ◌<◌, ◌≤◌, length, IfSome};
 ghost use Rattle.msg_names.specs.Number.{selector_number, imp_number};
-ghost use Rattle.msg_image.specs.Parts.{class_total};
+ghost use Rattle.msg_tables.specs.Origin.{class_total, last_imp};
 ghost use Rattle.msg_tables.specs.History.{BeginsWith, lookup};
 
 use msg_dispatch::{ArenaName, Recalling, Sender};
@@ -33,9 +33,8 @@ impl<'d, N: ArenaName> Model for Asker<'d, N> {
     ghost Value = { SenderView };
 
     ghost use Rattle.std.specs.Coded.{codes};
-    ghost use Rattle.msg_image.specs.Coding.{coded_expression};
 
-    ghost coded = { Prim.hlevel (codes, coded_expression) };
+    ghost coded = { Prim.hlevel codes };
 
     ghost use Rattle.msg_runner.specs.Asked.{asked};
 
@@ -72,7 +71,7 @@ impl<'d, N: ArenaName> Asker<'d, N> {
     #[inline]
     pub(crate) fn recall(&self, class: ClassRef, sel: Selector) -> Option<ImpRef>
         ensures found { IfSome result (λ i. imp_number i ≡ lookup self.now.seen.front class (selector_number sel)) }
-        ensures listed { IfSome result (λ i. imp_number i ≤ length self.now.seen.front.image.imps) }
+        ensures listed { IfSome result (λ i. imp_number i ≤ last_imp self.now.seen.front.origin.counts) }
     {
         match &self.kind {
             Kind::Remembering(sender) => sender.recall(class, sel),
@@ -84,10 +83,10 @@ impl<'d, N: ArenaName> Asker<'d, N> {
     #[cold]
     #[inline(never)]
     pub(crate) fn find<R: Wait>(&mut self, rt: &R, class: ClassRef, sel: Selector) -> ImpRef
-        requires class { class.class < class_total self.old.seen.front.image }
+        requires class { class.class < class_total self.old.seen.front.origin }
         ensures begins { BeginsWith self.new.seen.front self.old.seen.front }
         ensures found { imp_number result ≡ lookup self.new.seen.front class (selector_number sel) }
-        ensures listed { imp_number result ≤ length self.new.seen.front.image.imps }
+        ensures listed { imp_number result ≤ last_imp self.new.seen.front.origin.counts }
     {
         match &mut self.kind {
             Kind::Remembering(sender) => sender.find(rt, class, sel),

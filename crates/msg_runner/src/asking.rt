@@ -1,6 +1,7 @@
 //! A sender as the finder of sends.
 
 ghost use Rattle.std.specs.Prelude.{◌≡◌, All, List};
+ghost use Rattle.msg_image.specs.Opened.{origin_of};
 ghost use Rattle.msg_image.specs.Sound.{IsOf};
 ghost use Rattle.msg_tables.specs.History.{History, BeginsWith};
 ghost use Rattle.msg_eval.specs.Evaluation.{send_of};
@@ -22,14 +23,14 @@ pub(crate) struct Asking<'r, 'd, N: ArenaName, R: Wait> {
 
 impl<'r, 'd, N: ArenaName, R: Wait> Finder for Asking<'r, 'd, N, R> {
     ghost use Rattle.std.specs.Prelude.{◌≡◌};
-    ghost use Rattle.msg_eval.specs.Finder.{sizes_of};
-    ghost use Rattle.msg_image.specs.Parts.{ImageParts};
+    ghost use Rattle.msg_runner.specs.Asked.{sizes_at};
+    ghost use Rattle.msg_tables.specs.Origin.{OriginView};
 
-    ghost Kept = { ImageParts };
+    ghost Kept = { OriginView };
 
-    ghost kept = { λ s. s.sender.seen.front.image };
+    ghost kept = { λ s. s.sender.seen.front.origin };
 
-    ghost sizes = { sizes_of };
+    ghost sizes = { sizes_at };
 
     ghost stands = { λ s h. s.sender.seen.front ≡ h };
 
@@ -50,10 +51,10 @@ impl<'r, 'd, N: ArenaName, R: Wait> Asking<'r, 'd, N, R> {
         sel: Selector,
         args: &Args,
     ) -> Reply
-        requires image { self.old.sender.seen.front.image ≡ image.now }
+        requires image { self.old.sender.seen.front.origin ≡ origin_of image.now }
         requires receiver { IsOf image.now receiver }
         requires args { All (IsOf image.now) args.now.items }
-        ensures image { self.new.sender.seen.front.image ≡ image.now }
+        ensures image { self.new.sender.seen.front.origin ≡ origin_of image.now }
         ensures points { (points : List History) × Rise self.old.sender.seen.front points × EndsAfter (send_of image.now receiver sel args.now.items) points result × (self.new.sender.seen.front ≡ last_of self.old.sender.seen.front points) }
     {
         send(self, image, receiver, sel, args)
@@ -67,10 +68,10 @@ impl<'r, 'd, N: ArenaName, R: Wait> Asking<'r, 'd, N, R> {
         sel: Selector,
         args: &Args,
     ) -> Reply
-        requires image { self.old.sender.seen.front.image ≡ image.now }
+        requires image { self.old.sender.seen.front.origin ≡ origin_of image.now }
         requires receiver { IsOf image.now receiver }
         requires args { All (IsOf image.now) args.now.items }
-        ensures image { self.new.sender.seen.front.image ≡ image.now }
+        ensures image { self.new.sender.seen.front.origin ≡ origin_of image.now }
         ensures points { (points : List History) × Rise self.old.sender.seen.front points × EndsAfter (send_of image.now receiver sel args.now.items) points result × BeginsWith self.new.sender.seen.front (last_of self.old.sender.seen.front points) }
     {
         let _changes = self.sender.refresh();

@@ -1,6 +1,7 @@
 //! A batch: items whose sends are shared out among workers, while the changes among them are made.
 
 ghost use Rattle.std.specs.Prelude.{◌≡◌, ◌≤◌, ◌<◌, ◌+◌, ◌^◌, [], true, All, length, map, vec_len, IfOk, OnOk};
+ghost use Rattle.msg_image.specs.Opened.{origin_of};
 ghost use Rattle.msg_image.specs.Plain.{item_parts};
 ghost use Rattle.msg_image.specs.Sound.{IsSoundItem};
 ghost use Rattle.msg_runner.specs.Serving.{worker_of, sends_of, history_of, IsServed, AreAnswered};
@@ -27,7 +28,7 @@ fn serve_alone<'d, N: ArenaName, G: Gate, R: Wait>(
     sends: usize,
     batch: &mut Batch,
 ) -> Result<(), AllocError>
-    requires image { crew.old.changer.image ≡ part.image.now }
+    requires image { crew.old.changer.origin ≡ origin_of part.image.now }
     requires sound { All (IsSoundItem part.image.now) (map item_parts part.items.now) }
     requires one { part.deal.workers ≡ 1 }
     requires no_shares { batch.old.shares.items ≡ [] }
@@ -75,7 +76,7 @@ fn serve_batch<
     sends: usize,
     batch: &mut Batch,
 ) -> Result<(), AllocError>
-    requires image { crew.old.changer.image ≡ part.image.now }
+    requires image { crew.old.changer.origin ≡ origin_of part.image.now }
     requires sound { All (IsSoundItem part.image.now) (map item_parts part.items.now) }
     requires enough { part.deal.workers ≤ vec_len crew.old.senders }
     requires one { alone ≡ true → part.deal.workers ≡ 1 }
@@ -136,7 +137,7 @@ pub(crate) fn answer_batch<
     all: Part<'s>,
     text: &mut Vec<u8>,
 ) -> Result<Counts, AllocError>
-    requires image { crew.old.changer.image ≡ all.image.now }
+    requires image { crew.old.changer.origin ≡ origin_of all.image.now }
     requires sound { All (IsSoundItem all.image.now) (map item_parts all.items.now) }
     requires enough { all.deal.workers ≤ vec_len crew.old.senders }
     ensures answered { OnOk result (AreAnswered all.entry.image.now all.entry.deal.workers all.entry.deal.cut crew.old.changer (map item_parts all.entry.items.now) text.old.items text.new.items) }

@@ -2,6 +2,7 @@
 
 ghost use Rattle.std.specs.Prelude.{◌≡◌, ◌≤◌, ◌<◌, ◌+◌, ◌^◌, [], All, ℕ, length, map, vec_len, IfOk, OnOk};
 ghost use Rattle.std.specs.Thread.{IsSync};
+ghost use Rattle.msg_image.specs.Opened.{origin_of};
 ghost use Rattle.msg_image.specs.Plain.{item_parts};
 ghost use Rattle.msg_image.specs.Sound.{IsSoundItem};
 ghost use Rattle.msg_tables.specs.History.{History, BeginsWith};
@@ -48,7 +49,7 @@ pub(crate) fn serve_with<'d, N: ArenaName, G: Gate, R: Wait>(
     gate: &G,
     share: Share<'_>,
 ) -> Done<'d, N>
-    requires image { sender.seen.front.image ≡ share.part.image.now }
+    requires image { sender.seen.front.origin ≡ origin_of share.part.image.now }
     requires sound { All (IsSoundItem share.part.image.now) (map item_parts share.part.items.now) }
     ensures { IfOk result.replies (λ rs. Served sender.entry.seen.front (share_of (worker_of share.entry.part.deal.cut share.entry.part.deal.workers) share.entry.worker 0 (sends_of share.entry.part.image.now (map item_parts share.entry.part.items.now))) rs.items result.sender.seen.front) }
 {
@@ -71,7 +72,7 @@ fn start<'s, 'e: 's, 'd: 's, N: ArenaName + Send + Sync + 's, G: Gate, R: Wait +
     gate: &'s G,
     share: Share<'s>,
 ) -> Result<PromisedHandle<Done<'d, N>, ServesShare<'s, 'd, N>>, AllocError>
-    requires image { sender.seen.front.image ≡ share.part.image.now }
+    requires image { sender.seen.front.origin ≡ origin_of share.part.image.now }
     requires sound { All (IsSoundItem share.part.image.now) (map item_parts share.part.items.now) }
     ensures was { IfOk result (λ h. h.promise.was.value ≡ sender.entry) }
     ensures share { IfOk result (λ h. h.promise.share ≡ share.entry) }
@@ -83,7 +84,7 @@ fn start<'s, 'e: 's, 'd: 's, N: ArenaName + Send + Sync + 's, G: Gate, R: Wait +
     let worker = scope.spawn_with(
         promise,
         move || -> Done<N>
-            requires { IsSync R.row × (sender.seen.front.image ≡ share.part.image.now) × All (IsSoundItem share.part.image.now) (map item_parts share.part.items.now) }
+            requires { IsSync R.row × (sender.seen.front.origin ≡ origin_of share.part.image.now) × All (IsSoundItem share.part.image.now) (map item_parts share.part.items.now) }
             ensures { IfOk result.replies (λ rs. Served sender.entry.seen.front (share_of (worker_of share.entry.part.deal.cut share.entry.part.deal.workers) share.entry.worker 0 (sends_of share.entry.part.image.now (map item_parts share.entry.part.items.now))) rs.items result.sender.seen.front) }
         { serve_with(rt, alloc, sender, gate, share) },
     )?;
@@ -109,7 +110,7 @@ pub(crate) fn serve_beside<
     sends: usize,
     batch: &mut Batch,
 ) -> Result<(), AllocError>
-    requires image { crew.old.changer.image ≡ part.image.now }
+    requires image { crew.old.changer.origin ≡ origin_of part.image.now }
     requires sound { All (IsSoundItem part.image.now) (map item_parts part.items.now) }
     requires enough { workers ≤ vec_len crew.old.senders }
     requires no_shares { batch.old.shares.items ≡ [] }

@@ -6,6 +6,7 @@ ghost use Rattle.msg_form.specs.declared.faults.DocumentFault.{DocumentFault};
 ghost use Rattle.msg_form.specs.declared.faults.DocumentFault.TheVariants as documents;
 ghost use Rattle.msg_image.specs.Answer.{IsAnswer};
 ghost use Rattle.msg_image.specs.DocumentParts.{document_parts};
+ghost use Rattle.msg_image.specs.Opened.{origin_of};
 ghost use Rattle.msg_image.specs.Plain.{item_parts};
 ghost use Rattle.msg_image.specs.Sound.{IsSoundItem};
 ghost use Rattle.msg_tables.specs.History.{empty};
@@ -89,8 +90,8 @@ fn answer<W: Sink, G: Gate, T: Threads + Wait + Sync>(
     requires cut { 1 ≤ cut }
     requires sound { All (IsSoundItem document.now.image) (map item_parts document.now.items.items) }
     requires few { length document.now.items.items ≤ MAX_ITEMS }
-    ensures whole { OnOk result ((text : List ℕ) × AreLines changes document.now.image workers cut (empty document.now.image) (map item_parts document.now.items.items) text × Appends (W.contents sink.old) (W.contents sink.new) text) }
-    ensures front { result ≡ Err RunFault.Write → (text : List ℕ) × AreLines changes document.now.image workers cut (empty document.now.image) (map item_parts document.now.items.items) text × AppendsFront (W.contents sink.old) (W.contents sink.new) text }
+    ensures whole { OnOk result ((text : List ℕ) × AreLines changes document.now.image workers cut (empty (origin_of document.now.image)) (map item_parts document.now.items.items) text × Appends (W.contents sink.old) (W.contents sink.new) text) }
+    ensures front { result ≡ Err RunFault.Write → (text : List ℕ) × AreLines changes document.now.image workers cut (empty (origin_of document.now.image)) (map item_parts document.now.items.items) text × AppendsFront (W.contents sink.old) (W.contents sink.new) text }
     ensures nothing { Leaves (W.contents sink.old) (W.contents sink.new) result }
     ensures fault { IfErr result (λ f. (f ≡ RunFault.Memory) ⊎ (f ≡ RunFault.Write)) }
     ensures write { (result ≡ Err RunFault.Write) ↔ (W.mark sink.new ≡ true) }

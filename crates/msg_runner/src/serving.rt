@@ -2,6 +2,7 @@
 
 ghost use Rattle.std.specs.Prelude.{◌≡◌, ◌≤◌, ◌<◌, ◌⊎◌, ◌++◌, [], All, length, map, take, vec_len, IfOk, OnOk};
 ghost use Rattle.std.specs.Thread.{IsSync};
+ghost use Rattle.msg_image.specs.Opened.{origin_of};
 ghost use Rattle.msg_image.specs.Plain.{item_parts};
 ghost use Rattle.msg_image.specs.Sound.{IsSoundItem};
 ghost use Rattle.msg_tables.specs.History.{empty};
@@ -68,11 +69,11 @@ fn answer_part<
     part: Part<'s>,
     text: &mut Vec<u8>,
 ) -> Result<Counts, AllocError>
-    requires image { crew.old.changer.image ≡ part.image.now }
+    requires image { crew.old.changer.origin ≡ origin_of part.image.now }
     requires sound { All (IsSoundItem part.image.now) (map item_parts part.items.now) }
     requires enough { part.deal.workers ≤ vec_len crew.old.senders }
     requires part { AllSends (map item_parts part.items.now) ⊎ IsOneChange (map item_parts part.items.now) }
-    ensures text { OnOk result (text.new.items ≡ text.old.items ++ text_of part.entry.image.now (serial_from crew.old.changer (map item_parts part.entry.items.now))) }
+    ensures text { OnOk result (text.new.items ≡ text.old.items ++ text_of part.entry.image.now (serial_from part.entry.image.now crew.old.changer (map item_parts part.entry.items.now))) }
     ensures history { OnOk result (crew.new.changer ≡ history_of crew.old.changer (map item_parts part.entry.items.now)) }
     ensures senders { OnOk result (vec_len crew.new.senders ≡ vec_len crew.old.senders) }
     ensures pieces { IfOk result (λ c. c.pieces ≤ length part.entry.items.now) }
@@ -118,10 +119,10 @@ fn answer_parts<
     all: Part<'s>,
     text: &mut Vec<u8>,
 ) -> Result<(), AllocError>
-    requires image { crew.old.changer.image ≡ all.image.now }
+    requires image { crew.old.changer.origin ≡ origin_of all.image.now }
     requires sound { All (IsSoundItem all.image.now) (map item_parts all.items.now) }
     requires enough { all.deal.workers ≤ vec_len crew.old.senders }
-    ensures { OnOk result (text.new.items ≡ text.old.items ++ text_of all.entry.image.now (serial_from crew.old.changer (map item_parts all.entry.items.now))) }
+    ensures { OnOk result (text.new.items ≡ text.old.items ++ text_of all.entry.image.now (serial_from all.entry.image.now crew.old.changer (map item_parts all.entry.items.now))) }
 {
     let mut rest = all;
     while !rest.items.is_empty() {
@@ -151,7 +152,7 @@ fn answer_all<
     all: Part<'s>,
     text: &mut Vec<u8>,
 ) -> Result<(), AllocError>
-    requires image { crew.old.changer.image ≡ all.image.now }
+    requires image { crew.old.changer.origin ≡ origin_of all.image.now }
     requires sound { All (IsSoundItem all.image.now) (map item_parts all.items.now) }
     requires enough { all.deal.workers ≤ vec_len crew.old.senders }
     requires none { text.old.items ≡ [] }
@@ -192,7 +193,7 @@ fn crew_of<'d, N: ArenaName, R: Wait>(
     dispatcher: &'d Dispatcher<N>,
     workers: u32,
 ) -> Result<Crew<'d, N>, AllocError>
-    ensures changer { IfOk result (λ crew. crew.changer ≡ empty N.arena.key.image) }
+    ensures changer { IfOk result (λ crew. crew.changer ≡ empty N.arena.key.origin) }
     ensures senders { IfOk result (λ crew. vec_len crew.senders ≡ workers) }
 {
     let senders = senders_of(rt, alloc, dispatcher, workers)?;
@@ -213,11 +214,11 @@ fn text_by<'s, 'e: 's, 'd: 's, N: ArenaName + Send + Sync + 's, G: Gate, R: Thre
     deal: Deal,
     document: &'s Document,
 ) -> Result<Vec<u8>, AllocError>
-    requires image { N.arena.key.image ≡ document.now.image }
+    requires image { N.arena.key.origin ≡ origin_of document.now.image }
     requires sound { All (IsSoundItem document.now.image) (map item_parts document.now.items.items) }
     requires few { length document.now.items.items ≤ MAX_ITEMS }
     requires first { deal.first ≡ 0 }
-    ensures { IfOk result (λ text. AreLines changes document.now.image deal.workers deal.cut (empty document.now.image) (map item_parts document.now.items.items) text.items) }
+    ensures { IfOk result (λ text. AreLines changes document.now.image deal.workers deal.cut (empty (origin_of document.now.image)) (map item_parts document.now.items.items) text.items) }
 {
     let mut crew = crew_of(rt, alloc, dispatcher, deal.workers)?;
     let mut text = Vec::new(alloc);
@@ -241,18 +242,18 @@ fn text_over<'r, N: ArenaName + Send + Sync, G: Gate, R: Threads + Wait + Sync>(
     deal: Deal,
     document: &'r Document,
 ) -> Result<Vec<u8>, AllocError>
-    requires image { N.arena.key.image ≡ document.now.image }
+    requires image { N.arena.key.origin ≡ origin_of document.now.image }
     requires sound { All (IsSoundItem document.now.image) (map item_parts document.now.items.items) }
     requires few { length document.now.items.items ≤ MAX_ITEMS }
     requires first { deal.first ≡ 0 }
-    ensures lines { IfOk result (λ text. AreLines changes document.now.image deal.workers deal.cut (empty document.now.image) (map item_parts document.now.items.items) text.items) }
+    ensures lines { IfOk result (λ text. AreLines changes document.now.image deal.workers deal.cut (empty (origin_of document.now.image)) (map item_parts document.now.items.items) text.items) }
 {
     thread::scope(
         thread::scope_env(),
         rt,
         |scope| -> Result<Vec<u8>, AllocError>
-            requires { IsSync R.row × (N.arena.key.image ≡ document.now.image) × All (IsSoundItem document.now.image) (map item_parts document.now.items.items) × (length document.now.items.items ≤ MAX_ITEMS) × (deal.first ≡ 0) }
-            ensures lines { IfOk result (λ text. AreLines changes document.entry.now.image deal.workers deal.cut (empty document.entry.now.image) (map item_parts document.entry.now.items.items) text.items) }
+            requires { IsSync R.row × (N.arena.key.origin ≡ origin_of document.now.image) × All (IsSoundItem document.now.image) (map item_parts document.now.items.items) × (length document.now.items.items ≤ MAX_ITEMS) × (deal.first ≡ 0) }
+            ensures lines { IfOk result (λ text. AreLines changes document.entry.now.image deal.workers deal.cut (empty (origin_of document.entry.now.image)) (map item_parts document.entry.now.items.items) text.items) }
         { text_by(rt, scope, alloc, dispatcher, gate, changes, deal, document) },
     )
 }
@@ -270,12 +271,12 @@ fn text_in<N: ArenaName + Send + Sync, G: Gate, R: Threads + Wait + Sync>(
 ) -> Result<Vec<u8>, AllocError>
     requires arena { arena ≡ N.arena }
     requires keeper { IsKeeperOf N.arena keeper }
-    requires image { document.now.image ≡ N.arena.key.image }
-    requires history { keeper_history keeper ≡ empty document.now.image }
+    requires image { origin_of document.now.image ≡ N.arena.key.origin }
+    requires history { keeper_history keeper ≡ empty (origin_of document.now.image) }
     requires sound { All (IsSoundItem document.now.image) (map item_parts document.now.items.items) }
     requires few { length document.now.items.items ≤ MAX_ITEMS }
     requires first { deal.first ≡ 0 }
-    ensures { IfOk result (λ text. AreLines changes document.now.image deal.workers deal.cut (empty document.now.image) (map item_parts document.now.items.items) text.items) }
+    ensures { IfOk result (λ text. AreLines changes document.now.image deal.workers deal.cut (empty (origin_of document.now.image)) (map item_parts document.now.items.items) text.items) }
 {
     let dispatcher: Dispatcher<N> = Dispatcher::open(alloc, arena, keeper, &document.image)?;
     text_over(rt, alloc, &dispatcher, gate, changes, deal, document)
@@ -283,9 +284,9 @@ fn text_in<N: ArenaName + Send + Sync, G: Gate, R: Threads + Wait + Sync>(
 
 // The arena of a run.
 fn arena_for(alloc: Global, image: &Image, senders: u32) -> Result<(Arena, Keeper), AllocError>
-    ensures image { IfOk result (λ r. r.0.key.image ≡ image.now) }
+    ensures image { IfOk result (λ r. r.0.key.origin ≡ origin_of image.now) }
     ensures keeper { IfOk result (λ r. IsKeeperOf r.0 r.1) }
-    ensures history { IfOk result (λ r. keeper_history r.1 ≡ empty image.now) }
+    ensures history { IfOk result (λ r. keeper_history r.1 ≡ empty (origin_of image.now)) }
 {
     let config = Config {
         senders,
@@ -311,7 +312,7 @@ pub(crate) fn text<G: Gate, R: Threads + Wait + Sync>(
     requires cut { 1 ≤ cut }
     requires sound { All (IsSoundItem document.now.image) (map item_parts document.now.items.items) }
     requires few { length document.now.items.items ≤ MAX_ITEMS }
-    ensures { IfOk result (λ text. AreLines changes document.now.image workers cut (empty document.now.image) (map item_parts document.now.items.items) text.items) }
+    ensures { IfOk result (λ text. AreLines changes document.now.image workers cut (empty (origin_of document.now.image)) (map item_parts document.now.items.items) text.items) }
 {
     let (arena, keeper) = arena_for(alloc, &document.image, workers)?;
     let deal = Deal {

@@ -1,6 +1,7 @@
 //! One worker's work.
 
 ghost use Rattle.std.specs.Prelude.{◌≡◌, ◌<◌, ◌==◌, All, length, map, IfOk, OnOk};
+ghost use Rattle.msg_image.specs.Opened.{origin_of};
 ghost use Rattle.msg_image.specs.Plain.{item_parts};
 ghost use Rattle.msg_image.specs.Sound.{IsOf, IsSoundItem};
 ghost use Rattle.msg_eval.specs.Evaluation.{send_of};
@@ -27,11 +28,11 @@ fn serve_one<'r, 'd, N: ArenaName, R: Wait, G: Gate>(
     args: &Args,
     place: usize,
 ) -> Result<(), AllocError>
-    requires image { asking.old.sender.seen.front.image ≡ share.part.image.now }
+    requires image { asking.old.sender.seen.front.origin ≡ origin_of share.part.image.now }
     requires receiver { IsOf share.part.image.now receiver }
     requires args { All (IsOf share.part.image.now) args.now.items }
     requires place { place < length share.part.items.now }
-    ensures image { asking.new.sender.seen.front.image ≡ share.entry.part.image.now }
+    ensures image { asking.new.sender.seen.front.origin ≡ origin_of share.entry.part.image.now }
     ensures goes { OnOk result (Goes (worker_of share.entry.part.deal.cut share.entry.part.deal.workers place == share.entry.worker) asking.old.sender.seen.front (send_of share.entry.part.image.now receiver sel args.now.items) replies.old.items replies.new.items asking.new.sender.seen.front) }
 {
     let me = share.worker;
@@ -57,7 +58,7 @@ pub(crate) fn serve<'r, 'd, N: ArenaName, R: Wait, G: Gate>(
     gate: &G,
     share: Share<'_>,
 ) -> Result<Vec<Reply>, AllocError>
-    requires image { asking.old.sender.seen.front.image ≡ share.part.image.now }
+    requires image { asking.old.sender.seen.front.origin ≡ origin_of share.part.image.now }
     requires sound { All (IsSoundItem share.part.image.now) (map item_parts share.part.items.now) }
     ensures { IfOk result (λ rs. Served asking.old.sender.seen.front (share_of (worker_of share.entry.part.deal.cut share.entry.part.deal.workers) share.entry.worker 0 (sends_of share.entry.part.image.now (map item_parts share.entry.part.items.now))) rs.items asking.new.sender.seen.front) }
 {

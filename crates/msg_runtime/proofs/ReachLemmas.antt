@@ -5,9 +5,9 @@ use Rattle.msg_names.proofs.TestLemmas.{not_false}
 use Rattle.msg_names.specs.declared.value.ClassRef.{ClassRef}
 use Rattle.msg_names.specs.declared.value.ImpRef.{ImpRef}
 use Rattle.msg_names.specs.declared.value.Selector.{Selector}
-use Rattle.msg_image.specs.Parts.{class_total}
-use Rattle.msg_image.specs.declared.change.Change.{Change}
-use Rattle.msg_image.specs.declared.change.Change.TheVariants.{Add, Replace, SetImp, Exchange, Attach, AddClass}
+use Rattle.msg_tables.specs.Origin.{class_total}
+use Rattle.msg_tables.specs.declared.change.Change.{Change}
+use Rattle.msg_tables.specs.declared.change.Change.TheVariants.{Add, Replace, SetImp, Exchange, Attach, AddClass}
 use Rattle.msg_tables.specs.After.{of_class, of_meta, supers_after, table_after}
 use Rattle.msg_tables.specs.Affected.{if_any, is_affected, written_refs}
 use Rattle.msg_tables.specs.Chain.{is_member, chain_of}
@@ -22,26 +22,26 @@ use Rattle.msg_runtime.specs.Reach.{is_below, is_flushed}
 -- ---- the classes that an accepted change names
 
 module _ (h : History) where
-  of_image : (c : ClassRef) → no_class h c ≡ false → c.class < class_total h.image
+  of_image : (c : ClassRef) → no_class h c ≡ false → c.class < class_total h.origin
   unfolding no_class
   of_image c e =
       let inside = present-inside (table h).supers c.class (not_false _ e) in
       let count = length-supers h in
       omega (arith, inside, count)
 
-  pub of_image-add : (c : ClassRef) (s : Selector) (i : ImpRef) → refusal h (Add c s i) ≡ None → c.class < class_total h.image
+  pub of_image-add : (c : ClassRef) (s : Selector) (i : ImpRef) → refusal h (Add c s i) ≡ None → c.class < class_total h.origin
   unfolding refusal
   of_image-add c s i e = of_image c (none_holds (conditions h (Add c s i)) 0 e)
 
-  pub of_image-replace : (c : ClassRef) (s : Selector) (i : ImpRef) → refusal h (Replace c s i) ≡ None → c.class < class_total h.image
+  pub of_image-replace : (c : ClassRef) (s : Selector) (i : ImpRef) → refusal h (Replace c s i) ≡ None → c.class < class_total h.origin
   unfolding refusal
   of_image-replace c s i e = of_image c (none_holds (conditions h (Replace c s i)) 0 e)
 
-  pub of_image-attach : (k : ℕ) (ms cs : List (ℕ × ℕ)) → refusal h (Attach k ms cs) ≡ None → k < class_total h.image
+  pub of_image-attach : (k : ℕ) (ms cs : List (ℕ × ℕ)) → refusal h (Attach k ms cs) ≡ None → k < class_total h.origin
   unfolding refusal
   of_image-attach k ms cs e = of_image (of_class k) (none_holds (conditions h (Attach k ms cs)) 0 e)
 
-  pub of_image-make : (k : ℕ) (d : Option ℕ) → refusal h (AddClass k d) ≡ None → k < class_total h.image
+  pub of_image-make : (k : ℕ) (d : Option ℕ) → refusal h (AddClass k d) ≡ None → k < class_total h.origin
   of_image-make k d e =
       let may = may_be_made h k d e in
       let count = length-supers h in

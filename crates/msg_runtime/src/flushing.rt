@@ -2,7 +2,7 @@
 
 ghost use Rattle.std.specs.Prelude.{◌≡◌, ◌<◌, ◌≤◌, ℕ, None, if◌then◌else◌, length, true};
 ghost use Rattle.msg_names.specs.declared.value.ClassRef.{ClassRef};
-ghost use Rattle.msg_image.specs.Parts.{class_total};
+ghost use Rattle.msg_tables.specs.Origin.{class_total};
 ghost use Rattle.msg_tables.specs.Affected.{if_any};
 ghost use Rattle.msg_tables.specs.Below.{is_among};
 ghost use Rattle.msg_tables.specs.Chain.{is_member};
@@ -14,15 +14,14 @@ ghost use Rattle.msg_runtime.specs.Parts.{IsKeeperOf, keeper_history, HasNoArray
 ghost use Rattle.msg_runtime.specs.Reach.{is_below, is_flushed};
 
 use msg_cache::{Arena, Keeper};
-use msg_image::{Change, MethodList};
 use msg_names::ClassRef;
-use msg_tables::{Below, Tables};
+use msg_tables::{Below, Change, MethodList, Tables};
 
 // Flushes the cache of a class, of its metaclass, or of both.
 #[inline(always)]
 fn flush_class(keeper: &mut Keeper, arena: &Arena, class: u32, own: bool, meta: bool)
     requires arena { IsKeeperOf arena.now keeper.old }
-    requires class { class < class_total (keeper_history keeper.old).image }
+    requires class { class < class_total (keeper_history keeper.old).origin }
     ensures arena { IsKeeperOf arena.now keeper.new }
     ensures history { keeper_history keeper.new ≡ keeper_history keeper.old }
     ensures flushed { (c : ClassRef) → c.class ≡ class → (if c.meta then meta else own) ≡ true → HasNoArray arena.now keeper.new c }
@@ -39,7 +38,7 @@ fn flush_class(keeper: &mut Keeper, arena: &Arena, class: u32, own: bool, meta: 
 // Flushes the caches of some class references. No other class is looked at.
 fn flush_each(keeper: &mut Keeper, arena: &Arena, below: &Below)
     requires arena { IsKeeperOf arena.now keeper.old }
-    requires classes { (k : ℕ) → is_in k below.now.classes ≡ true → k < class_total (keeper_history keeper.old).image }
+    requires classes { (k : ℕ) → is_in k below.now.classes ≡ true → k < class_total (keeper_history keeper.old).origin }
     ensures arena { IsKeeperOf arena.now keeper.new }
     ensures history { keeper_history keeper.new ≡ keeper_history keeper.old }
     ensures flushed { (c : ClassRef) → is_among below.now c ≡ true → HasNoArray arena.now keeper.new c }
@@ -66,7 +65,7 @@ fn flush_below(
 )
     requires arena { IsKeeperOf arena.now keeper.old }
     requires class { class.class < length tables.now.supers }
-    requires classes { length tables.now.supers ≡ class_total (keeper_history keeper.old).image }
+    requires classes { length tables.now.supers ≡ class_total (keeper_history keeper.old).origin }
     requires room { length tables.now.supers ≤ below.old.room }
     ensures arena { IsKeeperOf arena.now keeper.new }
     ensures history { keeper_history keeper.new ≡ keeper_history keeper.old }
@@ -89,7 +88,7 @@ fn flush_methods(
 )
     requires arena { IsKeeperOf arena.now keeper.old }
     requires class { class.class < length tables.now.supers }
-    requires classes { length tables.now.supers ≡ class_total (keeper_history keeper.old).image }
+    requires classes { length tables.now.supers ≡ class_total (keeper_history keeper.old).origin }
     requires room { length tables.now.supers ≤ below.old.room }
     ensures arena { IsKeeperOf arena.now keeper.new }
     ensures history { keeper_history keeper.new ≡ keeper_history keeper.old }
@@ -105,7 +104,7 @@ fn flush_methods(
 // Flushes all caches.
 fn flush_all(keeper: &mut Keeper, arena: &Arena, classes: u32)
     requires arena { IsKeeperOf arena.now keeper.old }
-    requires classes { classes ≡ class_total (keeper_history keeper.old).image }
+    requires classes { classes ≡ class_total (keeper_history keeper.old).origin }
     ensures arena { IsKeeperOf arena.now keeper.new }
     ensures history { keeper_history keeper.new ≡ keeper_history keeper.old }
     ensures flushed { (c : ClassRef) → c.class < classes → HasNoArray arena.now keeper.new c }
@@ -129,7 +128,7 @@ pub(crate) fn flush_reached(
 )
     requires arena { IsKeeperOf arena.now keeper.old }
     requires made { (h : History) × StandsAt tables.now (and_then h change.now) × (refusal h change.now ≡ None) }
-    requires classes { classes ≡ class_total (keeper_history keeper.old).image }
+    requires classes { classes ≡ class_total (keeper_history keeper.old).origin }
     requires tables { length tables.now.supers ≡ classes }
     requires room { classes ≤ below.old.room }
     ensures arena { IsKeeperOf arena.now keeper.new }

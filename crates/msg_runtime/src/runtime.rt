@@ -2,6 +2,7 @@
 
 ghost use Rattle.std.specs.Prelude.{◌≡◌, ◌≢◌, ◌<◌, ◌≤◌, length, cond, not, is_some, IfOk, IfErr, IfSome, IsNone, OnErr, None, Some};
 ghost use Rattle.msg_names.specs.Number.{selector_number, imp_number};
+ghost use Rattle.msg_tables.specs.Origin.{last_imp};
 ghost use Rattle.msg_tables.specs.History.{BeginsWith, and_then, empty, holder, lookup, superclass};
 ghost use Rattle.msg_tables.specs.Refusal.{refusal};
 ghost use Rattle.msg_tables.specs.declared.fault.ChangeFault.{ChangeFault};
@@ -14,10 +15,9 @@ use crate::caching::cache_found;
 use crate::flushing::flush_reached;
 use msg_cache::{Arena, Keeper, Prober, Report, Turn};
 use msg_core::MAX_SENDERS;
-use msg_image::{Change, Image};
 use msg_names::{ClassRef, ImpRef, Selector};
-use msg_tables::laws::{an_accepted_change_is_within_the_limit, tables_are_of_their_image};
-use msg_tables::{Below, ChangeFault, Tables};
+use msg_tables::laws::{an_accepted_change_is_within_the_limit, tables_are_of_their_origin};
+use msg_tables::{Below, Change, ChangeFault, HasOrigin, Origin, Tables};
 use std::alloc::{AllocError, Global};
 use std::marker::Model;
 use std::snapshot::Snapshot;
@@ -41,9 +41,8 @@ impl Model for Runtime {
     ghost Value = { RuntimeView };
 
     ghost use Rattle.std.specs.Coded.{codes};
-    ghost use Rattle.msg_image.specs.Coding.{coded_expression};
 
-    ghost coded = { Prim.hlevel (codes, coded_expression) };
+    ghost coded = { Prim.hlevel codes };
 
     ghost use Rattle.msg_runtime.specs.Inside.{view_of, AreTogether};
 
@@ -54,26 +53,42 @@ impl Model for Runtime {
 
 impl Runtime {
     /// The runtime of an arena that was just opened, whose tables it opens.
-    pub fn open(
+    pub fn open<C: HasOrigin>(
         alloc: Global,
         arena: &Arena,
         keeper: Keeper,
-        image: &Image,
+        given: &C,
     ) -> Result<Runtime, AllocError>
         requires keeper { IsKeeperOf arena.now keeper }
-        requires image { image.now ≡ arena.now.key.image }
-        requires history { keeper_history keeper ≡ empty image.now }
+        requires origin { C.given given.now ≡ arena.now.key.origin }
+        requires history { keeper_history keeper ≡ empty (C.given given.now) }
         ensures arena { IfOk result (λ r. r.arena ≡ arena.now) }
-        ensures history { IfOk result (λ r. r.keeper.history ≡ empty image.now) }
+        ensures history { IfOk result (λ r. r.keeper.history ≡ empty (C.given given.now)) }
         ensures keeper { IfOk result (λ r. (r.keeper ≡ keeper_view keeper) × (r.remembered ≡ keeper_remembered keeper) × (r.report ≡ keeper_report keeper)) }
     {
-        let tables = Tables::open(alloc, image)?;
+        Runtime::of(alloc, arena, keeper, given.origin())
+    }
+
+    fn of(
+        alloc: Global,
+        arena: &Arena,
+        keeper: Keeper,
+        origin: &Origin,
+    ) -> Result<Runtime, AllocError>
+        requires keeper { IsKeeperOf arena.now keeper }
+        requires origin { origin.now ≡ arena.now.key.origin }
+        requires history { keeper_history keeper ≡ empty origin.now }
+        ensures arena { IfOk result (λ r. r.arena ≡ arena.now) }
+        ensures history { IfOk result (λ r. r.keeper.history ≡ empty origin.now) }
+        ensures keeper { IfOk result (λ r. (r.keeper ≡ keeper_view keeper) × (r.remembered ≡ keeper_remembered keeper) × (r.report ≡ keeper_report keeper)) }
+    {
+        let tables = Tables::open(alloc, origin)?;
         let below = tables.room_below(alloc)?;
         Ok(Runtime {
             keeper,
             tables,
             below,
-            classes: image.class_count(),
+            classes: origin.class_count(),
             arena: Snapshot::of(arena),
         })
     }
@@ -97,11 +112,11 @@ impl Runtime {
         ensures number { prober.new.sender.number ≡ prober.old.sender.number }
         ensures begins { BeginsWith self.old.keeper.history prober.old.sender.front }
         ensures front { prober.new.sender.front ≡ self.old.keeper.history }
-        ensures image { self.old.keeper.history.image ≡ self.old.arena.key.image }
+        ensures origin { self.old.keeper.history.origin ≡ self.old.arena.key.origin }
         ensures found { imp_number result ≡ lookup self.old.keeper.history class (selector_number sel) }
-        ensures listed { imp_number result ≤ length self.old.arena.key.image.imps }
+        ensures listed { imp_number result ≤ last_imp self.old.arena.key.origin.counts }
     {
-        tables_are_of_their_image();
+        tables_are_of_their_origin();
         let imp = self.tables.lookup(class, sel);
         cache_found(&mut self.keeper, arena, class, sel, imp);
         self.keeper.renew(arena, prober);
@@ -112,9 +127,9 @@ impl Runtime {
     pub fn lookup(&self, class: ClassRef, sel: Selector) -> ImpRef
         requires class { class.class < classes self.now.arena }
         ensures found { imp_number result ≡ lookup self.now.keeper.history class (selector_number sel) }
-        ensures listed { imp_number result ≤ length self.now.arena.key.image.imps }
+        ensures listed { imp_number result ≤ last_imp self.now.arena.key.origin.counts }
     {
-        tables_are_of_their_image();
+        tables_are_of_their_origin();
         self.tables.lookup(class, sel)
     }
 
@@ -123,7 +138,7 @@ impl Runtime {
         requires class { class.class < classes self.now.arena }
         ensures { result ≡ holder self.now.keeper.history class (selector_number sel) }
     {
-        tables_are_of_their_image();
+        tables_are_of_their_origin();
         self.tables.holder(class, sel)
     }
 
@@ -132,7 +147,7 @@ impl Runtime {
         requires class { class.class < classes self.now.arena }
         ensures { result ≡ superclass self.now.keeper.history class }
     {
-        tables_are_of_their_image();
+        tables_are_of_their_origin();
         self.tables.superclass(class)
     }
 
@@ -156,7 +171,7 @@ impl Runtime {
         ensures caches { OnErr result ((self.new.keeper ≡ lent self.old.keeper) × (self.new.remembered ≡ self.old.remembered)) }
         ensures fault { IfErr result (λ f. f ≢ ChangeFault.Memory → refusal self.old.keeper.history change.now ≡ Some f) }
     {
-        tables_are_of_their_image();
+        tables_are_of_their_origin();
         an_accepted_change_is_within_the_limit();
         self.keeper.face(arena, turn);
         self.tables.apply(change)?;
@@ -180,7 +195,7 @@ impl Runtime {
         ensures some { IfSome result (λ p. IsNew p.sender self.old.keeper self.new.keeper) }
         ensures front { IfSome result (λ p. p.sender.front ≡ self.old.keeper.history) }
         ensures none { IsNone result → AreOut MAX_SENDERS self.old.arena.key.senders self.old.keeper × (self.new.keeper ≡ self.old.keeper) }
-        ensures image { self.old.keeper.history.image ≡ self.old.arena.key.image }
+        ensures origin { self.old.keeper.history.origin ≡ self.old.arena.key.origin }
     {
         for number in 0..MAX_SENDERS as u32 {
             if let Some(prober) = self.keeper.give_out(arena, number) {
@@ -210,7 +225,7 @@ impl Runtime {
         ensures keeper { self.new.keeper ≡ cond (is_some result) (lent self.old.keeper) self.old.keeper }
         ensures once { is_some result ≡ not (is_lent self.old.keeper.turn) }
         ensures turn { IfSome result (λ t. t.table ≡ self.old.arena.table) }
-        ensures empty { IfSome result (λ t. t.history ≡ empty self.old.arena.key.image) }
+        ensures empty { IfSome result (λ t. t.history ≡ empty self.old.arena.key.origin) }
         ensures history { IfSome result (λ t. t.history ≡ self.old.keeper.history) }
     {
         self.keeper.turn(arena)

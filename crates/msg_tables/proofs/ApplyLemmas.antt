@@ -4,8 +4,8 @@ use Rattle.std.specs.Prelude.{reverse, ◌||◌}
 use Rattle.std.specs.List.{list_any}
 use Rattle.std.proofs.lemmas.List.{length-reverse}
 use Rattle.msg_names.specs.Number.{selector_number, imp_number}
-use Rattle.msg_image.specs.declared.change.Change.{Change}
-use Rattle.msg_image.specs.declared.change.Change.TheVariants.{Add, Replace, SetImp, Exchange, Attach, AddClass}
+use Rattle.msg_tables.specs.declared.change.Change.{Change}
+use Rattle.msg_tables.specs.declared.change.Change.TheVariants.{Add, Replace, SetImp, Exchange, Attach, AddClass}
 use Rattle.msg_tables.specs.declared.edit.Edit.{Edit}
 use Rattle.msg_tables.specs.declared.edit.Edit.TheVariants as edit
 use Rattle.msg_tables.specs.declared.fault.ChangeFault.{ChangeFault}
@@ -77,8 +77,8 @@ stands-after old new h x e stands none is makes writes = record {
   rows = subst (Holds new.lists) (sym now) (writes.rows (table h).rows stands.rows);
   row_count = writes.row_count ∙ ap (λ n. n + added e) stands.row_count ∙ sym (length-edited e (table h).rows) ∙ sym (ap length now);
   changes = ap (λ (t : TablesView). t.change_count + 1) writes.rest ∙ ap (λ n. n + 1) stands.changes ∙ sym (length-append h.changes (x ∷ []));
-  colons = ap (λ t. t.colons) writes.rest ∙ stands.colons;
-  args = ap (λ t. t.args) writes.rest ∙ stands.args;
+  counts = ap (λ t. t.counts) writes.rest ∙ stands.counts;
+  limits = ap (λ t. t.limits) writes.rest ∙ stands.limits;
 }
   where
     now : (table (and_then h x)).rows ≡ edited e (table h).rows

@@ -9,17 +9,18 @@ use Rattle.msg_names.proofs.TestLemmas.{neither, list_any-map}
 use Rattle.msg_names.specs.declared.value.Selector.{Selector}
 use Rattle.msg_names.specs.declared.value.ImpRef.{ImpRef}
 use Rattle.msg_names.specs.Number.{selector_number, imp_number}
-use Rattle.msg_image.specs.Methods.{method_numbers}
-use Rattle.msg_image.specs.declared.change.Change.TheVariants.{Attach}
+use Rattle.msg_tables.specs.Methods.{method_numbers}
+use Rattle.msg_tables.specs.declared.change.Change.TheVariants.{Attach}
 use Rattle.msg_tables.specs.declared.fault.ChangeFault.{ChangeFault}
 use Rattle.msg_tables.specs.declared.fault.ChangeFault.TheVariants.{NoClass, Limit}
 use Rattle.msg_tables.specs.After.{of_class}
 use Rattle.msg_tables.specs.History.{History}
 use Rattle.msg_tables.specs.Refusal.{least_change_fault, unfit_methods, no_class, no_imp, misfits, is_full, refusal}
 use Rattle.msg_tables.specs.Stands.{StandsAt}
-use Rattle.msg_tables.specs.View.{TablesView, lacks_imp, misfits_in, are_listed}
+use Rattle.msg_tables.specs.Origin.{last_imp, lacks_imp, misfits_in, are_listed}
+use Rattle.msg_tables.specs.View.{TablesView}
 use Rattle.msg_tables.proofs.JudgeLemmas.{least-first, least-next}
-use Rattle.msg_tables.proofs.StandsLemmas.{imp_count, colons-stand, args-stand}
+use Rattle.msg_tables.proofs.StandsLemmas.{imp-stands, misfits-stand}
 
 list_any-same : {A : Type 0} (p q : A → Bool) → ((x : A) → p x ≡ q x) → (xs : List A) → list_any p xs ≡ list_any q xs
 list_any-same p q same [] = refl
@@ -29,41 +30,33 @@ abbrev numbers : Selector × ImpRef → ℕ × ℕ
 numbers m = (selector_number m.0, imp_number m.1)
 
 module _ (t : TablesView) (h : History) (stands : StandsAt t h) where
-  imp-stands : (i : ℕ) → lacks_imp t i ≡ no_imp h i
-  unfolding no_imp
-  imp-stands i = ap (λ n. (i == 0) || nat_lt n i) (imp_count t h stands)
-
-  misfits-stand : (s i : ℕ) → misfits_in t s i ≡ misfits h s i
-  unfolding misfits
-  misfits-stand s i = rw (colons-stand t h stands s, args-stand t h stands i) refl
-
   -- two lists, tested one after the other
-  pub no_imp-both : (own meta : List (Selector × ImpRef)) → (list_any (λ m. lacks_imp t (imp_number m.1)) own || list_any (λ m. lacks_imp t (imp_number m.1)) meta) ≡ list_any (λ (m : ℕ × ℕ). no_imp h m.1) (method_numbers own ++ method_numbers meta)
+  pub no_imp-both : (own meta : List (Selector × ImpRef)) → (list_any (λ m. lacks_imp t.counts (imp_number m.1)) own || list_any (λ m. lacks_imp t.counts (imp_number m.1)) meta) ≡ list_any (λ (m : ℕ × ℕ). no_imp h m.1) (method_numbers own ++ method_numbers meta)
   no_imp-both own meta =
       sym (list_any-append (λ (m : ℕ × ℕ). no_imp h m.1) (method_numbers own) (method_numbers meta) ∙ rw (one own, one meta) refl)
     where
-      one : (ms : List (Selector × ImpRef)) → list_any (λ (m : ℕ × ℕ). no_imp h m.1) (method_numbers ms) ≡ list_any (λ m. lacks_imp t (imp_number m.1)) ms
-      one ms = list_any-map (λ (m : ℕ × ℕ). no_imp h m.1) numbers ms ∙ list_any-same _ _ (λ m. sym (imp-stands (imp_number m.1))) ms
+      one : (ms : List (Selector × ImpRef)) → list_any (λ (m : ℕ × ℕ). no_imp h m.1) (method_numbers ms) ≡ list_any (λ m. lacks_imp t.counts (imp_number m.1)) ms
+      one ms = list_any-map (λ (m : ℕ × ℕ). no_imp h m.1) numbers ms ∙ list_any-same _ _ (λ m. sym (imp-stands t h stands (imp_number m.1))) ms
 
-  pub misfits-both : (own meta : List (Selector × ImpRef)) → (list_any (λ m. misfits_in t (selector_number m.0) (imp_number m.1)) own || list_any (λ m. misfits_in t (selector_number m.0) (imp_number m.1)) meta) ≡ list_any (λ (m : ℕ × ℕ). misfits h m.0 m.1) (method_numbers own ++ method_numbers meta)
+  pub misfits-both : (own meta : List (Selector × ImpRef)) → (list_any (λ m. misfits_in t.counts (selector_number m.0) (imp_number m.1)) own || list_any (λ m. misfits_in t.counts (selector_number m.0) (imp_number m.1)) meta) ≡ list_any (λ (m : ℕ × ℕ). misfits h m.0 m.1) (method_numbers own ++ method_numbers meta)
   misfits-both own meta =
       sym (list_any-append (λ (m : ℕ × ℕ). misfits h m.0 m.1) (method_numbers own) (method_numbers meta) ∙ rw (one own, one meta) refl)
     where
-      one : (ms : List (Selector × ImpRef)) → list_any (λ (m : ℕ × ℕ). misfits h m.0 m.1) (method_numbers ms) ≡ list_any (λ m. misfits_in t (selector_number m.0) (imp_number m.1)) ms
-      one ms = list_any-map (λ (m : ℕ × ℕ). misfits h m.0 m.1) numbers ms ∙ list_any-same _ _ (λ m. sym (misfits-stand (selector_number m.0) (imp_number m.1))) ms
+      one : (ms : List (Selector × ImpRef)) → list_any (λ (m : ℕ × ℕ). misfits h m.0 m.1) (method_numbers ms) ≡ list_any (λ m. misfits_in t.counts (selector_number m.0) (imp_number m.1)) ms
+      one ms = list_any-map (λ (m : ℕ × ℕ). misfits h m.0 m.1) numbers ms ∙ list_any-same _ _ (λ m. sym (misfits-stand t h stands (selector_number m.0) (imp_number m.1))) ms
 
 -- methods of which none lacks its implementation are listed
-pub listed : (t : TablesView) (ms : List (Selector × ImpRef)) → list_any (λ m. lacks_imp t (imp_number m.1)) ms ≡ false → are_listed (length t.args) (method_numbers ms) ≡ true
+pub listed : (t : TablesView) (ms : List (Selector × ImpRef)) → list_any (λ m. lacks_imp t.counts (imp_number m.1)) ms ≡ false → are_listed (last_imp t.counts) (method_numbers ms) ≡ true
 listed t [] e = refl
-listed t (m ∷ ms) e = step (imp_number m.1) (list_any (λ x. lacks_imp t (imp_number x.1)) ms) e (listed t ms)
+listed t (m ∷ ms) e = step (imp_number m.1) (list_any (λ x. lacks_imp t.counts (imp_number x.1)) ms) e (listed t ms)
   where
-    step : (i : ℕ) (rest : Bool) → (lacks_imp t i || rest) ≡ false → (rest ≡ false → are_listed (length t.args) (method_numbers ms) ≡ true) → (nat_le i (length t.args) && are_listed (length t.args) (method_numbers ms)) ≡ true
+    step : (i : ℕ) (rest : Bool) → (lacks_imp t.counts i || rest) ≡ false → (rest ≡ false → are_listed (last_imp t.counts) (method_numbers ms) ≡ true) → (nat_le i (last_imp t.counts) && are_listed (last_imp t.counts) (method_numbers ms)) ≡ true
     step i rest h more =
-        let (first, others) = neither (lacks_imp t i) rest h in
-        let within : nat_le i (length t.args) ≡ true = inside (i == 0) (nat_lt (length t.args) i) first refl in
+        let (first, others) = neither (lacks_imp t.counts i) rest h in
+        let within : nat_le i (last_imp t.counts) ≡ true = inside (i == 0) (nat_lt (last_imp t.counts) i) first refl in
         rw (within, more others) refl
       where
-        inside : (a b : Bool) → (a || b) ≡ false → nat_lt (length t.args) i ≡ b → nat_le i (length t.args) ≡ true
+        inside : (a b : Bool) → (a || b) ≡ false → nat_lt (last_imp t.counts) i ≡ b → nat_le i (last_imp t.counts) ≡ true
         inside true b g k = cc
         inside false true g k = cc
         inside false false g k = grind (arith, nat_tests)

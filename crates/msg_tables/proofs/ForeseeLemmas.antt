@@ -7,10 +7,10 @@ use Rattle.msg_names.specs.declared.value.ClassRef.{ClassRef}
 use Rattle.std.proofs.lemmas.List.{reverse-append}
 use Rattle.msg_names.specs.declared.value.Selector.{Selector}
 use Rattle.msg_names.specs.declared.value.ImpRef.{ImpRef}
-use Rattle.msg_image.specs.Methods.{method_numbers}
+use Rattle.msg_tables.specs.Methods.{method_numbers}
 use Rattle.msg_names.specs.Number.{selector_number, imp_number}
-use Rattle.msg_image.specs.declared.change.Change.{Change}
-use Rattle.msg_image.specs.declared.change.Change.TheVariants.{Add, Replace, SetImp, Exchange, Attach, AddClass}
+use Rattle.msg_tables.specs.declared.change.Change.{Change}
+use Rattle.msg_tables.specs.declared.change.Change.TheVariants.{Add, Replace, SetImp, Exchange, Attach, AddClass}
 use Rattle.msg_names.specs.ClassRef.{same_class}
 use Rattle.msg_tables.specs.Chain.{chain_of, chain_up, super_of, is_present}
 use Rattle.msg_tables.specs.declared.presence.Presence.{Presence}

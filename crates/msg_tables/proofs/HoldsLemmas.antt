@@ -7,7 +7,7 @@ use Rattle.msg_names.specs.declared.value.ClassRef.{ClassRef}
 use Rattle.msg_names.specs.declared.value.ImpRef.{ImpRef}
 use Rattle.msg_names.specs.declared.value.Selector.{Selector}
 use Rattle.msg_names.specs.Number.{selector_number, imp_number}
-use Rattle.msg_image.specs.Methods.{method_numbers}
+use Rattle.msg_tables.specs.Methods.{method_numbers}
 use Rattle.msg_names.specs.ClassRef.{same_class, slot_of}
 use Rattle.msg_tables.specs.Rows.{Row, own}
 use Rattle.msg_tables.specs.RowList.{own_in, set_last}

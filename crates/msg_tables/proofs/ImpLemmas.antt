@@ -1,5 +1,5 @@
--- At a history each row's implementation is one of the image's, so what a lookup finds is one.
-use Rattle.std.proofs.Common.{◌≡◌, ◌≤◌, ◌+◌, ℕ, suc, List, [], ◌∷◌, ◌++◌, length, Option, Some, None, slice_get, Bool, true, false, cond, refl, sym, ap, ◌∙◌, subst, append_assoc, append-nil, arith}
+-- At a history each row's implementation is one that there is, so what a lookup finds is one.
+use Rattle.std.proofs.Common.{◌≡◌, ◌≤◌, ℕ, List, [], ◌∷◌, ◌++◌, Option, Some, None, Bool, true, false, cond, refl, sym, ap, ◌∙◌, subst, append_assoc, append-nil, arith}
 use Rattle.std.specs.Prelude.{◌==◌, ◌&&◌, ◌||◌, nat_le, nat_lt, unwrap_or, reverse, is_some, is_none, All}
 use Rattle.std.specs.List.{list_any, list_all}
 use Rattle.std.proofs.lemmas.Bool.Decides.{nat_tests}
@@ -11,13 +11,11 @@ use Rattle.msg_names.specs.declared.value.ClassRef.{ClassRef}
 use Rattle.msg_names.specs.declared.value.Selector.{Selector}
 use Rattle.msg_names.specs.declared.value.ImpRef.{ImpRef}
 use Rattle.msg_names.specs.Number.{selector_number, imp_number}
-use Rattle.msg_image.specs.declared.change.Change.{Change}
-use Rattle.msg_image.specs.declared.change.Change.TheVariants.{Add, Replace, SetImp, Exchange, Attach, AddClass}
-use Rattle.msg_image.proofs.PartLemmas.{All-at}
-use Rattle.msg_image.specs.declared.image.Category.{Category}
-use Rattle.msg_image.specs.Parts.{ImageParts, ClassParts}
-use Rattle.msg_image.specs.Sound.{IsSound, IsSoundClass, IsSoundCategory, IsMethodOf, AreListed}
-use Rattle.msg_tables.specs.After.{of_class, of_meta, rows_at, row, class_rows, category_rows, opening_table, set_own, set_method, rows_after, table_after}
+use Rattle.msg_tables.specs.declared.change.Change.{Change}
+use Rattle.msg_tables.specs.declared.change.Change.TheVariants.{Add, Replace, SetImp, Exchange, Attach, AddClass}
+use Rattle.msg_tables.specs.Origin.{OriginView, IsSound, IsSoundList, are_listed, last_imp}
+use Rattle.msg_tables.specs.declared.origin.MethodsOf.{MethodsOf}
+use Rattle.msg_tables.specs.After.{of_class, of_meta, rows_at, row, list_rows, opening_table, set_own, set_method, rows_after, table_after}
 use Rattle.msg_tables.specs.History.{History, empty, and_then, table, lookup}
 use Rattle.msg_tables.specs.Refusal.{refusal, AreAccepted, IsHistory, conditions, no_imp}
 use Rattle.msg_tables.specs.Rows.{Row, is_at, or_else, own, holder_at, lookup_in, lookup_at}
@@ -93,22 +91,22 @@ reversed-within n c (m ∷ ms) all =
     subst (AreWithin n) (sym turned) (within-append n (rows_at c (reverse ms)) (rows_at c (m ∷ [])) (reversed-within n c ms rest) (and_both (nat_le m.1 n) true first refl))
 
 -- an implementation that isn't lacking is listed
-not_lacking : (h : History) (i : ℕ) → no_imp h i ≡ false → i ≤ length h.image.imps
+not_lacking : (h : History) (i : ℕ) → no_imp h i ≡ false → i ≤ last_imp h.origin.counts
 unfolding no_imp
-not_lacking h i e = step (i == 0) (nat_lt (length h.image.imps) i) refl e
+not_lacking h i e = step (i == 0) (nat_lt (last_imp h.origin.counts) i) refl e
   where
-    step : (a b : Bool) → nat_lt (length h.image.imps) i ≡ b → (a || b) ≡ false → i ≤ length h.image.imps
+    step : (a b : Bool) → nat_lt (last_imp h.origin.counts) i ≡ b → (a || b) ≡ false → i ≤ last_imp h.origin.counts
     step true b is e = cc
-    step false b is e = let few : nat_lt (length h.image.imps) i ≡ false = is ∙ e in grind (arith, nat_tests)
+    step false b is e = let few : nat_lt (last_imp h.origin.counts) i ≡ false = is ∙ e in grind (arith, nat_tests)
 
-none_lacking : (h : History) (c : ClassRef) (ms : List (ℕ × ℕ)) → list_any (λ m. no_imp h m.1) ms ≡ false → AreWithin (length h.image.imps) (rows_at c ms)
+none_lacking : (h : History) (c : ClassRef) (ms : List (ℕ × ℕ)) → list_any (λ m. no_imp h m.1) ms ≡ false → AreWithin (last_imp h.origin.counts) (rows_at c ms)
 none_lacking h c [] e = refl
 none_lacking h c (m ∷ ms) e = step (no_imp h m.1) refl (none_lacking h c ms) e
   where
-    step : (b : Bool) → no_imp h m.1 ≡ b → (list_any (λ m. no_imp h m.1) ms ≡ false → AreWithin (length h.image.imps) (rows_at c ms))
-        → (b || list_any (λ m. no_imp h m.1) ms) ≡ false → AreWithin (length h.image.imps) (rows_at c (m ∷ ms))
+    step : (b : Bool) → no_imp h m.1 ≡ b → (list_any (λ m. no_imp h m.1) ms ≡ false → AreWithin (last_imp h.origin.counts) (rows_at c ms))
+        → (b || list_any (λ m. no_imp h m.1) ms) ≡ false → AreWithin (last_imp h.origin.counts) (rows_at c (m ∷ ms))
     step true is rest e = cc
-    step false is rest e = and_both (nat_le m.1 (length h.image.imps)) (list_all (λ (r : Row). nat_le r.imp (length h.image.imps)) (rows_at c ms)) (test m.1 (length h.image.imps) (not_lacking h m.1 is)) (rest e)
+    step false is rest e = and_both (nat_le m.1 (last_imp h.origin.counts)) (list_all (λ (r : Row). nat_le r.imp (last_imp h.origin.counts)) (rows_at c ms)) (test m.1 (last_imp h.origin.counts) (not_lacking h m.1 is)) (rest e)
 
 any-append : (h : History) (xs ys : List (ℕ × ℕ)) → list_any (λ m. no_imp h m.1) (xs ++ ys) ≡ false → (list_any (λ m. no_imp h m.1) xs ≡ false) × (list_any (λ m. no_imp h m.1) ys ≡ false)
 any-append h [] ys e = (refl, e)
@@ -119,28 +117,28 @@ any-append h (x ∷ xs) ys e = step (no_imp h x.1) (any-append h xs ys) e
     step true rest e = cc
     step false rest e = rest e
 
-after-within : (h : History) (x : Change) → refusal h x ≡ None → AreWithin (length h.image.imps) (table h).rows → AreWithin (length h.image.imps) (rows_after (table h) x)
+after-within : (h : History) (x : Change) → refusal h x ≡ None → AreWithin (last_imp h.origin.counts) (table h).rows → AreWithin (last_imp h.origin.counts) (rows_after (table h) x)
 unfolding refusal
-after-within h (Add c s i) e all = within-append (length h.image.imps) (table h).rows (row c s i ∷ []) all (within-one (length h.image.imps) c s i (not_lacking h (imp_number i) (none_holds (conditions h (Add c s i)) 1 e)))
+after-within h (Add c s i) e all = within-append (last_imp h.origin.counts) (table h).rows (row c s i ∷ []) all (within-one (last_imp h.origin.counts) c s i (not_lacking h (imp_number i) (none_holds (conditions h (Add c s i)) 1 e)))
 after-within h (Replace c s i) e all =
     let le = not_lacking h (imp_number i) (none_holds (conditions h (Replace c s i)) 1 e) in
-    let n = length h.image.imps in
+    let n = last_imp h.origin.counts in
     step (is_some (own (table h).rows c (selector_number s))) (set_own-within n c (selector_number s) (imp_number i) (table h).rows le all) (within-append n (table h).rows (row c s i ∷ []) all (within-one n c s i le))
   where
-    step : (b : Bool) → AreWithin (length h.image.imps) (set_own c (selector_number s) (imp_number i) (table h).rows) → AreWithin (length h.image.imps) ((table h).rows ++ row c s i ∷ [])
-        → AreWithin (length h.image.imps) (cond b (set_own c (selector_number s) (imp_number i) (table h).rows) ((table h).rows ++ row c s i ∷ []))
+    step : (b : Bool) → AreWithin (last_imp h.origin.counts) (set_own c (selector_number s) (imp_number i) (table h).rows) → AreWithin (last_imp h.origin.counts) ((table h).rows ++ row c s i ∷ [])
+        → AreWithin (last_imp h.origin.counts) (cond b (set_own c (selector_number s) (imp_number i) (table h).rows) ((table h).rows ++ row c s i ∷ []))
     step true set added = set
     step false set added = added
 after-within h (SetImp c s i) e all =
-    set_method-within (length h.image.imps) (holder_at (table h) c (selector_number s)) (selector_number s) (imp_number i) (table h).rows (not_lacking h (imp_number i) (none_holds (conditions h (SetImp c s i)) 1 e)) all
+    set_method-within (last_imp h.origin.counts) (holder_at (table h) c (selector_number s)) (selector_number s) (imp_number i) (table h).rows (not_lacking h (imp_number i) (none_holds (conditions h (SetImp c s i)) 1 e)) all
 after-within h (Exchange c s d u) e all =
-    let n = length h.image.imps in
+    let n = last_imp h.origin.counts in
     let t = table h in
     let first = lookup_at t c (selector_number s) in
     let inner = set_method-within n (holder_at t d (selector_number u)) (selector_number u) first t.rows (found-within n t.rows _ (selector_number s) all) all in
     set_method-within n (holder_at t c (selector_number s)) (selector_number s) (lookup_at t d (selector_number u)) _ (found-within n t.rows _ (selector_number u) all) inner
 after-within h (Attach k ms cs) e all =
-    let n = length h.image.imps in
+    let n = last_imp h.origin.counts in
     let (own_listed, meta_listed) = any-append h ms cs (none_holds (conditions h (Attach k ms cs)) 1 e) in
     let first = within-append n (table h).rows (rows_at (of_class k) (reverse ms)) all (reversed-within n (of_class k) ms (none_lacking h (of_class k) ms own_listed)) in
     within-append n ((table h).rows ++ rows_at (of_class k) (reverse ms)) (rows_at (of_meta k) (reverse cs)) first (reversed-within n (of_meta k) cs (none_lacking h (of_meta k) cs meta_listed))
@@ -148,51 +146,32 @@ after-within h (AddClass k d) e all = all
 
 -- ---- from the opening on
 
-listed-within : (image : ImageParts) (c : ClassRef) (ms : List (ℕ × ℕ)) → AreListed image ms → AreWithin (length image.imps) (rows_at c ms)
-listed-within image c [] all = refl
-listed-within image c (m ∷ ms) all =
-    let first = All-head (IsMethodOf image) m ms all in
-    and_both (nat_le m.1 (length image.imps)) (list_all (λ (r : Row). nat_le r.imp (length image.imps)) (rows_at c ms)) (test m.1 (length image.imps) first.1)
-    (listed-within image c ms (All-tail (IsMethodOf image) m ms all))
+listed-within : (n : ℕ) (c : ClassRef) (ms : List (ℕ × ℕ)) → are_listed n ms ≡ true → AreWithin n (rows_at c ms)
+listed-within n c [] all = refl
+listed-within n c (m ∷ ms) all =
+    let (first, rest) = both (nat_le m.1 n) (are_listed n ms) all in
+    and_both (nat_le m.1 n) (list_all (λ (r : Row). nat_le r.imp n) (rows_at c ms)) first (listed-within n c ms rest)
 
--- a sound class, wherever it stands
-abbrev HasListed : ImageParts → ClassParts → Type 0
-HasListed image c = AreListed image c.methods × AreListed image c.class_methods
+lists-within : (o : OriginView) (ls : List MethodsOf) → All (IsSoundList o) ls → AreWithin (last_imp o.counts) (list_rows ls)
+lists-within o [] all = refl
+lists-within o (l ∷ ls) all =
+    within-append (last_imp o.counts) (rows_at l.class l.methods) (list_rows ls)
+    (listed-within (last_imp o.counts) l.class l.methods (All-head (IsSoundList o) l ls all).methods) (lists-within o ls (All-tail (IsSoundList o) l ls all))
 
-classes-within : (image : ImageParts) (k : ℕ) (cs : List ClassParts) → ((i : ℕ) (c : ClassParts) → slice_get cs i ≡ Some c → HasListed image c) → AreWithin (length image.imps) (class_rows k cs)
-classes-within image k [] all = refl
-classes-within image k (c ∷ cs) all =
-    let n = length image.imps in
-    let here = all 0 c refl in
-    within-append n (rows_at (of_class k) c.methods ++ rows_at (of_meta k) c.class_methods) (class_rows (k + 1) cs)
-    (within-append n (rows_at (of_class k) c.methods) (rows_at (of_meta k) c.class_methods) (listed-within image (of_class k) c.methods here.0) (listed-within image (of_meta k) c.class_methods here.1))
-    (classes-within image (k + 1) cs (λ i d at. all (suc i) d at))
-
-categories-within : (image : ImageParts) (cs : List Category) → All (IsSoundCategory image) cs → AreWithin (length image.imps) (category_rows cs)
-categories-within image [] all = refl
-categories-within image (c ∷ cs) all =
-    let n = length image.imps in
-    let here = All-head (IsSoundCategory image) c cs all in
-    within-append n (rows_at (of_class c.class) c.methods ++ rows_at (of_meta c.class) c.class_methods) (category_rows cs)
-    (within-append n (rows_at (of_class c.class) c.methods) (rows_at (of_meta c.class) c.class_methods) (listed-within image (of_class c.class) c.methods here.methods) (listed-within image (of_meta c.class) c.class_methods here.class_methods))
-    (categories-within image cs (All-tail (IsSoundCategory image) c cs all))
-
-opened-within : (image : ImageParts) → IsSound image → AreWithin (length image.imps) (table (empty image)).rows
+opened-within : (o : OriginView) → IsSound o → AreWithin (last_imp o.counts) (table (empty o)).rows
 unfolding table opening_table
-opened-within image sound =
-    within-append (length image.imps) (class_rows 0 image.classes) (category_rows image.categories)
-    (classes-within image 0 image.classes (λ i c at. let is = All-at (IsSoundClass image) image.classes i c sound.classes at in (is.methods, is.class_methods))) (categories-within image image.categories sound.categories)
+opened-within o sound = lists-within o o.lists sound.lists
 
 rows-and_then : (h : History) (x : Change) → (table (and_then h x)).rows ≡ rows_after (table h) x
 unfolding table_after
 rows-and_then h x = ap (λ t. t.rows) (table-and_then h x)
 
-within-on : (h : History) (xs : List Change) → AreWithin (length h.image.imps) (table h).rows → AreAccepted h xs → AreWithin (length h.image.imps) (table (record { image = h.image; changes = h.changes ++ xs })).rows
-within-on h [] all accepted = subst (λ cs. AreWithin (length h.image.imps) (table (record { image = h.image; changes = cs })).rows) (sym (append-nil h.changes)) all
+within-on : (h : History) (xs : List Change) → AreWithin (last_imp h.origin.counts) (table h).rows → AreAccepted h xs → AreWithin (last_imp h.origin.counts) (table (record { origin = h.origin; changes = h.changes ++ xs })).rows
+within-on h [] all accepted = subst (λ cs. AreWithin (last_imp h.origin.counts) (table (record { origin = h.origin; changes = cs })).rows) (sym (append-nil h.changes)) all
 within-on h (x ∷ xs) all accepted =
-    let next = subst (AreWithin (length h.image.imps)) (sym (rows-and_then h x)) (after-within h x accepted.0 all) in
-    subst (λ cs. AreWithin (length h.image.imps) (table (record { image = h.image; changes = cs })).rows) (append_assoc h.changes (x ∷ []) xs) (within-on (and_then h x) xs next accepted.1)
+    let next = subst (AreWithin (last_imp h.origin.counts)) (sym (rows-and_then h x)) (after-within h x accepted.0 all) in
+    subst (λ cs. AreWithin (last_imp h.origin.counts) (table (record { origin = h.origin; changes = cs })).rows) (append_assoc h.changes (x ∷ []) xs) (within-on (and_then h x) xs next accepted.1)
 
-pub found-listed : (h : History) (c : ClassRef) (s : ℕ) → IsSound h.image → IsHistory h → lookup h c s ≤ length h.image.imps
+pub found-listed : (h : History) (c : ClassRef) (s : ℕ) → IsSound h.origin → IsHistory h → lookup h c s ≤ last_imp h.origin.counts
 unfolding lookup IsHistory
-found-listed h c s sound accepted = found-within (length h.image.imps) (table h).rows _ s (within-on (empty h.image) h.changes (opened-within h.image sound) accepted)
+found-listed h c s sound accepted = found-within (last_imp h.origin.counts) (table h).rows _ s (within-on (empty h.origin) h.changes (opened-within h.origin sound) accepted)

@@ -10,25 +10,24 @@ use Rattle.msg_names.specs.declared.value.ClassRef.{ClassRef}
 use Rattle.msg_names.specs.declared.value.ImpRef.{ImpRef}
 use Rattle.msg_names.specs.declared.value.Selector.{Selector}
 use Rattle.msg_names.specs.Number.{selector_number, imp_number}
-use Rattle.msg_image.specs.declared.change.Change.{Change}
-use Rattle.msg_image.specs.declared.image.Category.{Category}
+use Rattle.msg_tables.specs.declared.change.Change.{Change}
 use Rattle.msg_names.specs.ClassRef.{same_class}
-use Rattle.msg_image.specs.Parts.{ImageParts}
-use Rattle.msg_image.specs.Sound.{IsSound, IsSoundCategory}
-use Rattle.msg_image.specs.declared.change.Change.TheVariants.{Add, Replace, SetImp, Exchange, Attach, AddClass}
+use Rattle.msg_tables.specs.Origin.{OriginView, IsSound, IsSoundList}
+use Rattle.msg_tables.specs.declared.origin.MethodsOf.{MethodsOf}
+use Rattle.msg_tables.specs.declared.change.Change.TheVariants.{Add, Replace, SetImp, Exchange, Attach, AddClass}
 use Rattle.msg_tables.specs.Chain.{chain_of, chain_up, is_present, is_member}
 use Rattle.msg_tables.specs.Rows.{Row, own, or_else, chain, lookup_in, holder_at, lookup_at}
 use Rattle.msg_tables.specs.RowList.{own_in}
-use Rattle.msg_tables.specs.After.{of_class, of_meta, row, rows_at, set_own, set_method, rows_after, supers_after, table_after, class_rows, category_rows, opening_table}
+use Rattle.msg_tables.specs.After.{of_class, of_meta, row, rows_at, set_own, set_method, rows_after, supers_after, table_after, list_rows, opening_table}
 use Rattle.msg_tables.specs.Affected.{at_most_one, if_any, written_refs, is_affected, is_of_made}
 use Rattle.msg_tables.specs.History.{History, empty, and_then, table, lookup, holder, chain_at}
-use Rattle.msg_tables.specs.Opening.{rows_of_category, Lacks}
+use Rattle.msg_tables.specs.Opening.{Lacks}
 use Rattle.msg_tables.specs.Refusal.{no_class}
 use Rattle.msg_tables.proofs.HistoryLemmas.{table-and_then}
 use Rattle.msg_tables.proofs.HoldsLemmas.{meta-apart}
 use Rattle.msg_tables.proofs.ListedOrderLemmas.{opened-is_present}
 use Rattle.msg_tables.proofs.OwnLemmas.{own-append, own-rows_at, own-rows_other, own-set_other, own-set_same, set_own-own, some-set_own, lookup-same, lookup-own, lookup-nowhere, lookup-holder, holder-same}
-use Rattle.msg_tables.proofs.OpeningLemmas.{category_rows-append}
+use Rattle.msg_tables.proofs.OpeningLemmas.{list_rows-append}
 use Rattle.msg_names.proofs.ClassRefLemmas.{same_class-is}
 
 -- a lookup after a change goes up the chain that the change leaves
@@ -270,47 +269,35 @@ found-attached-meta h k ms cs s i here e =
     let first = (table h).rows ++ rows_at (of_class k) (reverse ms) in
     found-own h (Attach k ms cs) (of_meta k) s i (is-there h (of_class k) here) (own-append first (rows_at (of_meta k) (reverse cs)) (of_meta k) s ∙ ap (λ o. or_else o (own first (of_meta k) s)) (own-rows_at (of_meta k) (reverse cs) s ∙ e))
 
--- categories without a method bring no row of it
-own-later : (later : List Category) (k : ClassRef) (s : ℕ) → All (Lacks k s) later → own (category_rows later) k s ≡ None
+-- lists without a method bring no row of it
+own-later : (later : List MethodsOf) (k : ClassRef) (s : ℕ) → All (Lacks k s) later → own (list_rows later) k s ≡ None
 own-later [] k s all = refl
 own-later (d ∷ ds) k s all =
-    own-append (rows_of_category d) (category_rows ds) k s ∙ ap₂ or_else (own-later ds k s (All-tail (Lacks k s) d ds all)) (All-head (Lacks k s) d ds all)
+    own-append (rows_at d.class d.methods) (list_rows ds) k s ∙ ap₂ or_else (own-later ds k s (All-tail (Lacks k s) d ds all)) (All-head (Lacks k s) d ds all)
 
--- the method of a category that is the last with one
-own-opened : (image : ImageParts) (before later : List Category) (c : Category) (k : ClassRef) (s i : ℕ) → image.categories ≡ before ++ c ∷ later → All (Lacks k s) later → own (rows_of_category c) k s ≡ Some i
-    → own (table (empty image)).rows k s ≡ Some i
+-- the method of a list that is the last with one
+own-opened : (o : OriginView) (before later : List MethodsOf) (l : MethodsOf) (s i : ℕ) → o.lists ≡ before ++ l ∷ later → All (Lacks l.class s) later → own_in s l.methods ≡ Some i
+    → own (table (empty o)).rows l.class s ≡ Some i
 unfolding table opening_table
-own-opened image before later c k s i e all is =
-    let last = own-append (rows_of_category c) (category_rows later) k s ∙ ap₂ or_else (own-later later k s all) is in
-    let brought = ap (λ rows. own rows k s) (category_rows-append before (c ∷ later)) ∙ own-append (category_rows before) (category_rows (c ∷ later)) k s ∙ ap (λ o. or_else o (own (category_rows before) k s)) last in
-    ap (λ cs. own (class_rows 0 image.classes ++ category_rows cs) k s) e ∙ own-append (class_rows 0 image.classes) (category_rows (before ++ c ∷ later)) k s
-    ∙ ap (λ o. or_else o (own (class_rows 0 image.classes) k s)) brought
+own-opened o before later l s i e all is =
+    let last = own-append (rows_at l.class l.methods) (list_rows later) l.class s ∙ ap₂ or_else (own-later later l.class s all) (own-rows_at l.class l.methods s ∙ is) in
+    ap (λ ls. own (list_rows ls) l.class s) e ∙ ap (λ rows. own rows l.class s) (list_rows-append before (l ∷ later))
+    ∙ own-append (list_rows before) (list_rows (l ∷ later)) l.class s ∙ ap (λ p. or_else p (own (list_rows before) l.class s)) last
 
-found-opened : (image : ImageParts) (c : ClassRef) (s i : ℕ) → c.class < length image.classes → own (table (empty image)).rows c s ≡ Some i → lookup (empty image) c s ≡ i
+found-opened : (o : OriginView) (c : ClassRef) (s i : ℕ) → c.class < length o.superclasses → own (table (empty o)).rows c s ≡ Some i → lookup (empty o) c s ≡ i
 unfolding lookup chain_of table opening_table
-found-opened image c s i inside e =
-    let supers = (table (empty image)).supers in
-    ap (λ b. lookup_in (table (empty image)).rows (cond b (chain_up (length supers) supers c) []) s) (opened-is_present image c.class inside) ∙ lookup-own (length supers) supers (table (empty image)).rows c s i e
+found-opened o c s i inside e =
+    let supers = (table (empty o)).supers in
+    ap (λ b. lookup_in (table (empty o)).rows (cond b (chain_up (length supers) supers c) []) s) (opened-is_present o c.class inside) ∙ lookup-own (length supers) supers (table (empty o)).rows c s i e
 
--- the class of a category
-category-class : (image : ImageParts) (before later : List Category) (c : Category) → IsSound image → image.categories ≡ before ++ c ∷ later → c.class < length image.classes
-category-class image before later c sound e =
-    let all : All (IsSoundCategory image) (before ++ c ∷ later) = subst (All (IsSoundCategory image)) e sound.categories in
-    let n = length-append before (c ∷ later) in
-    let at : IsSoundCategory image (get_or (before ++ c ∷ later) (length before) c) = all (length before) c (omega (arith, n)) in
-    (subst (IsSoundCategory image) (get_or-append_seam before c later c) at).class
+-- the class of a method list
+list-class : (o : OriginView) (before later : List MethodsOf) (l : MethodsOf) → IsSound o → o.lists ≡ before ++ l ∷ later → l.class.class < length o.superclasses
+list-class o before later l sound e =
+    let all : All (IsSoundList o) (before ++ l ∷ later) = subst (All (IsSoundList o)) e sound.lists in
+    let n = length-append before (l ∷ later) in
+    let at : IsSoundList o (get_or (before ++ l ∷ later) (length before) l) = all (length before) l (omega (arith, n)) in
+    (subst (IsSoundList o) (get_or-append_seam before l later l) at).class
 
-pub found-category : (image : ImageParts) (before later : List Category) (c : Category) (s i : ℕ) → IsSound image → image.categories ≡ before ++ c ∷ later → All (Lacks (of_class c.class) s) later → own_in s c.methods ≡ Some i
-    → lookup (empty image) (of_class c.class) s ≡ i
-found-category image before later c s i sound e all is =
-    let class = of_class c.class in
-    found-opened image class s i (category-class image before later c sound e)
-    (own-opened image before later c class s i e all (own-more (of_meta c.class) class c.class_methods s (rows_at class c.methods) (meta-apart c.class) ∙ own-rows_at class c.methods s ∙ is))
-
-pub found-category-meta : (image : ImageParts) (before later : List Category) (c : Category) (s i : ℕ) → IsSound image → image.categories ≡ before ++ c ∷ later → All (Lacks (of_meta c.class) s) later → own_in s c.class_methods ≡ Some i
-    → lookup (empty image) (of_meta c.class) s ≡ i
-found-category-meta image before later c s i sound e all is =
-    let own_rows = rows_at (of_class c.class) c.methods in
-    let meta = of_meta c.class in
-    found-opened image meta s i (category-class image before later c sound e)
-    (own-opened image before later c meta s i e all (own-append own_rows (rows_at meta c.class_methods) meta s ∙ ap (λ o. or_else o (own own_rows meta s)) (own-rows_at meta c.class_methods s ∙ is)))
+pub found-list : (o : OriginView) (before later : List MethodsOf) (l : MethodsOf) (s i : ℕ) → IsSound o → o.lists ≡ before ++ l ∷ later → All (Lacks l.class s) later → own_in s l.methods ≡ Some i
+    → lookup (empty o) l.class s ≡ i
+found-list o before later l s i sound e all is = found-opened o l.class s i (list-class o before later l sound e) (own-opened o before later l s i e all is)

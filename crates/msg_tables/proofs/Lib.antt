@@ -28,3 +28,4 @@ pub mod DepthLemmas
 pub mod PreorderLemmas
 pub mod WalkLemmas
 pub mod PlacedLemmas
+pub mod CheckedLemmas

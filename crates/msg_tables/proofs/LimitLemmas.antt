@@ -2,9 +2,8 @@
 use Rattle.std.proofs.Common.{◌≡◌, ℕ, zero, suc, ◌+◌, ◌<◌, List, [], ◌∷◌, length, get_or, Bool, true, false, cond, Some, None, refl, arith}
 use Rattle.std.specs.Prelude.{nat_le, nat_lt, ◌||◌}
 use Rattle.std.proofs.lemmas.Bool.Decides.{nat_tests}
-use Rattle.msg_image.specs.declared.change.Change.{Change}
-use Rattle.msg_image.specs.declared.change.Change.TheVariants.{Add, Replace, SetImp, Exchange, Attach, AddClass}
-use Rattle.msg_tables.specs.declared.tables.TheConstants.{MAX_CHANGES, MAX_ROWS}
+use Rattle.msg_tables.specs.declared.change.Change.{Change}
+use Rattle.msg_tables.specs.declared.change.Change.TheVariants.{Add, Replace, SetImp, Exchange, Attach, AddClass}
 use Rattle.msg_tables.specs.declared.fault.ChangeFault.{ChangeFault}
 use Rattle.msg_tables.specs.declared.fault.ChangeFault.TheVariants.{Limit}
 use Rattle.msg_tables.specs.History.{History, table}
@@ -24,19 +23,19 @@ none_holds (f ∷ fs) (suc k) e = none_holds fs k (step f.0 e)
     step true h = cc
     step false h = h
 
-not_full : (h : History) (n : ℕ) → is_full h n ≡ false → length h.changes < MAX_CHANGES
+not_full : (h : History) (n : ℕ) → is_full h n ≡ false → length h.changes < h.origin.limits.changes
 unfolding is_full
-not_full h n e = step (nat_le MAX_CHANGES (length h.changes)) refl e
+not_full h n e = step (nat_le h.origin.limits.changes (length h.changes)) refl e
   where
     below : (n m : ℕ) → nat_le n m ≡ false → m < n
     below n m e = grind (arith, nat_tests)
 
-    step : (b : Bool) → nat_le MAX_CHANGES (length h.changes) ≡ b → (b || nat_lt MAX_ROWS (length (table h).rows + n)) ≡ false → length h.changes < MAX_CHANGES
+    step : (b : Bool) → nat_le h.origin.limits.changes (length h.changes) ≡ b → (b || nat_lt h.origin.limits.rows (length (table h).rows + n)) ≡ false → length h.changes < h.origin.limits.changes
     step true is e = cc
-    step false is e = below MAX_CHANGES (length h.changes) is
+    step false is e = below h.origin.limits.changes (length h.changes) is
 
 -- a change is accepted where fewer were than may be
-pub accepted_few : (h : History) (x : Change) → refusal h x ≡ None → length h.changes < MAX_CHANGES
+pub accepted_few : (h : History) (x : Change) → refusal h x ≡ None → length h.changes < h.origin.limits.changes
 unfolding refusal
 accepted_few h (Add c s i) e = not_full h _ (none_holds (conditions h (Add c s i)) 4 e)
 accepted_few h (Replace c s i) e = not_full h _ (none_holds (conditions h (Replace c s i)) 3 e)

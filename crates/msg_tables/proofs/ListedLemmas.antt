@@ -8,7 +8,7 @@ use Rattle.std.proofs.lemmas.List.{get_or-map, reverse-append}
 use Rattle.msg_names.proofs.TestLemmas.{both}
 use Rattle.msg_tables.specs.Rows.{or_else}
 use Rattle.msg_tables.specs.RowList.{RowList, own_in, set_last, rows_of}
-use Rattle.msg_tables.specs.View.{are_listed}
+use Rattle.msg_tables.specs.Origin.{are_listed}
 
 pub and_both : (a b : Bool) → a ≡ true → b ≡ true → (a && b) ≡ true
 and_both a b e f = rw (e, f) refl

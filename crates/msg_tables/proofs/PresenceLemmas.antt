@@ -8,12 +8,10 @@ use Rattle.std.specs.List.{list_any}
 use Rattle.msg_names.proofs.TestLemmas.{neither, not_false}
 use Rattle.msg_names.specs.declared.value.ClassRef.{ClassRef}
 use Rattle.msg_names.specs.ClassRef.{above}
-use Rattle.msg_image.specs.Sound.{IsSound}
 use Rattle.msg_order.proofs.ExistLemmas.{order_exists}
-use Rattle.msg_image.proofs.PartLemmas.{classes-listed}
-use Rattle.msg_image.specs.Parts.{ImageParts, class_total, superclasses}
-use Rattle.msg_image.specs.declared.change.Change.{Change}
-use Rattle.msg_image.specs.declared.change.Change.TheVariants.{Add, Replace, SetImp, Exchange, Attach, AddClass}
+use Rattle.msg_tables.specs.Origin.{OriginView, IsSound, class_total}
+use Rattle.msg_tables.specs.declared.change.Change.{Change}
+use Rattle.msg_tables.specs.declared.change.Change.TheVariants.{Add, Replace, SetImp, Exchange, Attach, AddClass}
 use Rattle.msg_tables.specs.declared.fault.ChangeFault.{ChangeFault}
 use Rattle.msg_tables.specs.declared.fault.ChangeFault.TheVariants.{NoClass, Limit, DuplicateClass}
 use Rattle.msg_tables.specs.declared.presence.Presence.{Presence}
@@ -57,7 +55,7 @@ may_be_made h k d accepted =
     let none = neither_fault (no_number h k || no_superclass h d) (is_full h 0) (not (no_class h (of_class k))) accepted in
     let parts = neither (no_number h k) (no_superclass h d) none.0 in
     record {
-      inside = let n = length-supers h in let few : k < class_total h.image = grind (arith, nat_tests, parts.0) in omega (arith, n, few);
+      inside = let n = length-supers h in let few : k < class_total h.origin = grind (arith, nat_tests, parts.0) in omega (arith, n, few);
       absent = not_true (is_present (table h).supers k) none.1;
       superclass = there d parts.1;
     }
@@ -86,19 +84,19 @@ supers-and_then : (h : History) (x : Change) → (table (and_then h x)).supers �
 unfolding table_after
 supers-and_then h x = ap (λ t. t.supers) (table-and_then h x)
 
-ordered-on : (h : History) (xs : List Change) → Ordered (table h).supers → AreAccepted h xs → Ordered (table (record { image = h.image; changes = h.changes ++ xs })).supers
-ordered-on h [] o all = subst (λ cs. Ordered (table (record { image = h.image; changes = cs })).supers) (sym (append-nil h.changes)) o
+ordered-on : (h : History) (xs : List Change) → Ordered (table h).supers → AreAccepted h xs → Ordered (table (record { origin = h.origin; changes = h.changes ++ xs })).supers
+ordered-on h [] o all = subst (λ cs. Ordered (table (record { origin = h.origin; changes = cs })).supers) (sym (append-nil h.changes)) o
 ordered-on h (x ∷ xs) o all =
     let next = subst Ordered (sym (supers-and_then h x)) (ordered-after h x o all.0) in
-    subst (λ cs. Ordered (table (record { image = h.image; changes = cs })).supers) (append_assoc h.changes (x ∷ []) xs) (ordered-on (and_then h x) xs next all.1)
+    subst (λ cs. Ordered (table (record { origin = h.origin; changes = cs })).supers) (append_assoc h.changes (x ∷ []) xs) (ordered-on (and_then h x) xs next all.1)
 
-ordered-opened : (image : ImageParts) → IsSound image → Ordered (table (empty image)).supers
+ordered-opened : (o : OriginView) → IsSound o → Ordered (table (empty o)).supers
 unfolding table opening_table
-ordered-opened image sound = let (order, is) = order_exists (superclasses image) (classes-listed image sound) sound.chains in record { order = order; is = order-listed image order is }
+ordered-opened o sound = let (order, is) = order_exists o.superclasses sound.classes sound.chains in record { order = order; is = order-listed o order is }
 
-pub ordered : (h : History) → IsSound h.image → IsHistory h → Ordered (table h).supers
+pub ordered : (h : History) → IsSound h.origin → IsHistory h → Ordered (table h).supers
 unfolding IsHistory
-ordered h sound accepted = ordered-on (empty h.image) h.changes (ordered-opened h.image sound) accepted
+ordered h sound accepted = ordered-on (empty h.origin) h.changes (ordered-opened h.origin sound) accepted
 
 -- ---- a class that is made leaves the others as they are
 
@@ -134,7 +132,7 @@ module _ (supers : List (Option Presence)) (order : List ℕ) (is : IsOrder supe
       step true here = chain_up-stays (length supers) c here
       step false here = refl
 
-pub lookup-made : (h : History) (k : ℕ) (d : Option ℕ) (c : ClassRef) (s : ℕ) → IsSound h.image → IsHistory h → refusal h (AddClass k d) ≡ None → c.class ≢ k → lookup (and_then h (AddClass k d)) c s ≡ lookup h c s
+pub lookup-made : (h : History) (k : ℕ) (d : Option ℕ) (c : ClassRef) (s : ℕ) → IsSound h.origin → IsHistory h → refusal h (AddClass k d) ≡ None → c.class ≢ k → lookup (and_then h (AddClass k d)) c s ≡ lookup h c s
 unfolding lookup
 lookup-made h k d c s sound history accepted ne =
     let o = ordered h sound history in
@@ -142,7 +140,7 @@ lookup-made h k d c s sound history accepted ne =
     lookup-after h (AddClass k d) c s ∙ ap (λ cs. lookup_in (table h).rows cs s) (chain_of-stays (table h).supers o.order o.is k (record { superclass = d }) may.absent c ne)
 
 -- what a change doesn't affect finds what it found
-pub lookup-kept : (h : History) (x : Change) (c : ClassRef) (s : ℕ) → IsSound h.image → IsHistory h → refusal h x ≡ None → is_affected h x c ≡ false → lookup (and_then h x) c s ≡ lookup h c s
+pub lookup-kept : (h : History) (x : Change) (c : ClassRef) (s : ℕ) → IsSound h.origin → IsHistory h → refusal h x ≡ None → is_affected h x c ≡ false → lookup (and_then h x) c s ≡ lookup h c s
 unfolding is_affected
 lookup-kept h (Add d u i) c s sound history accepted e = lookup-unaffected h (Add d u i) c s refl e
 lookup-kept h (Replace d u i) c s sound history accepted e = lookup-unaffected h (Replace d u i) c s refl e
@@ -156,7 +154,7 @@ lookup-kept h (AddClass k d) c s sound history accepted e =
 -- ---- what a class inherits
 
 module _ (h : History) where
-  pub inherits : (c d : ClassRef) (s : ℕ) → IsSound h.image → IsHistory h → no_class h c ≡ false → has_own h c s ≡ false → superclass h c ≡ Some d → lookup h c s ≡ lookup h d s
+  pub inherits : (c d : ClassRef) (s : ℕ) → IsSound h.origin → IsHistory h → no_class h c ≡ false → has_own h c s ≡ false → superclass h c ≡ Some d → lookup h c s ≡ lookup h d s
   unfolding lookup has_own superclass
   inherits c d s sound history listed none above' =
       let o = ordered h sound history in
@@ -182,7 +180,7 @@ module _ (h : History) where
           ap (λ x. option_map_or (λ (q : Presence). above (of_meta k) q.superclass) x None) here ∙ root p.superclass up
 
   -- up to a class reference above which nothing stands
-  pub ends : (c : ClassRef) → IsSound h.image → IsHistory h → no_class h c ≡ false → EndsAtRoot h c
+  pub ends : (c : ClassRef) → IsSound h.origin → IsHistory h → no_class h c ≡ false → EndsAtRoot h c
   unfolding superclass chain_at chain_of
   ends c sound history listed =
       let o = ordered h sound history in
@@ -220,32 +218,32 @@ presence-after h (AddClass j d) k accepted here =
     get_or-set_other (table h).supers j k (Some (record { superclass = d })) None (λ same. let gone : is_present (table h).supers j ≡ true = subst (λ i. is_present (table h).supers i ≡ true) same here in let clash : true ≡ false = sym gone ∙ may.absent in cc)
 
 pub presence-on : (h : History) (xs : List Change) (k : ℕ) → AreAccepted h xs → is_present (table h).supers k ≡ true
-    → presence_of (table (record { image = h.image; changes = h.changes ++ xs })).supers k ≡ presence_of (table h).supers k
-presence-on h [] k all here = ap (λ cs. presence_of (table (record { image = h.image; changes = cs })).supers k) (append-nil h.changes)
+    → presence_of (table (record { origin = h.origin; changes = h.changes ++ xs })).supers k ≡ presence_of (table h).supers k
+presence-on h [] k all here = ap (λ cs. presence_of (table (record { origin = h.origin; changes = cs })).supers k) (append-nil h.changes)
 presence-on h (x ∷ xs) k all here =
     let first = ap (λ supers. presence_of supers k) (supers-and_then h x) ∙ presence-after h x k all.0 here in
-    ap (λ cs. presence_of (table (record { image = h.image; changes = cs })).supers k) (sym (append_assoc h.changes (x ∷ []) xs))
+    ap (λ cs. presence_of (table (record { origin = h.origin; changes = cs })).supers k) (sym (append_assoc h.changes (x ∷ []) xs))
     ∙ presence-on (and_then h x) xs k all.1 (ap is_some first ∙ here) ∙ first
 
 pub superclass-stays : (p h : History) (c : ClassRef) → BeginsWith p h → IsHistory p → no_class h c ≡ false → superclass p c ≡ superclass h c
 unfolding superclass IsHistory
 superclass-stays p h c begins history listed =
     let (more, changes) = begins.rest in
-    let all = accepted-suffix (empty h.image) h.changes more (subst (λ image. AreAccepted (empty image) (h.changes ++ more)) begins.same (subst (AreAccepted (empty p.image)) changes history)) in
-    let same : p ≡ record { image = h.image; changes = h.changes ++ more } = λ i. record { image = begins.same i; changes = changes i } in
+    let all = accepted-suffix (empty h.origin) h.changes more (subst (λ o. AreAccepted (empty o) (h.changes ++ more)) begins.same (subst (AreAccepted (empty p.origin)) changes history)) in
+    let same : p ≡ record { origin = h.origin; changes = h.changes ++ more } = λ i. record { origin = begins.same i; changes = changes i } in
     ap (λ (q : History). super_of (table q).supers c) same
     ∙ ap (λ o. option_map_or (λ (q : Presence). above c q.superclass) o None) (presence-on h more c.class all (is-there h c listed))
 
 -- ---- the classes at which an accepted change seeks its methods
 
-there_inside : (h : History) (c : ClassRef) → no_class h c ≡ false → c.class < class_total h.image
+there_inside : (h : History) (c : ClassRef) → no_class h c ≡ false → c.class < class_total h.origin
 there_inside h c e = let n = length-supers h in let inside = present-inside (table h).supers c.class (is-there h c e) in omega (arith, n, inside)
 
 first_false : (b : Bool) (f : ChangeFault) (fs : List (Bool × ChangeFault)) → least_change_fault ((b, f) ∷ fs) ≡ None → b ≡ false
 first_false true f fs e = cc
 first_false false f fs e = refl
 
-pub seeks-listed : (h : History) (x : Change) → refusal h x ≡ None → SeeksAmong (class_total h.image) x
+pub seeks-listed : (h : History) (x : Change) → refusal h x ≡ None → SeeksAmong (class_total h.origin) x
 unfolding refusal
 seeks-listed h (Add c s i) none = tt
 seeks-listed h (Replace c s i) none = tt
@@ -256,6 +254,6 @@ seeks-listed h (Exchange c s d u) none =
     (there_inside h c own', there_inside h d other)
 seeks-listed h (AddClass k d) none = at d (may_be_made h k d none).superclass
   where
-    at : (o : Option ℕ) → IfSome o (λ e. is_present (table h).supers e ≡ true) → IfSome o (λ e. e < class_total h.image)
+    at : (o : Option ℕ) → IfSome o (λ e. is_present (table h).supers e ≡ true) → IfSome o (λ e. e < class_total h.origin)
     at None there = tt
     at (Some e) there = let n = length-supers h in let inside = present-inside (table h).supers e there in omega (arith, n, inside)

@@ -1,24 +1,24 @@
 -- What tables that stand at a history know of it.
-use Rattle.std.proofs.Common.{◌≡◌, ◌-◌, ℕ, length, slice_get, ap, ◌∙◌}
-use Rattle.std.proofs.lemmas.List.{length-map}
-use Rattle.std.proofs.lemmas.Option.{slice_get-map}
-use Rattle.msg_names.specs.Name.{colons_of}
-use Rattle.msg_image.specs.Parts.{ImpParts, class_total}
+use Rattle.std.proofs.Common.{◌≡◌, ℕ, length, ap, ◌∙◌}
 use Rattle.msg_tables.specs.History.{History}
-use Rattle.msg_tables.specs.Refusal.{colons_at, args_at}
+use Rattle.msg_tables.specs.Origin.{class_total, lacks_imp, misfits_in, unlike_in}
+use Rattle.msg_tables.specs.Refusal.{no_imp, misfits, unlike}
 use Rattle.msg_tables.specs.Stands.{StandsAt}
 use Rattle.msg_tables.specs.View.{TablesView}
 use Rattle.msg_tables.proofs.HistoryLemmas.{length-supers}
 
 module _ (t : TablesView) (h : History) (stands : StandsAt t h) where
-  pub class_count : length t.supers ≡ class_total h.image
+  pub class_count : length t.supers ≡ class_total h.origin
   class_count = ap length stands.supers ∙ length-supers h
 
-  pub imp_count : length t.args ≡ length h.image.imps
-  imp_count = ap length stands.args ∙ length-map h.image.imps (λ (m : ImpParts). m.args)
+  pub imp-stands : (i : ℕ) → lacks_imp t.counts i ≡ no_imp h i
+  unfolding no_imp
+  imp-stands i = ap (λ cs. lacks_imp cs i) stands.counts
 
-  pub colons-stand : (s : ℕ) → slice_get t.colons (s - 1) ≡ colons_at h s
-  colons-stand s = ap (λ cs. slice_get cs (s - 1)) stands.colons ∙ slice_get-map colons_of h.image.names (s - 1)
+  pub misfits-stand : (s i : ℕ) → misfits_in t.counts s i ≡ misfits h s i
+  unfolding misfits
+  misfits-stand s i = ap (λ cs. misfits_in cs s i) stands.counts
 
-  pub args-stand : (i : ℕ) → slice_get t.args (i - 1) ≡ args_at h i
-  args-stand i = ap (λ as'. slice_get as' (i - 1)) stands.args ∙ slice_get-map (λ (m : ImpParts). m.args) h.image.imps (i - 1)
+  pub unlike-stand : (s u : ℕ) → unlike_in t.counts s u ≡ unlike h s u
+  unfolding unlike
+  unlike-stand s u = ap (λ cs. unlike_in cs s u) stands.counts

@@ -1,5 +1,6 @@
 -- The first of a list, one more at a time.
-use Rattle.std.proofs.Common.{◌≡◌, ◌<◌, ◌≤◌, ◌+◌, ℕ, zero, suc, List, [], ◌∷◌, ◌++◌, take, take_all, drop, append-nil, map, length, Some, option_map, slice_get, refl, ap, ◌∙◌, arith}
+use Rattle.std.proofs.Common.{◌≡◌, ◌<◌, ◌≤◌, ◌+◌, ℕ, zero, suc, List, [], ◌∷◌, ◌++◌, take, take_all, drop, append-nil, map, length, Some, option_map, slice_get, refl, ap, ◌∙◌, subst, arith}
+use Rattle.std.specs.Prelude.{All}
 use Rattle.std.proofs.lemmas.List.{take_more}
 use Rattle.std.proofs.Math.Seq.{drop-length}
 use Rattle.std.proofs.lemmas.Option.{slice_get_within, slice_get-map, get_or_from_slice_get}
@@ -24,3 +25,7 @@ length-take_inside (x ∷ xs) (suc k) inside = ap suc (length-take_inside xs k (
 pub whole : {X : Type 0} (xs ys : List X) (n : ℕ) → length xs ≡ length ys → n ≡ length ys → take n (xs ++ drop (length xs) ys) ≡ xs
 whole xs ys n same count =
     ap (λ k. take n (xs ++ drop k ys)) same ∙ ap (λ zs. take n (xs ++ zs)) (drop-length ys) ∙ ap (take n) (append-nil xs) ∙ take_all n xs (omega (arith, same, count))
+
+-- what holds of all holds of the one at a place
+pub All-at : {X : Type 0} (P : X → Type 0) (xs : List X) (k : ℕ) (x : X) → All P xs → slice_get xs k ≡ Some x → P x
+All-at P xs k x all at = subst P (get_or_from_slice_get xs k x x at) (all k x (slice_get_within xs k x at))

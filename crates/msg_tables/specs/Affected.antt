@@ -3,8 +3,8 @@ use Rattle.std.specs.Prelude.{Bool, false, ◌==◌, ◌||◌, List, [], ◌∷�
 use Rattle.std.specs.List.{list_any}
 use Rattle.msg_names.specs.declared.value.ClassRef.{ClassRef}
 use Rattle.msg_names.specs.Number.{selector_number}
-use Rattle.msg_image.specs.declared.change.Change.{Change}
-use Rattle.msg_image.specs.declared.change.Change.TheVariants.{Add, Replace, SetImp, Exchange, Attach, AddClass}
+use Rattle.msg_tables.specs.declared.change.Change.{Change}
+use Rattle.msg_tables.specs.declared.change.Change.TheVariants.{Add, Replace, SetImp, Exchange, Attach, AddClass}
 use Rattle.msg_tables.specs.Chain.{is_member}
 use Rattle.msg_tables.specs.After.{of_class, of_meta}
 use Rattle.msg_tables.specs.History.{History, holder, chain_at}

@@ -1,13 +1,13 @@
 -- What the changes do to the rows.
-use Rattle.std.specs.Prelude.{ℕ, ◌+◌, ◌&&◌, true, false, List, [], ◌∷◌, ◌++◌, Option, Some, None, if◌then◌else◌, is_some, is_none, map, replicate, reverse, slice_set, length}
+use Rattle.std.specs.Prelude.{ℕ, ◌&&◌, true, false, List, [], ◌∷◌, ◌++◌, Option, Some, None, if◌then◌else◌, is_some, is_none, map, replicate, reverse, slice_set}
 use Rattle.msg_names.specs.declared.value.ClassRef.{ClassRef}
 use Rattle.msg_names.specs.declared.value.Selector.{Selector}
 use Rattle.msg_names.specs.declared.value.ImpRef.{ImpRef}
 use Rattle.msg_names.specs.Number.{selector_number, imp_number}
-use Rattle.msg_image.specs.Parts.{ImageParts, ClassParts}
-use Rattle.msg_image.specs.declared.image.Category.{Category}
-use Rattle.msg_image.specs.declared.change.Change.{Change}
-use Rattle.msg_image.specs.declared.change.Change.TheVariants.{Add, Replace, SetImp, Exchange, Attach, AddClass}
+use Rattle.msg_tables.specs.Origin.{OriginView}
+use Rattle.msg_tables.specs.declared.origin.MethodsOf.{MethodsOf}
+use Rattle.msg_tables.specs.declared.change.Change.{Change}
+use Rattle.msg_tables.specs.declared.change.Change.TheVariants.{Add, Replace, SetImp, Exchange, Attach, AddClass}
 use Rattle.msg_tables.specs.declared.presence.Presence.{Presence}
 use Rattle.msg_tables.specs.Rows.{Row, ClassTable, is_at, own, holder_at, lookup_at}
 
@@ -23,26 +23,18 @@ of_meta k = record { class = k; meta = true }
 abbrev pub rows_at : ClassRef → List (ℕ × ℕ) → List Row
 rows_at c methods = map (λ m. record { class = c; sel = m.0; imp = m.1 }) methods
 
--- the rows of listed classes, numbered from k
-abbrev pub class_rows : ℕ → List ClassParts → List Row
-class_rows k [] = []
-class_rows k (c ∷ cs) = rows_at (of_class k) c.methods ++ rows_at (of_meta k) c.class_methods ++ class_rows (k + 1) cs
+-- the rows of method lists, which are attached one after another
+abbrev pub list_rows : List MethodsOf → List Row
+list_rows [] = []
+list_rows (l ∷ ls) = rows_at l.class l.methods ++ list_rows ls
 
--- the rows of listed categories, which are attached one after another
-abbrev pub category_rows : List Category → List Row
-category_rows [] = []
-category_rows (c ∷ cs) = rows_at (of_class c.class) c.methods ++ rows_at (of_meta c.class) c.class_methods ++ category_rows cs
+-- the listed classes are present as tables are opened, and the classes that may be made aren't
+abbrev pub opened_supers : OriginView → List (Option Presence)
+opened_supers o = map (λ (d : Option ℕ). Some (record { superclass = d })) o.superclasses ++ replicate o.made None
 
--- the listed classes are present as an image is opened, and the classes that may be made aren't
-abbrev pub opened_supers : ImageParts → List (Option Presence)
-opened_supers image = map (λ (c : ClassParts). Some (record { superclass = c.superclass })) image.classes ++ replicate (length image.made) None
-
--- the tables as an image is opened
-unfoldable pub opening_table : ImageParts → ClassTable
-opening_table image = record {
-  supers = opened_supers image;
-  rows = class_rows 0 image.classes ++ category_rows image.categories;
-}
+-- the tables as they are opened
+unfoldable pub opening_table : OriginView → ClassTable
+opening_table o = record { supers = opened_supers o; rows = list_rows o.lists }
 
 -- another implementation in the own row
 abbrev pub set_own : ClassRef → ℕ → ℕ → List Row → List Row

@@ -1,8 +1,7 @@
 -- What an accepted change writes.
 use Rattle.std.specs.Prelude.{◌≡◌, ◌<◌, ◌≤◌, ℕ, ◌+◌, List, [], ◌∷◌, ◌++◌, Some, None, Result, Ok, Err, IsSome, length, reverse, true, false, Option, IfSome, slice_set}
-use Rattle.msg_tables.specs.declared.tables.TheConstants.{MAX_ROWS, MAX_CHANGES}
 use Rattle.msg_names.specs.Number.{selector_number, imp_number}
-use Rattle.msg_image.specs.declared.change.Change.{Change}
+use Rattle.msg_tables.specs.declared.change.Change.{Change}
 use Rattle.msg_tables.specs.declared.edit.MethodRow.{MethodRow}
 use Rattle.msg_tables.specs.declared.edit.Edit.{Edit}
 use Rattle.msg_tables.specs.declared.edit.Edit.TheVariants.{Append, Rewrite, RewriteBoth, Attach, Make}
@@ -15,7 +14,8 @@ use Rattle.msg_tables.specs.After.{row, rows_at, of_class, of_meta, set_own, row
 use Rattle.msg_tables.specs.History.{History, table}
 use Rattle.msg_tables.specs.Refusal.{refusal}
 use Rattle.msg_tables.specs.Stands.{Holds}
-use Rattle.msg_tables.specs.View.{TablesView, kept, are_listed}
+use Rattle.msg_tables.specs.View.{TablesView, kept}
+use Rattle.msg_tables.specs.Origin.{last_imp, are_listed}
 
 -- another implementation in the own row
 abbrev pub rewritten : MethodRow → List Row → List Row
@@ -46,21 +46,21 @@ added (Make k d) = 0
 pub record IsOwn (t : TablesView) (r : MethodRow) : Type 0 where
   pub class : r.class.class < length t.supers
   pub own : IsSome (own_in (selector_number r.sel) (kept t.lists r.class))
-  pub imp : imp_number r.imp ≤ length t.args
+  pub imp : imp_number r.imp ≤ last_imp t.counts
 
 -- the edit names what there is
 abbrev pub IsOfTables : TablesView → Edit → Type 0
-IsOfTables t (Append r) = (r.class.class < length t.supers) × (imp_number r.imp ≤ length t.args)
+IsOfTables t (Append r) = (r.class.class < length t.supers) × (imp_number r.imp ≤ last_imp t.counts)
 IsOfTables t (Rewrite r) = IsOwn t r
 IsOfTables t (RewriteBoth first second) = IsOwn t first × IsOwn t second
-IsOfTables t (Attach k methods class_methods) = (k < length t.supers) × (are_listed (length t.args) methods.now ≡ true) × (are_listed (length t.args) class_methods.now ≡ true)
+IsOfTables t (Attach k methods class_methods) = (k < length t.supers) × (are_listed (last_imp t.counts) methods.now ≡ true) × (are_listed (last_imp t.counts) class_methods.now ≡ true)
 IsOfTables t (Make k d) = (k < length t.supers) × (is_present t.supers k ≡ false) × IfSome d (λ e. is_present t.supers e ≡ true)
 
 -- there is room for it, and it names what there is
 pub record Fits (t : TablesView) (e : Edit) : Type 0 where
   pub named : IsOfTables t e
-  pub rows : t.row_count + added e ≤ MAX_ROWS
-  pub changes : t.change_count < MAX_CHANGES
+  pub rows : t.row_count + added e ≤ t.limits.rows
+  pub changes : t.change_count < t.limits.changes
 
 -- a change was judged at a history
 abbrev pub Judges : History → Change → Result Edit ChangeFault → Type 0

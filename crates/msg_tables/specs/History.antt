@@ -1,24 +1,24 @@
 -- Histories of the class tables.
 use Rattle.std.specs.Prelude.{◌≡◌, ℕ, List, [], ◌∷◌, ◌++◌, Option}
 use Rattle.msg_names.specs.declared.value.ClassRef.{ClassRef}
-use Rattle.msg_image.specs.Parts.{ImageParts}
-use Rattle.msg_image.specs.declared.change.Change.{Change}
+use Rattle.msg_tables.specs.Origin.{OriginView}
+use Rattle.msg_tables.specs.declared.change.Change.{Change}
 use Rattle.msg_tables.specs.Chain.{super_of}
 use Rattle.msg_tables.specs.Rows.{ClassTable, chain, holder_at, lookup_at}
 use Rattle.msg_tables.specs.After.{opening_table, table_after}
 
--- an image and the changes that were accepted, oldest first
+-- what tables were opened of, and the changes that were accepted, oldest first
 pub record History : Type 0 where
-  pub image : ImageParts
+  pub origin : OriginView
   pub changes : List Change
 
--- the history of an image that was just opened
-abbrev pub empty : ImageParts → History
-empty image = record { image = image; changes = [] }
+-- the history of tables that were just opened
+abbrev pub empty : OriginView → History
+empty o = record { origin = o; changes = [] }
 
 -- the history longer by a change
 abbrev pub and_then : History → Change → History
-and_then h x = record { image = h.image; changes = h.changes ++ x ∷ [] }
+and_then h x = record { origin = h.origin; changes = h.changes ++ x ∷ [] }
 
 abbrev pub table_after_all : ClassTable → List Change → ClassTable
 table_after_all t [] = t
@@ -26,7 +26,7 @@ table_after_all t (x ∷ xs) = table_after_all (table_after t x) xs
 
 -- the tables at a history
 unfoldable pub table : History → ClassTable
-table h = table_after_all (opening_table h.image) h.changes
+table h = table_after_all (opening_table h.origin) h.changes
 
 -- the implementation that a lookup finds at a history, by number, or 0 for forwarding
 unfoldable pub lookup : History → ClassRef → ℕ → ℕ
@@ -46,5 +46,5 @@ chain_at h c = chain (table h) c
 
 -- p begins with g: g is a prefix of p
 pub record BeginsWith (p g : History) : Type 0 where
-  pub same : p.image ≡ g.image
+  pub same : p.origin ≡ g.origin
   pub rest : (more : List Change) × (p.changes ≡ g.changes ++ more)

@@ -2,7 +2,7 @@
 use Rattle.std.specs.Prelude.{◌≡◌, ℕ, ◌-◌, min, nat_eq, vec_len}
 use Rattle.std.specs.Vec.{vec_capacity}
 use Rattle.std.specs.HashMap.{get, spare}
-use Rattle.msg_image.specs.Methods.{method_numbers}
+use Rattle.msg_tables.specs.Methods.{method_numbers}
 use Rattle.msg_tables.specs.RowList.{RowList, last_index}
 use Rattle.msg_tables.specs.declared.rows.MethodRows.TheInside.{Inside}
 

@@ -2,12 +2,12 @@
 use Rattle.std.specs.Prelude.{◌≡◌, ◌≤◌, ◌*◌, true, length}
 use Rattle.std.specs.List.{list_all}
 use Rattle.std.specs.Vec.{vec_capacity}
-use Rattle.msg_form.specs.declared.limits.TheConstants.{MAX_CLASSES}
-use Rattle.msg_tables.specs.declared.tables.TheConstants.{MAX_ROWS, MAX_CHANGES}
+use Rattle.msg_tables.specs.declared.limits.TheConstants.{MAX_CLASSES}
 use Rattle.msg_tables.specs.Order.{IsOrder}
 use Rattle.msg_tables.specs.Preorder.{HavePreorder}
 use Rattle.msg_tables.specs.RowList.{rows_of}
-use Rattle.msg_tables.specs.View.{TablesView, are_listed}
+use Rattle.msg_tables.specs.View.{TablesView}
+use Rattle.msg_tables.specs.Origin.{last_imp, are_listed}
 use Rattle.msg_tables.specs.declared.tables.Tables.TheInside.{Inside}
 
 -- what contracts see of tables
@@ -16,8 +16,8 @@ view_of t = record {
   supers = t.supers.items;
   order = t.order.items;
   lists = rows_of t.lists.items;
-  colons = t.colons.items;
-  args = t.args.items;
+  counts = t.counts;
+  limits = t.limits;
   row_count = t.row_count;
   change_count = t.change_count;
 }
@@ -32,7 +32,7 @@ pub record AreSoundTables (t : Inside) : Type 0 where
   pub preorder : HavePreorder t.supers.items t.preorder.depths.items t.preorder.nexts.items
   -- there is a list for each class reference
   pub lists : length t.lists.items ≡ 2 * length t.supers.items
-  pub listed : list_all (are_listed (length t.args.items)) (rows_of t.lists.items) ≡ true
+  pub listed : list_all (are_listed (last_imp t.counts)) (rows_of t.lists.items) ≡ true
   pub few_classes : length t.supers.items ≤ MAX_CLASSES
-  pub few_rows : t.row_count ≤ MAX_ROWS
-  pub few_changes : t.change_count ≤ MAX_CHANGES
+  pub few_rows : t.row_count ≤ t.limits.rows
+  pub few_changes : t.change_count ≤ t.limits.changes

@@ -1,16 +1,13 @@
 -- When changes are refused, and which lists of changes are histories.
-use Rattle.std.specs.Prelude.{◌≡◌, ℕ, ◌+◌, ◌-◌, ◌==◌, ◌||◌, not, nat_lt, nat_le, Bool, true, false, List, [], ◌∷◌, ◌++◌, Option, Some, None, option_map, if◌then◌else◌, slice_get, length, is_some, is_none}
+use Rattle.std.specs.Prelude.{◌≡◌, ℕ, ◌+◌, ◌||◌, not, nat_lt, nat_le, Bool, false, List, [], ◌∷◌, ◌++◌, Option, Some, None, if◌then◌else◌, length, is_some, is_none}
 use Rattle.std.specs.List.{list_any}
-use Rattle.msg_tables.specs.declared.tables.TheConstants.{MAX_CHANGES, MAX_ROWS}
 use Rattle.msg_names.specs.declared.value.ClassRef.{ClassRef}
 use Rattle.msg_names.specs.declared.value.Selector.{Selector}
 use Rattle.msg_names.specs.declared.value.ImpRef.{ImpRef}
-use Rattle.msg_names.specs.Name.{colons_of}
 use Rattle.msg_names.specs.Number.{selector_number, imp_number}
-use Rattle.msg_names.specs.Numbering.{name_at}
-use Rattle.msg_image.specs.Parts.{ImpParts, class_total}
-use Rattle.msg_image.specs.declared.change.Change.{Change}
-use Rattle.msg_image.specs.declared.change.Change.TheVariants.{Add, Replace, SetImp, Exchange, Attach, AddClass}
+use Rattle.msg_tables.specs.Origin.{class_total, lacks_imp, misfits_in, unlike_in}
+use Rattle.msg_tables.specs.declared.change.Change.{Change}
+use Rattle.msg_tables.specs.declared.change.Change.TheVariants.{Add, Replace, SetImp, Exchange, Attach, AddClass}
 use Rattle.msg_tables.specs.declared.fault.ChangeFault.{ChangeFault}
 use Rattle.msg_tables.specs.declared.fault.ChangeFault.TheVariants.{NoClass, NoImp, ArgumentCount, MethodPresent, NoMethod, Limit, DuplicateClass}
 use Rattle.msg_tables.specs.Chain.{is_present}
@@ -24,7 +21,7 @@ no_class h c = not (is_present (table h).supers c.class)
 
 -- no class can be made with this number
 unfoldable pub no_number : History → ℕ → Bool
-no_number h k = nat_le (class_total h.image) k
+no_number h k = nat_le (class_total h.origin) k
 
 -- the superclass that is named isn't present
 abbrev pub no_superclass : History → Option ℕ → Bool
@@ -33,28 +30,15 @@ no_superclass h (Some d) = no_class h (of_class d)
 
 -- no implementation has this number
 unfoldable pub no_imp : History → ℕ → Bool
-no_imp h i = (i == 0) || nat_lt (length h.image.imps) i
-
--- how many arguments a selector takes, if it is one of the image's
-abbrev pub colons_at : History → ℕ → Option ℕ
-colons_at h s = option_map colons_of (name_at h.image.names s)
-
--- how many arguments an implementation takes
-abbrev pub args_at : History → ℕ → Option ℕ
-args_at h i = option_map (λ (m : ImpParts). m.args) (slice_get h.image.imps (i - 1))
-
--- two counts that aren't known to be one
-abbrev pub differ : Option ℕ → Option ℕ → Bool
-differ (Some n) (Some m) = not (n == m)
-differ _ _ = true
+no_imp h i = lacks_imp h.origin.counts i
 
 -- a selector and an implementation that take different numbers of arguments
 unfoldable pub misfits : History → ℕ → ℕ → Bool
-misfits h s i = differ (colons_at h s) (args_at h i)
+misfits h s i = misfits_in h.origin.counts s i
 
 -- two selectors that take different numbers of arguments
 unfoldable pub unlike : History → ℕ → ℕ → Bool
-unlike h s u = differ (colons_at h s) (colons_at h u)
+unlike h s u = unlike_in h.origin.counts s u
 
 -- the class itself has the method
 unfoldable pub has_own : History → ClassRef → ℕ → Bool
@@ -66,7 +50,7 @@ no_method h c s = is_none (holder h c s)
 
 -- no more changes are accepted, or n more rows would be too many
 unfoldable pub is_full : History → ℕ → Bool
-is_full h n = nat_le MAX_CHANGES (length h.changes) || nat_lt MAX_ROWS (length (table h).rows + n)
+is_full h n = nat_le h.origin.limits.changes (length h.changes) || nat_lt h.origin.limits.rows (length (table h).rows + n)
 
 -- the first fault whose condition holds
 abbrev pub least_change_fault : List (Bool × ChangeFault) → Option ChangeFault
@@ -105,4 +89,4 @@ AreAccepted h (x ∷ xs) = (refusal h x ≡ None) × AreAccepted (and_then h x) 
 
 -- changes that were accepted one after another
 unfoldable pub IsHistory : History → Type 0
-IsHistory h = AreAccepted (empty h.image) h.changes
+IsHistory h = AreAccepted (empty h.origin) h.changes

@@ -1,8 +1,6 @@
 -- Where tables stand.
-use Rattle.std.specs.Prelude.{◌≡◌, ℕ, List, [], ◌∷◌, map, length, if◌then◌else◌}
+use Rattle.std.specs.Prelude.{◌≡◌, ℕ, List, [], ◌∷◌, length, if◌then◌else◌}
 use Rattle.msg_names.specs.declared.value.ClassRef.{ClassRef}
-use Rattle.msg_names.specs.Name.{colons_of}
-use Rattle.msg_image.specs.Parts.{ImpParts}
 use Rattle.msg_names.specs.ClassRef.{same_class}
 use Rattle.msg_tables.specs.Rows.{Row}
 use Rattle.msg_tables.specs.History.{History, table}
@@ -25,5 +23,5 @@ pub record StandsAt (t : TablesView) (h : History) : Type 0 where
   pub rows : Holds t.lists (table h).rows
   pub row_count : t.row_count ≡ length (table h).rows
   pub changes : t.change_count ≡ length h.changes
-  pub colons : t.colons ≡ map colons_of h.image.names
-  pub args : t.args ≡ map (λ (m : ImpParts). m.args) h.image.imps
+  pub counts : t.counts ≡ h.origin.counts
+  pub limits : t.limits ≡ h.origin.limits

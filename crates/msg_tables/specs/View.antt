@@ -1,11 +1,11 @@
 -- What contracts see of `Tables`.
-use Rattle.std.specs.Prelude.{ℕ, ◌-◌, ◌==◌, ◌||◌, nat_lt, length, slice_get, nat_le, List, [], ◌∷◌, Option, Some, None, Bool, slice_index_or}
-use Rattle.std.specs.List.{list_all}
+use Rattle.std.specs.Prelude.{ℕ, List, [], ◌∷◌, Option, Some, None, slice_index_or}
 use Rattle.std.specs.Option.{option_map_or}
 use Rattle.msg_names.specs.ClassRef.{slot_of}
 use Rattle.msg_names.specs.declared.value.ClassRef.{ClassRef}
 use Rattle.msg_tables.specs.declared.presence.Presence.{Presence}
-use Rattle.msg_tables.specs.Refusal.{differ}
+use Rattle.msg_tables.specs.Origin.{CountsView}
+use Rattle.msg_tables.specs.declared.limits.Limits.{Limits}
 use Rattle.msg_tables.specs.RowList.{own_in}
 
 -- what contracts see of tables
@@ -16,9 +16,8 @@ pub record TablesView : Type 0 where
   pub order : List ℕ
   -- the rows of each class reference, at its place, oldest first
   pub lists : List (List (ℕ × ℕ))
-  -- how many arguments each selector and each implementation takes, from number 1
-  pub colons : List ℕ
-  pub args : List ℕ
+  pub counts : Option CountsView
+  pub limits : Limits
   pub row_count : ℕ
   pub change_count : ℕ
 
@@ -30,15 +29,3 @@ kept lists c = slice_index_or lists (slot_of c) []
 abbrev pub kept_method : List (List (ℕ × ℕ)) → List ClassRef → ℕ → Option (ClassRef × ℕ)
 kept_method lists [] s = None
 kept_method lists (c ∷ cs) s = option_map_or (λ i. Some (c, i)) (own_in s (kept lists c)) (kept_method lists cs s)
-
--- each row's implementation is one of the first n
-abbrev pub are_listed : ℕ → List (ℕ × ℕ) → Bool
-are_listed n rows = list_all (λ m. nat_le m.1 n) rows
-
--- no implementation has this number
-abbrev pub lacks_imp : TablesView → ℕ → Bool
-lacks_imp t i = (i == 0) || nat_lt (length t.args) i
-
--- a selector and an implementation that take different numbers of arguments
-abbrev pub misfits_in : TablesView → ℕ → ℕ → Bool
-misfits_in t s i = differ (slice_get t.colons (s - 1)) (slice_get t.args (i - 1))

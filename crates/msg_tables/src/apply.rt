@@ -9,12 +9,13 @@ ghost use Rattle.msg_tables.specs.History.{History, and_then};
 ghost use Rattle.msg_tables.specs.Refusal.{refusal};
 ghost use Rattle.msg_tables.specs.Stands.{StandsAt};
 
+use crate::change::Change;
 use crate::edit::{Edit, MethodRow};
 use crate::fault::ChangeFault;
 use crate::lists::{append_row, attach_rows, rewrite_row};
+use crate::methods::MethodList;
 use crate::presence::Presence;
 use crate::tables::Tables;
-use msg_image::{Change, MethodList};
 use msg_names::ClassRef;
 use std::alloc::AllocError;
 
@@ -116,7 +117,7 @@ impl Tables {
         ensures err { OnErr result (self.new ≡ self.old) }
         ensures fault { IfErr result (λ f. f ≢ ChangeFault.Memory → (h : History) → StandsAt self.old h → refusal h change.now ≡ Some f) }
         ensures classes { length self.new.supers ≡ length self.old.supers }
-        ensures imps { length self.new.args ≡ length self.old.args }
+        ensures counts { self.new.counts ≡ self.old.counts }
         ensures memory { IsErrOf result ChangeFault.Memory → (h : History) → StandsAt self.old h → (refusal h change.now ≡ None) × AddsRows h change.now }
     {
         let edit = self.judge(change)?;

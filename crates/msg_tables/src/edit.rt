@@ -1,6 +1,6 @@
 //! What an accepted change writes.
 
-use msg_image::MethodList;
+use crate::methods::MethodList;
 use msg_names::{ClassRef, ImpRef, Selector};
 
 // A row: at the class reference the selector has the implementation.

@@ -10,13 +10,13 @@ use thiserror::Error;
 /// Why a change was not made. Where several hold, the first is answered; memory is wanted only after all others were excluded.
 #[derive(Clone, Copy, Debug, PartialEq, Eq, Error)]
 pub enum ChangeFault {
-    /// A class number isn't the image's.
+    /// No class has the number.
     #[error("no class")]
     NoClass,
-    /// An implementation is forwarding, or isn't the image's.
+    /// An implementation is forwarding, or none has the number.
     #[error("no implementation")]
     NoImp,
-    /// A selector isn't the image's, or takes another number of arguments than the implementation, or than the other selector.
+    /// No selector has the number, or one takes another number of arguments than the implementation, or than the other selector.
     #[error("argument count")]
     ArgumentCount,
     /// The class itself has the method already.
@@ -25,7 +25,7 @@ pub enum ChangeFault {
     /// Neither the class nor a superclass has the method.
     #[error("no method")]
     NoMethod,
-    /// 65,536 changes were accepted, or more than 16,384 rows would stand.
+    /// As many changes were accepted as may be, or more rows would stand than may.
     #[error("limit")]
     Limit,
     /// A growth was refused.

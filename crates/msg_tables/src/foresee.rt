@@ -13,8 +13,9 @@ ghost use Rattle.msg_tables.specs.Rows.{own};
 ghost use Rattle.msg_tables.specs.Stands.{StandsAt};
 ghost use Rattle.msg_tables.specs.Written.{written, at_ref, SeeksAmong};
 
+use crate::change::Change;
+use crate::methods::MethodList;
 use crate::tables::Tables;
-use msg_image::{Change, MethodList};
 use msg_names::{ClassRef, ImpRef, Selector};
 
 // The implementation of the first entry of a selector.

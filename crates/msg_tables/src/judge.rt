@@ -4,29 +4,22 @@ ghost use Rattle.std.specs.Prelude.{◌≡◌, ◌<◌, ◌≤◌, ◌+◌, ◌-
 ghost use Rattle.msg_tables.specs.Chain.{is_present};
 ghost use Rattle.std.specs.List.{list_any};
 ghost use Rattle.msg_names.specs.Number.{selector_number, imp_number};
-ghost use Rattle.msg_image.specs.declared.change.Change.{Change};
+ghost use Rattle.msg_tables.specs.declared.change.Change.{Change};
 ghost use Rattle.msg_tables.specs.History.{History};
 ghost use Rattle.msg_tables.specs.Refusal as spec;
 ghost use Rattle.msg_tables.specs.Edits.{Fits, Judges};
 ghost use Rattle.msg_tables.specs.Stands.{StandsAt};
 ghost use Rattle.msg_tables.specs.RowList.{own_in};
-ghost use Rattle.msg_tables.specs.View.{kept, are_listed, lacks_imp, misfits_in};
+ghost use Rattle.msg_tables.specs.View.{kept};
+ghost use Rattle.msg_tables.specs.Origin.{last_imp, are_listed, lacks_imp, misfits_in};
 
+use crate::change::Change;
+use crate::counts::{last_imp, misfits, unlike};
 use crate::edit::{Edit, MethodRow};
 use crate::fault::ChangeFault;
-use crate::tables::{MAX_CHANGES, MAX_ROWS, Tables};
-use msg_image::{Change, MethodList};
+use crate::methods::MethodList;
+use crate::tables::Tables;
 use msg_names::{ClassRef, ImpRef, Selector};
-
-// Two counts that aren't known to be one.
-fn differ(a: Option<u8>, b: Option<u8>) -> bool
-    ensures { result ≡ spec.differ a b }
-{
-    match (a, b) {
-        (Some(a), Some(b)) => a != b,
-        _ => true,
-    }
-}
 
 fn row(class: ClassRef, sel: Selector, imp: ImpRef) -> MethodRow
     ensures { result ≡ record { class = class; sel = sel; imp = imp } }
@@ -74,40 +67,24 @@ impl Tables {
     }
 
     fn no_imp(&self, imp: ImpRef) -> bool
-        ensures value { result ≡ lacks_imp self.now (imp_number imp) }
+        ensures value { result ≡ lacks_imp self.now.counts (imp_number imp) }
         ensures meaning { (h : History) → StandsAt self.now h → result ≡ spec.no_imp h (imp_number imp) }
-        ensures listed { result ≡ false → imp_number imp ≤ length self.now.args }
+        ensures listed { result ≡ false → imp_number imp ≤ last_imp self.now.counts }
     {
-        imp.number() == 0 || imp.number() as usize > self.args.len()
-    }
-
-    // How many arguments a selector takes, if it is the image's.
-    fn colons(&self, sel: Selector) -> Option<u8>
-        ensures { result ≡ slice_get self.now.colons (selector_number sel - 1) }
-    {
-        self.colons.get(sel.number() as usize - 1).copied()
-    }
-
-    // How many arguments an implementation takes.
-    fn args(&self, imp: ImpRef) -> Option<u8>
-        ensures { result ≡ slice_get self.now.args (imp_number imp - 1) }
-    {
-        self.args
-            .get((imp.number() as usize).saturating_sub(1))
-            .copied()
+        imp.number() == 0 || imp.number() as usize > last_imp(&self.counts)
     }
 
     fn misfits(&self, sel: Selector, imp: ImpRef) -> bool
-        ensures value { result ≡ misfits_in self.now (selector_number sel) (imp_number imp) }
+        ensures value { result ≡ misfits_in self.now.counts (selector_number sel) (imp_number imp) }
         ensures meaning { (h : History) → StandsAt self.now h → result ≡ spec.misfits h (selector_number sel) (imp_number imp) }
     {
-        differ(self.colons(sel), self.args(imp))
+        misfits(&self.counts, sel, imp)
     }
 
     fn unlike(&self, sel: Selector, other: Selector) -> bool
         ensures { (h : History) → StandsAt self.now h → result ≡ spec.unlike h (selector_number sel) (selector_number other) }
     {
-        differ(self.colons(sel), self.colons(other))
+        unlike(&self.counts, sel, other)
     }
 
     fn has_own(&self, class: ClassRef, sel: Selector) -> bool
@@ -121,16 +98,17 @@ impl Tables {
     // Whether there is no room for so many more rows, or for one more change.
     fn is_full(&self, more: usize) -> bool
         ensures meaning { (h : History) → StandsAt self.now h → result ≡ spec.is_full h more }
-        ensures room { result ≡ false → (self.now.row_count + more ≤ MAX_ROWS) × (self.now.change_count < MAX_CHANGES) }
+        ensures room { result ≡ false → (self.now.row_count + more ≤ self.now.limits.rows) × (self.now.change_count < self.now.limits.changes) }
     {
-        self.change_count >= MAX_CHANGES || more > (MAX_ROWS - self.row_count) as usize
+        self.change_count >= self.limits.changes
+            || more > (self.limits.rows - self.row_count) as usize
     }
 
     // Why the row could not stand, whatever stands there.
     fn unfit(&self, row: MethodRow) -> Option<ChangeFault>
         ensures meaning { (h : History) → StandsAt self.now h → result ≡ spec.least_change_fault (spec.unfit h row.class row.sel row.imp) }
         ensures class { result ≡ None → row.class.class < length self.now.supers }
-        ensures imp { result ≡ None → imp_number row.imp ≤ length self.now.args }
+        ensures imp { result ≡ None → imp_number row.imp ≤ last_imp self.now.counts }
     {
         if self.no_class(row.class) {
             Some(ChangeFault::NoClass)
@@ -246,26 +224,26 @@ impl Tables {
     }
 
     fn any_no_imp(&self, methods: &[(Selector, ImpRef)]) -> bool
-        ensures { result ≡ list_any (λ m. lacks_imp self.now (imp_number m.1)) methods.now }
+        ensures { result ≡ list_any (λ m. lacks_imp self.now.counts (imp_number m.1)) methods.now }
     {
         methods.iter().any(|m| self.no_imp(m.1))
     }
 
     fn any_no_imp_of_two(&self, own: &[(Selector, ImpRef)], meta: &[(Selector, ImpRef)]) -> bool
-        ensures { result ≡ (list_any (λ m. lacks_imp self.now (imp_number m.1)) own.now || list_any (λ m. lacks_imp self.now (imp_number m.1)) meta.now) }
+        ensures { result ≡ (list_any (λ m. lacks_imp self.now.counts (imp_number m.1)) own.now || list_any (λ m. lacks_imp self.now.counts (imp_number m.1)) meta.now) }
     {
         self.any_no_imp(own) || self.any_no_imp(meta)
     }
 
     fn any_misfits(&self, methods: &[(Selector, ImpRef)]) -> bool
-        ensures { result ≡ list_any (λ m. misfits_in self.now (selector_number m.0) (imp_number m.1)) methods.now }
+        ensures { result ≡ list_any (λ m. misfits_in self.now.counts (selector_number m.0) (imp_number m.1)) methods.now }
     {
         methods.iter().any(|m| self.misfits(m.0, m.1))
     }
 
     fn any_misfits_of_two(&self, own: &[(Selector, ImpRef)], meta: &[(Selector, ImpRef)]) -> bool
-        ensures { result ≡ (list_any (λ m. misfits_in self.now (selector_number m.0) (imp_number m.1)) own.now
-            || list_any (λ m. misfits_in self.now (selector_number m.0) (imp_number m.1)) meta.now) }
+        ensures { result ≡ (list_any (λ m. misfits_in self.now.counts (selector_number m.0) (imp_number m.1)) own.now
+            || list_any (λ m. misfits_in self.now.counts (selector_number m.0) (imp_number m.1)) meta.now) }
     {
         self.any_misfits(own) || self.any_misfits(meta)
     }
@@ -273,8 +251,8 @@ impl Tables {
     // Why the methods could not be attached, whatever stands there.
     fn unfit_methods(&self, methods: &MethodList, class_methods: &MethodList) -> Option<ChangeFault>
         ensures meaning { (h : History) → StandsAt self.now h → result ≡ spec.least_change_fault (spec.unfit_methods h (methods.now ++ class_methods.now)) }
-        ensures methods { result ≡ None → are_listed (length self.now.args) methods.now ≡ true }
-        ensures class_methods { result ≡ None → are_listed (length self.now.args) class_methods.now ≡ true }
+        ensures methods { result ≡ None → are_listed (last_imp self.now.counts) methods.now ≡ true }
+        ensures class_methods { result ≡ None → are_listed (last_imp self.now.counts) class_methods.now ≡ true }
     {
         let own = methods.as_slice();
         let meta = class_methods.as_slice();

@@ -5,10 +5,10 @@ ghost use Rattle.msg_names.specs.Number.{selector_number, imp_number};
 ghost use Rattle.msg_names.specs.declared.value.ClassRef.{ClassRef};
 ghost use Rattle.msg_names.specs.declared.value.ImpRef.{ImpRef};
 ghost use Rattle.msg_names.specs.declared.value.Selector.{Selector};
-ghost use Rattle.msg_image.specs.Parts.{ImageParts, class_total, depth_in};
-ghost use Rattle.msg_image.specs.Sound.{IsSound};
-ghost use Rattle.msg_image.specs.declared.image.Category.{Category};
-ghost use Rattle.msg_image.specs.declared.change.Change.{Change};
+ghost use Rattle.msg_order.specs.Superclasses.{depth_of};
+ghost use Rattle.msg_tables.specs.Origin.{OriginView, IsSound, class_total, last_imp};
+ghost use Rattle.msg_tables.specs.declared.origin.MethodsOf.{MethodsOf};
+ghost use Rattle.msg_tables.specs.declared.change.Change.{Change};
 ghost use Rattle.msg_tables.specs.Affected.{is_affected};
 ghost use Rattle.msg_tables.specs.After.{of_class, of_meta};
 ghost use Rattle.msg_tables.specs.History.{History, BeginsWith, empty, and_then, table, lookup, holder, superclass, chain_at};
@@ -19,11 +19,9 @@ ghost use Rattle.msg_tables.specs.RowList.{own_in};
 ghost use Rattle.msg_tables.specs.Stands.{StandsAt};
 ghost use Rattle.msg_tables.specs.View.{TablesView};
 
-use crate::tables::MAX_CHANGES;
-
 /// A class reference that an accepted change doesn't affect finds what it found.
 pub fn a_change_affects_no_more()
-    ensures { (h : History) (x : Change) (c : ClassRef) (s : ℕ) → IsSound h.image → IsHistory h → refusal h x ≡ None → is_affected h x c ≡ false
+    ensures { (h : History) (x : Change) (c : ClassRef) (s : ℕ) → IsSound h.origin → IsHistory h → refusal h x ≡ None → is_affected h x c ≡ false
         → lookup (and_then h x) c s ≡ lookup h c s }
 {}
 
@@ -32,20 +30,20 @@ pub fn an_earlier_point_is_a_history()
     ensures { (h g : History) → BeginsWith h g → IsHistory h → IsHistory g }
 {}
 
-/// A change is accepted after fewer than 65,536 others.
+/// A change is accepted after fewer others than the limit says.
 pub fn an_accepted_change_is_within_the_limit()
-    ensures { (h : History) (x : Change) → refusal h x ≡ None → length h.changes < MAX_CHANGES }
+    ensures { (h : History) (x : Change) → refusal h x ≡ None → length h.changes < h.origin.limits.changes }
 {}
 
-/// What a lookup finds is an implementation of the image, or forwarding.
+/// What a lookup finds is an implementation that there is, or forwarding.
 pub fn a_found_implementation_is_listed()
-    ensures { (h : History) (c : ClassRef) (s : ℕ) → IsSound h.image → IsHistory h → lookup h c s ≤ length h.image.imps }
+    ensures { (h : History) (c : ClassRef) (s : ℕ) → IsSound h.origin → IsHistory h → lookup h c s ≤ last_imp h.origin.counts }
 {}
 
-/// Tables have as many classes and implementations as the image of the history at which they stand.
-pub fn tables_are_of_their_image()
-    ensures classes { (tables : TablesView) (h : History) → StandsAt tables h → length tables.supers ≡ class_total h.image }
-    ensures imps { (tables : TablesView) (h : History) → StandsAt tables h → length tables.args ≡ length h.image.imps }
+/// Tables have as many classes as the origin of the history at which they stand, and its counts.
+pub fn tables_are_of_their_origin()
+    ensures classes { (tables : TablesView) (h : History) → StandsAt tables h → length tables.supers ≡ class_total h.origin }
+    ensures counts { (tables : TablesView) (h : History) → StandsAt tables h → tables.counts ≡ h.origin.counts }
 {}
 
 /// Before a class is made its lookups, and those of its metaclass, answer forwarding.
@@ -55,7 +53,7 @@ pub fn a_class_that_is_not_made_forwards()
 
 /// Making a class changes no lookup but its own and its metaclass's.
 pub fn a_made_class_changes_no_other()
-    ensures { (h : History) (k : ℕ) (superclass : Option ℕ) (c : ClassRef) (s : ℕ) → IsSound h.image → IsHistory h → refusal h (Change.AddClass k superclass) ≡ None → c.class ≢ k
+    ensures { (h : History) (k : ℕ) (superclass : Option ℕ) (c : ClassRef) (s : ℕ) → IsSound h.origin → IsHistory h → refusal h (Change.AddClass k superclass) ≡ None → c.class ≢ k
         → lookup (and_then h (Change.AddClass k superclass)) c s ≡ lookup h c s }
 {}
 
@@ -66,12 +64,12 @@ pub fn a_superclass_stays()
 
 /// The chain of a class that is present ends at a root class.
 pub fn a_chain_ends_at_a_root_class()
-    ensures { (h : History) (c : ClassRef) → IsSound h.image → IsHistory h → no_class h c ≡ false → EndsAtRoot h c }
+    ensures { (h : History) (c : ClassRef) → IsSound h.origin → IsHistory h → no_class h c ≡ false → EndsAtRoot h c }
 {}
 
-/// A listed class is as deep in its chain as the image says, whatever was changed.
-pub fn a_listed_class_is_as_deep_as_the_image_says()
-    ensures { (h : History) (k : ℕ) → IsSound h.image → IsHistory h → k < length h.image.classes → length (chain_at h (of_class k)) ≡ suc (depth_in h.image k) }
+/// A listed class is as deep in its chain as its superclasses say, whatever was changed.
+pub fn a_listed_class_is_as_deep_as_it_was()
+    ensures { (h : History) (k : ℕ) → IsSound h.origin → IsHistory h → k < length h.origin.superclasses → length (chain_at h (of_class k)) ≡ suc (depth_of h.origin.superclasses k) }
 {}
 
 /// Where no method is found the answer is forwarding.
@@ -86,7 +84,7 @@ pub fn one_method_is_one_implementation()
 
 /// What a class doesn't have it inherits.
 pub fn a_class_inherits()
-    ensures { (h : History) (c d : ClassRef) (s : ℕ) → IsSound h.image → IsHistory h → no_class h c ≡ false → has_own h c s ≡ false → superclass h c ≡ Some d → lookup h c s ≡ lookup h d s }
+    ensures { (h : History) (c d : ClassRef) (s : ℕ) → IsSound h.origin → IsHistory h → no_class h c ≡ false → has_own h c s ≡ false → superclass h c ≡ Some d → lookup h c s ≡ lookup h d s }
 {}
 
 /// The superclass of a root metaclass is its own class.
@@ -131,10 +129,8 @@ pub fn an_attached_method_is_found()
         → lookup (and_then h (Change.Attach k methods class_methods)) (of_meta k) s ≡ i }
 {}
 
-/// Of the categories of a class with a method of a selector the one that is listed last wins, over the others and over the class; later categories without such a method change nothing.
-pub fn the_last_category_wins()
-    ensures class { (image : ImageParts) (before later : List Category) (c : Category) (s i : ℕ) → IsSound image → image.categories ≡ before ++ c ∷ later → All (Lacks (of_class c.class) s) later → own_in s c.methods ≡ Some i
-        → lookup (empty image) (of_class c.class) s ≡ i }
-    ensures metaclass { (image : ImageParts) (before later : List Category) (c : Category) (s i : ℕ) → IsSound image → image.categories ≡ before ++ c ∷ later → All (Lacks (of_meta c.class) s) later → own_in s c.class_methods ≡ Some i
-        → lookup (empty image) (of_meta c.class) s ≡ i }
+/// Of the method lists of a class reference with a method of a selector the one that is attached last wins: a category's over the class's. Later lists without such a method change nothing.
+pub fn the_last_list_wins()
+    ensures { (o : OriginView) (before later : List MethodsOf) (l : MethodsOf) (s i : ℕ) → IsSound o → o.lists ≡ before ++ l ∷ later → All (Lacks l.class s) later → own_in s l.methods ≡ Some i
+        → lookup (empty o) l.class s ≡ i }
 {}

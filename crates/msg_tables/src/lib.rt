@@ -3,20 +3,32 @@
 
 mod apply;
 mod below;
+mod change;
+mod checked;
+mod counts;
 mod edit;
 mod fault;
 mod foresee;
 mod judge;
 pub mod laws;
+mod limits;
 mod lists;
 mod marks;
+mod methods;
 mod opening;
+mod origin;
 mod preorder;
 mod presence;
 mod rows;
 mod tables;
 
 pub use below::Below;
+pub use change::Change;
+pub use checked::OriginFault;
+pub use counts::Counts;
 pub use fault::ChangeFault;
+pub use limits::{Limits, MAX_CLASSES};
 pub use marks::Marks;
-pub use tables::{MAX_CHANGES, MAX_ROWS, Tables};
+pub use methods::MethodList;
+pub use origin::{HasOrigin, MethodsOf, Origin};
+pub use tables::Tables;

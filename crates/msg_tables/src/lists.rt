@@ -2,7 +2,7 @@
 
 ghost use Rattle.std.specs.Prelude.{◌≡◌, ◌<◌, ◌≤◌, ◌+◌, [], ◌∷◌, ◌++◌, length, reverse, OnOk, OnErr, IsSome, slice_set, slice_index_or};
 ghost use Rattle.msg_names.specs.Number.{selector_number, imp_number};
-ghost use Rattle.msg_image.specs.Methods.{method_numbers};
+ghost use Rattle.msg_tables.specs.Methods.{method_numbers};
 ghost use Rattle.msg_tables.specs.RowList.{rows_of, own_in, set_last};
 
 use crate::rows::MethodRows;

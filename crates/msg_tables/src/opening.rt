@@ -1,119 +1,62 @@
-//! Opening the tables of an image.
+//! Opening tables.
 
-ghost use Rattle.std.specs.Prelude.{◌≡◌, ◌<◌, ◌≤◌, ◌+◌, ◌*◌, [], ◌++◌, Some, IfOk, OnOk, length, map, option_map, replicate, slice_get, sum_by, true};
-ghost use Rattle.msg_names.specs.Name.{colons_of};
-ghost use Rattle.msg_names.specs.Numbering.{AreNames};
-ghost use Rattle.msg_image.specs.declared.image.Category.{Category};
-ghost use Rattle.msg_image.specs.Methods.{method_numbers};
-ghost use Rattle.msg_image.specs.Parts.{ImpParts, ClassParts, class_total, superclasses};
-ghost use Rattle.msg_image.specs.Sound.{IsSoundCategory, row_count};
-ghost use Rattle.msg_tables.specs.After.{opened_supers, rows_at, of_class, of_meta, class_rows, category_rows};
-ghost use Rattle.msg_tables.specs.History.{empty};
-ghost use Rattle.msg_tables.specs.Opening.{Adds, IsFor, IsBlank, rows_of_class, size_of_class, rows_of_category, size_of_category};
+ghost use Rattle.std.specs.Prelude.{◌≡◌, ◌<◌, ◌≤◌, ◌+◌, ◌*◌, [], Some, IfOk, OnOk, length, replicate, slice_get, true};
 ghost use Rattle.std.specs.Vec.{vec_capacity};
+ghost use Rattle.msg_tables.specs.After.{opened_supers, rows_at, list_rows};
+ghost use Rattle.msg_tables.specs.History.{empty};
+ghost use Rattle.msg_tables.specs.Methods.{method_numbers};
+ghost use Rattle.msg_tables.specs.Opening.{Adds, IsBlank, IsFor, size_of_list};
 ghost use Rattle.msg_tables.specs.Order.{IsOrder};
+ghost use Rattle.msg_tables.specs.Origin.{IsSound, are_listed, class_total, last_imp};
+ghost use Rattle.msg_tables.specs.declared.origin.MethodsOf.{MethodsOf};
 ghost use Rattle.msg_tables.specs.RowList.{rows_of};
 ghost use Rattle.msg_tables.specs.Stands.{StandsAt};
-ghost use Rattle.msg_tables.specs.View.{are_listed};
 
+use crate::counts::Counts;
 use crate::lists::append_rows;
+use crate::origin::{HasOrigin, Origin};
 use crate::preorder::preorder_of;
 use crate::presence::Presence;
 use crate::rows::MethodRows;
-use crate::tables::{MAX_ROWS, Tables};
-use msg_image::{Category, Image};
-use msg_names::{ClassRef, ImpRef, Names, Selector};
+use crate::tables::Tables;
+use msg_names::{ClassRef, ImpRef, Selector};
 use msg_order::class_order;
 use std::alloc::{AllocError, Global};
 
-// The superclass of a class.
-fn superclass_of(image: &Image, class: u32) -> Option<u32>
-    requires { class < length image.now.classes }
-    ensures { option_map (λ (c : ClassParts). c.superclass) (slice_get image.now.classes class) ≡ Some result }
+// The classes as tables are opened: the listed ones are present, and those that may be made aren't.
+fn opened_classes(alloc: Global, origin: &Origin) -> Result<Vec<Option<Presence>>, AllocError>
+    ensures { IfOk result (λ supers. supers.items ≡ opened_supers origin.now) }
 {
-    let above = image.superclass(ClassRef { class, meta: false })?;
-    Some(above.class)
-}
-
-// A class as the image is opened: a listed one is present, and one that may be made isn't.
-fn opened(image: &Image, class: u32) -> Option<Presence>
-    requires { class < class_total image.now }
-    ensures { slice_get (opened_supers image.now) class ≡ Some result }
-{
-    if class < image.listed_count() {
-        let superclass = superclass_of(image, class);
-        Some(Presence { superclass })
-    } else {
-        None
+    let mut supers = Vec::with_capacity(alloc, origin.class_count() as usize)?;
+    for superclass in &origin.superclasses {
+        supers.push(Some(Presence {
+            superclass: *superclass,
+        }))?;
     }
-}
-
-fn opened_classes(alloc: Global, image: &Image) -> Result<Vec<Option<Presence>>, AllocError>
-    ensures { IfOk result (λ supers. supers.items ≡ opened_supers image.now) }
-{
-    let count = image.class_count();
-    let mut supers = Vec::with_capacity(alloc, count as usize)?;
-    for class in 0..count {
-        supers.push(opened(image, class))?;
-    }
-    Ok(supers)
-}
-
-// The superclasses of the listed classes.
-fn superclasses(alloc: Global, image: &Image) -> Result<Vec<Option<u32>>, AllocError>
-    ensures { IfOk result (λ supers. supers.items ≡ superclasses image.now) }
-{
-    let count = image.listed_count();
-    let mut supers = Vec::with_capacity(alloc, count as usize)?;
-    for class in 0..count {
-        supers.push(superclass_of(image, class))?;
+    for _made in 0..origin.made {
+        supers.push(None)?;
     }
     Ok(supers)
 }
 
 // The listed classes, each after its superclass, with room for all that may be made.
-fn listed_order(alloc: Global, image: &Image) -> Result<Vec<u32>, AllocError>
-    ensures order { IfOk result (λ order. IsOrder (opened_supers image.now) order.items) }
-    ensures room { IfOk result (λ order. class_total image.now ≤ vec_capacity order) }
+fn listed_order(alloc: Global, origin: &Origin) -> Result<Vec<u32>, AllocError>
+    ensures order { IfOk result (λ order. IsOrder (opened_supers origin.now) order.items) }
+    ensures room { IfOk result (λ order. class_total origin.now ≤ vec_capacity order) }
 {
-    let mut order = Vec::with_capacity(alloc, image.class_count() as usize)?;
-    let supers = superclasses(alloc, image)?;
-    let listed = class_order(alloc, &supers)?.unwrap();
+    let mut order = Vec::with_capacity(alloc, origin.class_count() as usize)?;
+    let listed = class_order(alloc, &origin.superclasses)?.unwrap();
     order.extend_from_slice(&listed)?;
     Ok(order)
 }
 
-// How many arguments each implementation takes.
-fn argument_counts(alloc: Global, image: &Image) -> Result<Vec<u8>, AllocError>
-    ensures { IfOk result (λ args. args.items ≡ map (λ (m : ImpParts). m.args) image.now.imps) }
+fn copied_counts(counts: &Option<Counts>) -> Result<Option<Counts>, AllocError>
+    ensures { IfOk result (λ copied. copied ≡ counts.now) }
 {
-    let count = image.imp_count();
-    let mut args = Vec::with_capacity(alloc, count as usize)?;
-    for imp in 0..count {
-        args.push(image.imp(ImpRef::of(imp + 1)).args)?;
+    match counts {
+        Some(counts) => Ok(Some(counts.copied()?)),
+        None => Ok(None),
     }
-    Ok(args)
-}
-
-// How many arguments a selector takes.
-fn colons_at(names: &Names, index: usize) -> u8
-    requires inside { index < length names.now }
-    requires names { AreNames names.now }
-    ensures { option_map colons_of (slice_get names.now index) ≡ Some result }
-{
-    let selector = Selector::of(index as u32 + 1).unwrap();
-    names.colons(selector).unwrap()
-}
-
-fn colon_counts(alloc: Global, names: &Names) -> Result<Vec<u8>, AllocError>
-    ensures { IfOk result (λ colons. colons.items ≡ map colons_of names.now) }
-{
-    let count = names.len();
-    let mut colons = Vec::with_capacity(alloc, count)?;
-    for index in 0..count {
-        colons.push(colons_at(names, index))?;
-    }
-    Ok(colons)
 }
 
 fn empty_lists(alloc: Global, count: usize) -> Result<Vec<MethodRows>, AllocError>
@@ -127,21 +70,21 @@ fn empty_lists(alloc: Global, count: usize) -> Result<Vec<MethodRows>, AllocErro
 }
 
 impl Tables {
-    // Tables of the image's classes, without rows.
-    fn blank(alloc: Global, image: &Image) -> Result<Tables, AllocError>
-        ensures { IfOk result (IsBlank image.now) }
+    // Tables of the classes, without rows.
+    fn blank(alloc: Global, origin: &Origin) -> Result<Tables, AllocError>
+        ensures { IfOk result (IsBlank origin.now) }
     {
-        let classes = image.class_count();
-        let supers = opened_classes(alloc, image)?;
-        let order = listed_order(alloc, image)?;
+        let count = origin.class_count();
+        let supers = opened_classes(alloc, origin)?;
+        let order = listed_order(alloc, origin)?;
         let preorder = preorder_of(alloc, &supers, &order)?;
         Ok(Tables {
             supers,
             order,
             preorder,
-            lists: empty_lists(alloc, 2 * classes as usize)?,
-            colons: colon_counts(alloc, image.names())?,
-            args: argument_counts(alloc, image)?,
+            lists: empty_lists(alloc, 2 * count as usize)?,
+            counts: copied_counts(&origin.counts)?,
+            limits: origin.limits,
             row_count: 0,
             change_count: 0,
         })
@@ -154,8 +97,8 @@ impl Tables {
         methods: &[(Selector, ImpRef)],
     ) -> Result<(), AllocError>
         requires class { class.class < length self.old.supers }
-        requires listed { are_listed (length self.old.args) (method_numbers methods.now) ≡ true }
-        requires room { self.old.row_count + length methods.now ≤ MAX_ROWS }
+        requires listed { are_listed (last_imp self.old.counts) (method_numbers methods.now) ≡ true }
+        requires room { self.old.row_count + length methods.now ≤ self.old.limits.rows }
         ensures { OnOk result (Adds self.old self.new (rows_at class (method_numbers methods.now))) }
     {
         append_rows(&mut self.lists, class.slot(), methods)?;
@@ -163,69 +106,34 @@ impl Tables {
         Ok(())
     }
 
-    fn open_class(&mut self, image: &Image, class: u32) -> Result<(), AllocError>
-        requires class { class < length image.now.classes }
-        requires image { IsFor image.now self.old }
-        requires room { (c : ClassParts) → slice_get image.now.classes class ≡ Some c → self.old.row_count + size_of_class c ≤ MAX_ROWS }
-        ensures { (c : ClassParts) → slice_get image.now.classes class ≡ Some c → OnOk result (Adds self.old self.new (rows_of_class class c)) }
-    {
-        let own = ClassRef { class, meta: false };
-        let meta = ClassRef { class, meta: true };
-        self.open_methods(own, image.methods(own))?;
-        self.open_methods(meta, image.methods(meta))
-    }
-
-    fn open_classes(&mut self, image: &Image) -> Result<(), AllocError>
-        requires image { IsFor image.now self.old }
+    fn open_lists(&mut self, origin: &Origin) -> Result<(), AllocError>
+        requires tables { IsFor origin.now self.old }
         requires blank { self.old.row_count ≡ 0 }
-        ensures rows { OnOk result (Adds self.old self.new (class_rows 0 image.now.classes)) }
-        ensures room { OnOk result (self.new.row_count + sum_by size_of_category image.now.categories ≤ MAX_ROWS) }
+        ensures { OnOk result (Adds self.old self.new (list_rows origin.now.lists)) }
     {
-        for class in 0..image.listed_count() {
-            self.open_class(image, class)?;
+        for list in &origin.lists {
+            self.open_methods(list.class, list.methods.as_slice())?;
         }
         Ok(())
     }
 
-    fn open_category(&mut self, image: &Image, category: &Category) -> Result<(), AllocError>
-        requires category { IsSoundCategory image.now category.now }
-        requires image { IsFor image.now self.old }
-        requires room { self.old.row_count + size_of_category category.now ≤ MAX_ROWS }
-        ensures { OnOk result (Adds self.old self.new (rows_of_category category.now)) }
+    // The tables of an origin.
+    fn of(alloc: Global, origin: &Origin) -> Result<Tables, AllocError>
+        ensures stands { IfOk result (λ tables. StandsAt tables (empty origin.now)) }
+        ensures classes { IfOk result (λ tables. length tables.supers ≡ class_total origin.now) }
     {
-        let own = ClassRef {
-            class: category.class,
-            meta: false,
-        };
-        let meta = ClassRef {
-            class: category.class,
-            meta: true,
-        };
-        self.open_methods(own, category.methods.as_slice())?;
-        self.open_methods(meta, category.class_methods.as_slice())
-    }
-
-    fn open_categories(&mut self, image: &Image) -> Result<(), AllocError>
-        requires image { IsFor image.now self.old }
-        requires room { self.old.row_count + sum_by size_of_category image.now.categories ≤ MAX_ROWS }
-        ensures { OnOk result (Adds self.old self.new (category_rows image.now.categories)) }
-    {
-        for category in image.categories() {
-            self.open_category(image, category)?;
-        }
-        Ok(())
+        let mut tables = Tables::blank(alloc, origin)?;
+        tables.open_lists(origin)?;
+        Ok(tables)
     }
 
     /// The tables as a program finds them that was just loaded: each class has its methods, and the categories were attached one after another.
     ///
-    /// Each method of the image is copied once.
-    pub fn open(alloc: Global, image: &Image) -> Result<Tables, AllocError>
-        ensures stands { IfOk result (λ tables. StandsAt tables (empty image.now)) }
-        ensures classes { IfOk result (λ tables. length tables.supers ≡ class_total image.now) }
+    /// Each method is copied once.
+    pub fn open<C: HasOrigin>(alloc: Global, classes: &C) -> Result<Tables, AllocError>
+        ensures stands { IfOk result (λ tables. StandsAt tables (empty (C.given classes.now))) }
+        ensures classes { IfOk result (λ tables. length tables.supers ≡ class_total (C.given classes.now)) }
     {
-        let mut tables = Tables::blank(alloc, image)?;
-        tables.open_classes(image)?;
-        tables.open_categories(image)?;
-        Ok(tables)
+        Tables::of(alloc, classes.origin())
     }
 }

@@ -2,7 +2,7 @@
 
 ghost use Rattle.std.specs.Prelude.{◌≡◌, ◌<◌, ◌≤◌, List, [], ◌∷◌, ◌++◌, ℕ, Option, IfOk, IfSome, None, Some, length, replicate, true};
 ghost use Rattle.std.specs.Vec.{vec_capacity};
-ghost use Rattle.msg_form.specs.declared.limits.TheConstants.{MAX_CLASSES};
+ghost use Rattle.msg_tables.specs.declared.limits.TheConstants.{MAX_CLASSES};
 ghost use Rattle.msg_tables.specs.After.{of_class};
 ghost use Rattle.msg_tables.specs.Chain.{descends, is_present, presence_of};
 ghost use Rattle.msg_tables.specs.Order.{IsOrder};

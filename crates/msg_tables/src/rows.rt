@@ -1,7 +1,7 @@
 //! The rows of one class reference.
 
 ghost use Rattle.std.specs.Prelude.{◌≡◌, ◌+◌, ◌<◌, ◌≤◌, [], ◌∷◌, ◌++◌, length, reverse, OnOk, OnErr, IsSome, option_map};
-ghost use Rattle.msg_image.specs.Methods.{method_numbers};
+ghost use Rattle.msg_tables.specs.Methods.{method_numbers};
 ghost use Rattle.msg_names.specs.Number.{selector_number, imp_number};
 ghost use Rattle.msg_tables.specs.RowList.{own_in, set_last};
 

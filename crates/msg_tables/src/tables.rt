@@ -7,20 +7,16 @@ ghost use Rattle.msg_tables.specs.Chain.{super_of, chain_of, steps_of, is_presen
 ghost use Rattle.msg_tables.specs.History.{History, lookup, holder, superclass};
 ghost use Rattle.msg_tables.specs.RowList.{own_in};
 ghost use Rattle.msg_tables.specs.Stands.{StandsAt};
-ghost use Rattle.msg_tables.specs.View.{kept, kept_method, are_listed};
+ghost use Rattle.msg_tables.specs.View.{kept, kept_method};
+ghost use Rattle.msg_tables.specs.Origin.{last_imp, are_listed};
 
+use crate::counts::Counts;
+use crate::limits::Limits;
 use crate::preorder::Preorder;
 use crate::presence::Presence;
 use crate::rows::MethodRows;
-use msg_form::MAX_ENTRIES;
 use msg_names::{ClassRef, ImpRef, Selector};
 use std::marker::Model;
-
-/// How many rows may stand at any time: as many as a document may list.
-pub const MAX_ROWS: u32 = MAX_ENTRIES as u32;
-
-/// How many changes are accepted.
-pub const MAX_CHANGES: u32 = 65_536;
 
 /// The class tables at a point of their history.
 ///
@@ -32,8 +28,8 @@ pub struct Tables {
     pub(crate) order: Vec<u32>,
     pub(crate) preorder: Preorder,
     pub(crate) lists: Vec<MethodRows>,
-    pub(crate) colons: Vec<u8>,
-    pub(crate) args: Vec<u8>,
+    pub(crate) counts: Option<Counts>,
+    pub(crate) limits: Limits,
     pub(crate) row_count: u32,
     pub(crate) change_count: u32,
 }
@@ -97,7 +93,7 @@ impl Tables {
     pub(crate) fn rows(&self, class: ClassRef) -> &MethodRows
         requires { class.class < length self.now.supers }
         ensures rows { result.now.rows ≡ kept self.now.lists class }
-        ensures listed { are_listed (length self.now.args) result.now.rows ≡ true }
+        ensures listed { are_listed (last_imp self.now.counts) result.now.rows ≡ true }
     {
         &self.lists[class.slot()]
     }
@@ -109,7 +105,7 @@ impl Tables {
         ensures method { option_map (λ m. (m.holder, imp_number m.imp)) result
             ≡ kept_method self.now.lists (chain_of self.now.supers class) (selector_number sel) }
         ensures holder { IfSome result (λ m. m.holder.class < length self.now.supers) }
-        ensures imp { IfSome result (λ m. imp_number m.imp ≤ length self.now.args) }
+        ensures imp { IfSome result (λ m. imp_number m.imp ≤ last_imp self.now.counts) }
         ensures own { IfSome result (λ m. own_in (selector_number sel) (kept self.now.lists m.holder) ≡ Some (imp_number m.imp)) }
     {
         let mut at = self.present(class);
@@ -127,7 +123,7 @@ impl Tables {
     /// Each class on the way costs one hash and one probe. No memory is taken.
     pub fn lookup(&self, class: ClassRef, sel: Selector) -> ImpRef
         requires { class.class < length self.now.supers }
-        ensures listed { imp_number result ≤ length self.now.args }
+        ensures listed { imp_number result ≤ last_imp self.now.counts }
         ensures meaning { (h : History) → StandsAt self.now h → imp_number result ≡ lookup h class (selector_number sel) }
     {
         match self.method(class, sel) {

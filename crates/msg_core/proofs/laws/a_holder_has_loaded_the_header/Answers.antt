@@ -2,4 +2,4 @@ use Rattle.msg_core.proofs.ReadLemmas.{loaded_law}
 use Rattle.msg_core.proofs.laws.a_holder_has_loaded_the_header.Goals as goal
 
 pub returns : goal.returns
-returns c z image es n d a = loaded_law z n d a image es
+returns c z origin es n d a = loaded_law z n d a origin es

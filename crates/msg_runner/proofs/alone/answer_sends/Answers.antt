@@ -14,7 +14,7 @@ returns-clause-text g c =
     let w : AreWritten image c.in_ok-sender.sender.seen.front (sends_of image parts) last c.args.text.now.items c.answer_by-sender.new.text.items = search rules in
     let from_here = subst (λ h. AreWritten image h (sends_of image parts) last c.args.text.now.items c.answer_by-sender.new.text.items) c.in_ok-sender.ensures.seen w in
     let below = subst (λ h. BeginsWith h last) c.send_out.ensures.same c.meet_again.ensures.begins in
-    written_serial image c.args.crew.now.changer last parts c.args.text.now.items c.answer_by-sender.new.text.items c.requires.image c.requires.sends below from_here
+    written_serial image c.args.crew.now.changer last parts c.args.text.now.items c.answer_by-sender.new.text.items c.requires.sends below from_here
 
 pub meet_again-requires : goal.meet_again-requires
 meet_again-requires g c =

@@ -8,7 +8,7 @@ use Rattle.msg_runner.proofs.serving.answer_part.Goals as goal
 
 pub returns-then-is_shared-clause-text : goal.returns-then-is_shared-clause-text
 returns-then-is_shared-clause-text g c =
-    where_ok c.answer_batch.result (answered_serial c.args.part.image.now c.args.part.deal.workers c.args.part.deal.cut c.args.crew.now.changer (map item_parts c.args.part.items.now) c.args.text.now.items c.answer_batch.new.text.items c.requires.image c.requires.part) c.answer_batch.ensures.answered
+    where_ok c.answer_batch.result (answered_serial c.args.part.image.now c.args.part.deal.workers c.args.part.deal.cut c.args.crew.now.changer (map item_parts c.args.part.items.now) c.args.text.now.items c.answer_batch.new.text.items c.requires.part) c.answer_batch.ensures.answered
 
 pub returns-clause-history : goal.returns-clause-history
 returns-clause-history g c =

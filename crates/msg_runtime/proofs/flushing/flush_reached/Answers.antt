@@ -1,5 +1,5 @@
 use Rattle.std.proofs.Common.{◌<◌, ⊎_elim, ap, sym, ◌∙◌, arith}
-use Rattle.msg_image.specs.Parts.{class_total}
+use Rattle.msg_tables.specs.Origin.{class_total}
 use Rattle.msg_tables.specs.History.{and_then}
 use Rattle.msg_tables.specs.Refusal.{refusal}
 use Rattle.msg_tables.proofs.StandsLemmas.{class_count}
@@ -30,7 +30,7 @@ flush_class-requires-clause-class c =
 pub flush_below-requires-clause-class : goal.flush_below-requires-clause-class
 flush_below-requires-clause-class c =
     let (h, stands, accepted) = c.requires.made in
-    let inside : c.in-Add.class.class < class_total h.image = ⊎_elim
+    let inside : c.in-Add.class.class < class_total h.origin = ⊎_elim
     (λ (s, i, is). of_image-add h c.in-Add.class s i (ap (refusal h) (sym is) ∙ accepted))
     (λ (s, i, is). of_image-replace h c.in-Add.class s i (ap (refusal h) (sym is) ∙ accepted)) c.in-Add.is in
     let count = class_count c.args.tables.now (and_then h c.args.change.now) stands in

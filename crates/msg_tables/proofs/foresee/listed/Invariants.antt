@@ -1,7 +1,7 @@
 -- none so far has the selector
 use Rattle.std.proofs.Common.{◌≡◌, None, reverse, take}
 use Rattle.msg_names.specs.Number.{selector_number}
-use Rattle.msg_image.specs.Methods.{method_numbers}
+use Rattle.msg_tables.specs.Methods.{method_numbers}
 use Rattle.msg_tables.specs.RowList.{own_in}
 use Rattle.msg_tables.proofs.foresee.listed.Given as goal
 

@@ -1,6 +1,6 @@
 use Rattle.std.proofs.Common.{◌++◌, ap, ◌∙◌}
 use Rattle.std.proofs.lemmas.Result.{err_from_is_err_and}
-use Rattle.msg_image.specs.Methods.{method_numbers}
+use Rattle.msg_tables.specs.Methods.{method_numbers}
 use Rattle.msg_tables.proofs.ListLemmas.{rows_of-set, rows_of-set_same}
 use Rattle.msg_tables.proofs.lists.append_rows.Goals as goal
 

@@ -2,7 +2,7 @@ use Rattle.std.proofs.Common.{◌++◌, ◌+◌, ◌∙◌}
 use Rattle.std.specs.Prelude.{slice_set, reverse}
 use Rattle.std.proofs.Math.ListN.{length-set}
 use Rattle.std.proofs.lemmas.Result.{err_from_is_err_and}
-use Rattle.msg_image.specs.Methods.{method_numbers}
+use Rattle.msg_tables.specs.Methods.{method_numbers}
 use Rattle.msg_tables.proofs.ListLemmas.{rows_of-set_same, rows_of-set_two}
 use Rattle.msg_tables.proofs.lists.attach_rows.Goals as goal
 

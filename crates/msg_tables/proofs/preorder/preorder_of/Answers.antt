@@ -1,7 +1,7 @@
 -- the classes of the order are placed one by one
 use Rattle.std.proofs.Common.{◌≡◌, ◌<◌, ◌≤◌, ◌+◌, ℕ, List, length, Option, Some, None, sym, ap, subst, arith}
 use Rattle.std.specs.Prelude.{IfSome, is_some, slice_index_or}
-use Rattle.msg_form.specs.declared.limits.TheConstants.{MAX_CLASSES}
+use Rattle.msg_tables.specs.declared.limits.TheConstants.{MAX_CLASSES}
 use Rattle.msg_tables.specs.Preorder.{depth_at, depths_with}
 use Rattle.msg_tables.proofs.OrderLemmas.{present-inside}
 use Rattle.msg_tables.proofs.PreorderLemmas.{element-at}

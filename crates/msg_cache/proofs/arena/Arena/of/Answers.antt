@@ -2,7 +2,7 @@ use Rattle.std.proofs.Common.{◌≡◌, ℕ, suc, ◌+◌, ◌*◌, ◌<◌, �
 use borrow.Author.Count.{below_more}
 use Rattle.std.specs.Prelude.{slice_index, slice_index_or, replicate}
 use Rattle.std.proofs.lemmas.List.{length-replicate, length_push, get_or_append_left, get_or_push}
-use Rattle.msg_image.specs.Parts.{class_total}
+use Rattle.msg_tables.specs.Origin.{class_total}
 use Rattle.msg_buckets.specs.Capacity.{IsCapacity, capacities}
 use Rattle.atomic_table.specs.Table.{opening as opened}
 use Rattle.msg_tables.specs.History.{lookup}
@@ -49,7 +49,7 @@ loop-capacity-preserved c =
 
 pub of_words-requires : goal.of_words-requires
 of_words-requires c =
-    let key : SettingView = record { image = c.args.image.now; senders = c.args.senders; capacities = c.args.capacities.items } in
+    let key : SettingView = record { origin = c.args.origin.now; senders = c.args.senders; capacities = c.args.capacities.items } in
     let n : ℕ = c.loop-capacity.probes + 8 * c.args.senders in
     let ends : length c.args.capacities.items ≤ c.loop-capacity.capacity-index = subst (λ (xs : List ℕ). length xs ≤ c.loop-capacity.capacity-index) c.deref-capacity-items.ensures.value c.loop-capacity-test.false in
     let whole : take c.loop-capacity.capacity-index c.args.capacities.items ≡ c.args.capacities.items = take_all c.loop-capacity.capacity-index c.args.capacities.items ends in
@@ -58,20 +58,20 @@ of_words-requires c =
     let count : n ≡ word_count (layout_of key) = omega arith in
     let w : c.in_ok-words.words.items ≡ replicate n 0 = search rules in
     subst (λ (x : List ℕ × SettingView). holds lookup x.1 (opened x.0 [] (Keeper (first_keeper x.1))))
-    (λ i. (sym (c.deref.ensures.value ∙ w) i, record { image = sym c.of.ensures i; senders = c.args.senders; capacities = (sym c.of-2.ensures i).items }))
+    (λ i. (sym (c.deref.ensures.value ∙ w) i, record { origin = sym c.of.ensures i; senders = c.args.senders; capacities = (sym c.of-2.ensures i).items }))
     (opens lookup key n c.class_count.ensures.sound c.requires.senders.0 count).0
 
 pub invariant_of-arena : goal.invariant_of-arena
 invariant_of-arena c =
     let l : List ℕ = c.args.capacities.items in
     let k : ℕ = c.loop-capacity.capacity-index in
-    let setting : SettingView = record { image = c.args.image.now; senders = c.args.senders; capacities = l } in
-    let key : c.in_ok-table.table.shared.key ≡ setting = c.in_ok-table.ensures.5 ∙ (λ j. record { image = c.of.ensures j; senders = c.args.senders; capacities = (c.of-2.ensures j).items }) in
+    let setting : SettingView = record { origin = c.args.origin.now; senders = c.args.senders; capacities = l } in
+    let key : c.in_ok-table.table.shared.key ≡ setting = c.in_ok-table.ensures.5 ∙ (λ j. record { origin = c.of.ensures j; senders = c.args.senders; capacities = (c.of-2.ensures j).items }) in
     let ends : length l ≤ k = subst (λ (xs : List ℕ). length xs ≤ k) c.deref-capacity-items.ensures.value c.loop-capacity-test.false in
     let all : k ≡ length l = search rules in
     let same : total (take k l) ≡ total l = ap total (take_all k l ends) in
     let n : ℕ = c.loop-capacity.probes + 8 * c.args.senders in
-    let next : c.loop-capacity.probes ≡ probes (layout_of setting) = c.loop-capacity.invariant.next ∙ ap (λ (x : ℕ). 1 + 2 * class_total c.args.image.now + x) same in
+    let next : c.loop-capacity.probes ≡ probes (layout_of setting) = c.loop-capacity.invariant.next ∙ ap (λ (x : ℕ). 1 + 2 * class_total c.args.origin.now + x) same in
     let zeros : c.in_ok-words.words.items ≡ replicate n 0 = search rules in
     let count : c.in_ok-table.table.shared.table_id.words ≡ n = c.in_ok-table.ensures.0 ∙ ap length (c.deref.ensures.value ∙ zeros) ∙ length-replicate n 0 in
     let words : c.in_ok-table.table.shared.table_id.words ≡ word_count (layout_of setting) = count ∙ ap (λ (x : ℕ). x + 8 * c.args.senders) next in

@@ -24,6 +24,7 @@ pub overflow_add-count : goal.overflow_add-count
 overflow_add-count c =
     let me = c.args.self.now in
     let few = accepted_few (keeper_of me.seat.me.0).history c.args.change.now c.requires.accepted in
+    let most = c.requires.arena.1.tidy.kept.accepted.origin.few_changes in
     let is = me.count_is in omega arith
 
 pub store_count-requires-clause-turn : goal.store_count-requires-clause-turn
@@ -35,7 +36,7 @@ store_count-requires-clause-agrees c =
     let k = keeper_of c.args.self.now.seat.me.0 in
     rw c.shared-shared.ensures.key (
     subst (λ (k : KeeperView). (d : ClassRef) (b q : ℕ) → b < length key.capacities → standing_at k.standings b ≡ Live d → q < capacity (layout_of key) b → Agrees (lookup (and_then k.history c.args.change.now)) d (word_in (layout_of key) k.words b q))
-    (sym (ap (λ (x : Sat). keeper_of x.0) c.join_turn.ensures.2)) (agrees_after lookup key k c.args.change.now (λ d s e. lookup-kept k.history c.args.change.now d s c.requires.arena.1.tidy.kept.accepted.image c.requires.arena.1.tidy.kept.accepted.changes c.requires.accepted e) c.requires.arena.1.tidy c.requires.flushed))
+    (sym (ap (λ (x : Sat). keeper_of x.0) c.join_turn.ensures.2)) (agrees_after lookup key k c.args.change.now (λ d s e. lookup-kept k.history c.args.change.now d s c.requires.arena.1.tidy.kept.accepted.origin c.requires.arena.1.tidy.kept.accepted.changes c.requires.accepted e) c.requires.arena.1.tidy c.requires.flushed))
 
 pub returns-clause-arena : goal.returns-clause-arena
 returns-clause-arena c =

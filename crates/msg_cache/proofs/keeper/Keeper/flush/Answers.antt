@@ -1,5 +1,5 @@
 use Rattle.std.proofs.Common.{◌≡◌, ℕ, ◌-◌, ◌*◌, ◌<◌, List, length, get_or, refl, sym, ap, ◌∙◌, subst, arith}
-use Rattle.msg_image.specs.Parts.{class_total}
+use Rattle.msg_tables.specs.Origin.{class_total}
 use Rattle.std.specs.Prelude.{slice_index, slice_set}
 use Rattle.msg_names.specs.ClassRef.{slot_of}
 use Rattle.msg_names.proofs.ClassRefLemmas.{slot_of-inside}
@@ -25,7 +25,7 @@ capacity-capacity-requires c =
     let s = c.args.self.now in
     let k = keeper_of s.seat.me.0 in
     let kept_is = c.requires.arena.1 in
-    let cl : c.args.class.class < class_total key.image = c.requires.class in
+    let cl : c.args.class.class < class_total key.origin = c.requires.class in
     let hi = header_inside (layout_of key) c.args.class cl in
     let n = c.index-header.result.now in
     let read : n ≡ slice_index k.words (header_at c.args.class) = header_read s.words.items k.words (header_at c.args.class) n (length k.words) s.words_are (c.index-header.ensures ∙ ap (λ (i : ℕ). get_or s.words.items i n) c.header_at-place.ensures) refl (omega (arith, kept_is.tidy.kept.words, hi)) in
@@ -39,7 +39,7 @@ store_none-requires-clause-live c =
     let s = c.args.self.now in
     let k = keeper_of s.seat.me.0 in
     let kept_is = c.requires.arena.1 in
-    let cl : c.args.class.class < class_total key.image = c.requires.class in
+    let cl : c.args.class.class < class_total key.origin = c.requires.class in
     let hi = header_inside (layout_of key) c.args.class cl in
     let n = c.index-header.result.now in
     let read : n ≡ slice_index k.words (header_at c.args.class) = header_read s.words.items k.words (header_at c.args.class) n (length k.words) s.words_are (c.index-header.ensures ∙ ap (λ (i : ℕ). get_or s.words.items i n) c.header_at-place.ensures) refl (omega (arith, kept_is.tidy.kept.words, hi)) in
@@ -53,7 +53,7 @@ retire-requires c =
     let s = c.args.self.now in
     let k = keeper_of s.seat.me.0 in
     let kept_is = c.requires.arena.1 in
-    let cl : c.args.class.class < class_total key.image = c.requires.class in
+    let cl : c.args.class.class < class_total key.origin = c.requires.class in
     let hi = header_inside (layout_of key) c.args.class cl in
     let n = c.index-header.result.now in
     let read : n ≡ slice_index k.words (header_at c.args.class) = header_read s.words.items k.words (header_at c.args.class) n (length k.words) s.words_are (c.index-header.ensures ∙ ap (λ (i : ℕ). get_or s.words.items i n) c.header_at-place.ensures) refl (omega (arith, kept_is.tidy.kept.words, hi)) in
@@ -66,7 +66,7 @@ retire-requires c =
 pub index_mut-requires-2 : goal.index_mut-requires-2
 index_mut-requires-2 c =
     let key = c.args.arena.now.key in
-    let t = slot_of-inside c.args.class (class_total key.image) (2 * class_total key.image) refl c.requires.class in
+    let t = slot_of-inside c.args.class (class_total key.origin) (2 * class_total key.origin) refl c.requires.class in
     omega (arith, t, c.requires.arena.1.classes, c.header_at-place.ensures)
 
 pub returns-clause-arena : goal.returns-clause-arena
@@ -76,7 +76,7 @@ returns-clause-arena c =
     let s = c.args.self.now in
     let k = keeper_of s.seat.me.0 in
     let kept_is = c.requires.arena.1 in
-    let cl : c.args.class.class < class_total key.image = c.requires.class in
+    let cl : c.args.class.class < class_total key.origin = c.requires.class in
     let hi = header_inside (layout_of key) c.args.class cl in
     let n = c.index-header.result.now in
     let read : n ≡ slice_index k.words (header_at c.args.class) = header_read s.words.items k.words (header_at c.args.class) n (length k.words) s.words_are (c.index-header.ensures ∙ ap (λ (i : ℕ). get_or s.words.items i n) c.header_at-place.ensures) refl (omega (arith, kept_is.tidy.kept.words, hi)) in
@@ -97,7 +97,7 @@ returns-clause-remembered c =
     let s = c.args.self.now in
     let k = keeper_of s.seat.me.0 in
     let kept_is = c.requires.arena.1 in
-    let cl : c.args.class.class < class_total key.image = c.requires.class in
+    let cl : c.args.class.class < class_total key.origin = c.requires.class in
     let hi = header_inside (layout_of key) c.args.class cl in
     let n = c.index-header.result.now in
     let read : n ≡ slice_index k.words (header_at c.args.class) = header_read s.words.items k.words (header_at c.args.class) n (length k.words) s.words_are (c.index-header.ensures ∙ ap (λ (i : ℕ). get_or s.words.items i n) c.header_at-place.ensures) refl (omega (arith, kept_is.tidy.kept.words, hi)) in
@@ -112,7 +112,7 @@ invariant_of-self-clause-standings_are c =
     let s = c.args.self.now in
     let k = keeper_of s.seat.me.0 in
     let kept_is = c.requires.arena.1 in
-    let cl : c.args.class.class < class_total key.image = c.requires.class in
+    let cl : c.args.class.class < class_total key.origin = c.requires.class in
     let hi = header_inside (layout_of key) c.args.class cl in
     let n = c.index-header.result.now in
     let read : n ≡ slice_index k.words (header_at c.args.class) = header_read s.words.items k.words (header_at c.args.class) n (length k.words) s.words_are (c.index-header.ensures ∙ ap (λ (i : ℕ). get_or s.words.items i n) c.header_at-place.ensures) refl (omega (arith, kept_is.tidy.kept.words, hi)) in

@@ -1,5 +1,5 @@
 use Rattle.std.proofs.Common.{◌≡◌, ℕ, suc, ◌<◌, length, get_or, true, refl, sym, ap, ◌∙◌, subst, arith}
-use Rattle.msg_image.specs.Parts.{class_total}
+use Rattle.msg_tables.specs.Origin.{class_total}
 use Rattle.std.specs.Prelude.{slice_index}
 use Rattle.std.proofs.Math.ListN.{length-set}
 use Rattle.msg_buckets.proofs.CapacityLemmas.{capacity_bounds}
@@ -29,7 +29,7 @@ retire_in-requires-clause-header c =
     let s = c.args.self.now in
     let k = keeper_of s.seat.me.0 in
     let kept_is = c.requires.arena.1 in
-    let cl : c.args.class.class < class_total key.image = c.requires.class in
+    let cl : c.args.class.class < class_total key.origin = c.requires.class in
     let n = c.index-header.result.now in
     let read : n ≡ slice_index k.words (header_at c.args.class) = header_read s.words.items k.words (header_at c.args.class) n (length k.words) s.words_are (c.index-header.ensures ∙ ap (λ (i : ℕ). get_or s.words.items i n) c.header_at-at.ensures) refl (let hi = header_inside (layout_of key) c.args.class cl in omega (arith, kept_is.tidy.kept.words, hi)) in
     omega (arith, header_small lookup key k s.remembered.items s.occupied.items kept_is c.args.class n cl read, ap (λ (v : StandingsView). length v.notes) s.standings_are, length-map k.standings note_of)
@@ -40,7 +40,7 @@ retire_in-requires-clause-live c = λ b is.
     let s = c.args.self.now in
     let k = keeper_of s.seat.me.0 in
     let kept_is = c.requires.arena.1 in
-    let cl : c.args.class.class < class_total key.image = c.requires.class in
+    let cl : c.args.class.class < class_total key.origin = c.requires.class in
     let n = c.index-header.result.now in
     let read : n ≡ slice_index k.words (header_at c.args.class) = header_read s.words.items k.words (header_at c.args.class) n (length k.words) s.words_are (c.index-header.ensures ∙ ap (λ (i : ℕ). get_or s.words.items i n) c.header_at-at.ensures) refl (let hi = header_inside (layout_of key) c.args.class cl in omega (arith, kept_is.tidy.kept.words, hi)) in
     live_noted lookup key k s.remembered.items s.occupied.items kept_is c.args.class n b s.standings.notes cl read is (ap (λ (v : StandingsView). v.notes) s.standings_are)
@@ -53,7 +53,7 @@ install-requires c =
     let all = everyone s.standings.senders in
     let key = c.args.arena.now.key in
     let kept_is = c.requires.arena.1 in
-    let cl : c.args.class.class < class_total key.image = c.requires.class in
+    let cl : c.args.class.class < class_total key.origin = c.requires.class in
     let n = c.index-header.result.now in
     let read : n ≡ slice_index k.words (header_at c.args.class) = header_read s.words.items k.words (header_at c.args.class) n (length k.words) s.words_are (c.index-header.ensures ∙ ap (λ (i : ℕ). get_or s.words.items i n) c.header_at-at.ensures) refl (let hi = header_inside (layout_of key) c.args.class cl in omega (arith, kept_is.tidy.kept.words, hi)) in
     let alive : (b : ℕ) → n ≡ suc b → note_at s.standings.notes b ≡ live = λ b is. live_noted lookup key k s.remembered.items s.occupied.items kept_is c.args.class n b s.standings.notes cl read is (ap (λ (v : StandingsView). v.notes) s.standings_are) in
@@ -69,7 +69,7 @@ invariant_of-self-clause-standings_are c =
     let s = c.args.self.now in
     let k = keeper_of s.seat.me.0 in
     let kept_is = c.requires.arena.1 in
-    let cl : c.args.class.class < class_total key.image = c.requires.class in
+    let cl : c.args.class.class < class_total key.origin = c.requires.class in
     let n = c.index-header.result.now in
     let read : n ≡ slice_index k.words (header_at c.args.class) = header_read s.words.items k.words (header_at c.args.class) n (length k.words) s.words_are (c.index-header.ensures ∙ ap (λ (i : ℕ). get_or s.words.items i n) c.header_at-at.ensures) refl (let hi = header_inside (layout_of key) c.args.class cl in omega (arith, kept_is.tidy.kept.words, hi)) in
     installed_settled s.standings k c.args.class s.standings_are s.senders_are c.retire_in.new.standings c.install.new.self n c.args.array read c.retire_in.ensures c.install.ensures
@@ -81,7 +81,7 @@ returns-clause-arena c =
     let key = a.key in
     let s = c.args.self.now in
     let k = keeper_of s.seat.me.0 in
-    let cl : c.args.class.class < class_total key.image = c.requires.class in
+    let cl : c.args.class.class < class_total key.origin = c.requires.class in
     let view : keeper_of c.store_array.new.seat.me.0 ≡ installed c.args.class c.args.array k = ap (λ (x : Sat). keeper_of x.0) c.store_array.ensures.told in (
       c.store_array.ensures.seat.0 ∙ c.requires.arena.0,
       subst (λ (x : KeeperView). InOrder lookup key x s.remembered.items s.occupied.items) (sym view)

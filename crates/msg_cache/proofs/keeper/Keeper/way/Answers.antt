@@ -1,5 +1,5 @@
 use Rattle.std.proofs.Common.{◌≡◌, ℕ, ◌+◌, ◌-◌, ◌<◌, ◌≤◌, List, length, get_or, refl, sym, ap, ◌∙◌, subst, arith}
-use Rattle.msg_image.specs.Parts.{class_total}
+use Rattle.msg_tables.specs.Origin.{class_total}
 use Rattle.std.specs.Prelude.{slice_index}
 use Rattle.std.proofs.lemmas.List.{get_or_default}
 use Rattle.msg_buckets.specs.Capacity.{fill_limit}
@@ -21,7 +21,7 @@ base-base-requires c =
     let s = c.args.self.now in
     let k = keeper_of s.seat.me.0 in
     let kept_is = c.requires.arena.1 in
-    let cl : c.args.class.class < class_total key.image = c.requires.class in
+    let cl : c.args.class.class < class_total key.origin = c.requires.class in
     let n = c.index-header.result.now in
     let read : n ≡ slice_index k.words (header_at c.args.class) = header_read s.words.items k.words (header_at c.args.class) n (length k.words) s.words_are (c.index-header.ensures ∙ ap (λ (i : ℕ). get_or s.words.items i n) c.header_at-at.ensures) refl (let hi = header_inside (layout_of key) c.args.class cl in omega (arith, kept_is.tidy.kept.words, hi)) in
     (live_of lookup key k s.remembered.items s.occupied.items kept_is c.args.class n cl read c.if-header-eq0.false).1
@@ -33,7 +33,7 @@ capacity-capacity-requires c =
     let s = c.args.self.now in
     let k = keeper_of s.seat.me.0 in
     let kept_is = c.requires.arena.1 in
-    let cl : c.args.class.class < class_total key.image = c.requires.class in
+    let cl : c.args.class.class < class_total key.origin = c.requires.class in
     let n = c.index-header.result.now in
     let read : n ≡ slice_index k.words (header_at c.args.class) = header_read s.words.items k.words (header_at c.args.class) n (length k.words) s.words_are (c.index-header.ensures ∙ ap (λ (i : ℕ). get_or s.words.items i n) c.header_at-at.ensures) refl (let hi = header_inside (layout_of key) c.args.class cl in omega (arith, kept_is.tidy.kept.words, hi)) in
     (live_of lookup key k s.remembered.items s.occupied.items kept_is c.args.class n cl read c.if-header-eq0.false).1
@@ -45,7 +45,7 @@ overflow_add-base c =
     let s = c.args.self.now in
     let k = keeper_of s.seat.me.0 in
     let kept_is = c.requires.arena.1 in
-    let cl : c.args.class.class < class_total key.image = c.requires.class in
+    let cl : c.args.class.class < class_total key.origin = c.requires.class in
     let n = c.index-header.result.now in
     let read : n ≡ slice_index k.words (header_at c.args.class) = header_read s.words.items k.words (header_at c.args.class) n (length k.words) s.words_are (c.index-header.ensures ∙ ap (λ (i : ℕ). get_or s.words.items i n) c.header_at-at.ensures) refl (let hi = header_inside (layout_of key) c.args.class cl in omega (arith, kept_is.tidy.kept.words, hi)) in
     let live = live_of lookup key k s.remembered.items s.occupied.items kept_is c.args.class n cl read c.if-header-eq0.false in
@@ -59,7 +59,7 @@ offset_bounds-deref-base c =
     let s = c.args.self.now in
     let k = keeper_of s.seat.me.0 in
     let kept_is = c.requires.arena.1 in
-    let cl : c.args.class.class < class_total key.image = c.requires.class in
+    let cl : c.args.class.class < class_total key.origin = c.requires.class in
     let n = c.index-header.result.now in
     let read : n ≡ slice_index k.words (header_at c.args.class) = header_read s.words.items k.words (header_at c.args.class) n (length k.words) s.words_are (c.index-header.ensures ∙ ap (λ (i : ℕ). get_or s.words.items i n) c.header_at-at.ensures) refl (let hi = header_inside (layout_of key) c.args.class cl in omega (arith, kept_is.tidy.kept.words, hi)) in
     let live = live_of lookup key k s.remembered.items s.occupied.items kept_is c.args.class n cl read c.if-header-eq0.false in
@@ -73,7 +73,7 @@ slice_bounds-way_in_array-end c =
     let s = c.args.self.now in
     let k = keeper_of s.seat.me.0 in
     let kept_is = c.requires.arena.1 in
-    let cl : c.args.class.class < class_total key.image = c.requires.class in
+    let cl : c.args.class.class < class_total key.origin = c.requires.class in
     let n = c.index-header.result.now in
     let read : n ≡ slice_index k.words (header_at c.args.class) = header_read s.words.items k.words (header_at c.args.class) n (length k.words) s.words_are (c.index-header.ensures ∙ ap (λ (i : ℕ). get_or s.words.items i n) c.header_at-at.ensures) refl (let hi = header_inside (layout_of key) c.args.class cl in omega (arith, kept_is.tidy.kept.words, hi)) in
     let live = live_of lookup key k s.remembered.items s.occupied.items kept_is c.args.class n cl read c.if-header-eq0.false in
@@ -89,7 +89,7 @@ way_in_array-requires-clause-occupied c =
     let s = c.args.self.now in
     let k = keeper_of s.seat.me.0 in
     let kept_is = c.requires.arena.1 in
-    let cl : c.args.class.class < class_total key.image = c.requires.class in
+    let cl : c.args.class.class < class_total key.origin = c.requires.class in
     let n = c.index-header.result.now in
     let read : n ≡ slice_index k.words (header_at c.args.class) = header_read s.words.items k.words (header_at c.args.class) n (length k.words) s.words_are (c.index-header.ensures ∙ ap (λ (i : ℕ). get_or s.words.items i n) c.header_at-at.ensures) refl (let hi = header_inside (layout_of key) c.args.class cl in omega (arith, kept_is.tidy.kept.words, hi)) in
     let live = live_of lookup key k s.remembered.items s.occupied.items kept_is c.args.class n cl read c.if-header-eq0.false in
@@ -105,7 +105,7 @@ way_in_array-requires-clause-room c =
     let s = c.args.self.now in
     let k = keeper_of s.seat.me.0 in
     let kept_is = c.requires.arena.1 in
-    let cl : c.args.class.class < class_total key.image = c.requires.class in
+    let cl : c.args.class.class < class_total key.origin = c.requires.class in
     let n = c.index-header.result.now in
     let read : n ≡ slice_index k.words (header_at c.args.class) = header_read s.words.items k.words (header_at c.args.class) n (length k.words) s.words_are (c.index-header.ensures ∙ ap (λ (i : ℕ). get_or s.words.items i n) c.header_at-at.ensures) refl (let hi = header_inside (layout_of key) c.args.class cl in omega (arith, kept_is.tidy.kept.words, hi)) in
     let live = live_of lookup key k s.remembered.items s.occupied.items kept_is c.args.class n cl read c.if-header-eq0.false in
@@ -123,7 +123,7 @@ returns-clause-way c =
     let s = c.args.self.now in
     let k = keeper_of s.seat.me.0 in
     let kept_is = c.requires.arena.1 in
-    let cl : c.args.class.class < class_total key.image = c.requires.class in
+    let cl : c.args.class.class < class_total key.origin = c.requires.class in
     let n = c.index-header.result.now in
     let read : n ≡ slice_index k.words (header_at c.args.class) = header_read s.words.items k.words (header_at c.args.class) n (length k.words) s.words_are (c.index-header.ensures ∙ ap (λ (i : ℕ). get_or s.words.items i n) c.header_at-at.ensures) refl (let hi = header_inside (layout_of key) c.args.class cl in omega (arith, kept_is.tidy.kept.words, hi)) in
     let live = live_of lookup key k s.remembered.items s.occupied.items kept_is c.args.class n cl read c.if-header-eq0.false in

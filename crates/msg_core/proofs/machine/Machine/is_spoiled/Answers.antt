@@ -1,7 +1,7 @@
 -- the array's words, and the tables' classes
 use Rattle.std.proofs.Common.{◌≡◌, ◌<◌, length, map, sym, ◌∙◌, ap, subst}
 use Rattle.std.specs.Prelude.{None, slice_index}
-use Rattle.msg_image.specs.Parts.{class_total}
+use Rattle.msg_tables.specs.Origin.{class_total}
 use Rattle.msg_tables.specs.History.{lookup, and_then}
 use Rattle.msg_tables.specs.Refusal.{refusal}
 use Rattle.msg_tables.proofs.StandsLemmas.{class_count}
@@ -16,7 +16,7 @@ use Rattle.msg_core.proofs.machine.Machine.is_spoiled.Goals as goal
 
 pub has_spoiled_word-requires-clause-class : goal.has_spoiled_word-requires-clause-class
 has_spoiled_word-requires-clause-class c = class_listed c.self.inside.tables _ c.self.invariant.tables c.in-Live.class.class
-    (subst (λ v. c.in-Live.class.class < class_total v.history.image) (sym c.self.view_is) c.in-Live.ensures.listed)
+    (subst (λ v. c.in-Live.class.class < class_total v.history.origin) (sym c.self.view_is) c.in-Live.ensures.listed)
 
 pub has_spoiled_word-requires-clause-listed : goal.has_spoiled_word-requires-clause-listed
 has_spoiled_word-requires-clause-listed c =

@@ -1,5 +1,5 @@
-use Rattle.std.proofs.Common.{◌<◌, length, sym, subst}
-use Rattle.msg_image.specs.Parts.{class_total}
+use Rattle.std.proofs.Common.{◌<◌, sym, subst}
+use Rattle.msg_tables.specs.Origin.{class_total}
 use Rattle.msg_core.specs.View.{MachineView}
 use Rattle.msg_core.proofs.EffectLemmas.{live_set}
 use Rattle.msg_core.proofs.machine.Machine.set_live.Goals as goal
@@ -7,4 +7,4 @@ use Rattle.msg_core.proofs.machine.Machine.set_live.Goals as goal
 pub returns : goal.returns
 returns c =
     rw (c.slot.ensures, ← c.self.view_is)
-    (live_set _ c.self.invariant.whole c.args.class c.args.array (subst (λ (v : MachineView). c.args.class.class < class_total v.history.image) (sym c.self.view_is) c.requires.class))
+    (live_set _ c.self.invariant.whole c.args.class c.args.array (subst (λ (v : MachineView). c.args.class.class < class_total v.history.origin) (sym c.self.view_is) c.requires.class))

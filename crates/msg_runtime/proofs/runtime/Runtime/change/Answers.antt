@@ -1,5 +1,5 @@
 use Rattle.std.proofs.Common.{◌≡◌, ap, sym, ◌∙◌, arith}
-use Rattle.msg_image.specs.Parts.{class_total}
+use Rattle.msg_tables.specs.Origin.{class_total}
 use Rattle.msg_tables.specs.Affected.{is_affected}
 use Rattle.msg_tables.specs.History.{and_then}
 use Rattle.msg_cache.specs.declared.view.KeeperView.{KeeperView}
@@ -16,7 +16,7 @@ commit-requires-clause-flushed c = λ d inside affected.
     let same : keeper_history c.flush_reached.new.keeper ≡ h = c.flush_reached.ensures.history ∙ ap (λ (k : KeeperView). k.history) c.face.ensures.same in
     let (accepted, stands) = c.in_ok-apply.ensures.ok h c.self.invariant.tables in
     let arena : c.self.inside.arena.value ≡ c.args.arena.now = ap (λ (r : RuntimeView). r.arena) c.self.view_is ∙ sym c.requires.arena in
-    let total : class_total h.image ≡ class_total c.args.arena.now.key.image = ap class_total (c.self.invariant.image ∙ ap (λ (a : ArenaView). a.key.image) arena) in
+    let total : class_total h.origin ≡ class_total c.args.arena.now.key.origin = ap class_total (c.self.invariant.origin ∙ ap (λ (a : ArenaView). a.key.origin) arena) in
     let classes = c.self.invariant.classes in
     let flushed = affected-flushed h x d accepted (ap (λ k. is_affected k x d) (sym same) ∙ affected) in
     c.flush_reached.ensures.flushed (and_then h x) stands d (omega (arith, inside, total, classes)) flushed

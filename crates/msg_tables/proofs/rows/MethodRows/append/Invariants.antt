@@ -1,5 +1,5 @@
 use Rattle.std.proofs.Common.{◌≡◌, ◌≤◌, ◌+◌, ◌++◌, take}
-use Rattle.msg_image.specs.Methods.{method_numbers}
+use Rattle.msg_tables.specs.Methods.{method_numbers}
 use Rattle.msg_tables.proofs.rows.MethodRows.append.Given as goal
 
 abbrev pub invariant-loop-sel : goal.invariant-loop-sel

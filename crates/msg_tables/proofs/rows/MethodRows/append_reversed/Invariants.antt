@@ -1,7 +1,7 @@
 use Rattle.std.proofs.Common.{◌≡◌, ◌≤◌, ◌++◌, length}
 use Rattle.std.specs.Prelude.{reverse}
 use Rattle.std.specs.Slice.Iter.{iter_rest}
-use Rattle.msg_image.specs.Methods.{method_numbers}
+use Rattle.msg_tables.specs.Methods.{method_numbers}
 use Rattle.msg_tables.proofs.rows.MethodRows.append_reversed.Given as goal
 
 abbrev pub invariant-loop-sel : goal.invariant-loop-sel

@@ -11,6 +11,7 @@ use Rattle.msg_tables.proofs.ListedLemmas.{listed-append}
 use Rattle.msg_names.proofs.ClassRefLemmas.{slot_of-inside}
 use Rattle.msg_tables.proofs.PutLemmas.{put-length, put-listed, length-rows_of}
 use Rattle.msg_tables.proofs.HoldsLemmas.{holds-append}
+use Rattle.msg_tables.specs.Origin.{last_imp}
 use Rattle.msg_tables.proofs.tables.Tables.append.Goals as goal
 
 pub invariant_of-self-2 : goal.invariant_of-self-2
@@ -23,8 +24,8 @@ invariant_of-self-2 c =
       room = c.self.invariant.room;
       preorder = c.self.invariant.preorder;
       lists = put-length c.self.inside.lists.items c.append_row.new.lists.items c.slot.result _ now ∙ c.self.invariant.lists;
-      listed = put-listed (length c.self.inside.args.items) c.self.inside.lists.items c.append_row.new.lists.items c.slot.result (λ ms. ms ++ row) now c.self.invariant.listed
-          (λ ms all. listed-append (length c.self.inside.args.items) ms row all (grind (arith, nat_tests, fits.named.1)));
+      listed = put-listed (last_imp c.self.inside.counts) c.self.inside.lists.items c.append_row.new.lists.items c.slot.result (λ ms. ms ++ row) now c.self.invariant.listed
+          (λ ms all. listed-append (last_imp c.self.inside.counts) ms row all (grind (arith, nat_tests, fits.named.1)));
       few_classes = c.self.invariant.few_classes;
       few_rows = fits.rows;
       few_changes = c.self.invariant.few_changes;

@@ -1,6 +1,6 @@
 use Rattle.std.proofs.Common.{◌≡◌, ◌<◌, ◌+◌, [], ◌++◌, length, refl, sym, ap, ◌∙◌, subst, arith}
 use Rattle.std.specs.Prelude.{slice_set, slice_index_or, reverse}
-use Rattle.msg_image.specs.Methods.{method_numbers}
+use Rattle.msg_tables.specs.Methods.{method_numbers}
 use Rattle.msg_tables.specs.RowList.{rows_of}
 use Rattle.msg_tables.specs.After.{rows_at, of_class, of_meta}
 use Rattle.msg_tables.specs.Stands.{Holds}
@@ -8,12 +8,13 @@ use Rattle.msg_tables.proofs.ListedLemmas.{listed-reverse}
 use Rattle.msg_names.proofs.ClassRefLemmas.{slot_of-inside}
 use Rattle.msg_tables.proofs.PutLemmas.{put_two-length, put_two-listed, length-rows_of}
 use Rattle.msg_tables.proofs.HoldsLemmas.{holds-attach, length-method_numbers}
+use Rattle.msg_tables.specs.Origin.{last_imp}
 use Rattle.msg_tables.proofs.tables.Tables.attach.Goals as goal
 
 pub invariant_of-self-2 : goal.invariant_of-self-2
 invariant_of-self-2 c =
     let fits = rw (← c.self.view_is) at c.requires in
-    let n = length c.self.inside.args.items in
+    let n = last_imp c.self.inside.counts in
     let was = c.self.inside.lists.items in
     let ms = reverse (method_numbers c.as_slice-own.result.now) in
     let cs = reverse (method_numbers c.as_slice-meta.result.now) in

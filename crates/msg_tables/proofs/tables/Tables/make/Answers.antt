@@ -2,7 +2,7 @@ use Rattle.std.proofs.Common.{◌≡◌, ◌<◌, ◌≤◌, ◌++◌, ℕ, List
 use Rattle.std.specs.Prelude.{IfSome, slice_set}
 use Rattle.std.proofs.lemmas.List.{length-set}
 use Rattle.msg_tables.specs.declared.presence.Presence.{Presence}
-use Rattle.msg_form.specs.declared.limits.TheConstants.{MAX_CLASSES}
+use Rattle.msg_tables.specs.declared.limits.TheConstants.{MAX_CLASSES}
 use Rattle.msg_tables.specs.Order.{IsOrder}
 use Rattle.msg_tables.specs.Preorder.{HavePreorder, depth_at, depths_with}
 use Rattle.msg_tables.proofs.MadeLemmas.{made-order, order-room}

@@ -7,6 +7,7 @@ use Rattle.msg_tables.proofs.ChainLemmas.{chain_from, Suffices}
 use Rattle.msg_tables.proofs.OrderLemmas.{only_present-listed, suffices}
 use Rattle.msg_tables.proofs.ListedLemmas.{own_in-listed}
 use Rattle.msg_tables.proofs.LookupLemmas.{stops, goes_on, chain-begins}
+use Rattle.msg_tables.specs.Origin.{last_imp}
 use Rattle.msg_tables.proofs.tables.Tables.method.Goals as goal
 
 enough : (c : goal.After-present-at) → Suffices c.args.self.now.order (length c.args.self.now.supers) c.present-at.result
@@ -32,7 +33,7 @@ returns-in-Some-find-clause-method c =
     (ap (own_in (selector_number c.args.sel)) (sym c.rows.ensures.rows) ∙ sym c.in-Some-find.ensures) so_far
 
 pub returns-in-Some-find-clause-imp : goal.returns-in-Some-find-clause-imp
-returns-in-Some-find-clause-imp c = own_in-listed (length c.args.self.now.args) (selector_number c.args.sel) (imp_number c.in-Some-find.imp) c.rows.result.now.rows c.rows.ensures.listed (sym c.in-Some-find.ensures)
+returns-in-Some-find-clause-imp c = own_in-listed (last_imp c.args.self.now.counts) (selector_number c.args.sel) (imp_number c.in-Some-find.imp) c.rows.result.now.rows c.rows.ensures.listed (sym c.in-Some-find.ensures)
 
 pub loop-at-preserved : goal.loop-at-preserved
 loop-at-preserved c =

@@ -1,6 +1,6 @@
 use Rattle.std.proofs.Common.{◌≡◌, ◌<◌, [], ◌++◌, length, refl, sym, ap, ◌∙◌, subst, arith}
 use Rattle.std.specs.Prelude.{slice_set, slice_index_or}
-use Rattle.msg_image.specs.Methods.{method_numbers}
+use Rattle.msg_tables.specs.Methods.{method_numbers}
 use Rattle.msg_tables.specs.RowList.{rows_of}
 use Rattle.msg_tables.specs.After.{rows_at}
 use Rattle.msg_tables.specs.Stands.{Holds}
@@ -10,6 +10,7 @@ use Rattle.msg_tables.proofs.HoldsLemmas.{holds-append, length-rows_at, length-m
 use Rattle.msg_tables.proofs.ListedLemmas.{listed-append}
 use Rattle.msg_names.proofs.ClassRefLemmas.{slot_of-inside}
 use Rattle.msg_tables.proofs.PutLemmas.{put-length, put-listed, length-rows_of}
+use Rattle.msg_tables.specs.Origin.{last_imp}
 use Rattle.msg_tables.proofs.tables.Tables.open_methods.Goals as goal
 
 pub invariant_of-self-2 : goal.invariant_of-self-2
@@ -17,7 +18,7 @@ invariant_of-self-2 c =
     let given = rw (← c.self.view_is) at c.requires in
     let now = c.in_ok-append_rows.ensures.ok in
     let methods = method_numbers c.args.methods.now in
-    let n = length c.self.inside.args.items in
+    let n = last_imp c.self.inside.counts in
     record {
       order = c.self.invariant.order;
       room = c.self.invariant.room;

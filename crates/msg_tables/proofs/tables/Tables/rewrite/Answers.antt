@@ -10,13 +10,14 @@ use Rattle.msg_tables.proofs.ListedLemmas.{listed-set_last}
 use Rattle.msg_names.proofs.ClassRefLemmas.{slot_of-inside}
 use Rattle.msg_tables.proofs.PutLemmas.{put-length, put-listed, length-rows_of}
 use Rattle.msg_tables.proofs.HoldsLemmas.{holds-rewrite, own-rewritten}
+use Rattle.msg_tables.specs.Origin.{last_imp}
 use Rattle.msg_tables.proofs.tables.Tables.rewrite.Goals as goal
 
 pub invariant_of-self : goal.invariant_of-self
 invariant_of-self c =
     let own = rw (← c.self.view_is) at c.requires in
     let now = c.rewrite_row.ensures in
-    let n = length c.self.inside.args.items in
+    let n = last_imp c.self.inside.counts in
     let write = set_last (selector_number c.args.row.sel) (imp_number c.args.row.imp) in
     record {
       order = c.self.invariant.order;

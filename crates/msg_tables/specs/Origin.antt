@@ -1,0 +1,74 @@
+-- What tables are opened of: classes with their methods, and limits.
+use Rattle.std.specs.Prelude.{◌≡◌, ◌<◌, ◌≤◌, ◌+◌, ◌-◌, ◌==◌, ◌||◌, ◌^◌, ℕ, nat_lt, nat_le, not, Bool, true, false, List, Option, Some, None, length, slice_get, sum_by, All}
+use Rattle.std.specs.List.{list_all}
+use Rattle.msg_order.specs.Superclasses.{AreListed, has_cycle}
+use Rattle.msg_tables.specs.declared.limits.Limits.{Limits}
+use Rattle.msg_tables.specs.declared.origin.MethodsOf.{MethodsOf}
+use Rattle.msg_tables.specs.declared.limits.TheConstants.{MAX_CLASSES, MAX_IMP}
+
+-- how many arguments each selector and each implementation takes, from number 1
+pub record CountsView : Type 0 where
+  pub colons : List ℕ
+  pub args : List ℕ
+
+-- what a history begins with
+pub record OriginView : Type 0 where
+  -- the superclasses of the listed classes, which are numbered first
+  pub superclasses : List (Option ℕ)
+  -- how many classes may be made, which are numbered after them
+  pub made : ℕ
+  -- the method lists, in the order in which they are attached
+  pub lists : List MethodsOf
+  -- where they aren't known each number from 1 is a selector and an implementation, and all fit one another
+  pub counts : Option CountsView
+  pub limits : Limits
+
+-- how many classes have numbers: the listed ones, and those that may be made
+abbrev pub class_total : OriginView → ℕ
+class_total o = length o.superclasses + o.made
+
+-- the greatest number of an implementation
+abbrev pub last_imp : Option CountsView → ℕ
+last_imp None = MAX_IMP
+last_imp (Some c) = length c.args
+
+-- no implementation has this number
+abbrev pub lacks_imp : Option CountsView → ℕ → Bool
+lacks_imp counts i = (i == 0) || nat_lt (last_imp counts) i
+
+-- two counts that aren't known to be one
+abbrev pub differ : Option ℕ → Option ℕ → Bool
+differ (Some n) (Some m) = not (n == m)
+differ _ _ = true
+
+-- a selector and an implementation that take different numbers of arguments
+abbrev pub misfits_in : Option CountsView → ℕ → ℕ → Bool
+misfits_in None s i = false
+misfits_in (Some c) s i = differ (slice_get c.colons (s - 1)) (slice_get c.args (i - 1))
+
+-- two selectors that take different numbers of arguments
+abbrev pub unlike_in : Option CountsView → ℕ → ℕ → Bool
+unlike_in None s u = false
+unlike_in (Some c) s u = differ (slice_get c.colons (s - 1)) (slice_get c.colons (u - 1))
+
+-- each implementation is one of the first n
+abbrev pub are_listed : ℕ → List (ℕ × ℕ) → Bool
+are_listed n methods = list_all (λ m. nat_le m.1 n) methods
+
+-- how many rows the tables have as they are opened
+abbrev pub row_total : OriginView → ℕ
+row_total o = sum_by (λ (l : MethodsOf). length l.methods) o.lists
+
+-- a method list is of a listed class, with implementations that there are
+pub record IsSoundList (o : OriginView) (l : MethodsOf) : Type 0 where
+  pub class : l.class.class < length o.superclasses
+  pub methods : are_listed (last_imp o.counts) l.methods ≡ true
+
+-- numbers are those of what is there, chains of superclasses end, and sizes are within the limits
+pub record IsSound (o : OriginView) : Type 0 where
+  pub classes : AreListed o.superclasses
+  pub chains : has_cycle o.superclasses ≡ false
+  pub lists : All (IsSoundList o) o.lists
+  pub few_classes : class_total o ≤ MAX_CLASSES
+  pub few_rows : row_total o ≤ o.limits.rows
+  pub few_changes : o.limits.changes < 2 ^ 32
