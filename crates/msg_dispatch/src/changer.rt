@@ -1,6 +1,6 @@
 //! The changer.
 
-ghost use Rattle.std.specs.Prelude.{◌≡◌, ◌≢◌, length, IfOk, IfErr, OnErr, None, Some};
+ghost use Rattle.std.specs.Prelude.{◌≡◌, ◌≢◌, length, IfOk, IfErr, IsErrOf, OnErr, None, Some};
 ghost use Rattle.msg_tables.specs.History.{BeginsWith, and_then};
 ghost use Rattle.msg_tables.specs.Refusal.{refusal};
 ghost use Rattle.msg_tables.specs.declared.fault.ChangeFault.{ChangeFault};
@@ -49,6 +49,7 @@ impl<'d, N: ArenaName> Changer<'d, N> {
         ensures ok { IfOk result (λ r. (refusal self.old change.now ≡ None) × (self.new ≡ and_then self.old change.now) × (r.count ≡ length self.new.changes)) }
         ensures err { OnErr result (self.new ≡ self.old) }
         ensures fault { IfErr result (λ f. f ≢ ChangeFault.Memory → refusal self.old change.now ≡ Some f) }
+        ensures memory { IsErrOf result ChangeFault.Memory → refusal self.old change.now ≡ None }
     {
         let dispatcher = self.dispatcher;
         let count = dispatcher

@@ -1,6 +1,6 @@
 //! What stands behind the runtime lock.
 
-ghost use Rattle.std.specs.Prelude.{◌≡◌, ◌≢◌, ◌<◌, ◌≤◌, length, IfOk, IfErr, IfSome, OnErr, None, Some};
+ghost use Rattle.std.specs.Prelude.{◌≡◌, ◌≢◌, ◌<◌, ◌≤◌, length, IfOk, IfErr, IfSome, IsErrOf, OnErr, None, Some};
 ghost use Rattle.msg_tables.specs.Origin.{last_imp};
 ghost use Rattle.msg_names.specs.Number.{selector_number, imp_number};
 ghost use Rattle.msg_tables.specs.History.{BeginsWith, and_then, empty, lookup};
@@ -83,6 +83,7 @@ impl<N: ArenaName> Desk<N> {
         ensures ok { IfOk result (λ count. (refusal turn.old.history change.now ≡ None) × (turn.new.history ≡ and_then turn.old.history change.now) × (count ≡ length turn.new.history.changes)) }
         ensures err { OnErr result (turn.new.history ≡ turn.old.history) }
         ensures fault { IfErr result (λ f. f ≢ ChangeFault.Memory → refusal turn.old.history change.now ≡ Some f) }
+        ensures memory { IsErrOf result ChangeFault.Memory → refusal turn.old.history change.now ≡ None }
     {
         self.runtime.change(arena, turn, change)
     }

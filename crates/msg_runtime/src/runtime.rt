@@ -1,6 +1,6 @@
 //! The runtime behind a lock.
 
-ghost use Rattle.std.specs.Prelude.{◌≡◌, ◌≢◌, ◌<◌, ◌≤◌, length, cond, not, is_some, IfOk, IfErr, IfSome, IsNone, OnErr, None, Some};
+ghost use Rattle.std.specs.Prelude.{◌≡◌, ◌≢◌, ◌<◌, ◌≤◌, length, cond, not, is_some, IfOk, IfErr, IfSome, IsErrOf, IsNone, OnErr, None, Some};
 ghost use Rattle.msg_names.specs.Number.{selector_number, imp_number};
 ghost use Rattle.msg_tables.specs.Origin.{last_imp};
 ghost use Rattle.msg_tables.specs.History.{BeginsWith, and_then, empty, holder, lookup, superclass};
@@ -170,6 +170,7 @@ impl Runtime {
         ensures err { OnErr result (self.new.keeper.history ≡ self.old.keeper.history) }
         ensures caches { OnErr result ((self.new.keeper ≡ lent self.old.keeper) × (self.new.remembered ≡ self.old.remembered)) }
         ensures fault { IfErr result (λ f. f ≢ ChangeFault.Memory → refusal self.old.keeper.history change.now ≡ Some f) }
+        ensures memory { IsErrOf result ChangeFault.Memory → refusal self.old.keeper.history change.now ≡ None }
     {
         tables_are_of_their_origin();
         an_accepted_change_is_within_the_limit();
