@@ -1,2 +1,3 @@
+pub mod CrossingLemmas
 pub mod NamedLemmas
 pub mod OpeningLemmas
