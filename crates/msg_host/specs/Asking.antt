@@ -29,6 +29,8 @@ pub record ChangesBy (v w : RuntimeView) (x : Change) (n : ℕ) : Type 0 where
   pub made : n ≡ 0 → (refusal v.history x ≡ None) × (w.history ≡ and_then v.history x)
   pub left : n ≢ 0 → w ≡ v
   pub fault : n ≢ 0 → n ≢ want_of_memory → option_map change_fault_number (refusal v.history x) ≡ Some n
+  -- want of memory is answered only where nothing else speaks against it
+  pub memory : n ≡ want_of_memory → refusal v.history x ≡ None
 
 -- the rows of a method list, as pairs of numbers
 abbrev pub pairs_of : List MethodRow → List (ℕ × ℕ)

@@ -40,6 +40,7 @@ fn method_list(alloc: Global, rows: &[MethodRow]) -> Result<MethodList, u32>
 
 impl HostedRuntime {
     // Makes a change. 0, or the number of the fault.
+    #[tactic(auto, using(crate::proofs::ChangingLemmas::memory_of_number))]
     fn make(&mut self, change: &Change) -> u32
         ensures { ChangesBy self.old self.new change.now result }
     {

@@ -1,6 +1,6 @@
 //! The runtime.
 
-ghost use Rattle.std.specs.Prelude.{◌≡◌, ◌≢◌, ℕ, ◌<◌, ◌≤◌, length, slice_get, option_map, None, Some, Err, IfOk, IfErr, IfSome, IsNone, OnErr};
+ghost use Rattle.std.specs.Prelude.{◌≡◌, ◌≢◌, ℕ, ◌<◌, ◌≤◌, length, slice_get, option_map, None, Some, Err, IfOk, IfErr, IfSome, IsErrOf, IsNone, OnErr};
 ghost use Rattle.msg_names.specs.Number.{selector_number, imp_number};
 ghost use Rattle.msg_names.specs.Numbering.{number_of};
 ghost use Rattle.msg_form.specs.declared.faults.DocumentFault.{DocumentFault};
@@ -183,6 +183,7 @@ impl HostedRuntime {
         ensures ok { IfOk result (λ count. (refusal self.old.history change.now ≡ None) × (self.new.history ≡ and_then self.old.history change.now) × (count ≡ length self.new.history.changes)) }
         ensures err { OnErr result (self.new ≡ self.old) }
         ensures fault { IfErr result (λ f. f ≢ ChangeFault.Memory → refusal self.old.history change.now ≡ Some f) }
+        ensures memory { IsErrOf result ChangeFault.Memory → refusal self.old.history change.now ≡ None }
     {
         self.runtime.change(&self.arena, &mut self.turn, change)
     }
