@@ -9,7 +9,8 @@
  *     Calls that take a msg_sender alone want no lock: any number of senders may be in them at once, beside one that has the lock;
  *   - a handle goes to another thread by something that orders memory: a lock, a thread's start or join;
  *   - a sender is given only to calls on the runtime that it was opened from (the one `requires` that is left; no call can test it);
- *   - malloc, realloc and free are the C library's; there is enough stack; no call is made in a signal handler.
+ *   - malloc, realloc and free are the C library's; there is enough stack; no call is made in a signal handler,
+ *     or in the forked child of a process with threads.
  *
  * Not trusted, since it is refused by a number: a handle that is closed, or opened twice; numbers of classes, selectors and implementations that are nobody's.
  *

@@ -3,7 +3,9 @@
 ghost use Rattle.std.specs.Prelude.{◌≡◌, ◌≢◌, ◌<◌, ◌≤◌, ℕ, length, slice_get, IsUtf8, Some, None};
 ghost use Rattle.msg_names.specs.declared.value.ClassRef.{ClassRef};
 ghost use Rattle.msg_names.specs.Numbering.{number_of};
+ghost use Rattle.msg_image.specs.Opened.{origin_of};
 ghost use Rattle.msg_image.specs.Parts.{class_names};
+ghost use Rattle.msg_tables.specs.Origin.{last_imp};
 ghost use Rattle.msg_tables.specs.History.{holder, lookup, superclass};
 ghost use Rattle.msg_cache.specs.Views.{classes};
 ghost use Rattle.msg_host.specs.Asking.{ask_fault, ask_fault_number};
@@ -35,6 +37,7 @@ pub extern "C" fn msg_class_count(
     ensures closed { runtime.old.held.state ≡ None → result ≡ CLOSED }
     ensures left { result ≢ 0 → count.new ≡ count.old }
     ensures done { (v : RuntimeView) → runtime.old.held.state ≡ Some v → (result ≡ 0) × (count.new ≡ classes v.arena) }
+    ensures image { (v : RuntimeView) → runtime.old.held.state ≡ Some v → origin_of v.image ≡ v.history.origin }
 {
     let Some(held) = runtime.take(alloc) else {
         return CLOSED;
@@ -75,9 +78,9 @@ pub extern "C" fn msg_find_class(
     ensures kept { runtime.new.held.state ≡ runtime.old.held.state }
     ensures closed { runtime.old.held.state ≡ None → result ≡ CLOSED }
     ensures left { result ≢ 0 → class.new ≡ class.old }
-    ensures done { (v : RuntimeView) → runtime.old.held.state ≡ Some v → result ≡ 0 → slice_get (class_names v.history.image) class.new ≡ Some name.now }
+    ensures done { (v : RuntimeView) → runtime.old.held.state ≡ Some v → result ≡ 0 → slice_get (class_names v.image) class.new ≡ Some name.now }
     ensures none { (v : RuntimeView) → runtime.old.held.state ≡ Some v → result ≢ 0 → result ≡ NONE }
-    ensures unnamed { (v : RuntimeView) → runtime.old.held.state ≡ Some v → result ≢ 0 → IsUtf8 name.now → (k : ℕ) → k < classes v.arena → slice_get (class_names v.history.image) k ≢ Some name.now }
+    ensures unnamed { (v : RuntimeView) → runtime.old.held.state ≡ Some v → result ≢ 0 → IsUtf8 name.now → (k : ℕ) → k < classes v.arena → slice_get (class_names v.image) k ≢ Some name.now }
 {
     let Some(held) = runtime.take(alloc) else {
         return CLOSED;
@@ -104,9 +107,9 @@ pub extern "C" fn msg_find_selector(
     ensures kept { runtime.new.held.state ≡ runtime.old.held.state }
     ensures closed { runtime.old.held.state ≡ None → result ≡ CLOSED }
     ensures left { result ≢ 0 → sel.new ≡ sel.old }
-    ensures done { (v : RuntimeView) → runtime.old.held.state ≡ Some v → result ≡ 0 → number_of v.history.image.names name.now ≡ Some sel.new }
+    ensures done { (v : RuntimeView) → runtime.old.held.state ≡ Some v → result ≡ 0 → number_of v.image.names name.now ≡ Some sel.new }
     ensures none { (v : RuntimeView) → runtime.old.held.state ≡ Some v → result ≢ 0 → result ≡ NONE }
-    ensures unnamed { (v : RuntimeView) → runtime.old.held.state ≡ Some v → result ≢ 0 → IsUtf8 name.now → number_of v.history.image.names name.now ≡ None }
+    ensures unnamed { (v : RuntimeView) → runtime.old.held.state ≡ Some v → result ≢ 0 → IsUtf8 name.now → number_of v.image.names name.now ≡ None }
 {
     let Some(held) = runtime.take(alloc) else {
         return CLOSED;
@@ -137,7 +140,7 @@ pub extern "C" fn msg_lookup(
     ensures left { result ≢ 0 → imp.new ≡ imp.old }
     ensures fault { (v : RuntimeView) → runtime.old.held.state ≡ Some v → result ≡ number_of_fault (ask_fault (classes v.arena) class sel) }
     ensures done { (v : RuntimeView) → runtime.old.held.state ≡ Some v → result ≡ 0 → imp.new ≡ lookup v.history (record { class = class; meta = meta }) sel }
-    ensures listed { (v : RuntimeView) → runtime.old.held.state ≡ Some v → result ≡ 0 → imp.new ≤ length v.history.image.imps }
+    ensures listed { (v : RuntimeView) → runtime.old.held.state ≡ Some v → result ≡ 0 → imp.new ≤ last_imp v.history.origin.counts }
 {
     let Some(held) = runtime.take(alloc) else {
         return CLOSED;

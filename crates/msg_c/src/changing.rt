@@ -2,7 +2,7 @@
 
 ghost use Rattle.std.specs.Prelude.{◌≡◌, ◌≢◌, ◌<◌, ◌⊎◌, Some, None, is_some, true};
 ghost use Rattle.msg_names.specs.Number.{imp_ref_of, selector_of};
-ghost use Rattle.msg_image.specs.declared.change.Change.{Change};
+ghost use Rattle.msg_tables.specs.declared.change.Change.{Change};
 ghost use Rattle.msg_host.specs.Asking.{ChangesBy, IsListFault, ask_fault_number, pairs_of};
 ghost use Rattle.msg_host.specs.View.{RuntimeView};
 ghost use Rattle.msg_host.specs.declared.fault.AskFault.{AskFault};

@@ -7,6 +7,7 @@
 mod answer;
 mod asking;
 mod changing;
+mod crossing;
 mod opening;
 mod opening_rows;
 mod parts;

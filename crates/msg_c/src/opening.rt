@@ -28,7 +28,7 @@ pub(crate) fn handle_of(
 
 fn opened(alloc: Global, text: &[u8]) -> Result<RuntimeHandle, DocumentFault>
     ensures open { IfOk result (λ handle. is_some handle.held.state ≡ true) }
-    ensures ok { IfOk result (λ handle. IfSome handle.held.state (λ v. OpensAs text.now v.history)) }
+    ensures ok { IfOk result (λ handle. IfSome handle.held.state (λ v. OpensAs text.now v)) }
     ensures fault { IfErr result (λ f. f ≢ DocumentFault.Memory → IsAnswer text.now (Err f)) }
 {
     handle_of(alloc, HostedRuntime::open(alloc, text)?)
@@ -42,7 +42,7 @@ pub extern "C" fn msg_open(alloc: Global, runtime: &mut RuntimeHandle, text: &[u
     ensures already { is_some runtime.old.held.state ≡ true → result ≡ ALREADY_OPEN }
     ensures left { result ≢ 0 → runtime.new.held.state ≡ runtime.old.held.state }
     ensures open { result ≡ 0 → is_some runtime.new.held.state ≡ true }
-    ensures done { result ≡ 0 → IfSome runtime.new.held.state (λ v. OpensAs text.now v.history) }
+    ensures done { result ≡ 0 → IfSome runtime.new.held.state (λ v. OpensAs text.now v) }
     ensures fault { runtime.old.held.state ≡ None → result ≢ 0 → (f : DocumentFault) × (result ≡ document_fault_number f) × (f ≢ DocumentFault.Memory → IsAnswer text.now (Err f)) }
 {
     if runtime.is_open() {

@@ -18,7 +18,7 @@ use std::alloc::Global;
 
 fn opened_rows(alloc: Global, rows: &Rows) -> Result<RuntimeHandle, DocumentFault>
     ensures open { IfOk result (λ handle. is_some handle.held.state ≡ true) }
-    ensures ok { IfOk result (λ handle. IfSome handle.held.state (λ v. OpensFrom (rows_view rows.now) v.history)) }
+    ensures ok { IfOk result (λ handle. IfSome handle.held.state (λ v. OpensFrom (rows_view rows.now) v)) }
     ensures fault { IfErr result (λ f. f ≢ DocumentFault.Memory → judged (form_of (rows_view rows.now)) ≡ Err f) }
 {
     handle_of(alloc, HostedRuntime::open_rows(alloc, rows)?)
@@ -50,7 +50,7 @@ pub extern "C" fn msg_open_rows(
     ensures already { is_some runtime.old.held.state ≡ true → result ≡ ALREADY_OPEN }
     ensures left { result ≢ 0 → runtime.new.held.state ≡ runtime.old.held.state }
     ensures open { result ≡ 0 → is_some runtime.new.held.state ≡ true }
-    ensures done { result ≡ 0 → IfSome runtime.new.held.state (λ v. OpensFrom (record { names = names.now; classes = classes.now; methods = methods.now; imps = imps.now; made = made.now }) v.history) }
+    ensures done { result ≡ 0 → IfSome runtime.new.held.state (λ v. OpensFrom (record { names = names.now; classes = classes.now; methods = methods.now; imps = imps.now; made = made.now }) v) }
     ensures fault { runtime.old.held.state ≡ None → result ≢ 0 → (f : DocumentFault) × (result ≡ spec.rows_fault_number f)
         × (f ≢ DocumentFault.Memory → judged (form_of (record { names = names.now; classes = classes.now; methods = methods.now; imps = imps.now; made = made.now })) ≡ Err f) }
 {

@@ -24,6 +24,9 @@ impl Model for HeldRuntime {
     ghost also_owns = { λ h. held_owns h.alloc h.at h.state };
 }
 
+// What is held may go to another thread, and nothing of it stays behind.
+unsafe impl Send for HeldRuntime {}
+
 impl HeldRuntime {
     fn of_parts(parts: Parts<HostedRuntime, Global>) -> HeldRuntime
         ensures { result.state ≡ Some parts.value }

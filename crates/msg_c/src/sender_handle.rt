@@ -27,6 +27,9 @@ impl Model for HeldSender {
     ghost also_owns = { λ h. held_owns h.alloc h.at h.state };
 }
 
+// What is held may go to another thread, and nothing of it stays behind.
+unsafe impl Send for HeldSender {}
+
 impl HeldSender {
     fn of_parts(parts: Parts<HostedSender, Global>) -> HeldSender
         ensures { result.state ≡ Some parts.value }

@@ -1,6 +1,7 @@
 //! Senders.
 
 ghost use Rattle.std.specs.Prelude.{◌≡◌, ◌≢◌, ◌≤◌, ◌⊎◌, length, Some, None, is_some, true};
+ghost use Rattle.msg_tables.specs.Origin.{last_imp};
 ghost use Rattle.msg_tables.specs.History.{History, lookup};
 ghost use Rattle.msg_cache.specs.Views.{ArenaView, classes};
 ghost use Rattle.msg_host.specs.Asking.{ask_fault};
@@ -111,7 +112,7 @@ pub extern "C" fn msg_probe(
     ensures still { result ≢ 0 → result ≢ MISSED → sender.new.held.state ≡ sender.old.held.state }
     ensures begins { SeesOn (sender_front sender.old.held.state) (sender_front sender.new.held.state) }
     ensures hit { result ≡ 0 → (h : History) → sender_front sender.new.held.state ≡ Some h → imp.new ≡ lookup h (record { class = class; meta = meta }) sel }
-    ensures listed { result ≡ 0 → (a : ArenaView) → sender_arena sender.old.held.state ≡ Some a → imp.new ≤ length a.key.image.imps }
+    ensures listed { result ≡ 0 → (a : ArenaView) → sender_arena sender.old.held.state ≡ Some a → imp.new ≤ last_imp a.key.origin.counts }
     ensures fault { (a : ArenaView) → sender_arena sender.old.held.state ≡ Some a → result ≢ 0 → result ≢ MISSED → result ≡ number_of_fault (ask_fault (classes a) class sel) }
     ensures noted { result ≡ 0 → (h : History) → sender_front sender.new.held.state ≡ Some h → recalled sender.new.book (length h.changes) (slot_of (record { class = class; meta = meta })) sel ≡ imp.new }
     ensures miss { (a : ArenaView) → sender_arena sender.old.held.state ≡ Some a → result ≡ MISSED → ask_fault (classes a) class sel ≡ None }
@@ -164,7 +165,7 @@ pub extern "C" fn msg_fill(
     ensures no_sender { sender.old.held.state ≡ None → result ≡ CLOSED }
     ensures left { result ≢ 0 → (imp.new ≡ imp.old) × (sender.new.held.state ≡ sender.old.held.state) }
     ensures done { result ≡ 0 → (h : History) → runtime_history runtime.old.held.state ≡ Some h → imp.new ≡ lookup h (record { class = class; meta = meta }) sel }
-    ensures listed { result ≡ 0 → (h : History) → runtime_history runtime.old.held.state ≡ Some h → imp.new ≤ length h.image.imps }
+    ensures listed { result ≡ 0 → (h : History) → runtime_history runtime.old.held.state ≡ Some h → imp.new ≤ last_imp h.origin.counts }
     ensures front { result ≡ 0 → sender_front sender.new.held.state ≡ runtime_history runtime.old.held.state }
     ensures begins { result ≡ 0 → SeesOn (sender_front sender.old.held.state) (sender_front sender.new.held.state) }
     ensures noted { result ≡ 0 → (h : History) → runtime_history runtime.old.held.state ≡ Some h → recalled sender.new.book (length h.changes) (slot_of (record { class = class; meta = meta })) sel ≡ imp.new }

@@ -1,1 +1,4 @@
+pub mod ChangingLemmas
+pub mod CrossingLemmas
+pub mod NamedLemmas
 pub mod OpeningLemmas

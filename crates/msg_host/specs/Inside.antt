@@ -1,7 +1,8 @@
 -- The fields of what handles hold.
 use Rattle.std.specs.Prelude.{◌≡◌, ◌≤◌, length, IfSome}
 use Rattle.std.specs.Arc.{arc_value}
-use Rattle.msg_form.specs.declared.limits.TheConstants.{MAX_CLASSES}
+use Rattle.msg_image.specs.Opened.{origin_of}
+use Rattle.msg_tables.specs.declared.limits.TheConstants.{MAX_CLASSES}
 use Rattle.msg_cache.specs.Views.{IsSenderOf, classes}
 use Rattle.msg_host.specs.View.{RuntimeView, SenderView}
 use Rattle.msg_host.specs.declared.runtime.HostedRuntime.TheInside.{Inside as RuntimeInside}
@@ -9,14 +10,14 @@ use Rattle.msg_host.specs.declared.sender.HostedSender.TheInside.{Inside as Send
 
 -- what contracts see of a runtime
 abbrev pub runtime_view : RuntimeInside → RuntimeView
-runtime_view r = record { arena = r.runtime.arena; history = r.runtime.keeper.history }
+runtime_view r = record { arena = r.runtime.arena; history = r.runtime.keeper.history; image = r.image }
 
 -- the invariant of runtimes
 pub record AreOfOne (r : RuntimeInside) : Type 0 where
   pub arena : arc_value r.arena ≡ r.runtime.arena
   pub turn : r.turn.table ≡ r.runtime.arena.table
-  pub image : r.image ≡ r.runtime.arena.key.image
-  pub history : r.runtime.keeper.history.image ≡ r.runtime.arena.key.image
+  pub image : origin_of r.image ≡ r.runtime.arena.key.origin
+  pub history : r.runtime.keeper.history.origin ≡ r.runtime.arena.key.origin
 
 -- what contracts see of a sender
 abbrev pub sender_view : SenderInside → SenderView
@@ -25,7 +26,7 @@ sender_view s = record { arena = arc_value s.arena; seen = s.prober.sender }
 -- the invariant of senders
 pub record IsOfArena (s : SenderInside) : Type 0 where
   pub prober : IsSenderOf (arc_value s.arena) s.prober
-  pub image : s.prober.sender.front.image ≡ (arc_value s.arena).key.image
+  pub origin : s.prober.sender.front.origin ≡ (arc_value s.arena).key.origin
   pub classes : s.classes ≡ classes (arc_value s.arena)
   pub few_classes : s.classes ≤ MAX_CLASSES
   -- how many changes were seen, where it is known

@@ -1,8 +1,9 @@
 //! Questions in numbers.
 
-ghost use Rattle.std.specs.Prelude.{◌≡◌, ◌≢◌, ◌<◌, ◌≤◌, ℕ, length, slice_get, option_map, IsUtf8, None, Some, IfOk, IfErr, IfSome, IsNone, OnOk};
+ghost use Rattle.std.specs.Prelude.{◌≡◌, ◌≢◌, ◌<◌, ◌≤◌, ℕ, slice_get, option_map, IsUtf8, None, Some, IfOk, IfErr, IfSome, IsNone, OnOk};
 ghost use Rattle.msg_names.specs.Numbering.{number_of};
 ghost use Rattle.msg_image.specs.Parts.{class_names};
+ghost use Rattle.msg_tables.specs.Origin.{last_imp};
 ghost use Rattle.msg_tables.specs.History.{holder, lookup, superclass};
 ghost use Rattle.msg_cache.specs.Views.{classes};
 ghost use Rattle.msg_host.specs.Asking.{ask_fault};
@@ -16,7 +17,7 @@ impl HostedRuntime {
     /// As `lookup`.
     pub fn lookup_by(&self, class: u32, meta: bool, sel: u32) -> Result<u32, AskFault>
         ensures found { IfOk result (λ i. i ≡ lookup self.now.history (record { class = class; meta = meta }) sel) }
-        ensures listed { IfOk result (λ i. i ≤ length self.now.history.image.imps) }
+        ensures listed { IfOk result (λ i. i ≤ last_imp self.now.history.origin.counts) }
         ensures ok { OnOk result (ask_fault (classes self.now.arena) class sel ≡ None) }
         ensures err { IfErr result (λ f. ask_fault (classes self.now.arena) class sel ≡ Some f) }
     {
@@ -46,8 +47,8 @@ impl HostedRuntime {
 
     /// As `find_class`. A text that isn't UTF-8 is no name.
     pub fn class_by(&self, name: &[u8]) -> Option<u32>
-        ensures some { IfSome result (λ class. slice_get (class_names self.now.history.image) class ≡ Some name.now) }
-        ensures none { IsNone result → IsUtf8 name.now → (class : ℕ) → class < classes self.now.arena → slice_get (class_names self.now.history.image) class ≢ Some name.now }
+        ensures some { IfSome result (λ class. slice_get (class_names self.now.image) class ≡ Some name.now) }
+        ensures none { IsNone result → IsUtf8 name.now → (class : ℕ) → class < classes self.now.arena → slice_get (class_names self.now.image) class ≢ Some name.now }
     {
         let name = str::from_utf8(name).ok()?;
         self.find_class(name)
@@ -55,8 +56,8 @@ impl HostedRuntime {
 
     /// As `find_selector`. A text that isn't UTF-8 is no name.
     pub fn selector_by(&self, name: &[u8]) -> Option<u32>
-        ensures some { IfSome result (λ sel. number_of self.now.history.image.names name.now ≡ Some sel) }
-        ensures none { IsNone result → IsUtf8 name.now → number_of self.now.history.image.names name.now ≡ None }
+        ensures some { IfSome result (λ sel. number_of self.now.image.names name.now ≡ Some sel) }
+        ensures none { IsNone result → IsUtf8 name.now → number_of self.now.image.names name.now ≡ None }
     {
         let name = str::from_utf8(name).ok()?;
         Some(self.find_selector(name)?.number())

@@ -2,15 +2,14 @@
 
 ghost use Rattle.std.specs.Prelude.{◌≡◌, ◌≢◌, ◌<◌, ◌⊎◌, IfOk, IfErr};
 ghost use Rattle.msg_names.specs.Number.{imp_ref_of, selector_of};
-ghost use Rattle.msg_image.specs.declared.change.Change.{Change};
+ghost use Rattle.msg_tables.specs.declared.change.Change.{Change};
 ghost use Rattle.msg_host.specs.Asking.{ChangesBy, IsListFault, ask_fault_number, pairs_of};
 ghost use Rattle.msg_host.specs.declared.fault.AskFault.{AskFault};
 
 use crate::fault::{AskFault, selector};
 use crate::runtime::HostedRuntime;
-use msg_image::{Change, MethodList};
 use msg_names::{ClassRef, ImpRef};
-use msg_tables::ChangeFault;
+use msg_tables::{Change, ChangeFault, MethodList};
 use std::alloc::Global;
 
 /// A method of a category that is attached.
@@ -41,6 +40,7 @@ fn method_list(alloc: Global, rows: &[MethodRow]) -> Result<MethodList, u32>
 
 impl HostedRuntime {
     // Makes a change. 0, or the number of the fault.
+    #[tactic(auto, using(crate::proofs::ChangingLemmas::memory_of_number))]
     fn make(&mut self, change: &Change) -> u32
         ensures { ChangesBy self.old self.new change.now result }
     {

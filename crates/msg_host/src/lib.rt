@@ -5,6 +5,7 @@
 
 mod asking;
 mod changing;
+mod crossing;
 mod fault;
 mod named;
 mod opening;
@@ -13,6 +14,7 @@ mod sender;
 mod sending;
 
 pub use changing::MethodRow;
+pub use crossing::{a_runtime_may_cross, a_sender_may_cross};
 pub use fault::{AskFault, SenderFault};
 pub use runtime::HostedRuntime;
 pub use sender::HostedSender;

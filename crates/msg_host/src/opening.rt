@@ -4,6 +4,7 @@ ghost use Rattle.std.specs.Prelude.{◌≡◌, ◌≢◌, Ok, Err, IfOk, IfErr, 
 ghost use Rattle.msg_form.specs.declared.faults.DocumentFault.{DocumentFault};
 ghost use Rattle.msg_image.specs.Answer.{judged};
 ghost use Rattle.msg_image.specs.DocumentParts.{document_parts};
+ghost use Rattle.msg_image.specs.Opened.{origin_of};
 ghost use Rattle.msg_rows.specs.Given.{form_of};
 ghost use Rattle.msg_rows.specs.View.{rows_view};
 ghost use Rattle.msg_tables.specs.History.{empty};
@@ -31,9 +32,9 @@ pub(crate) fn document_of(alloc: Global, rows: &Rows) -> Result<Document, Docume
 
 // The arena of an image and its keeper. The one error is want of memory.
 pub(crate) fn arena_of(alloc: Global, image: &Image) -> Result<(Arena, Keeper), AllocError>
-    ensures image { IfOk result (λ r. r.0.key.image ≡ image.now) }
+    ensures origin { IfOk result (λ r. r.0.key.origin ≡ origin_of image.now) }
     ensures keeper { IfOk result (λ r. IsKeeperOf r.0 r.1) }
-    ensures history { IfOk result (λ r. keeper_history r.1 ≡ empty image.now) }
+    ensures history { IfOk result (λ r. keeper_history r.1 ≡ empty (origin_of image.now)) }
     ensures turn { IfOk result (λ r. is_lent (keeper_view r.1).turn ≡ false) }
 {
     let config = Config {

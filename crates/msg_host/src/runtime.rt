@@ -1,13 +1,15 @@
 //! The runtime.
 
-ghost use Rattle.std.specs.Prelude.{◌≡◌, ◌≢◌, ℕ, ◌<◌, ◌≤◌, length, slice_get, option_map, None, Some, Err, IfOk, IfErr, IfSome, IsNone, OnErr};
+ghost use Rattle.std.specs.Prelude.{◌≡◌, ◌≢◌, ℕ, ◌<◌, ◌≤◌, length, slice_get, option_map, None, Some, Err, IfOk, IfErr, IfSome, IsErrOf, IsNone, OnErr};
 ghost use Rattle.msg_names.specs.Number.{selector_number, imp_number};
 ghost use Rattle.msg_names.specs.Numbering.{number_of};
 ghost use Rattle.msg_form.specs.declared.faults.DocumentFault.{DocumentFault};
 ghost use Rattle.msg_image.specs.Answer.{IsAnswer, judged};
+ghost use Rattle.msg_image.specs.Opened.{origin_of};
 ghost use Rattle.msg_image.specs.Parts.{class_names};
 ghost use Rattle.msg_rows.specs.Given.{form_of};
 ghost use Rattle.msg_rows.specs.View.{rows_view};
+ghost use Rattle.msg_tables.specs.Origin.{last_imp};
 ghost use Rattle.msg_tables.specs.History.{History, BeginsWith, and_then, empty, holder, lookup, superclass};
 ghost use Rattle.msg_tables.specs.Refusal.{refusal};
 ghost use Rattle.msg_tables.specs.declared.fault.ChangeFault.{ChangeFault};
@@ -24,13 +26,13 @@ use crate::opening::{arena_of, document_of};
 use crate::sender::HostedSender;
 use msg_cache::{Arena, Report, Turn};
 use msg_form::DocumentFault;
-use msg_image::{Change, Document, Image, read_document};
+use msg_image::{Document, Image, read_document};
 use msg_memory::Memory;
 use msg_memory::laws::{a_longer_history_has_what_is_remembered, a_slot_of_few_classes_is_short};
 use msg_names::{ClassRef, ImpRef, Selector};
 use msg_rows::Rows;
 use msg_runtime::Runtime;
-use msg_tables::ChangeFault;
+use msg_tables::{Change, ChangeFault, HasOrigin};
 use std::alloc::{AllocError, Global};
 use std::marker::Model;
 use std::sync::Arc;
@@ -76,8 +78,8 @@ fn shared(alloc: Global, arena: Arena) -> Result<Arc<Arena, Global>, AllocError>
 // What shares an image's caches, keeps them, and may change them.
 fn opened(alloc: Global, image: &Image) -> Result<(Arc<Arena, Global>, Runtime, Turn), AllocError>
     ensures arena { IfOk result (λ r. arc_value r.0 ≡ r.1.arena) }
-    ensures image { IfOk result (λ r. r.1.arena.key.image ≡ image.now) }
-    ensures history { IfOk result (λ r. r.1.keeper.history ≡ empty image.now) }
+    ensures origin { IfOk result (λ r. r.1.arena.key.origin ≡ origin_of image.now) }
+    ensures history { IfOk result (λ r. r.1.keeper.history ≡ empty (origin_of image.now)) }
     ensures turn { IfOk result (λ r. r.2.table ≡ r.1.arena.table) }
 {
     let (arena, keeper) = arena_of(alloc, image)?;
@@ -89,7 +91,8 @@ fn opened(alloc: Global, image: &Image) -> Result<(Arc<Arena, Global>, Runtime, 
 
 // The runtime of a document's image. What the document sends and changes is left aside.
 fn hosted(alloc: Global, document: Document) -> Result<HostedRuntime, AllocError>
-    ensures { IfOk result (λ r. r.history ≡ empty document.image) }
+    ensures image { IfOk result (λ r. r.image ≡ document.image) }
+    ensures history { IfOk result (λ r. r.history ≡ empty (origin_of document.image)) }
 {
     let (arena, runtime, turn) = opened(alloc, &document.image)?;
     let Document { image, .. } = document;
@@ -106,7 +109,7 @@ impl HostedRuntime {
     ///
     /// `Memory` may be answered wherever a growth is refused; every other fault says of the text what its name says, and is the least.
     pub fn open(alloc: Global, text: &[u8]) -> Result<HostedRuntime, DocumentFault>
-        ensures ok { IfOk result (λ r. OpensAs text.now r.history) }
+        ensures ok { IfOk result (λ r. OpensAs text.now r) }
         ensures fault { IfErr result (λ f. f ≢ DocumentFault.Memory → IsAnswer text.now (Err f)) }
     {
         let document = read_document(alloc, text)?;
@@ -117,32 +120,33 @@ impl HostedRuntime {
     ///
     /// `Shape` says that the rows stand for no form. `Memory` may be answered wherever a growth is refused; every other fault is the form's least.
     pub fn open_rows(alloc: Global, rows: &Rows) -> Result<HostedRuntime, DocumentFault>
-        ensures ok { IfOk result (λ r. OpensFrom (rows_view rows.now) r.history) }
+        ensures ok { IfOk result (λ r. OpensFrom (rows_view rows.now) r) }
         ensures fault { IfErr result (λ f. f ≢ DocumentFault.Memory → judged (form_of (rows_view rows.now)) ≡ Err f) }
     {
         let document = document_of(alloc, rows)?;
         Ok(hosted(alloc, document)?)
     }
 
-    /// How many classes have numbers: the listed ones, and after them those that may be made.
+    /// How many classes have numbers: the listed ones, and after them those that may be made. They are the image's, which has their names.
     pub fn class_count(&self) -> u32
-        ensures { result ≡ classes self.now.arena }
+        ensures count { result ≡ classes self.now.arena }
+        ensures image { origin_of self.now.image ≡ self.now.history.origin }
     {
-        self.image.class_count()
+        self.image.origin().class_count()
     }
 
     /// `objc_lookUpClass`: the number of the class of a name, made or not.
     pub fn find_class(&self, name: &str) -> Option<u32>
         ensures listed { IfSome result (λ class. class < classes self.now.arena) }
-        ensures some { IfSome result (λ class. slice_get (class_names self.now.history.image) class ≡ Some name.now) }
-        ensures none { IsNone result → (class : ℕ) → class < classes self.now.arena → slice_get (class_names self.now.history.image) class ≢ Some name.now }
+        ensures some { IfSome result (λ class. slice_get (class_names self.now.image) class ≡ Some name.now) }
+        ensures none { IsNone result → (class : ℕ) → class < classes self.now.arena → slice_get (class_names self.now.image) class ≢ Some name.now }
     {
         class_named(&self.image, name)
     }
 
     /// `sel_getUid`: the selector of a name, where the image has it.
     pub fn find_selector(&self, name: &str) -> Option<Selector>
-        ensures { option_map selector_number result ≡ number_of self.now.history.image.names name.now }
+        ensures { option_map selector_number result ≡ number_of self.now.image.names name.now }
     {
         self.image.names().find(name)
     }
@@ -151,7 +155,7 @@ impl HostedRuntime {
     pub fn lookup(&self, class: ClassRef, sel: Selector) -> ImpRef
         requires class { class.class < classes self.now.arena }
         ensures found { imp_number result ≡ lookup self.now.history class (selector_number sel) }
-        ensures listed { imp_number result ≤ length self.now.history.image.imps }
+        ensures listed { imp_number result ≤ last_imp self.now.history.origin.counts }
     {
         self.runtime.lookup(class, sel)
     }
@@ -175,9 +179,11 @@ impl HostedRuntime {
     /// Makes a change, flushes the caches that it reaches, and answers how many changes there are. After an error nothing was changed or flushed.
     pub fn change(&mut self, change: &Change) -> Result<u64, ChangeFault>
         ensures arena { self.new.arena ≡ self.old.arena }
+        ensures image { self.new.image ≡ self.old.image }
         ensures ok { IfOk result (λ count. (refusal self.old.history change.now ≡ None) × (self.new.history ≡ and_then self.old.history change.now) × (count ≡ length self.new.history.changes)) }
         ensures err { OnErr result (self.new ≡ self.old) }
         ensures fault { IfErr result (λ f. f ≢ ChangeFault.Memory → refusal self.old.history change.now ≡ Some f) }
+        ensures memory { IsErrOf result ChangeFault.Memory → refusal self.old.history change.now ≡ None }
     {
         self.runtime.change(&self.arena, &mut self.turn, change)
     }
@@ -209,7 +215,7 @@ impl HostedRuntime {
         Ok(HostedSender {
             arena,
             prober,
-            classes: self.image.class_count(),
+            classes: self.image.origin().class_count(),
             count: None,
         })
     }
@@ -230,7 +236,7 @@ impl HostedRuntime {
         ensures begins { BeginsWith self.old.history sender.old.seen.front }
         ensures front { sender.new.seen.front ≡ self.old.history }
         ensures found { imp_number result ≡ lookup self.old.history class (selector_number sel) }
-        ensures listed { imp_number result ≤ length self.old.history.image.imps }
+        ensures listed { imp_number result ≤ last_imp self.old.history.origin.counts }
         ensures memory { IsMemoryOf self.old.history memory.new }
         ensures noted { recalled memory.new (length self.old.history.changes) (slot_of class) (selector_number sel) ≡ imp_number result }
     {

@@ -5,7 +5,7 @@
 
 ghost use Rattle.std.specs.Prelude.{◌≡◌, ◌<◌, ◌≤◌, length, IfSome, IfNone};
 ghost use Rattle.msg_names.specs.Number.{selector_number, imp_number};
-ghost use Rattle.msg_image.specs.Parts.{class_total};
+ghost use Rattle.msg_tables.specs.Origin.{class_total, last_imp};
 ghost use Rattle.msg_tables.specs.History.{BeginsWith, lookup};
 ghost use Rattle.msg_cache.specs.Record.{Probes, Hits, Misses};
 ghost use Rattle.msg_cache.specs.Views.{classes, layout};
@@ -40,10 +40,9 @@ impl Model for HostedSender {
     ghost Value = { SenderView };
 
     ghost use Rattle.std.specs.Coded.{codes};
-    ghost use Rattle.msg_image.specs.Coding.{coded_expression};
     ghost use Rattle.atomic_table.specs.Seated.{table_id_coded};
 
-    ghost coded = { Prim.hlevel (codes, coded_expression, table_id_coded) };
+    ghost coded = { Prim.hlevel (codes, table_id_coded) };
 
     ghost use Rattle.msg_host.specs.Inside.{sender_view, IsOfArena};
 
@@ -65,7 +64,7 @@ impl HostedSender {
     fn recall(&self, memory: &Memory, class: ClassRef, sel: Selector) -> Option<ImpRef>
         requires memory { IsMemoryOf self.now.seen.front memory.now }
         ensures found { IfSome result (λ i. imp_number i ≡ lookup self.now.seen.front class (selector_number sel)) }
-        ensures listed { IfSome result (λ i. imp_number i ≤ length self.now.arena.key.image.imps) }
+        ensures listed { IfSome result (λ i. imp_number i ≤ last_imp self.now.arena.key.origin.counts) }
         ensures noted { IfSome result (λ i. recalled memory.now (length self.now.seen.front.changes) (slot_of class) (selector_number sel) ≡ imp_number i) }
     {
         match self.count {
@@ -86,7 +85,7 @@ impl HostedSender {
         requires memory { IsMemoryOf self.now.seen.front memory.now }
         requires count { count ≡ length self.now.seen.front.changes }
         ensures found { IfSome result (λ i. imp_number i ≡ lookup self.now.seen.front class (selector_number sel)) }
-        ensures listed { IfSome result (λ i. imp_number i ≤ length self.now.seen.front.image.imps) }
+        ensures listed { IfSome result (λ i. imp_number i ≤ last_imp self.now.seen.front.origin.counts) }
         ensures noted { IfSome result (λ i. recalled memory.now (length self.now.seen.front.changes) (slot_of class) (selector_number sel) ≡ imp_number i) }
         ensures none { IfNone result (recalled memory.now (length self.now.seen.front.changes) (slot_of class) (selector_number sel) ≡ 0) }
     {
@@ -111,7 +110,7 @@ impl HostedSender {
         ensures arena { self.new.arena ≡ self.old.arena }
         ensures probes { Probes (layout self.old.arena) class (selector_number sel) self.old.seen self.new.seen }
         ensures some { IfSome result (λ i. Hits self.new.seen.last (imp_number i) × (imp_number i ≡ lookup self.new.seen.front class (selector_number sel))) }
-        ensures listed { IfSome result (λ i. imp_number i ≤ length self.old.arena.key.image.imps) }
+        ensures listed { IfSome result (λ i. imp_number i ≤ last_imp self.old.arena.key.origin.counts) }
         ensures none { IfNone result (Misses (layout self.old.arena) self.new.seen.last) }
     {
         a_found_implementation_is_listed();
@@ -140,7 +139,7 @@ impl HostedSender {
         ensures arena { self.new.arena ≡ self.old.arena }
         ensures begins { BeginsWith self.new.seen.front self.old.seen.front }
         ensures some { IfSome result (λ i. imp_number i ≡ lookup self.new.seen.front class (selector_number sel)) }
-        ensures listed { IfSome result (λ i. imp_number i ≤ length self.old.arena.key.image.imps) }
+        ensures listed { IfSome result (λ i. imp_number i ≤ last_imp self.old.arena.key.origin.counts) }
         ensures memory { IsMemoryOf self.new.seen.front memory.new }
         ensures noted { IfSome result (λ i. recalled memory.new (length self.new.seen.front.changes) (slot_of class) (selector_number sel) ≡ imp_number i) }
         ensures recalled { IfNone result (self.new.seen.front ≡ self.old.seen.front → recalled memory.old (length self.old.seen.front.changes) (slot_of class) (selector_number sel) ≡ 0) }
@@ -160,7 +159,7 @@ impl HostedSender {
         ensures arena { self.new.arena ≡ self.old.arena }
         ensures begins { BeginsWith self.new.seen.front self.old.seen.front }
         ensures some { IfSome result (λ i. imp_number i ≡ lookup self.new.seen.front class (selector_number sel)) }
-        ensures listed { IfSome result (λ i. imp_number i ≤ length self.old.arena.key.image.imps) }
+        ensures listed { IfSome result (λ i. imp_number i ≤ last_imp self.old.arena.key.origin.counts) }
         ensures memory { IsMemoryOf self.new.seen.front memory.new }
         ensures noted { IfSome result (λ i. recalled memory.new (length self.new.seen.front.changes) (slot_of class) (selector_number sel) ≡ imp_number i) }
         ensures recalled { IfNone result (self.new.seen.front ≡ self.old.seen.front → recalled memory.old (length self.old.seen.front.changes) (slot_of class) (selector_number sel) ≡ 0) }

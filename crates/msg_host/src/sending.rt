@@ -1,6 +1,7 @@
 //! Sends in numbers.
 
 ghost use Rattle.std.specs.Prelude.{◌≡◌, ◌≤◌, length, None, Some, IfOk, IfErr, OnOk, IfSome, IfNone, OnErr};
+ghost use Rattle.msg_tables.specs.Origin.{last_imp};
 ghost use Rattle.msg_tables.specs.History.{BeginsWith, lookup};
 ghost use Rattle.msg_cache.specs.Views.{classes};
 ghost use Rattle.msg_host.specs.Asking.{ask_fault};
@@ -25,7 +26,7 @@ impl HostedSender {
         ensures arena { self.new.arena ≡ self.old.arena }
         ensures begins { BeginsWith self.new.seen.front self.old.seen.front }
         ensures found { IfOk result (λ found. IfSome found (λ i. i ≡ lookup self.new.seen.front (record { class = class; meta = meta }) sel)) }
-        ensures listed { IfOk result (λ found. IfSome found (λ i. i ≤ length self.old.arena.key.image.imps)) }
+        ensures listed { IfOk result (λ found. IfSome found (λ i. i ≤ last_imp self.old.arena.key.origin.counts)) }
         ensures ok { OnOk result (ask_fault (classes self.old.arena) class sel ≡ None) }
         ensures err { IfErr result (λ f. ask_fault (classes self.old.arena) class sel ≡ Some f) }
         ensures left { OnErr result ((self.new ≡ self.old) × (memory.new ≡ memory.old)) }
@@ -58,7 +59,7 @@ impl HostedRuntime {
         ensures begins { OnOk result (BeginsWith self.old.history sender.old.seen.front) }
         ensures front { OnOk result (sender.new.seen.front ≡ self.old.history) }
         ensures found { IfOk result (λ i. i ≡ lookup self.old.history (record { class = class; meta = meta }) sel) }
-        ensures listed { IfOk result (λ i. i ≤ length self.old.history.image.imps) }
+        ensures listed { IfOk result (λ i. i ≤ last_imp self.old.history.origin.counts) }
         ensures ok { OnOk result (ask_fault (classes self.old.arena) class sel ≡ None) }
         ensures err { IfErr result (λ f. ask_fault (classes self.old.arena) class sel ≡ Some f) }
         ensures left { OnErr result ((sender.new ≡ sender.old) × (memory.new ≡ memory.old)) }

@@ -1,0 +1,15 @@
+//! That handles may go to another thread.
+
+use crate::runtime_handle::RuntimeHandle;
+use crate::sender_handle::SenderHandle;
+
+// Called at a type, this asks that its values may go to another thread.
+fn may_cross<T: Send>() {}
+
+pub(crate) fn a_runtime_may_cross() {
+    may_cross::<RuntimeHandle>();
+}
+
+pub(crate) fn a_sender_may_cross() {
+    may_cross::<SenderHandle>();
+}

@@ -1,0 +1,17 @@
+//! That what handles hold may go to another thread.
+
+use crate::runtime::HostedRuntime;
+use crate::sender::HostedSender;
+
+// Called at a type, this asks that its values may go to another thread.
+fn may_cross<T: Send>() {}
+
+/// A `HostedRuntime` may go to another thread.
+pub fn a_runtime_may_cross() {
+    may_cross::<HostedRuntime>();
+}
+
+/// A `HostedSender` may go to another thread.
+pub fn a_sender_may_cross() {
+    may_cross::<HostedSender>();
+}
