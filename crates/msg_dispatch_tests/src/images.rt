@@ -1,6 +1,7 @@
 //! The images that the tests dispatch on.
 
 ghost use Rattle.std.specs.Prelude.{◌≡◌};
+ghost use Rattle.msg_image.specs.Opened.{origin_of};
 ghost use Rattle.msg_tables.specs.History.{empty};
 ghost use Rattle.msg_runtime.specs.Parts.{IsKeeperOf, keeper_history};
 
@@ -54,9 +55,9 @@ pub(crate) fn opened(
     senders: u32,
     arrays: [u16; 9],
 ) -> (Arena, Keeper)
-    ensures image { result.0.key.image ≡ image.now }
+    ensures image { result.0.key.origin ≡ origin_of image.now }
     ensures keeper { IsKeeperOf result.0 result.1 }
-    ensures history { keeper_history result.1 ≡ empty image.now }
+    ensures history { keeper_history result.1 ≡ empty (origin_of image.now) }
 {
     Arena::open(alloc, image, Config { senders, arrays }).expect(rt, "an arena")
 }

@@ -1,6 +1,7 @@
 //! What is done when no memory is left. `rt try --test --fail-alloc N..` refuses the Nth allocation and all after it: for each N these tests have to pass.
 
 ghost use Rattle.std.specs.Prelude.{◌≡◌};
+ghost use Rattle.msg_image.specs.Opened.{origin_of};
 ghost use Rattle.msg_tables.specs.History.{empty};
 ghost use Rattle.msg_runtime.specs.Parts.{IsKeeperOf, keeper_history};
 
@@ -82,7 +83,7 @@ fn answers<N: ArenaName, R: Wait + Abort>(
     image: &Image,
     value: Selector,
 )
-    requires image { image.now ≡ N.arena.key.image }
+    requires image { origin_of image.now ≡ N.arena.key.origin }
 {
     let sender = dispatcher.sender(rt).expect(rt, "a number is free");
     let mut sender = Asker::of(sender, image.class_count());
@@ -109,8 +110,8 @@ fn opens_and_answers<N: ArenaName, R: Wait + Abort>(
 ) -> bool
     requires arena { arena ≡ N.arena }
     requires keeper { IsKeeperOf N.arena keeper }
-    requires image { image.now ≡ N.arena.key.image }
-    requires history { keeper_history keeper ≡ empty image.now }
+    requires image { origin_of image.now ≡ N.arena.key.origin }
+    requires history { keeper_history keeper ≡ empty (origin_of image.now) }
 {
     match Dispatcher::<N>::open(alloc, arena, keeper, image) {
         Ok(dispatcher) => {

@@ -1,7 +1,7 @@
 //! A dispatcher in one thread: its answers, how often they take the lock, and what is cached.
 
 ghost use Rattle.std.specs.Prelude.{◌≡◌};
-ghost use Rattle.msg_image.specs.Parts.{class_total};
+ghost use Rattle.msg_tables.specs.Origin.{class_total};
 
 use crate::asker::Asker;
 use crate::exchange::an_exchange_is_seen_below;
@@ -260,7 +260,7 @@ fn asks_and_is_dropped<N: ArenaName, R: Wait + Abort>(
     classes: u32,
     sel: Selector,
 )
-    requires { classes ≡ class_total N.arena.key.image }
+    requires { classes ≡ class_total N.arena.key.origin }
 {
     let sender = dispatcher.sender(rt).expect(rt, "a free number");
     let mut dropped = Asker::of(sender, classes);

@@ -1,9 +1,9 @@
 //! What senders remember: what is noted, and from when on it isn't taken any more.
 
 ghost use Rattle.std.specs.Prelude.{◌≡◌};
+ghost use Rattle.msg_image.specs.Opened.{origin_of};
 ghost use Rattle.std.specs.Coded.{codes};
-ghost use Rattle.msg_image.specs.Coding.{coded_expression};
-ghost use Rattle.msg_image.specs.Parts.{class_total};
+ghost use Rattle.msg_tables.specs.Origin.{class_total};
 
 use crate::images::{CHAIN, CHILD, GRAND, selector};
 use crate::opening::{Steps, open};
@@ -30,8 +30,8 @@ fn addition(sel: Selector) -> Change {
 struct Reminded<'d, N: ArenaName> {
     sender: Recalling<'d, N>,
     classes: u32,
-    ghost classes_are: { classes ≡ class_total N.arena.key.image },
-    ghost image: { sender.seen.front.image ≡ N.arena.key.image } by { Prim.hlevel (codes, coded_expression) },
+    ghost classes_are: { classes ≡ class_total N.arena.key.origin },
+    ghost image: { sender.seen.front.origin ≡ N.arena.key.origin } by { Prim.hlevel codes },
 }
 
 impl<N: ArenaName> Reminded<'_, N> {
@@ -102,7 +102,7 @@ pub(crate) fn remembers<N: ArenaName, R: Wait + Abort>(
     dispatcher: &Dispatcher<N>,
     image: &Image,
 )
-    requires { image.now ≡ N.arena.key.image }
+    requires { origin_of image.now ≡ N.arena.key.origin }
 {
     let sender = dispatcher.sender(rt).expect(rt, "a free number");
     let mut sender = Reminded {
@@ -125,7 +125,7 @@ pub(crate) fn notes_at_a_site<N: ArenaName, R: Wait + Abort>(
     dispatcher: &Dispatcher<N>,
     image: &Image,
 )
-    requires { image.now ≡ N.arena.key.image }
+    requires { origin_of image.now ≡ N.arena.key.origin }
 {
     assert!(rt; image.class_count() > GRAND.class);
     let value = selector(rt, 2);

@@ -1,6 +1,7 @@
 //! Senders in threads of their own, beside changes.
 
 ghost use Rattle.std.specs.Prelude.{◌≡◌, ◌<◌};
+ghost use Rattle.msg_image.specs.Opened.{origin_of};
 
 use crate::asker::{Asker, Opener};
 use crate::images::{CHAIN, GRAND, ROOT, grid, selector};
@@ -99,7 +100,7 @@ pub(crate) fn all_ask_beside_exchanges<
     N: ArenaName + Send + Sync,
     R: Threads + Wait + Abort + Sync,
 >(rt: &R, alloc: Global, dispatcher: &Dispatcher<N>, image: &Image)
-    requires { image.now ≡ N.arena.key.image }
+    requires { origin_of image.now ≡ N.arena.key.origin }
 {
     same(rt, image.listed_count(), 3);
     let mut changer = dispatcher.changer(rt).expect(rt, "the turn");
@@ -218,7 +219,7 @@ pub(crate) fn three_ask_beside_additions<
     N: ArenaName + Send + Sync,
     R: Threads + Wait + Abort + Sync,
 >(rt: &R, alloc: Global, dispatcher: &Dispatcher<N>, image: &Image)
-    requires { image.now ≡ N.arena.key.image }
+    requires { origin_of image.now ≡ N.arena.key.origin }
 {
     same(rt, image.listed_count(), 33);
     let mut changer = dispatcher.changer(rt).expect(rt, "the turn");

@@ -1,13 +1,14 @@
 //! The class tables, called one by one.
 
 ghost use Rattle.std.specs.Prelude.{◌≡◌, ◌<◌, length};
-ghost use Rattle.msg_image.specs.Parts.{class_total};
+ghost use Rattle.msg_image.specs.Opened.{origin_of};
+ghost use Rattle.msg_tables.specs.Origin.{class_total};
 
 use crate::images::IMAGE;
 use crate::same::{same, same_at};
-use msg_image::{Change, Image, MethodList, read_document};
+use msg_image::{Change, Image, MAX_CHANGES, MethodList, read_document};
 use msg_names::{ClassRef, ImpRef, Selector};
-use msg_tables::{ChangeFault, MAX_CHANGES, Tables};
+use msg_tables::{ChangeFault, Tables};
 use std::alloc::Global;
 use std::fmt::Debug;
 use std::process::Abort;
@@ -53,7 +54,7 @@ fn image(rt: &impl Abort, alloc: Global) -> Box<Image> {
 }
 
 fn opened(rt: &impl Abort, alloc: Global, image: &Image) -> Box<Tables>
-    ensures { length result.value.supers ≡ class_total image.now }
+    ensures { length result.value.supers ≡ class_total (origin_of image.now) }
 {
     let tables = Tables::open(alloc, image).expect(rt, "memory");
     Box::new(alloc, tables).expect(rt, "memory")
@@ -69,7 +70,7 @@ fn numbered(rt: &impl Abort, number: u32) -> Selector {
 
 // Which implementation each class finds, and where it stands.
 fn methods_are_found(rt: &impl Abort, image: &Image, tables: &Tables)
-    requires { length tables.now.supers ≡ class_total image.now }
+    requires { length tables.now.supers ≡ class_total (origin_of image.now) }
 {
     for (class, name, imp, holder) in [
         (ROOT, "value", 1, Some(ROOT)),
@@ -100,7 +101,7 @@ fn methods_are_found(rt: &impl Abort, image: &Image, tables: &Tables)
 }
 
 fn superclasses_are_found(rt: &impl Abort, image: &Image, tables: &Tables)
-    requires { length tables.now.supers ≡ class_total image.now }
+    requires { length tables.now.supers ≡ class_total (origin_of image.now) }
 {
     for (class, above) in [
         (ROOT, None),
@@ -136,7 +137,7 @@ fn descendants(
 }
 
 fn descendants_are(rt: &impl Abort, alloc: Global, image: &Image, tables: &Tables)
-    requires { length tables.now.supers ≡ class_total image.now }
+    requires { length tables.now.supers ≡ class_total (origin_of image.now) }
 {
     for (class, other, count, is_below) in [
         (ROOT, GRAND, 8, true),
