@@ -9,10 +9,11 @@ ghost use Rattle.msg_cache.specs.Ours.{IsOf};
 ghost use Rattle.msg_cache.specs.Views.{classes, IsSenderOf};
 ghost use Rattle.msg_dispatch_tests.specs.Together.{Begin, HasNoArray, history};
 
-use crate::images::{self, PAIR, image};
+use crate::images::{self, image};
 use msg_cache::{Arena, Filled, Keeper, Pause, Prober, Report, Turn};
 use msg_image::{Change, Image};
 use msg_names::{ClassRef, ImpRef, Selector};
+use msg_samples::SMALL;
 use msg_tables::Tables;
 use std::alloc::Global;
 use std::marker::Model;
@@ -21,7 +22,7 @@ use std::sync::Arc;
 
 /// An arena of so many senders and arrays for the image of two classes, with its keeper beside tables.
 pub(crate) fn open(rt: &impl Abort, alloc: Global, senders: u32, arrays: [u16; 9]) -> Box<Desk> {
-    let image = image(rt, alloc, PAIR);
+    let image = image(rt, alloc, SMALL);
     assert_eq!(rt; image.class_count(), 2);
     let (arena, keeper, tables) = opened(rt, alloc, &image, senders, arrays);
     Desk::at(rt, alloc, arena, keeper, tables)

@@ -11,21 +11,6 @@ use msg_names::{ClassRef, Selector};
 use std::alloc::Global;
 use std::process::Abort;
 
-/// Two classes. `value`, selector 2, is implementation 1 and stands in `Root`.
-pub(crate) const PAIR: &str = r#"{"version":1,"classes":[
-{"name":"Root","super":null,"methods":[["value","r_value"]],"class_methods":[]},
-{"name":"Child","super":"Root","methods":[],"class_methods":[]}],"categories":[],"objects":[],
-"imps":[{"name":"r_value","class":"Root","meta":false,"args":0,"body":7}],"items":[]}"#;
-
-/// Three classes, one below the other. `value` and `name`, selectors 2 and 3, are implementations 1 and 2 of `Root`, and `name` is implementation 3 of `Child`.
-pub(crate) const CHAIN: &str = r#"{"version":1,"classes":[
-{"name":"Root","super":null,"methods":[["value","r_value"],["name","r_name"]],"class_methods":[]},
-{"name":"Child","super":"Root","methods":[["name","c_name"]],"class_methods":[]},
-{"name":"Grand","super":"Child","methods":[],"class_methods":[]}],"categories":[],"objects":[],
-"imps":[{"name":"r_value","class":"Root","meta":false,"args":0,"body":7},
-{"name":"r_name","class":"Root","meta":false,"args":0,"body":1},
-{"name":"c_name","class":"Child","meta":false,"args":0,"body":11}],"items":[]}"#;
-
 pub(crate) const ROOT: ClassRef = ClassRef {
     class: 0,
     meta: false,

@@ -5,13 +5,14 @@ ghost use Rattle.msg_image.specs.Opened.{origin_of};
 ghost use Rattle.std.specs.Coded.{codes};
 ghost use Rattle.msg_tables.specs.Origin.{class_total};
 
-use crate::images::{CHAIN, CHILD, GRAND, selector};
+use crate::images::{CHILD, GRAND, selector};
 use crate::opening::{Steps, open};
 use crate::same::same;
 use msg_dispatch::{ArenaName, Changer, Dispatcher, Recalling, Site};
 use msg_image::{Change, Image};
 use msg_memory::laws::a_longer_history_has_what_is_remembered;
 use msg_names::{ClassRef, ImpRef, Selector};
+use msg_samples::IMAGE;
 use std::alloc::Global;
 use std::process::Abort;
 use std::sync::Wait;
@@ -117,7 +118,7 @@ pub(crate) fn remembers<N: ArenaName, R: Wait + Abort>(
 #[test]
 fn a_memory_is_taken_until_a_change_is_seen(rt: HostRuntime) {
     let arrays = [1, 0, 0, 0, 0, 0, 0, 0, 0];
-    open(&rt, rt.alloc(), CHAIN, 1, arrays, Steps::RememberPlaces);
+    open(&rt, rt.alloc(), IMAGE, 1, arrays, Steps::RememberPlaces);
 }
 
 pub(crate) fn notes_at_a_site<N: ArenaName, R: Wait + Abort>(
@@ -163,5 +164,5 @@ pub(crate) fn notes_at_a_site<N: ArenaName, R: Wait + Abort>(
 #[test]
 fn a_site_is_taken_until_a_change_is_seen(rt: HostRuntime) {
     let arrays = [1, 0, 0, 0, 0, 0, 0, 0, 0];
-    open(&rt, rt.alloc(), CHAIN, 1, arrays, Steps::RememberASite);
+    open(&rt, rt.alloc(), IMAGE, 1, arrays, Steps::RememberASite);
 }

@@ -4,12 +4,13 @@ ghost use Rattle.std.specs.Prelude.{◌≡◌, ◌<◌};
 ghost use Rattle.msg_image.specs.Opened.{origin_of};
 
 use crate::asker::{Asker, Opener};
-use crate::images::{CHAIN, GRAND, ROOT, grid, selector};
+use crate::images::{GRAND, ROOT, grid, selector};
 use crate::opening::{Steps, open};
 use crate::same::same;
 use msg_dispatch::{ArenaName, Changer, Dispatcher, NoSenderFree};
 use msg_image::{Change, Image};
 use msg_names::{ClassRef, ImpRef, Selector};
+use msg_samples::IMAGE;
 use std::alloc::{AllocError, Global};
 use std::process::Abort;
 use std::sync::Wait;
@@ -48,52 +49,53 @@ fn ask<N: ArenaName, R: Wait + Abort>(
     }
 }
 
-// So many threads ask, each by a sender that it opens. Says of each whether one was free.
-fn ask_in_threads<N: ArenaName + Send + Sync, R: Threads + Wait + Abort + Sync>(
+// A sender of each number. Then none is free.
+fn open_all<'d, N: ArenaName, R: Wait + Abort>(
     rt: &R,
     alloc: Global,
-    opener: &Opener<'_, N>,
-    threads: usize,
-    class: ClassRef,
-    sel: Selector,
-) -> Result<Vec<bool>, AllocError> {
-    thread::map_indices(
-        rt,
-        alloc,
-        threads,
-        &|_number| match opener.open(rt) {
-            Ok(mut sender) => {
-                ask(rt, &mut sender, class, sel);
-                true
-            }
-            Err(NoSenderFree) => false,
-        },
-    )
-}
-
-// A sender was free for each thread.
-fn all_asked(rt: &impl Abort, asked: Result<Vec<bool>, AllocError>) {
-    for asked in asked.expect(rt, "memory") {
-        assert!(rt; asked);
+    opener: &Opener<'d, N>,
+) -> Vec<Asker<'d, N>> {
+    let mut all = Vec::new(alloc);
+    for _number in 0..64 {
+        let sender = opener.open(rt).expect(rt, "a free number");
+        all.push(sender).expect(rt, "memory");
     }
+    assert!(rt; matches!(opener.open(rt), Err(NoSenderFree)));
+    all
 }
 
-// Sixty-three threads ask beside a hundred exchanges, and then no sender is free.
-fn ask_beside_exchanges<N: ArenaName + Send + Sync, R: Threads + Wait + Abort + Sync>(
+// Each sender asks in a thread of its own, beside a hundred exchanges.
+fn ask_beside_exchanges<'d, N: ArenaName + Send + Sync, R: Threads + Wait + Abort + Sync>(
     rt: &R,
-    alloc: Global,
     changer: &mut Changer<'_, N>,
-    opener: &Opener<'_, N>,
-) {
+    senders: Vec<Asker<'d, N>>,
+) -> Vec<Asker<'d, N>> {
     let value = selector(rt, 2);
     let name = selector(rt, 3);
-    let (_changed, asked) = thread::join(
+    let (_changed, senders) = thread::join(
         rt,
         || exchange(rt, changer, value, name, 100),
-        || ask_in_threads(rt, alloc, opener, 63, GRAND, value),
+        || thread::map_vec(
+            rt,
+            senders,
+            &|mut sender| {
+                ask(rt, &mut sender, GRAND, value);
+                sender
+            },
+        ),
     );
-    all_asked(rt, asked);
-    assert!(rt; matches!(opener.open(rt), Err(NoSenderFree)));
+    senders.expect(rt, "memory")
+}
+
+// When it has met the changer, a sender knows of all exchanges.
+fn knows_all<N: ArenaName, R: Wait + Abort>(
+    rt: &R,
+    sender: &mut Asker<'_, N>,
+    changer: &mut Changer<'_, N>,
+) {
+    sender.meet(rt, changer);
+    same(rt, sender.find(rt, GRAND, selector(rt, 2)).number(), 1);
+    same(rt, sender.published(), 100);
 }
 
 pub(crate) fn all_ask_beside_exchanges<
@@ -102,23 +104,21 @@ pub(crate) fn all_ask_beside_exchanges<
 >(rt: &R, alloc: Global, dispatcher: &Dispatcher<N>, image: &Image)
     requires { origin_of image.now ≡ N.arena.key.origin }
 {
-    same(rt, image.listed_count(), 3);
     let mut changer = dispatcher.changer(rt).expect(rt, "the turn");
     let opener = Opener::of(dispatcher, image.class_count());
-    let mut first = opener.open(rt).expect(rt, "a free number");
-    ask_beside_exchanges(rt, alloc, &mut changer, &opener);
-    first.meet(rt, &mut changer);
-    same(rt, first.find(rt, GRAND, selector(rt, 2)).number(), 1);
-    same(rt, first.published(), 100);
+    let senders = open_all(rt, alloc, &opener);
+    for mut sender in ask_beside_exchanges(rt, &mut changer, senders) {
+        knows_all(rt, &mut sender, &mut changer);
+    }
 }
 
 #[test]
 fn sixty_four_threads_ask_beside_exchanges(rt: HostRuntime) {
-    let arrays = [64, 16, 8, 4, 2, 1, 1, 1, 1];
+    let arrays = [2048, 512, 128, 64, 32, 16, 8, 4, 4];
     open(
         &rt,
         rt.alloc(),
-        CHAIN,
+        IMAGE,
         64,
         arrays,
         Steps::AskBesideExchanges,
@@ -197,6 +197,13 @@ fn finds_all<N: ArenaName, R: Wait + Abort>(rt: &R, sender: &mut Asker<'_, N>) {
     for number in 0..ADDED {
         let (class, sel) = added(number);
         same(rt, sender.find(rt, class, selector(rt, sel)).number(), 1);
+    }
+}
+
+// A sender was free for each thread.
+fn all_asked(rt: &impl Abort, asked: Result<Vec<bool>, AllocError>) {
+    for asked in asked.expect(rt, "memory") {
+        assert!(rt; asked);
     }
 }
 
