@@ -49,40 +49,69 @@ fn ask<N: ArenaName, R: Wait + Abort>(
     }
 }
 
-// A sender of each number. Then none is free.
+// What senders do, and the changer beside them.
+#[derive(Clone, Copy)]
+enum Work {
+    Exchanges,
+    Additions,
+}
+
+// So many senders.
 fn open_all<'d, N: ArenaName, R: Wait + Abort>(
     rt: &R,
     alloc: Global,
     opener: &Opener<'d, N>,
+    count: u32,
 ) -> Vec<Asker<'d, N>> {
     let mut all = Vec::new(alloc);
-    for _number in 0..64 {
+    for _number in 0..count {
         let sender = opener.open(rt).expect(rt, "a free number");
         all.push(sender).expect(rt, "memory");
     }
-    assert!(rt; matches!(opener.open(rt), Err(NoSenderFree)));
     all
 }
 
-// Each sender asks in a thread of its own, beside a hundred exchanges.
-fn ask_beside_exchanges<'d, N: ArenaName + Send + Sync, R: Threads + Wait + Abort + Sync>(
+fn ask_for<N: ArenaName, R: Wait + Abort>(rt: &R, sender: &mut Asker<'_, N>, work: Work) {
+    match work {
+        Work::Exchanges => ask(rt, sender, GRAND, selector(rt, 2)),
+        Work::Additions => never_older(rt, sender, 500_000),
+    }
+}
+
+fn change_for<N: ArenaName, R: Wait + Abort>(rt: &R, changer: &mut Changer<'_, N>, work: Work) {
+    match work {
+        Work::Exchanges => exchange(rt, changer, selector(rt, 2), selector(rt, 3), 100),
+        Work::Additions => add_all(rt, changer),
+    }
+}
+
+// Each sender asks in a thread of its own.
+fn ask_in_threads<'d, N: ArenaName + Send + Sync, R: Threads + Wait + Abort + Sync>(
+    rt: &R,
+    senders: Vec<Asker<'d, N>>,
+    work: Work,
+) -> Result<Vec<Asker<'d, N>>, AllocError> {
+    thread::map_vec(
+        rt,
+        senders,
+        &|mut sender| {
+            ask_for(rt, &mut sender, work);
+            sender
+        },
+    )
+}
+
+// The same beside the changer.
+fn ask_beside<'d, N: ArenaName + Send + Sync, R: Threads + Wait + Abort + Sync>(
     rt: &R,
     changer: &mut Changer<'_, N>,
     senders: Vec<Asker<'d, N>>,
+    work: Work,
 ) -> Vec<Asker<'d, N>> {
-    let value = selector(rt, 2);
-    let name = selector(rt, 3);
-    let (_changed, senders) = thread::join(
+    let (senders, _changed) = thread::join(
         rt,
-        || exchange(rt, changer, value, name, 100),
-        || thread::map_vec(
-            rt,
-            senders,
-            &|mut sender| {
-                ask(rt, &mut sender, GRAND, value);
-                sender
-            },
-        ),
+        || ask_in_threads(rt, senders, work),
+        || change_for(rt, changer, work),
     );
     senders.expect(rt, "memory")
 }
@@ -106,8 +135,9 @@ pub(crate) fn all_ask_beside_exchanges<
 {
     let mut changer = dispatcher.changer(rt).expect(rt, "the turn");
     let opener = Opener::of(dispatcher, image.class_count());
-    let senders = open_all(rt, alloc, &opener);
-    for mut sender in ask_beside_exchanges(rt, &mut changer, senders) {
+    let senders = open_all(rt, alloc, &opener, 64);
+    assert!(rt; matches!(opener.open(rt), Err(NoSenderFree)));
+    for mut sender in ask_beside(rt, &mut changer, senders, Work::Exchanges) {
         knows_all(rt, &mut sender, &mut changer);
     }
 }
@@ -170,56 +200,12 @@ fn never_older<N: ArenaName, R: Wait + Abort>(rt: &R, sender: &mut Asker<'_, N>,
     }
 }
 
-// So many threads ask so many times, each by a sender that it opens. Says of each whether one was free.
-fn never_older_in_threads<N: ArenaName + Send + Sync, R: Threads + Wait + Abort + Sync>(
-    rt: &R,
-    alloc: Global,
-    opener: &Opener<'_, N>,
-    threads: usize,
-    times: u32,
-) -> Result<Vec<bool>, AllocError> {
-    thread::map_indices(
-        rt,
-        alloc,
-        threads,
-        &|_number| match opener.open(rt) {
-            Ok(mut sender) => {
-                never_older(rt, &mut sender, times);
-                true
-            }
-            Err(NoSenderFree) => false,
-        },
-    )
-}
-
 // What was added is found.
 fn finds_all<N: ArenaName, R: Wait + Abort>(rt: &R, sender: &mut Asker<'_, N>) {
     for number in 0..ADDED {
         let (class, sel) = added(number);
         same(rt, sender.find(rt, class, selector(rt, sel)).number(), 1);
     }
-}
-
-// A sender was free for each thread.
-fn all_asked(rt: &impl Abort, asked: Result<Vec<bool>, AllocError>) {
-    for asked in asked.expect(rt, "memory") {
-        assert!(rt; asked);
-    }
-}
-
-// Three threads ask beside a thousand additions.
-fn ask_beside_additions<N: ArenaName + Send + Sync, R: Threads + Wait + Abort + Sync>(
-    rt: &R,
-    alloc: Global,
-    changer: &mut Changer<'_, N>,
-    opener: &Opener<'_, N>,
-) {
-    let (_changed, asked) = thread::join(
-        rt,
-        || add_all(rt, changer),
-        || never_older_in_threads(rt, alloc, opener, 3, 500_000),
-    );
-    all_asked(rt, asked);
 }
 
 pub(crate) fn three_ask_beside_additions<
@@ -232,7 +218,8 @@ pub(crate) fn three_ask_beside_additions<
     let mut changer = dispatcher.changer(rt).expect(rt, "the turn");
     let opener = Opener::of(dispatcher, image.class_count());
     let mut first = opener.open(rt).expect(rt, "a free number");
-    ask_beside_additions(rt, alloc, &mut changer, &opener);
+    let senders = open_all(rt, alloc, &opener, 3);
+    let _asked = ask_beside(rt, &mut changer, senders, Work::Additions);
     first.meet(rt, &mut changer);
     finds_all(rt, &mut first);
 }
