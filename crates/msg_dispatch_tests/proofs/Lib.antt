@@ -1,3 +1,4 @@
 pub mod ArrayLemmas
 pub mod BeginLemmas
+pub mod CrossingLemmas
 pub mod KeepLemmas

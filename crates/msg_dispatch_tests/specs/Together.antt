@@ -24,7 +24,7 @@ pub record Together (a : ArenaView) (k : Keeper) (t : TablesView) (h : History) 
   pub two : classes a ≡ 2
 
 abbrev pub Begin : ArenaView → Keeper → TablesView → Type 0
-Begin a k t = Together a k t (empty a.key.image)
+Begin a k t = Together a k t (empty a.key.origin)
 
 -- the turn is of the arena, and the tables stand at its history
 abbrev pub IsDesk : ArenaView → Keeper → TablesView → TurnView → Type 0

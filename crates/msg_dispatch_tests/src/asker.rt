@@ -2,8 +2,7 @@
 
 ghost use Rattle.std.specs.Prelude.{◌≡◌};
 ghost use Rattle.std.specs.Coded.{codes};
-ghost use Rattle.msg_image.specs.Coding.{coded_expression};
-ghost use Rattle.msg_image.specs.Parts.{class_total};
+ghost use Rattle.msg_tables.specs.Origin.{class_total};
 
 use msg_dispatch::{ArenaName, Changer, Dispatcher, NoSenderFree, Sender};
 use msg_names::{ClassRef, ImpRef, Selector};
@@ -14,21 +13,21 @@ use std::sync::Wait;
 pub(crate) struct Asker<'d, N: ArenaName> {
     sender: Sender<'d, N>,
     classes: u32,
-    pub ghost classes_are: { classes ≡ class_total N.arena.key.image },
-    pub ghost image: { sender.seen.front.image ≡ N.arena.key.image } by { Prim.hlevel (codes, coded_expression) },
+    pub ghost classes_are: { classes ≡ class_total N.arena.key.origin },
+    pub ghost image: { sender.seen.front.origin ≡ N.arena.key.origin } by { Prim.hlevel codes },
 }
 
 impl<'d, N: ArenaName> Asker<'d, N> {
     pub(crate) fn of(sender: Sender<'d, N>, classes: u32) -> Asker<'d, N>
-        requires image { sender.seen.front.image ≡ N.arena.key.image }
-        requires classes { classes ≡ class_total N.arena.key.image }
+        requires image { sender.seen.front.origin ≡ N.arena.key.origin }
+        requires classes { classes ≡ class_total N.arena.key.origin }
     {
         Asker { sender, classes }
     }
 
     // how many classes the image has
     pub(crate) fn classes(&self) -> u32
-        ensures { result ≡ class_total N.arena.key.image }
+        ensures { result ≡ class_total N.arena.key.origin }
     {
         self.classes
     }
@@ -76,12 +75,12 @@ impl<'d, N: ArenaName> Asker<'d, N> {
 pub(crate) struct Opener<'d, N: ArenaName> {
     dispatcher: &'d Dispatcher<N>,
     classes: u32,
-    pub ghost classes_are: { classes ≡ class_total N.arena.key.image },
+    pub ghost classes_are: { classes ≡ class_total N.arena.key.origin },
 }
 
 impl<'d, N: ArenaName> Opener<'d, N> {
     pub(crate) fn of(dispatcher: &'d Dispatcher<N>, classes: u32) -> Opener<'d, N>
-        requires { classes ≡ class_total N.arena.key.image }
+        requires { classes ≡ class_total N.arena.key.origin }
     {
         Opener {
             dispatcher,

@@ -1,17 +1,19 @@
 //! An arena's keeper beside class tables that know what may be cached, and senders of the arena.
 
 ghost use Rattle.std.specs.Prelude.{◌≡◌, ◌<◌};
+ghost use Rattle.msg_image.specs.Opened.{origin_of};
 ghost use Rattle.std.specs.Arc.{arc_value};
 ghost use Rattle.msg_names.specs.declared.value.ClassRef.{ClassRef};
-ghost use Rattle.msg_image.specs.Parts.{class_total};
+ghost use Rattle.msg_tables.specs.Origin.{class_total};
 ghost use Rattle.msg_cache.specs.Ours.{IsOf};
 ghost use Rattle.msg_cache.specs.Views.{classes, IsSenderOf};
 ghost use Rattle.msg_dispatch_tests.specs.Together.{Begin, HasNoArray, history};
 
-use crate::images::{self, PAIR, image};
+use crate::images::{self, image};
 use msg_cache::{Arena, Filled, Keeper, Pause, Prober, Report, Turn};
 use msg_image::{Change, Image};
 use msg_names::{ClassRef, ImpRef, Selector};
+use msg_samples::SMALL;
 use msg_tables::Tables;
 use std::alloc::Global;
 use std::marker::Model;
@@ -20,7 +22,7 @@ use std::sync::Arc;
 
 /// An arena of so many senders and arrays for the image of two classes, with its keeper beside tables.
 pub(crate) fn open(rt: &impl Abort, alloc: Global, senders: u32, arrays: [u16; 9]) -> Box<Desk> {
-    let image = image(rt, alloc, PAIR);
+    let image = image(rt, alloc, SMALL);
     assert_eq!(rt; image.class_count(), 2);
     let (arena, keeper, tables) = opened(rt, alloc, &image, senders, arrays);
     Desk::at(rt, alloc, arena, keeper, tables)
@@ -35,7 +37,7 @@ fn opened(
     senders: u32,
     arrays: [u16; 9],
 ) -> (Arena, Keeper, Tables)
-    requires { class_total image.now ≡ 2 }
+    requires { class_total (origin_of image.now) ≡ 2 }
     ensures { Begin result.0 result.1 result.2 }
 {
     let tables = Tables::open(alloc, image).expect(rt, "memory");
@@ -86,10 +88,9 @@ impl Model for Desk {
     ghost Value = { ArenaView };
 
     ghost use Rattle.std.specs.Coded.{codes};
-    ghost use Rattle.msg_image.specs.Coding.{coded_expression};
     ghost use Rattle.atomic_table.specs.Seated.{table_id_coded};
 
-    ghost coded = { Prim.hlevel (codes, coded_expression, table_id_coded) };
+    ghost coded = { Prim.hlevel (codes, table_id_coded) };
 
     ghost use Rattle.msg_dispatch_tests.specs.Together.{IsDesk};
 

@@ -1,13 +1,14 @@
 //! Exchanges, seen from below.
 
 use crate::asker::Asker;
-use crate::images::{CHAIN, CHILD, GRAND, ROOT, selector};
+use crate::images::{CHILD, GRAND, ROOT, selector};
 use crate::one_thread::Row;
 use crate::opening::{Steps, open};
 use crate::same::same;
 use msg_dispatch::{ArenaName, Changer};
 use msg_image::Change;
 use msg_names::Selector;
+use msg_samples::IMAGE;
 use std::process::Abort;
 use std::sync::Wait;
 
@@ -18,7 +19,7 @@ fn are_found<N: ArenaName, R: Wait + Abort>(
     (value, value_is): (Selector, u32),
     (name, name_is): (Selector, u32),
 ) {
-    for (class, wanted) in [(ROOT, name_is), (CHILD, 3), (GRAND, 3)] {
+    for (class, wanted) in [(ROOT, name_is), (CHILD, 11), (GRAND, 11)] {
         same(rt, sender.find(rt, class, value).number(), value_is);
         same(rt, sender.find(rt, class, name).number(), wanted);
     }
@@ -50,7 +51,7 @@ fn an_exchange_in_a_class_is_seen_in_its_subclasses(rt: HostRuntime) {
     open(
         &rt,
         rt.alloc(),
-        CHAIN,
+        IMAGE,
         1,
         arrays,
         Steps::InOneThread(Row::ExchangeAbove),

@@ -1,6 +1,7 @@
 //! The images that the tests dispatch on.
 
 ghost use Rattle.std.specs.Prelude.{◌≡◌};
+ghost use Rattle.msg_image.specs.Opened.{origin_of};
 ghost use Rattle.msg_tables.specs.History.{empty};
 ghost use Rattle.msg_runtime.specs.Parts.{IsKeeperOf, keeper_history};
 
@@ -9,21 +10,6 @@ use msg_image::{Image, read_document};
 use msg_names::{ClassRef, Selector};
 use std::alloc::Global;
 use std::process::Abort;
-
-/// Two classes. `value`, selector 2, is implementation 1 and stands in `Root`.
-pub(crate) const PAIR: &str = r#"{"version":1,"classes":[
-{"name":"Root","super":null,"methods":[["value","r_value"]],"class_methods":[]},
-{"name":"Child","super":"Root","methods":[],"class_methods":[]}],"categories":[],"objects":[],
-"imps":[{"name":"r_value","class":"Root","meta":false,"args":0,"body":7}],"items":[]}"#;
-
-/// Three classes, one below the other. `value` and `name`, selectors 2 and 3, are implementations 1 and 2 of `Root`, and `name` is implementation 3 of `Child`.
-pub(crate) const CHAIN: &str = r#"{"version":1,"classes":[
-{"name":"Root","super":null,"methods":[["value","r_value"],["name","r_name"]],"class_methods":[]},
-{"name":"Child","super":"Root","methods":[["name","c_name"]],"class_methods":[]},
-{"name":"Grand","super":"Child","methods":[],"class_methods":[]}],"categories":[],"objects":[],
-"imps":[{"name":"r_value","class":"Root","meta":false,"args":0,"body":7},
-{"name":"r_name","class":"Root","meta":false,"args":0,"body":1},
-{"name":"c_name","class":"Child","meta":false,"args":0,"body":11}],"items":[]}"#;
 
 pub(crate) const ROOT: ClassRef = ClassRef {
     class: 0,
@@ -54,9 +40,9 @@ pub(crate) fn opened(
     senders: u32,
     arrays: [u16; 9],
 ) -> (Arena, Keeper)
-    ensures image { result.0.key.image ≡ image.now }
+    ensures image { result.0.key.origin ≡ origin_of image.now }
     ensures keeper { IsKeeperOf result.0 result.1 }
-    ensures history { keeper_history result.1 ≡ empty image.now }
+    ensures history { keeper_history result.1 ≡ empty (origin_of image.now) }
 {
     Arena::open(alloc, image, Config { senders, arrays }).expect(rt, "an arena")
 }

@@ -1,17 +1,18 @@
 //! A dispatcher in one thread: its answers, how often they take the lock, and what is cached.
 
 ghost use Rattle.std.specs.Prelude.{◌≡◌};
-ghost use Rattle.msg_image.specs.Parts.{class_total};
+ghost use Rattle.msg_tables.specs.Origin.{class_total};
 
 use crate::asker::Asker;
 use crate::exchange::an_exchange_is_seen_below;
-use crate::images::{CHAIN, CHILD, GRAND, PAIR, ROOT, selector};
+use crate::images::{CHILD, GRAND, ROOT, selector};
 use crate::opening::{Steps, open};
 use crate::same::same;
 use msg_cache::Report;
 use msg_dispatch::{ArenaName, Changer, Dispatcher, Receipt};
 use msg_image::Change;
 use msg_names::{ClassRef, ImpRef, Selector};
+use msg_samples::{IMAGE, SMALL};
 use msg_tables::ChangeFault;
 use std::process::Abort;
 use std::sync::Wait;
@@ -102,6 +103,22 @@ fn reports<N: ArenaName, R: Wait + Abort>(rt: &R, dispatcher: &Dispatcher<N>) {
     same(rt, dispatcher.report(rt), report);
 }
 
+// A change of which it isn't told by a lookup is seen when it looks.
+fn sees_the_next<N: ArenaName, R: Wait + Abort>(
+    rt: &R,
+    sender: &mut Asker<'_, N>,
+    changer: &mut Changer<'_, N>,
+    sel: Selector,
+) {
+    let set = Change::SetImp {
+        class: CHILD,
+        sel,
+        imp: ImpRef::of(1),
+    };
+    same(rt, changer.change(rt, &set), Ok(Receipt { count: 2 }));
+    same(rt, sender.published(), 2);
+}
+
 fn caches_a_lookup<N: ArenaName, R: Wait + Abort>(
     rt: &R,
     dispatcher: &Dispatcher<N>,
@@ -116,6 +133,7 @@ fn caches_a_lookup<N: ArenaName, R: Wait + Abort>(
     sender.meet(rt, changer);
     same(rt, sender.published(), 1);
     reports(rt, dispatcher);
+    sees_the_next(rt, sender, changer, value);
 }
 
 #[test]
@@ -124,7 +142,7 @@ fn a_lookup_is_cached(rt: HostRuntime) {
     open(
         &rt,
         rt.alloc(),
-        CHAIN,
+        IMAGE,
         1,
         arrays,
         Steps::InOneThread(Row::CacheALookup),
@@ -156,7 +174,7 @@ fn looks_up_without_arrays<N: ArenaName, R: Wait + Abort>(
 #[test]
 fn without_arrays_nothing_is_cached(rt: HostRuntime) {
     let row = Row::LookUpWithoutArrays;
-    open(&rt, rt.alloc(), CHAIN, 1, [0; 9], Steps::InOneThread(row));
+    open(&rt, rt.alloc(), IMAGE, 1, [0; 9], Steps::InOneThread(row));
 }
 
 // A change that the tables refuse: the root class has the method.
@@ -197,7 +215,7 @@ fn a_refused_change_leaves_the_caches(rt: HostRuntime) {
     open(
         &rt,
         rt.alloc(),
-        CHAIN,
+        IMAGE,
         1,
         [1; 9],
         Steps::InOneThread(Row::RefuseAChange),
@@ -246,7 +264,7 @@ fn a_change_leaves_the_caches_that_it_does_not_reach(rt: HostRuntime) {
     open(
         &rt,
         rt.alloc(),
-        CHAIN,
+        IMAGE,
         1,
         arrays,
         Steps::InOneThread(Row::KeepOtherCaches),
@@ -260,7 +278,7 @@ fn asks_and_is_dropped<N: ArenaName, R: Wait + Abort>(
     classes: u32,
     sel: Selector,
 )
-    requires { classes ≡ class_total N.arena.key.image }
+    requires { classes ≡ class_total N.arena.key.origin }
 {
     let sender = dispatcher.sender(rt).expect(rt, "a free number");
     let mut dropped = Asker::of(sender, classes);
@@ -292,7 +310,7 @@ fn a_dropped_sender_keeps_no_array(rt: HostRuntime) {
     open(
         &rt,
         rt.alloc(),
-        CHAIN,
+        IMAGE,
         2,
         arrays,
         Steps::InOneThread(Row::DropASender),
@@ -343,7 +361,7 @@ fn sets_a_method_1000_times<N: ArenaName, R: Wait + Abort>(
 fn one_array_serves_1000_changes(rt: HostRuntime) {
     let arrays = [1, 0, 0, 0, 0, 0, 0, 0, 0];
     let row = Row::SetAMethod1000Times;
-    open(&rt, rt.alloc(), CHAIN, 1, arrays, Steps::InOneThread(row));
+    open(&rt, rt.alloc(), IMAGE, 1, arrays, Steps::InOneThread(row));
 }
 
 // Asks for a selector, of which number 2 alone has a method.
@@ -391,6 +409,6 @@ fn a_class_outgrows_its_arrays(rt: HostRuntime) {
             given_again: 0,
         };
         let row = Row::FillAClass(report, cached);
-        open(&rt, rt.alloc(), PAIR, 1, arrays, Steps::InOneThread(row));
+        open(&rt, rt.alloc(), SMALL, 1, arrays, Steps::InOneThread(row));
     }
 }

@@ -1,6 +1,7 @@
 //! A dispatcher that is opened for a test, and lent to what the test does with it: each function that owns one has its proof drop it.
 
 ghost use Rattle.std.specs.Prelude.{◌≡◌};
+ghost use Rattle.msg_image.specs.Opened.{origin_of};
 ghost use Rattle.msg_tables.specs.History.{empty};
 ghost use Rattle.msg_runtime.specs.Parts.{IsKeeperOf, keeper_history};
 
@@ -34,7 +35,7 @@ fn in_one_thread<N: ArenaName, R: Wait + Abort>(
     image: &Image,
     row: Row,
 )
-    requires { image.now ≡ N.arena.key.image }
+    requires { origin_of image.now ≡ N.arena.key.origin }
 {
     let sender = dispatcher.sender(rt).expect(rt, "a free number");
     let mut sender = Asker::of(sender, image.class_count());
@@ -51,7 +52,7 @@ fn take<N: ArenaName + Send + Sync, R: Threads + Wait + Abort + Sync>(
     image: &Image,
     steps: Steps,
 )
-    requires { image.now ≡ N.arena.key.image }
+    requires { origin_of image.now ≡ N.arena.key.origin }
 {
     match steps {
         Steps::InOneThread(row) => in_one_thread(rt, dispatcher, image, row),
@@ -76,8 +77,8 @@ fn runs<N: ArenaName + Send + Sync, R: Threads + Wait + Abort + Sync>(
 )
     requires arena { arena ≡ N.arena }
     requires keeper { IsKeeperOf N.arena keeper }
-    requires image { image.now ≡ N.arena.key.image }
-    requires history { keeper_history keeper ≡ empty image.now }
+    requires image { origin_of image.now ≡ N.arena.key.origin }
+    requires history { keeper_history keeper ≡ empty (origin_of image.now) }
 {
     let dispatcher: Dispatcher<N> = Dispatcher::open(alloc, arena, keeper, image).expect(
         rt, "memory",

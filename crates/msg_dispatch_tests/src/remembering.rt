@@ -1,17 +1,18 @@
 //! What senders remember: what is noted, and from when on it isn't taken any more.
 
 ghost use Rattle.std.specs.Prelude.{◌≡◌};
+ghost use Rattle.msg_image.specs.Opened.{origin_of};
 ghost use Rattle.std.specs.Coded.{codes};
-ghost use Rattle.msg_image.specs.Coding.{coded_expression};
-ghost use Rattle.msg_image.specs.Parts.{class_total};
+ghost use Rattle.msg_tables.specs.Origin.{class_total};
 
-use crate::images::{CHAIN, CHILD, GRAND, selector};
+use crate::images::{CHILD, GRAND, selector};
 use crate::opening::{Steps, open};
 use crate::same::same;
 use msg_dispatch::{ArenaName, Changer, Dispatcher, Recalling, Site};
 use msg_image::{Change, Image};
 use msg_memory::laws::a_longer_history_has_what_is_remembered;
 use msg_names::{ClassRef, ImpRef, Selector};
+use msg_samples::IMAGE;
 use std::alloc::Global;
 use std::process::Abort;
 use std::sync::Wait;
@@ -30,8 +31,8 @@ fn addition(sel: Selector) -> Change {
 struct Reminded<'d, N: ArenaName> {
     sender: Recalling<'d, N>,
     classes: u32,
-    ghost classes_are: { classes ≡ class_total N.arena.key.image },
-    ghost image: { sender.seen.front.image ≡ N.arena.key.image } by { Prim.hlevel (codes, coded_expression) },
+    ghost classes_are: { classes ≡ class_total N.arena.key.origin },
+    ghost image: { sender.seen.front.origin ≡ N.arena.key.origin } by { Prim.hlevel codes },
 }
 
 impl<N: ArenaName> Reminded<'_, N> {
@@ -102,7 +103,7 @@ pub(crate) fn remembers<N: ArenaName, R: Wait + Abort>(
     dispatcher: &Dispatcher<N>,
     image: &Image,
 )
-    requires { image.now ≡ N.arena.key.image }
+    requires { origin_of image.now ≡ N.arena.key.origin }
 {
     let sender = dispatcher.sender(rt).expect(rt, "a free number");
     let mut sender = Reminded {
@@ -117,7 +118,7 @@ pub(crate) fn remembers<N: ArenaName, R: Wait + Abort>(
 #[test]
 fn a_memory_is_taken_until_a_change_is_seen(rt: HostRuntime) {
     let arrays = [1, 0, 0, 0, 0, 0, 0, 0, 0];
-    open(&rt, rt.alloc(), CHAIN, 1, arrays, Steps::RememberPlaces);
+    open(&rt, rt.alloc(), IMAGE, 1, arrays, Steps::RememberPlaces);
 }
 
 pub(crate) fn notes_at_a_site<N: ArenaName, R: Wait + Abort>(
@@ -125,7 +126,7 @@ pub(crate) fn notes_at_a_site<N: ArenaName, R: Wait + Abort>(
     dispatcher: &Dispatcher<N>,
     image: &Image,
 )
-    requires { image.now ≡ N.arena.key.image }
+    requires { origin_of image.now ≡ N.arena.key.origin }
 {
     assert!(rt; image.class_count() > GRAND.class);
     let value = selector(rt, 2);
@@ -163,5 +164,5 @@ pub(crate) fn notes_at_a_site<N: ArenaName, R: Wait + Abort>(
 #[test]
 fn a_site_is_taken_until_a_change_is_seen(rt: HostRuntime) {
     let arrays = [1, 0, 0, 0, 0, 0, 0, 0, 0];
-    open(&rt, rt.alloc(), CHAIN, 1, arrays, Steps::RememberASite);
+    open(&rt, rt.alloc(), IMAGE, 1, arrays, Steps::RememberASite);
 }

@@ -1,11 +1,13 @@
 //! Worked rows of caches.
 
 use crate::desk::{Desk, Reader, open};
-use crate::images::{CHILD, PAIR, image, selector};
+use crate::images::{CHILD, ROOT, image, selector};
 use crate::same::{same, same_at};
+use crate::stops::{ONE, stop_once};
 use msg_cache::{Arena, ArenaFault, Config, Filled, Report};
 use msg_image::{Change, Image};
 use msg_names::ImpRef;
+use msg_samples::{Hog, SMALL};
 use std::alloc::Global;
 use std::process::Abort;
 
@@ -16,7 +18,7 @@ fn refusal(alloc: Global, image: &Image, senders: u32, arrays: [u16; 9]) -> Opti
 
 #[test]
 fn an_arena_is_refused(rt: HostRuntime) {
-    let image = image(&rt, rt.alloc(), PAIR);
+    let image = image(&rt, rt.alloc(), SMALL);
     let many = [0, 0, 0, 0, 0, 0, 0, 0, 65_535];
     // 2 classes, 1 sender and the count of changes leave room for 1,048,570 bucket words.
     for (senders, arrays, fault) in [
@@ -172,4 +174,39 @@ fn a_cache_grows_to_the_largest(rt: HostRuntime) {
         };
         grows_to(&rt, rt.alloc(), largest, none, report);
     }
+}
+
+// All calls of a keeper, its turn and its senders: the one sender stops, the other finds what was cached, and a change that takes no memory is made.
+fn keeps(rt: &impl Abort, desk: &mut Desk, reader: &mut Reader) {
+    assert!(rt; !desk.gives_out(0));
+    assert!(rt; !desk.has_turn());
+    stop_once(rt, desk, reader, &(0, ONE));
+    let sel = selector(rt, 2);
+    let imp = ImpRef::of(1);
+    same(rt, desk.find_once(rt, 1, ROOT, sel), Some(imp));
+    let set = Change::SetImp {
+        class: ROOT,
+        sel,
+        imp,
+    };
+    same(rt, reader.published(), 0);
+    same(rt, desk.change(rt, &set), 1);
+    same(rt, reader.published(), 1);
+    same(rt, desk.fill(ROOT, sel), Filled::Grown);
+}
+
+#[test]
+fn caches_are_kept_without_memory(rt: HostRuntime) {
+    let mut desk = open(&rt, rt.alloc(), 2, [1, 0, 0, 0, 0, 0, 0, 0, 0]);
+    let mut reader = desk.give_out(&rt, 0);
+    let _hog = Hog::new(&rt).expect(&rt, "memory");
+    keeps(&rt, &mut desk, &mut reader);
+    let report = Report {
+        fills: 3,
+        growths: 3,
+        flushes: 2,
+        retired: 2,
+        given_again: 2,
+    };
+    same(&rt, desk.report(), report);
 }

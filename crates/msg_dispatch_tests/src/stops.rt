@@ -31,9 +31,10 @@ impl Pause for Stop<'_> {
     }
 }
 
-// The load before which a sender stops that seeks a selector, the implementation that it finds, and how many bucket words it loads.
+// The load before which a sender stops that seeks a selector, the implementation that it finds, and how many bucket words it loads. Child's cache has these entries.
 #[derive(Clone, Copy, Debug)]
-struct Case {
+pub(crate) struct Case {
+    entries: &'static [u32],
     sought: u32,
     before: u32,
     found: Option<u32>,
@@ -58,10 +59,30 @@ const STOPS: [(u32, u32, Option<u32>, u32); 14] = [
     (14, 4, None, 4),
 ];
 
-// Child's three entries.
-fn fill_three(rt: &impl Abort, desk: &mut Desk) {
-    for entry in [2, 6, 10] {
-        desk.fill(CHILD, selector(rt, entry));
+/// Child's cache has one entry, of a method that is found.
+pub(crate) const ONE: Case = Case {
+    entries: &[2],
+    sought: 2,
+    before: 1,
+    found: Some(1),
+    loads: 1,
+};
+
+// The same, and the sender stops before the header load.
+const ONE_BEFORE: Case = Case {
+    entries: &[2],
+    sought: 2,
+    before: 0,
+    found: None,
+    loads: 0,
+};
+
+// Child's entries. The first takes an array.
+fn fill_all(rt: &impl Abort, desk: &mut Desk, entries: &[u32]) {
+    let mut wanted = Filled::Grown;
+    for entry in entries {
+        same_at(rt, entry, desk.fill(CHILD, selector(rt, *entry)), wanted);
+        wanted = Filled::Used;
     }
 }
 
@@ -98,19 +119,24 @@ fn is_given_again(
     same_at(rt, row, reader.find(ROOT, sel), Some(ImpRef::of(1)));
 }
 
-// Of 64 senders that of the row's number stops.
-fn stop_once(rt: &impl Abort, alloc: Global, row: &(u32, Case)) {
-    let mut desk = open(rt, alloc, 64, [1, 0, 0, 0, 0, 0, 0, 0, 0]);
-    let mut reader = desk.give_out(rt, row.0);
+/// The sender of the row's number stops once.
+pub(crate) fn stop_once(rt: &impl Abort, desk: &mut Desk, reader: &mut Reader, row: &(u32, Case)) {
     let value = selector(rt, 2);
-    fill_three(rt, &mut desk);
-    stops(rt, &mut desk, &mut reader, row, value);
-    is_given_again(rt, &mut desk, &mut reader, row, value);
+    fill_all(rt, desk, row.1.entries);
+    stops(rt, desk, reader, row, value);
+    is_given_again(rt, desk, reader, row, value);
+}
+
+// Of so many senders that of the row's number stops.
+fn one_stops(rt: &impl Abort, alloc: Global, senders: u32, row: &(u32, Case)) {
+    let mut desk = open(rt, alloc, senders, [1, 0, 0, 0, 0, 0, 0, 0, 0]);
+    let mut reader = desk.give_out(rt, row.0);
+    stop_once(rt, &mut desk, &mut reader, row);
 }
 
 fn each_sender_stops(rt: &impl Abort, alloc: Global, case: Case) {
     for number in 0..64 {
-        stop_once(rt, alloc, &(number, case));
+        one_stops(rt, alloc, 64, &(number, case));
     }
 }
 
@@ -118,6 +144,7 @@ fn each_sender_stops(rt: &impl Abort, alloc: Global, case: Case) {
 fn each_sender_stops_before_each_load(rt: HostRuntime) {
     for (sought, before, found, loads) in STOPS {
         let case = Case {
+            entries: &[2, 6, 10],
             sought,
             before,
             found,
@@ -125,4 +152,6 @@ fn each_sender_stops_before_each_load(rt: HostRuntime) {
         };
         each_sender_stops(&rt, rt.alloc(), case);
     }
+    one_stops(&rt, rt.alloc(), 2, &(0, ONE));
+    one_stops(&rt, rt.alloc(), 64, &(63, ONE_BEFORE));
 }

@@ -1,14 +1,16 @@
 //! Senders in threads of their own, beside changes.
 
 ghost use Rattle.std.specs.Prelude.{◌≡◌, ◌<◌};
+ghost use Rattle.msg_image.specs.Opened.{origin_of};
 
 use crate::asker::{Asker, Opener};
-use crate::images::{CHAIN, GRAND, ROOT, grid, selector};
+use crate::images::{GRAND, ROOT, grid, selector};
 use crate::opening::{Steps, open};
 use crate::same::same;
 use msg_dispatch::{ArenaName, Changer, Dispatcher, NoSenderFree};
 use msg_image::{Change, Image};
 use msg_names::{ClassRef, ImpRef, Selector};
+use msg_samples::IMAGE;
 use std::alloc::{AllocError, Global};
 use std::process::Abort;
 use std::sync::Wait;
@@ -47,77 +49,106 @@ fn ask<N: ArenaName, R: Wait + Abort>(
     }
 }
 
-// So many threads ask, each by a sender that it opens. Says of each whether one was free.
-fn ask_in_threads<N: ArenaName + Send + Sync, R: Threads + Wait + Abort + Sync>(
+// What senders do, and the changer beside them.
+#[derive(Clone, Copy)]
+enum Work {
+    Exchanges,
+    Additions,
+}
+
+// So many senders.
+fn open_all<'d, N: ArenaName, R: Wait + Abort>(
     rt: &R,
     alloc: Global,
-    opener: &Opener<'_, N>,
-    threads: usize,
-    class: ClassRef,
-    sel: Selector,
-) -> Result<Vec<bool>, AllocError> {
-    thread::map_indices(
+    opener: &Opener<'d, N>,
+    count: u32,
+) -> Vec<Asker<'d, N>> {
+    let mut all = Vec::new(alloc);
+    for _number in 0..count {
+        let sender = opener.open(rt).expect(rt, "a free number");
+        all.push(sender).expect(rt, "memory");
+    }
+    all
+}
+
+fn ask_for<N: ArenaName, R: Wait + Abort>(rt: &R, sender: &mut Asker<'_, N>, work: Work) {
+    match work {
+        Work::Exchanges => ask(rt, sender, GRAND, selector(rt, 2)),
+        Work::Additions => never_older(rt, sender, 500_000),
+    }
+}
+
+fn change_for<N: ArenaName, R: Wait + Abort>(rt: &R, changer: &mut Changer<'_, N>, work: Work) {
+    match work {
+        Work::Exchanges => exchange(rt, changer, selector(rt, 2), selector(rt, 3), 100),
+        Work::Additions => add_all(rt, changer),
+    }
+}
+
+// Each sender asks in a thread of its own.
+fn ask_in_threads<'d, N: ArenaName + Send + Sync, R: Threads + Wait + Abort + Sync>(
+    rt: &R,
+    senders: Vec<Asker<'d, N>>,
+    work: Work,
+) -> Result<Vec<Asker<'d, N>>, AllocError> {
+    thread::map_vec(
         rt,
-        alloc,
-        threads,
-        &|_number| match opener.open(rt) {
-            Ok(mut sender) => {
-                ask(rt, &mut sender, class, sel);
-                true
-            }
-            Err(NoSenderFree) => false,
+        senders,
+        &|mut sender| {
+            ask_for(rt, &mut sender, work);
+            sender
         },
     )
 }
 
-// A sender was free for each thread.
-fn all_asked(rt: &impl Abort, asked: Result<Vec<bool>, AllocError>) {
-    for asked in asked.expect(rt, "memory") {
-        assert!(rt; asked);
-    }
+// The same beside the changer.
+fn ask_beside<'d, N: ArenaName + Send + Sync, R: Threads + Wait + Abort + Sync>(
+    rt: &R,
+    changer: &mut Changer<'_, N>,
+    senders: Vec<Asker<'d, N>>,
+    work: Work,
+) -> Vec<Asker<'d, N>> {
+    let (senders, _changed) = thread::join(
+        rt,
+        || ask_in_threads(rt, senders, work),
+        || change_for(rt, changer, work),
+    );
+    senders.expect(rt, "memory")
 }
 
-// Sixty-three threads ask beside a hundred exchanges, and then no sender is free.
-fn ask_beside_exchanges<N: ArenaName + Send + Sync, R: Threads + Wait + Abort + Sync>(
+// When it has met the changer, a sender knows of all exchanges.
+fn knows_all<N: ArenaName, R: Wait + Abort>(
     rt: &R,
-    alloc: Global,
+    sender: &mut Asker<'_, N>,
     changer: &mut Changer<'_, N>,
-    opener: &Opener<'_, N>,
 ) {
-    let value = selector(rt, 2);
-    let name = selector(rt, 3);
-    let (_changed, asked) = thread::join(
-        rt,
-        || exchange(rt, changer, value, name, 100),
-        || ask_in_threads(rt, alloc, opener, 63, GRAND, value),
-    );
-    all_asked(rt, asked);
-    assert!(rt; matches!(opener.open(rt), Err(NoSenderFree)));
+    sender.meet(rt, changer);
+    same(rt, sender.find(rt, GRAND, selector(rt, 2)).number(), 1);
+    same(rt, sender.published(), 100);
 }
 
 pub(crate) fn all_ask_beside_exchanges<
     N: ArenaName + Send + Sync,
     R: Threads + Wait + Abort + Sync,
 >(rt: &R, alloc: Global, dispatcher: &Dispatcher<N>, image: &Image)
-    requires { image.now ≡ N.arena.key.image }
+    requires { origin_of image.now ≡ N.arena.key.origin }
 {
-    same(rt, image.listed_count(), 3);
     let mut changer = dispatcher.changer(rt).expect(rt, "the turn");
     let opener = Opener::of(dispatcher, image.class_count());
-    let mut first = opener.open(rt).expect(rt, "a free number");
-    ask_beside_exchanges(rt, alloc, &mut changer, &opener);
-    first.meet(rt, &mut changer);
-    same(rt, first.find(rt, GRAND, selector(rt, 2)).number(), 1);
-    same(rt, first.published(), 100);
+    let senders = open_all(rt, alloc, &opener, 64);
+    assert!(rt; matches!(opener.open(rt), Err(NoSenderFree)));
+    for mut sender in ask_beside(rt, &mut changer, senders, Work::Exchanges) {
+        knows_all(rt, &mut sender, &mut changer);
+    }
 }
 
 #[test]
 fn sixty_four_threads_ask_beside_exchanges(rt: HostRuntime) {
-    let arrays = [64, 16, 8, 4, 2, 1, 1, 1, 1];
+    let arrays = [2048, 512, 128, 64, 32, 16, 8, 4, 4];
     open(
         &rt,
         rt.alloc(),
-        CHAIN,
+        IMAGE,
         64,
         arrays,
         Steps::AskBesideExchanges,
@@ -169,28 +200,6 @@ fn never_older<N: ArenaName, R: Wait + Abort>(rt: &R, sender: &mut Asker<'_, N>,
     }
 }
 
-// So many threads ask so many times, each by a sender that it opens. Says of each whether one was free.
-fn never_older_in_threads<N: ArenaName + Send + Sync, R: Threads + Wait + Abort + Sync>(
-    rt: &R,
-    alloc: Global,
-    opener: &Opener<'_, N>,
-    threads: usize,
-    times: u32,
-) -> Result<Vec<bool>, AllocError> {
-    thread::map_indices(
-        rt,
-        alloc,
-        threads,
-        &|_number| match opener.open(rt) {
-            Ok(mut sender) => {
-                never_older(rt, &mut sender, times);
-                true
-            }
-            Err(NoSenderFree) => false,
-        },
-    )
-}
-
 // What was added is found.
 fn finds_all<N: ArenaName, R: Wait + Abort>(rt: &R, sender: &mut Asker<'_, N>) {
     for number in 0..ADDED {
@@ -199,32 +208,18 @@ fn finds_all<N: ArenaName, R: Wait + Abort>(rt: &R, sender: &mut Asker<'_, N>) {
     }
 }
 
-// Three threads ask beside a thousand additions.
-fn ask_beside_additions<N: ArenaName + Send + Sync, R: Threads + Wait + Abort + Sync>(
-    rt: &R,
-    alloc: Global,
-    changer: &mut Changer<'_, N>,
-    opener: &Opener<'_, N>,
-) {
-    let (_changed, asked) = thread::join(
-        rt,
-        || add_all(rt, changer),
-        || never_older_in_threads(rt, alloc, opener, 3, 500_000),
-    );
-    all_asked(rt, asked);
-}
-
 pub(crate) fn three_ask_beside_additions<
     N: ArenaName + Send + Sync,
     R: Threads + Wait + Abort + Sync,
 >(rt: &R, alloc: Global, dispatcher: &Dispatcher<N>, image: &Image)
-    requires { image.now ≡ N.arena.key.image }
+    requires { origin_of image.now ≡ N.arena.key.origin }
 {
     same(rt, image.listed_count(), 33);
     let mut changer = dispatcher.changer(rt).expect(rt, "the turn");
     let opener = Opener::of(dispatcher, image.class_count());
     let mut first = opener.open(rt).expect(rt, "a free number");
-    ask_beside_additions(rt, alloc, &mut changer, &opener);
+    let senders = open_all(rt, alloc, &opener, 3);
+    let _asked = ask_beside(rt, &mut changer, senders, Work::Additions);
     first.meet(rt, &mut changer);
     finds_all(rt, &mut first);
 }

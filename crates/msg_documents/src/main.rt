@@ -14,7 +14,18 @@ use std::thread::{self, Threads};
 use std::{fs, io};
 
 /// How many workers there are, and how many sends a piece has at most.
-const SPLITS: [(u32, u32); 5] = [(1, 64), (1, 1), (2, 1), (3, 2), (64, 64)];
+const SPLITS: [(u32, u32); 10] = [
+    (1, 64),
+    (1, 1),
+    (1, 2),
+    (2, 1),
+    (2, 2),
+    (2, 64),
+    (3, 2),
+    (64, 1),
+    (64, 2),
+    (64, 64),
+];
 
 /// What a run of the document writes, and how it ends.
 fn run_of<T: Threads + Wait + Sync>(

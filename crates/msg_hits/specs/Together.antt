@@ -15,7 +15,7 @@ pub record Together (a : ArenaView) (k : Keeper) (t : TablesView) (h : History) 
   pub all : classes a ≡ 32
 
 abbrev pub Begin : ArenaView → Keeper → TablesView → Type 0
-Begin a k t = Together a k t (empty a.key.image)
+Begin a k t = Together a k t (empty a.key.origin)
 
 -- the turn is of the arena, and the tables stand at its history
 abbrev pub IsBed : ArenaView → Keeper → TablesView → TurnView → Type 0

@@ -1,7 +1,8 @@
 //! An arena of caches that are filled from class tables, and its senders.
 
 ghost use Rattle.std.specs.Prelude.{◌≡◌, ◌<◌, IfOk};
-ghost use Rattle.msg_image.specs.Parts.{class_total};
+ghost use Rattle.msg_image.specs.Opened.{origin_of};
+ghost use Rattle.msg_tables.specs.Origin.{class_total};
 ghost use Rattle.msg_cache.specs.Views.{classes, IsSenderOf};
 ghost use Rattle.msg_hits.specs.Together.{Begin};
 
@@ -34,7 +35,7 @@ pub(crate) fn open(alloc: Global) -> Result<(Arena, Keeper, Tables)>
 
 // The same of an image of 32 classes.
 fn opened(alloc: Global, image: &Image, config: Config) -> Result<(Arena, Keeper, Tables)>
-    requires { class_total image.now ≡ 32 }
+    requires { class_total (origin_of image.now) ≡ 32 }
     ensures { IfOk result (λ r. Begin r.0 r.1 r.2) }
 {
     let tables = Tables::open(alloc, image)?;
@@ -57,10 +58,9 @@ impl<'a> Model for Bed<'a> {
     ghost Value = { ArenaView };
 
     ghost use Rattle.std.specs.Coded.{codes};
-    ghost use Rattle.msg_image.specs.Coding.{coded_expression};
     ghost use Rattle.atomic_table.specs.Seated.{table_id_coded};
 
-    ghost coded = { Prim.hlevel (codes, coded_expression, table_id_coded) };
+    ghost coded = { Prim.hlevel (codes, table_id_coded) };
 
     ghost use Rattle.msg_hits.specs.Together.{IsBed};
 

@@ -1,7 +1,8 @@
 //! The ways to look a method up, each in a loop of its own.
 
 ghost use Rattle.std.specs.Prelude.{◌≡◌, ◌<◌, length};
-ghost use Rattle.msg_image.specs.Parts.{class_total};
+ghost use Rattle.msg_image.specs.Opened.{origin_of};
+ghost use Rattle.msg_tables.specs.Origin.{class_total};
 ghost use Rattle.msg_memory.specs.Remembered.{IsSiteOf};
 ghost use Rattle.msg_runtime.specs.Parts.{IsKeeperOf, keeper_history};
 ghost use Rattle.msg_tables.specs.History.{empty};
@@ -58,7 +59,7 @@ const ARRAYS: [u16; 9] = [32, 32, 32, 32, 0, 0, 0, 0, 0];
 #[derive(Drop)]
 struct Rememberer<'d, N: ArenaName> {
     sender: Recalling<'d, N>,
-    ghost all: { class_total sender.seen.front.image ≡ 32 },
+    ghost all: { class_total sender.seen.front.origin ≡ 32 },
 }
 
 impl<N: ArenaName> Rememberer<'_, N> {
@@ -105,7 +106,7 @@ impl<N: ArenaName> Rememberer<'_, N> {
 struct Caller<'d, N: ArenaName> {
     sender: Sender<'d, N>,
     site: Site,
-    ghost all: { class_total sender.seen.front.image ≡ 32 },
+    ghost all: { class_total sender.seen.front.origin ≡ 32 },
     ghost noted: { IsSiteOf sender.seen.front site },
 }
 
@@ -170,7 +171,7 @@ fn sum_by_sender<N: ArenaName, R: Wait>(
     queries: &Queries,
     lookups: u64,
 ) -> Result<u64>
-    requires { class_total N.arena.key.image ≡ 32 }
+    requires { class_total N.arena.key.origin ≡ 32 }
 {
     let sender = dispatcher.sender(rt)?;
     if let Way::Probe | Way::Site | Way::Spot = way {
@@ -204,9 +205,9 @@ fn sum_over<N: ArenaName, R: Wait>(
 ) -> Result<u64>
     requires arena { arena ≡ N.arena }
     requires keeper { IsKeeperOf N.arena keeper }
-    requires image { image.now ≡ N.arena.key.image }
-    requires history { keeper_history keeper ≡ empty image.now }
-    requires all { class_total image.now ≡ 32 }
+    requires image { origin_of image.now ≡ N.arena.key.origin }
+    requires history { keeper_history keeper ≡ empty (origin_of image.now) }
+    requires all { class_total (origin_of image.now) ≡ 32 }
 {
     let dispatcher: Dispatcher<N> = Dispatcher::open(alloc, arena, keeper, image).context(
         "opening the dispatcher",
@@ -216,7 +217,7 @@ fn sum_over<N: ArenaName, R: Wait>(
 
 // What so many lookups along the chain find, added up.
 fn sum_along(alloc: Global, image: &Image, queries: &Queries, lookups: u64) -> Result<u64>
-    requires { class_total image.now ≡ 32 }
+    requires { class_total (origin_of image.now) ≡ 32 }
 {
     let tables = Tables::open(alloc, image).context("opening the tables")?;
     Ok(sum_by_tables(&tables, queries, lookups))
@@ -231,7 +232,7 @@ fn sum_in<R: Wait>(
     queries: &Queries,
     lookups: u64,
 ) -> Result<u64>
-    requires { class_total image.now ≡ 32 }
+    requires { class_total (origin_of image.now) ≡ 32 }
 {
     let config = Config {
         senders: 1,

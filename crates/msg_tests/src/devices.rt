@@ -2,17 +2,15 @@
 
 ghost use Rattle.std.specs.Prelude.{◌≡◌, false};
 
-use crate::runs::{Way, document};
+use crate::runs::Way;
 use crate::same::{same, same_at};
 use msg_runner::{Failed, FromReader, OpenGate, RunFault, Sink, Source, ToWriter, run, run_beside};
+use msg_samples::SMALL;
 use std::alloc::Global;
 use std::io::{self, ErrorKind, Read, Write};
 use std::process::Abort;
 use std::sync::Wait;
 use std::thread::Threads;
-
-// A send whose answer is 7.
-const SEND: &str = r#"{"send":[["obj","c"],"value"]}"#;
 
 const WAYS: [Way; 2] = [Way::Between, Way::Beside];
 
@@ -125,9 +123,8 @@ fn reads_end<T: Threads + Wait + Abort + Sync>(
 #[test]
 fn a_failed_read_ends_a_run(rt: HostRuntime) {
     let alloc = rt.alloc();
-    let small = document(&rt, alloc, SEND);
     let spaces = " ".repeat(alloc, 20_000).expect(&rt, "memory");
-    let long = format!(in alloc; "{small}{spaces}").expect(&rt, "memory");
+    let long = format!(in alloc; "{SMALL}{spaces}").expect(&rt, "memory");
     for way in WAYS {
         for (is_long, step, calls_left, fault) in [
             (false, 10, 2, Some(RunFault::Read)),
@@ -137,13 +134,24 @@ fn a_failed_read_ends_a_run(rt: HostRuntime) {
             (false, 1, 0, None),
             (true, 8192, 0, None),
         ] {
-            let text = if is_long {
-                long.as_str()
-            } else {
-                small.as_str()
-            };
+            let text = if is_long { long.as_str() } else { SMALL };
             reads_end(&rt, alloc, way, text, (step, calls_left), fault);
         }
+    }
+}
+
+// The calls by which a document is read a byte at a time, and the one that finds its end.
+fn calls() -> u32 {
+    SMALL.len().saturating_add(1) as u32
+}
+
+#[test]
+fn each_read_of_a_byte_fails(rt: HostRuntime) {
+    for way in WAYS {
+        for call in 1..=calls() {
+            reads_end(&rt, rt.alloc(), way, SMALL, (1, call), Some(RunFault::Read));
+        }
+        reads_end(&rt, rt.alloc(), way, SMALL, (1, calls() + 1), None);
     }
 }
 
@@ -155,8 +163,7 @@ fn writes_end<T: Threads + Wait + Abort + Sync>(
     fault: Option<RunFault>,
     lines: &str,
 ) {
-    let small = document(rt, alloc, SEND);
-    let mut source = FromReader::new(small.as_bytes());
+    let mut source = FromReader::new(SMALL.as_bytes());
     let mut sink = slow_sink(alloc, step, calls_left);
     let ended = fault_of(rt, alloc, way, &mut source, &mut sink);
     let failed = sink.failed;

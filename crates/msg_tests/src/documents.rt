@@ -6,10 +6,6 @@ use msg_image::{DocumentFault, read_document};
 use std::alloc::Global;
 use std::process::Abort;
 
-/// A small document.
-pub(crate) const SMALL: &str =
-    r#"{"version":1,"classes":[{"name":"Root","super":null,"methods":[["value","r_value"]],"class_methods":[]},{"name":"Child","super":"Root","methods":[],"class_methods":[]}],"categories":[],"objects":[{"name":"c","class":"Child"}],"imps":[{"name":"r_value","class":"Root","meta":false,"args":0,"body":7}],"items":[{"send":[["obj","c"],"value"]}]}"#;
-
 /// A document with each form of a part, an item and a change.
 pub(crate) const FULL: &str = r#"{"version":1,"classes":[
 {"name":"Root","super":null,"methods":[["value","r_value"],["down:","r_down"]],"class_methods":[["make","r_make"]]},

@@ -1,7 +1,8 @@
 //! Documents at their limits.
 
-use crate::documents::{EMPTY, FULL, SMALL, edit_is, edited, listed, number};
+use crate::documents::{EMPTY, FULL, edit_is, edited, listed, number};
 use crate::same::{same, same_at};
+use msg_samples::SMALL;
 use std::alloc::Global;
 use std::process::Abort;
 

@@ -1,7 +1,8 @@
 //! Which texts are JSON, and which values have the form of a document.
 
-use crate::documents::{BODY, EMPTY, FULL, SMALL, edit_is, nested, number};
+use crate::documents::{BODY, EMPTY, FULL, edit_is, nested, number};
 use crate::same::same_at;
+use msg_samples::{IMAGE, SMALL};
 use std::alloc::Global;
 use std::process::Abort;
 
@@ -45,6 +46,21 @@ const TEXTS: [(&str, Option<u32>); 32] = [
 fn texts_are_read_or_refused(rt: HostRuntime) {
     for (text, want) in TEXTS {
         same_at(&rt, &text, number(rt.alloc(), text.as_bytes()), want);
+    }
+}
+
+// No front of a document that lacks its last bracket is JSON.
+#[test]
+fn fronts_are_no_documents(rt: HostRuntime) {
+    same_at(
+        &rt,
+        &IMAGE.len(),
+        number(rt.alloc(), IMAGE.as_bytes()),
+        None,
+    );
+    for size in 0..IMAGE.len() {
+        let front = IMAGE.as_bytes().get(..size).unwrap_or(b"");
+        same_at(&rt, &size, number(rt.alloc(), front), Some(1));
     }
 }
 

@@ -65,11 +65,17 @@ const ITEMS: &str =
 
 const LINES: &str = "7\n7\n11\nok\n7\nok\nrefused: method present\n11\n7\n";
 
-// What a run of two workers, with two sends a piece, tells.
-fn logged<R: Threads + Wait + Abort + Sync>(rt: &R, alloc: Global, way: Way) -> Vec<Told> {
+// What a run of so many workers tells, with so many sends a piece.
+fn logged<R: Threads + Wait + Abort + Sync>(
+    rt: &R,
+    alloc: Global,
+    way: Way,
+    workers: u32,
+    cut: u32,
+) -> Vec<Told> {
     let log = Log::new(rt, alloc);
     let document = document(rt, alloc, ITEMS);
-    let outcome = ran(rt, alloc, way, document.as_str(), 2, 2, &log);
+    let outcome = ran(rt, alloc, way, document.as_str(), workers, cut, &log);
     wrote(rt, &outcome, LINES);
     let Log { told, .. } = log;
     told.into_inner()
@@ -96,8 +102,9 @@ fn are_in_order<R: Abort>(rt: &R, told: &[Told], moments: &[Moment]) {
     }
 }
 
-// The workers of the pieces, in the order of their numbers.
+// The workers of the pieces, in the order of the pieces' numbers. Nothing but these and the three changes is told.
 fn are_by<R: Abort>(rt: &R, told: &[Told], workers: &[u32]) {
+    same(rt, told.len() / 2, workers.len().saturating_add(3));
     let mut piece = 0u32;
     for worker in workers {
         for moment in [Moment::PieceStarts(piece), Moment::PieceDone(piece)] {
@@ -109,10 +116,31 @@ fn are_by<R: Abort>(rt: &R, told: &[Told], workers: &[u32]) {
     }
 }
 
+// A run of so many workers, with so many sends a piece, and the worker of each of its pieces.
+const SHARED: [(Way, u32, u32, &[u32]); 11] = [
+    (Way::Between, 1, 1, &[0, 0, 0, 0, 0, 0]),
+    (Way::Between, 1, 2, &[0, 0, 0, 0]),
+    (Way::Between, 1, 64, &[0, 0, 0]),
+    (Way::Between, 2, 2, &[0, 1, 0, 0]),
+    (Way::Between, 3, 1, &[0, 1, 2, 0, 0, 1]),
+    (Way::Between, 64, 1, &[0, 1, 2, 0, 0, 1]),
+    (Way::Beside, 1, 2, &[0, 0, 0]),
+    (Way::Beside, 2, 2, &[0, 1, 0]),
+    (Way::Beside, 3, 1, &[0, 1, 2, 0, 1, 2]),
+    (Way::Beside, 4, 1, &[0, 1, 2, 3, 0, 1]),
+    (Way::Beside, 64, 1, &[0, 1, 2, 3, 4, 5]),
+];
+
+#[test]
+fn pieces_are_shared_out_in_turn(rt: HostRuntime) {
+    for (way, workers, cut, by) in SHARED {
+        let told = logged(&rt, rt.alloc(), way, workers, cut);
+        are_by(&rt, &told, by);
+    }
+}
+
 fn is_told_between_pieces(rt: &impl Abort, told: &[Told]) {
     use Moment::{ChangeDone, ChangeStarts, PieceDone, PieceStarts};
-    same(rt, told.len(), 14);
-    are_by(rt, told, &[0, 1, 0, 0]);
     for piece in [0, 1] {
         let moments = [
             PieceStarts(piece),
@@ -134,14 +162,14 @@ fn is_told_between_pieces(rt: &impl Abort, told: &[Told]) {
 
 #[test]
 fn a_change_between_sends_is_told_between_their_pieces(rt: HostRuntime) {
-    let told = logged(&rt, rt.alloc(), Way::Between);
-    is_told_between_pieces(&rt, &told);
+    for workers in [1, 2] {
+        let told = logged(&rt, rt.alloc(), Way::Between, workers, 2);
+        is_told_between_pieces(&rt, &told);
+    }
 }
 
 fn are_told_in_their_order(rt: &impl Abort, told: &[Told]) {
     use Moment::{ChangeDone, ChangeStarts, PieceDone, PieceStarts};
-    same(rt, told.len(), 12);
-    are_by(rt, told, &[0, 1, 0]);
     let changes = [
         ChangeStarts(0),
         ChangeDone(0),
@@ -158,6 +186,6 @@ fn are_told_in_their_order(rt: &impl Abort, told: &[Told]) {
 
 #[test]
 fn changes_beside_sends_are_told_in_their_order(rt: HostRuntime) {
-    let told = logged(&rt, rt.alloc(), Way::Beside);
+    let told = logged(&rt, rt.alloc(), Way::Beside, 2, 2);
     are_told_in_their_order(&rt, &told);
 }

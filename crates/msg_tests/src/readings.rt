@@ -2,10 +2,11 @@
 
 ghost use Rattle.std.specs.Prelude.{◌≡◌};
 
-use crate::images::{IMAGE, with_items};
+use crate::images::with_items;
 use crate::same::{same, same_at};
 use msg_image::{Change, Document, Expr, Image, Item, MethodList, read_document};
 use msg_names::{ClassRef, ImpRef, ObjectRef, Selector, Value};
+use msg_samples::{Hog, IMAGE};
 use std::alloc::Global;
 use std::process::Abort;
 
@@ -245,6 +246,8 @@ fn has_implementations(rt: &impl Abort, image: &Image) {
 #[test]
 fn an_image_is_as_its_document_lists_it(rt: HostRuntime) {
     let document = read(&rt, rt.alloc(), IMAGE);
+    // the calls take no memory
+    let _hog = Hog::new(&rt).expect(&rt, "memory");
     has_names(&rt, &document.image);
     has_classes(&rt, &document.image);
     has_objects(&rt, &document.image);
@@ -343,6 +346,34 @@ fn items_come_as_listed(rt: HostRuntime) {
     let text = with_items(&rt, rt.alloc(), IMAGE, ITEMS);
     let document = read(&rt, rt.alloc(), &text);
     items_are(&rt, &document.items);
+}
+
+// Listed classes, each below the next but for the last one.
+fn chain(rt: &impl Abort, alloc: Global, count: u32) -> String {
+    let mut classes = String::new(alloc);
+    for class in 1..count {
+        let listed = format!(in alloc;
+            "{{\"name\":\"C{}\",\"super\":\"C{class}\",\"methods\":[],\"class_methods\":[]}},",
+            class - 1
+        )
+        .expect(rt, "memory");
+        classes.push_str(&listed).expect(rt, "memory");
+    }
+    format!(in alloc;
+        "{{\"version\":2,\"made\":[],\"classes\":[{classes}{{\"name\":\"C{}\",\"super\":null,\"methods\":[],\"class_methods\":[]}}],\"categories\":[],\"objects\":[],\"imps\":[],\"items\":[]}}",
+        count.saturating_sub(1)
+    )
+    .expect(rt, "memory")
+}
+
+#[test]
+fn the_first_of_1024_classes_is_1023_deep(rt: HostRuntime) {
+    let text = chain(&rt, rt.alloc(), 1024);
+    let document = read(&rt, rt.alloc(), &text);
+    assert_eq!(rt; document.image.listed_count(), 1024);
+    for (class, depth) in [(0, 1023), (1, 1022), (1022, 1), (1023, 0)] {
+        same_at(&rt, &class, document.image.depth(class), depth);
+    }
 }
 
 #[test]

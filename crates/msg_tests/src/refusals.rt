@@ -1,10 +1,10 @@
 //! Runs that end before they read, or with nothing to read.
 
-use crate::documents::SMALL;
 use crate::runs::{Way, ran};
 use crate::same::same_at;
 use msg_form::DocumentFault;
 use msg_runner::{OpenGate, RunFault};
+use msg_samples::SMALL;
 use std::alloc::Global;
 use std::process::Abort;
 use std::sync::Wait;
@@ -63,6 +63,24 @@ const REFUSALS: [(&str, u32, u32, Option<RunFault>, &str); 12] = [
         "",
     ),
 ];
+
+// The document with so many spaces after it.
+fn with_spaces(rt: &impl Abort, alloc: Global, spaces: usize) -> String {
+    let spaces = " ".repeat(alloc, spaces).expect(rt, "memory");
+    format!(in alloc; "{SMALL}{spaces}").expect(rt, "memory")
+}
+
+#[test]
+fn a_document_of_16777216_bytes_is_answered(rt: HostRuntime) {
+    let room = 16_777_216_usize.saturating_sub(SMALL.len());
+    let limit = Some(RunFault::Document(DocumentFault::Limit));
+    for (more, want, lines) in [(0, None, "7\n"), (1, limit, "")] {
+        let text = with_spaces(&rt, rt.alloc(), room.saturating_add(more));
+        let ended = ran(&rt, rt.alloc(), Way::Between, &text, 1, 64, &OpenGate);
+        same_at(&rt, &more, ended.fault, want);
+        same_at(&rt, &more, ended.text.as_slice(), lines.as_bytes());
+    }
+}
 
 #[test]
 fn workers_cuts_and_texts_that_are_refused(rt: HostRuntime) {

@@ -1,13 +1,14 @@
 //! The class tables, called one by one.
 
-ghost use Rattle.std.specs.Prelude.{◌≡◌, ◌<◌, length};
-ghost use Rattle.msg_image.specs.Parts.{class_total};
+ghost use Rattle.std.specs.Prelude.{◌≡◌, ◌<◌, ◌*◌, length};
+ghost use Rattle.msg_image.specs.Opened.{origin_of};
+ghost use Rattle.msg_tables.specs.Origin.{class_total};
 
-use crate::images::IMAGE;
 use crate::same::{same, same_at};
-use msg_image::{Change, Image, MethodList, read_document};
+use msg_image::{Change, Image, MAX_CHANGES, MethodList, read_document};
 use msg_names::{ClassRef, ImpRef, Selector};
-use msg_tables::{ChangeFault, MAX_CHANGES, Tables};
+use msg_samples::{Hog, IMAGE};
+use msg_tables::{ChangeFault, Marks, Tables};
 use std::alloc::Global;
 use std::fmt::Debug;
 use std::process::Abort;
@@ -53,7 +54,7 @@ fn image(rt: &impl Abort, alloc: Global) -> Box<Image> {
 }
 
 fn opened(rt: &impl Abort, alloc: Global, image: &Image) -> Box<Tables>
-    ensures { length result.value.supers ≡ class_total image.now }
+    ensures { length result.value.supers ≡ class_total (origin_of image.now) }
 {
     let tables = Tables::open(alloc, image).expect(rt, "memory");
     Box::new(alloc, tables).expect(rt, "memory")
@@ -69,7 +70,7 @@ fn numbered(rt: &impl Abort, number: u32) -> Selector {
 
 // Which implementation each class finds, and where it stands.
 fn methods_are_found(rt: &impl Abort, image: &Image, tables: &Tables)
-    requires { length tables.now.supers ≡ class_total image.now }
+    requires { length tables.now.supers ≡ class_total (origin_of image.now) }
 {
     for (class, name, imp, holder) in [
         (ROOT, "value", 1, Some(ROOT)),
@@ -100,7 +101,7 @@ fn methods_are_found(rt: &impl Abort, image: &Image, tables: &Tables)
 }
 
 fn superclasses_are_found(rt: &impl Abort, image: &Image, tables: &Tables)
-    requires { length tables.now.supers ≡ class_total image.now }
+    requires { length tables.now.supers ≡ class_total (origin_of image.now) }
 {
     for (class, above) in [
         (ROOT, None),
@@ -118,25 +119,26 @@ fn superclasses_are_found(rt: &impl Abort, image: &Image, tables: &Tables)
 
 // How many class references descend from this one, whether the other does, and whether it is marked when the marks were taken away.
 fn descendants(
-    rt: &impl Abort,
-    alloc: Global,
     tables: &Tables,
     class: ClassRef,
     other: ClassRef,
+    marks: &mut Marks,
 ) -> (usize, bool, bool)
     requires class { class.class < length tables.now.supers }
     requires other { other.class < length tables.now.supers }
+    requires marks { length marks.old ≡ 2 * length tables.now.supers }
+    ensures { length marks.new ≡ length marks.old }
 {
-    let mut marks = tables.marks(alloc).expect(rt, "memory");
-    tables.descendants(class, &mut marks);
+    tables.descendants(class, marks);
     let count = marks.count();
     let is_below = marks.has(other);
     marks.clear();
     (count, is_below, marks.has(other))
 }
 
-fn descendants_are(rt: &impl Abort, alloc: Global, image: &Image, tables: &Tables)
-    requires { length tables.now.supers ≡ class_total image.now }
+fn descendants_are(rt: &impl Abort, image: &Image, tables: &Tables, marks: &mut Marks)
+    requires marks { length marks.old ≡ 2 * length tables.now.supers }
+    requires supers { length tables.now.supers ≡ class_total (origin_of image.now) }
 {
     for (class, other, count, is_below) in [
         (ROOT, GRAND, 8, true),
@@ -149,7 +151,7 @@ fn descendants_are(rt: &impl Abort, alloc: Global, image: &Image, tables: &Table
         (PROXY, metaclass(PROXY), 2, true),
     ] {
         assert!(rt; class.class < image.class_count() && other.class < image.class_count());
-        let found = descendants(rt, alloc, tables, class, other);
+        let found = descendants(tables, class, other, marks);
         same_at(rt, &(class, other), found, (count, is_below, false));
     }
 }
@@ -159,9 +161,32 @@ fn lookups_and_descendants_of_fresh_tables(rt: HostRuntime) {
     let image = image(&rt, rt.alloc());
     same(&rt, image.class_count(), 5);
     let tables = opened(&rt, rt.alloc(), &image);
+    let mut marks = tables.marks(rt.alloc()).expect(&rt, "memory");
+    // the calls take no memory
+    let _hog = Hog::new(&rt).expect(&rt, "memory");
     methods_are_found(&rt, &image, &tables);
     superclasses_are_found(&rt, &image, &tables);
-    descendants_are(&rt, rt.alloc(), &image, &tables);
+    descendants_are(&rt, &image, &tables, &mut marks);
+    are_refused(&rt, &tables);
+}
+
+// Of these methods fresh tables refuse all but the last.
+fn are_refused(rt: &impl Abort, tables: &Tables) {
+    let sel = numbered(rt, 2);
+    for (class, imp, add, set) in [
+        (NOWHERE, 1, NO_CLASS, NO_CLASS),
+        (CHILD, 99, NO_IMP, NO_IMP),
+        (CHILD, 3, COUNT, COUNT),
+        (ROOT, 1, PRESENT, None),
+        (PROXY, 1, None, NO_METHOD),
+        (CHILD, 1, None, None),
+    ] {
+        let imp = ImpRef::of(imp);
+        let change = Change::Add { class, sel, imp };
+        same_at(rt, &(class, imp), tables.refusal(&change), add);
+        let change = Change::SetImp { class, sel, imp };
+        same_at(rt, &(class, imp), tables.refusal(&change), set);
+    }
 }
 
 // What fresh tables make of a change. Before it is made they are asked for the fault.

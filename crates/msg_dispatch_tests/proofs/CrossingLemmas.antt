@@ -1,0 +1,12 @@
+-- That a sender may go to another thread.
+use denote.RattleType.{RattleType}
+use denote.Ref.{NamedLft}
+use denote.Param.Send.{IsSend, sendable}
+use denote.Param.SendFields.{as_row_send}
+use Rattle.std.proofs.Crossing.{crosses}
+use Rattle.msg_dispatch.specs.declared.name.ArenaName.{Ghosts}
+use Rattle.msg_dispatch.proofs.CrossingLemmas.{Sender-send}
+use Rattle.msg_dispatch_tests.specs.contracts.asker.Asker as Asker
+
+pub Asker-send : (κ : NamedLft) (N : RattleType) (g : Ghosts N.Denot) → IsSend (Asker.the_row κ N g)
+Asker-send κ N g = as_row_send (Asker.the_field κ N g) (let s = Sender-send N g κ in search (sendable, crosses) depth 30)
