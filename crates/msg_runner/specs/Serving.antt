@@ -1,5 +1,5 @@
 -- What workers answer beside changes, and how sends are shared out.
-use Rattle.std.specs.Prelude.{◌≡◌, ℕ, zero, suc, ◌+◌, Bool, true, false, ◌/◌, ◌%◌, ◌<◌, ◌≤◌, ◌==◌, if◌then◌else◌, List, [], ◌∷◌, ◌++◌, length, slice_index_or, Option}
+use Rattle.std.specs.Prelude.{◌≡◌, ℕ, zero, suc, ◌+◌, Bool, true, false, ◌/◌, ◌%◌, ◌<◌, ◌≤◌, ◌==◌, if◌then◌else◌, List, [], ◌∷◌, ◌++◌, length, min, count_by, slice_index_or, Option}
 use Rattle.msg_image.specs.Items.{ItemParts, SendItem, ChangeItem}
 use Rattle.msg_image.specs.Parts.{ImageParts}
 use Rattle.msg_tables.specs.History.{History, BeginsWith}
@@ -53,6 +53,22 @@ Goes false h m old new now = (now ≡ h) × (new ≡ old)
 abbrev pub worker_of : ℕ → ℕ → ℕ → ℕ
 worker_of cut workers place = (place / cut) % workers
 
+-- how many pieces of `cut` places so many places make: the whole ones, and one of what is left
+abbrev pub pieces_of : ℕ → ℕ → ℕ
+pieces_of cut places = places / cut + min 1 (places % cut)
+
+-- whether an item is a send
+abbrev pub is_send : ItemParts → Bool
+is_send (SendItem r s args) = true
+is_send (ChangeItem x) = false
+
+-- the sends among items make so many pieces of `cut` sends, and so many of the items are changes
+abbrev pub HasPieces : ℕ → List ItemParts → ℕ → Type 0
+HasPieces cut items pieces = pieces ≡ pieces_of cut (count_by is_send items)
+
+abbrev pub HasChanges : List ItemParts → ℕ → Type 0
+HasChanges items changes = changes + count_by is_send items ≡ length items
+
 -- what stands at the places from i on that belong to a worker
 abbrev pub share_of : {A : Type 0} → (ℕ → ℕ) → ℕ → ℕ → List A → List A
 share_of who me i [] = []
@@ -100,9 +116,6 @@ pub record IsAnswered (image : ImageParts) (who : ℕ → ℕ) (workers : ℕ) (
   pub text : new ≡ old ++ text_of image (woven items replies (refusals_of h items))
   pub points : (w : ℕ) → w < workers → (last : History) × Served h (share_of who w 0 (sends_of image items)) (share_of who w 0 replies) last × BeginsWith (history_of h items) last
 
--- some workers, at most so many, answered the items
-pub record AreAnswered (image : ImageParts) (workers cut : ℕ) (h : History) (items : List ItemParts) (old new : List ℕ) : Type 0 where
-  pub used : ℕ
-  pub some : 0 < used
-  pub most : used ≤ workers
-  pub answered : IsAnswered image (worker_of cut used) used h items old new
+-- so many workers answered the items: the piece k of `cut` sends is that of the worker k mod workers
+abbrev pub AreAnswered : ImageParts → ℕ → ℕ → History → List ItemParts → List ℕ → List ℕ → Type 0
+AreAnswered image workers cut h items old new = IsAnswered image (worker_of cut workers) workers h items old new

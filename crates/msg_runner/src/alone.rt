@@ -1,13 +1,13 @@
 //! Parts of a document that the calling thread answers by itself, with each line written at once.
 
-ghost use Rattle.std.specs.Prelude.{◌≡◌, ◌<◌, ◌≤◌, ◌++◌, All, length, map, vec_len, IfOk, OnOk};
+ghost use Rattle.std.specs.Prelude.{◌≡◌, ◌<◌, ◌≤◌, ◌++◌, All, length, map, min, vec_len, IfOk, OnOk};
 ghost use Rattle.msg_image.specs.Opened.{origin_of};
 ghost use Rattle.msg_image.specs.Plain.{item_parts};
 ghost use Rattle.msg_image.specs.Sound.{IsSoundItem};
 ghost use Rattle.msg_tables.specs.History.{BeginsWith};
 ghost use Rattle.msg_tables.specs.Refusal.{refusal};
 ghost use Rattle.msg_runner.specs.Serial.{answer_to_change, longer_by, serial_from};
-ghost use Rattle.msg_runner.specs.Serving.{AllSends, sends_of};
+ghost use Rattle.msg_runner.specs.Serving.{AllSends, pieces_of, sends_of};
 ghost use Rattle.msg_runner.specs.Text.{answer_line, text_of};
 ghost use Rattle.msg_runner.specs.Written.{AreWritten};
 
@@ -78,7 +78,7 @@ fn piece_len(left: usize, cut: u32) -> usize
     requires left { 0 < left }
     requires cut { 1 ≤ cut }
     ensures some { 0 < result }
-    ensures most { result ≤ left }
+    ensures cut { result ≡ min left cut }
 {
     left.min(cut as usize)
 }
@@ -92,7 +92,7 @@ fn answer_pieces<'r, 'd, N: ArenaName, R: Wait, G: Gate>(
 ) -> Result<u32, AllocError>
     requires image { asking.old.sender.seen.front.origin ≡ origin_of part.image.now }
     requires sound { All (IsSoundItem part.image.now) (map item_parts part.items.now) }
-    ensures pieces { IfOk result (λ pieces. pieces ≤ length part.entry.items.now) }
+    ensures pieces { IfOk result (λ n. n ≡ pieces_of part.entry.deal.cut (length part.entry.items.now)) }
     ensures written { OnOk result (AreWritten part.entry.image.now asking.old.sender.seen.front (sends_of part.entry.image.now (map item_parts part.entry.items.now)) asking.new.sender.seen.front text.old.items text.new.items) }
 {
     let mut pieces = 0;
@@ -126,7 +126,7 @@ fn answer_by<'d, N: ArenaName, R: Wait, G: Gate>(
 ) -> Answered<'d, N>
     requires image { sender.seen.front.origin ≡ origin_of part.image.now }
     requires sound { All (IsSoundItem part.image.now) (map item_parts part.items.now) }
-    ensures pieces { IfOk result.pieces (λ pieces. pieces ≤ length part.entry.items.now) }
+    ensures pieces { IfOk result.pieces (λ n. n ≡ pieces_of part.entry.deal.cut (length part.entry.items.now)) }
     ensures written { OnOk result.pieces (AreWritten part.entry.image.now sender.entry.seen.front (sends_of part.entry.image.now (map item_parts part.entry.items.now)) result.sender.seen.front text.old.items text.new.items) }
 {
     let sender = Asker::of(alloc, sender, part.items.len());
@@ -170,7 +170,7 @@ pub(crate) fn answer_sends<'d, N: ArenaName, R: Wait, G: Gate>(
     requires sends { AllSends (map item_parts part.items.now) }
     ensures same { crew.new.changer ≡ crew.old.changer }
     ensures senders { OnOk result (vec_len crew.new.senders ≡ vec_len crew.old.senders) }
-    ensures pieces { IfOk result (λ pieces. pieces ≤ length part.entry.items.now) }
+    ensures pieces { IfOk result (λ n. n ≡ pieces_of part.entry.deal.cut (length part.entry.items.now)) }
     ensures text { OnOk result (text.new.items ≡ text.old.items ++ text_of part.entry.image.now (serial_from part.entry.image.now crew.old.changer (map item_parts part.entry.items.now))) }
 {
     let sender = crew.send_out(rt)?;

@@ -1,10 +1,10 @@
 //! A batch: items whose sends are shared out among workers, while the changes among them are made.
 
-ghost use Rattle.std.specs.Prelude.{◌≡◌, ◌≤◌, ◌<◌, ◌+◌, ◌^◌, [], true, All, length, map, vec_len, IfOk, OnOk};
+ghost use Rattle.std.specs.Prelude.{◌≡◌, ◌≤◌, ◌<◌, ◌+◌, ◌^◌, ◌⊎◌, [], true, All, count_by, length, map, vec_len, IfOk, OnOk};
 ghost use Rattle.msg_image.specs.Opened.{origin_of};
 ghost use Rattle.msg_image.specs.Plain.{item_parts};
 ghost use Rattle.msg_image.specs.Sound.{IsSoundItem};
-ghost use Rattle.msg_runner.specs.Serving.{worker_of, sends_of, history_of, IsServed, AreAnswered};
+ghost use Rattle.msg_runner.specs.Serving.{worker_of, sends_of, history_of, is_send, IsServed, AreAnswered, HasPieces, HasChanges};
 
 use crate::beside::{Batch, serve_beside, serve_with};
 use crate::changes::change_all;
@@ -95,7 +95,7 @@ fn serve_batch<
 
 // How many of the items are sends.
 fn sends_in(items: &[Item]) -> usize
-    ensures { result ≤ length items.now }
+    ensures { result ≡ count_by is_send (map item_parts items.now) }
 {
     items
         .iter()
@@ -109,6 +109,7 @@ fn used_for(workers: u32, pieces: usize) -> u32
     ensures some { 1 ≤ result }
     ensures most { result ≤ workers }
     ensures one { pieces ≤ 1 → result ≡ 1 }
+    ensures all { (result ≡ workers) ⊎ (pieces ≤ result) }
 {
     if pieces <= 1 {
         1
@@ -143,8 +144,8 @@ pub(crate) fn answer_batch<
     ensures answered { OnOk result (AreAnswered all.entry.image.now all.entry.deal.workers all.entry.deal.cut crew.old.changer (map item_parts all.entry.items.now) text.old.items text.new.items) }
     ensures history { OnOk result (crew.new.changer ≡ history_of crew.old.changer (map item_parts all.entry.items.now)) }
     ensures senders { OnOk result (vec_len crew.new.senders ≡ vec_len crew.old.senders) }
-    ensures pieces { IfOk result (λ c. c.pieces ≤ length all.entry.items.now) }
-    ensures few_changes { IfOk result (λ c. c.changes ≤ length all.entry.items.now) }
+    ensures pieces { IfOk result (λ c. HasPieces all.entry.deal.cut (map item_parts all.entry.items.now) c.pieces) }
+    ensures changes { IfOk result (λ c. HasChanges (map item_parts all.entry.items.now) c.changes) }
 {
     let sends = sends_in(all.items);
     let pieces = sends.div_ceil(all.deal.cut as usize);

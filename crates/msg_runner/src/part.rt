@@ -39,6 +39,7 @@ impl<'a> Part<'a> {
         ensures image { result.image.now ≡ self.entry.image.now }
         ensures items { result.items.now ≡ items.entry.now }
         ensures deal { result.deal ≡ self.entry.deal }
+        ensures first_change { result.first_change ≡ self.entry.first_change }
     {
         Part {
             image: self.image,
@@ -55,6 +56,9 @@ impl<'a> Part<'a> {
         ensures image { result.image.now ≡ self.entry.image.now }
         ensures items { result.items.now ≡ items.entry.now }
         ensures workers { result.deal.workers ≡ self.entry.deal.workers }
+        ensures cut { result.deal.cut ≡ self.entry.deal.cut }
+        ensures first { result.deal.first ≡ self.entry.deal.first + counts.pieces }
+        ensures first_change { result.first_change ≡ self.entry.first_change + counts.changes }
     {
         Part {
             image: self.image,

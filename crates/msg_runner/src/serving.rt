@@ -9,7 +9,7 @@ ghost use Rattle.msg_tables.specs.History.{empty};
 ghost use Rattle.msg_runtime.specs.Parts.{IsKeeperOf, keeper_history};
 ghost use Rattle.msg_runner.specs.Lines.{AreLines};
 ghost use Rattle.msg_runner.specs.Serial.{serial_from};
-ghost use Rattle.msg_runner.specs.Serving.{AllSends, IsOneChange, history_of};
+ghost use Rattle.msg_runner.specs.Serving.{AllSends, IsOneChange, HasPieces, HasChanges, history_of};
 ghost use Rattle.msg_runner.specs.Text.{text_of};
 
 use crate::alone::{answer_change, answer_sends};
@@ -76,8 +76,8 @@ fn answer_part<
     ensures text { OnOk result (text.new.items ≡ text.old.items ++ text_of part.entry.image.now (serial_from part.entry.image.now crew.old.changer (map item_parts part.entry.items.now))) }
     ensures history { OnOk result (crew.new.changer ≡ history_of crew.old.changer (map item_parts part.entry.items.now)) }
     ensures senders { OnOk result (vec_len crew.new.senders ≡ vec_len crew.old.senders) }
-    ensures pieces { IfOk result (λ c. c.pieces ≤ length part.entry.items.now) }
-    ensures few_changes { IfOk result (λ c. c.changes ≤ length part.entry.items.now) }
+    ensures pieces { IfOk result (λ c. HasPieces part.entry.deal.cut (map item_parts part.entry.items.now) c.pieces) }
+    ensures changes { IfOk result (λ c. HasChanges (map item_parts part.entry.items.now) c.changes) }
 {
     if let Some(Item::Change(change)) = part.items.first() {
         let number = part.first_change;

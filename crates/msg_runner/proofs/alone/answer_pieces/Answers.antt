@@ -1,10 +1,11 @@
-use Rattle.std.proofs.Common.{arith, map, subst}
+use Rattle.std.proofs.Common.{arith, ◌≡◌, ◌-◌, length, min, map, ap, subst}
 use Rattle.std.specs.Prelude.{All}
 use Rattle.msg_image.specs.Items.{ItemParts}
 use Rattle.msg_image.specs.Plain.{item_parts}
 use Rattle.msg_image.specs.Sound.{IsSoundItem}
-use Rattle.msg_runner.specs.Serving.{sends_of}
+use Rattle.msg_runner.specs.Serving.{pieces_of, sends_of}
 use Rattle.msg_runner.proofs.PartLemmas.{all_left, split_named}
+use Rattle.msg_runner.proofs.PieceLemmas.{pieces_step}
 use Rattle.msg_runner.proofs.WrittenLemmas.{writing_part}
 use Rattle.msg_runner.proofs.alone.answer_pieces.Goals as goal
 
@@ -23,7 +24,13 @@ loop-rest-preserved g c =
     let later = c.split_at.result.1.now in
     let split = split_named c.loop-rest.rest.now piece later c.piece_len.result c.split_at.ensures.front c.split_at.ensures.back in
     record {
-      pieces = omega (arith, c.loop-rest.invariant.pieces, c.split_at.ensures.front_len, c.split_at.ensures.back_len, c.piece_len.ensures.some);
+      few = omega (arith, c.loop-rest.invariant.few, c.split_at.ensures.front_len, c.split_at.ensures.back_len, c.piece_len.ensures.some);
+      pieces =
+          let cut = c.args.part.deal.cut in
+          let left = length c.loop-rest.rest.now in
+          let step = pieces_step cut left c.args.part.deal.some_places (omega (arith, c.piece_len.ensures.some, c.piece_len.ensures.cut)) in
+          let rest : pieces_of cut (length later) ≡ pieces_of cut (left - min left cut) = ap (pieces_of cut) (omega (arith, c.split_at.ensures.front_len, c.split_at.ensures.back_len, c.piece_len.ensures.cut)) in
+          omega (arith, c.loop-rest.invariant.pieces, step, rest);
       writing = writing_part image c.args.asking.now.sender.seen.front (sends_of image (map item_parts c.args.part.items.now)) c.args.text.now.items c.loop-rest.asking.sender.seen.front c.answer_piece.new.asking.sender.seen.front c.loop-rest.text.items c.answer_piece.new.text.items
           (map item_parts c.loop-rest.rest.now) (map item_parts piece) (map item_parts later) c.loop-rest.invariant.writing split c.in_ok-answer_piece.ensures.image c.in_ok-answer_piece.ensures.written;
     }
