@@ -130,11 +130,11 @@ module _ (look : History → ClassRef → ℕ → ℕ) (key : SettingView) (slot
       let e : r.keeper ≡ keeper_of m.0 = own st r at in
       let i : ℕ = probe_at (layout_of key) n in
       let f : ℕ = slice_index st.words i in (
-        Keeper (if f == 0 then looked n (keeper_of m.0) else keeper_of m.0),
+        Keeper (looked n (f == 0) (keeper_of m.0)),
         keeps,
         tt,
-        subst (λ (x : KeeperView). RuledBy look key (slice_set st.words i f) (slice_set st.views id (Keeper (if f == 0 then looked n x else x)))) e (look_step look (layout_of key) key.origin st.words st.views r id (at_own st r at) n lt).1.0,
-        sat_is (if f == 0 then looked n (keeper_of m.0) else keeper_of m.0),
+        subst (λ (x : KeeperView). RuledBy look key (slice_set st.words i f) (slice_set st.views id (Keeper (looked n (f == 0) x)))) e (look_step look (layout_of key) key.origin st.words st.views r id (at_own st r at) n lt).1.0,
+        sat_is (looked n (f == 0) (keeper_of m.0)),
       )
 
   pub witness_allowed : Allows (holds look key) slots id m 0 (λ x. x) (Witnesses (step slots 0 0 0 none) m)

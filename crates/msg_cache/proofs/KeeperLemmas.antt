@@ -1,5 +1,5 @@
 -- The keeper's steps on words: each keeps the rule, and is its event on the state that is shown.
-use Rattle.std.proofs.Common.{◌≡◌, ◌≢◌, ℕ, zero, suc, ◌+◌, ◌<◌, ◌≤◌, ◌⊎◌, List, [], ◌∷◌, map, length, Bool, false, Option, Some, None, refl, sym, ap, ◌∙◌, subst, inl, inr, ⊎_elim, arith, length-append, eq-eqb, ne_eqb}
+use Rattle.std.proofs.Common.{◌≡◌, ◌≢◌, ℕ, zero, suc, ◌+◌, ◌<◌, ◌≤◌, ◌⊎◌, List, [], ◌∷◌, map, length, Bool, true, false, Option, Some, None, refl, sym, ap, ◌∙◌, subst, inl, inr, ⊎_elim, arith, length-append, eq-eqb, ne_eqb}
 use Rattle.std.specs.Prelude.{◌==◌, slice_index, slice_set, if◌then◌else◌}
 use Rattle.std.proofs.lemmas.List.{get_or-set_other, get_or-set_same, set-get_or, length-map}
 use Rattle.std.proofs.Math.ListN.{length-set}
@@ -74,6 +74,25 @@ kept_as z origin k words standings stores s count same version = record {
   never = s.never;
   some_sender = s.some_sender;
 }
+
+-- and once a sender number was looked at
+kept_looked : (z : Layout) (origin : OriginView) (k : KeeperView) (n : ℕ) (out : Bool) → IsKept z origin k → IsKept z origin (looked n out k)
+kept_looked z origin k n out s = record {
+  words = s.words;
+  standings = as_many out ∙ s.standings;
+  given = s.given;
+  version = s.version;
+  begins = s.begins;
+  accepted = s.accepted;
+  told = s.told;
+  home = s.home;
+  never = s.never;
+  some_sender = s.some_sender;
+}
+  where
+    as_many : (b : Bool) → length (if b then map (seen_out n) k.standings else k.standings) ≡ length k.standings
+    as_many true = length-map k.standings (seen_out n)
+    as_many false = refl
 
 module _ (z : Layout) (k : KeeperView) (whereabouts : ℕ → Whereabouts) where
   retire_length : (c : ClassRef) (o : Option ℕ) → length (retire c o k) ≡ length k.standings
@@ -223,7 +242,7 @@ module _ (look : History → ClassRef → ℕ → ℕ) (z : Layout) (origin : Or
 
   -- a probe word is loaded: where it is 0, its sender is out, and awaited no more
   pub look_step : (n : ℕ) → n < z.senders
-      → GoesBy look z origin r (Look n) (slice_set words (probe_at z n) (slice_index words (probe_at z n))) (slice_set views id (Keeper (if slice_index words (probe_at z n) == 0 then looked n r.keeper else r.keeper)))
+      → GoesBy look z origin r (Look n) (slice_set words (probe_at z n) (slice_index words (probe_at z n))) (slice_set views id (Keeper (looked n (slice_index words (probe_at z n) == 0) r.keeper)))
   look_step n lt = by_place (r.whereabouts n) refl
     where
       k : KeeperView
@@ -233,7 +252,7 @@ module _ (look : History → ClassRef → ℕ → ℕ) (z : Layout) (origin : Or
       i = probe_at z n
 
       Goal : Bool → Type 0
-      Goal b = GoesBy look z origin r (Look n) (slice_set words i (slice_index words i)) (slice_set views id (Keeper (if b then looked n r.keeper else r.keeper)))
+      Goal b = GoesBy look z origin r (Look n) (slice_set words i (slice_index words i)) (slice_set views id (Keeper (looked n b r.keeper)))
 
       still : (p : Whereabouts) → is_out p ≡ false → shown z r.keeper r.whereabouts ≡ record (shown z r.keeper r.whereabouts) { standing = if is_out p then (λ a. seen_out n (standing_at r.keeper.standings a)) else standing_at r.keeper.standings }
       still p e j = state_from r.keeper.history (live_in z r.keeper.words) (word_in z r.keeper.words) (ap (λ b. if b then (λ a. seen_out n (standing_at r.keeper.standings a)) else standing_at r.keeper.standings) (sym e) j) r.whereabouts
@@ -242,7 +261,8 @@ module _ (look : History → ClassRef → ℕ → ℕ) (z : Layout) (origin : Or
       inside_it p e isnt set_ =
           let apart : slice_index words i ≢ 0 = λ h. set_ (sym (r.copies.probed n lt ∙ ap in_word e) ∙ h) in
           subst Goal (sym (ne_eqb (slice_index words i) 0 apart))
-          (by_event (slice_set words i (slice_index words i)) r.keeper (Look n) r.kept (copies_same z r.keeper r.whereabouts words i r.copies) (may_look look z (shown_by look z origin r) n lt) (still (r.whereabouts n) (ap is_out e ∙ isnt))
+          (by_event (slice_set words i (slice_index words i)) (looked n false r.keeper) (Look n) (kept_looked z origin r.keeper n false r.kept)
+          (let s = copies_same z r.keeper r.whereabouts words i r.copies in record { copied = s.copied; probed = s.probed; count = s.count }) (may_look look z (shown_by look z origin r) n lt) (still (r.whereabouts n) (ap is_out e ∙ isnt))
           refl (begins_refl r.keeper.history) (λ d b m aw h. inl (aw, h)) (inl (refl, refl)))
 
       by_place : (p : Whereabouts) → r.whereabouts n ≡ p → Goal (slice_index words i == 0)
@@ -251,8 +271,7 @@ module _ (look : History → ClassRef → ℕ → ℕ) (z : Layout) (origin : Or
           let seen : standing_at (map (seen_out n) r.keeper.standings) ≡ (if is_out (r.whereabouts n) then (λ a. seen_out n (standing_at r.keeper.standings a)) else standing_at r.keeper.standings) =
           standings_looked n r.keeper.standings ∙ sym (ap (λ p. if is_out p then (λ a. seen_out n (standing_at r.keeper.standings a)) else standing_at r.keeper.standings) e) in
           subst Goal (sym (eq-eqb (slice_index words i) 0 found))
-          (by_event (slice_set words i (slice_index words i)) (looked n r.keeper) (Look n)
-          (kept_as z origin r.keeper r.keeper.words (map (seen_out n) r.keeper.standings) r.keeper.stores r.kept refl (length-map r.keeper.standings (seen_out n)) refl)
+          (by_event (slice_set words i (slice_index words i)) (looked n true r.keeper) (Look n) (kept_looked z origin r.keeper n true r.kept)
           (let s = copies_same z r.keeper r.whereabouts words i r.copies in record { copied = s.copied; probed = s.probed; count = s.count })
           (may_look look z (shown_by look z origin r) n lt)
           (λ j. state_from r.keeper.history (live_in z r.keeper.words) (word_in z r.keeper.words) (seen j) r.whereabouts)

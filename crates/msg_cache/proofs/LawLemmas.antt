@@ -1,5 +1,6 @@
 -- One state is shown, and each step is its event.
-use Rattle.std.proofs.Common.{◌≡◌, ℕ, List, Bool, true, false, refl, sym, ap, ◌∙◌, subst}
+use Rattle.std.proofs.Common.{◌≡◌, ℕ, suc, ◌+◌, ◌<◌, List, Bool, true, false, refl, sym, ap, ◌∙◌, subst}
+use Rattle.std.specs.Prelude.{◌==◌, slice_index}
 use mathlib.Core.Option.{some}
 use lib.ListN.{get_elem?}
 use Rattle.atomic_table.specs.Table.{State as Table}
@@ -7,16 +8,21 @@ use Rattle.msg_names.specs.declared.value.ClassRef.{ClassRef}
 use Rattle.msg_tables.specs.Origin.{OriginView}
 use Rattle.msg_tables.specs.History.{History, lookup}
 use Rattle.msg_core.specs.declared.event.Event.{Event}
-use Rattle.msg_core.specs.State.{Layout, awaits}
+use Rattle.msg_core.specs.declared.event.Event.TheVariants.{Header, Read, Look}
+use Rattle.msg_core.specs.declared.event.Seen.TheVariants.{Array, Word, Out as SeenOut}
+use Rattle.msg_core.specs.declared.state.Whereabouts.{Whereabouts}
+use Rattle.msg_core.specs.declared.state.Whereabouts.TheVariants.{Out, In, Holding}
+use Rattle.msg_core.specs.Steps.{is_out, shows as shown_to}
+use Rattle.msg_core.specs.State.{Layout, awaits, size}
 use Rattle.msg_cache.specs.declared.view.KeeperView.{KeeperView}
 use Rattle.msg_cache.specs.declared.view.View.{View}
 use Rattle.msg_cache.specs.declared.view.View.TheVariants.{Sender, Keeper}
-use Rattle.msg_cache.specs.Laws.{Fills, Installs, Flushes, Looks, Clears, Commits, Recalls, Splits, Joins, SplitsTurn, JoinsTurn, IsEvent, IsNone, OneIsShown, ShownIsLawful, ShownIsSound, OpeningIsShown, EnterIsEnter, LeaveIsLeave, HeaderIsHeader, BucketIsRead, VersionIsNone, StoreIsFill, StoreIsInstall, StoreIsFlush, LoadIsLook, StoreIsClear, StoreIsCommit, RecallIsNone, SplitIsNone, JoinIsNone, SplitTurnIsNone, JoinTurnIsNone}
-use Rattle.msg_cache.specs.Layout.{SettingView, layout_of, word_count}
-use Rattle.msg_cache.specs.Rule.{shown, Ruled, shown_by, holds, GoesBy, Stays}
+use Rattle.msg_cache.specs.Laws.{Fills, Installs, Flushes, Looks, Clears, Commits, Recalls, Splits, Joins, SplitsTurn, JoinsTurn, IsEvent, IsNone, seen_in, shown_at, OneIsShown, ShownIsLawful, ShownIsSound, OpeningIsShown, EnterIsEnter, LeaveIsLeave, HeaderIsHeader, BucketIsRead, VersionIsNone, StoreIsFill, StoreIsInstall, StoreIsFlush, LoadIsLook, StoreIsClear, StoreIsCommit, RecallIsNone, SplitIsNone, JoinIsNone, SplitTurnIsNone, JoinTurnIsNone}
+use Rattle.msg_cache.specs.Layout.{SettingView, layout_of, header_at, base, probe_at, word_count}
+use Rattle.msg_cache.specs.Rule.{in_word, shown, Ruled, shown_by, holds, GoesBy, Stays}
 use Rattle.msg_cache.proofs.KeeperLemmas.{fill_step, clear_step, commit_step, flush_step, install_step, look_step, idle_step}
 use Rattle.msg_cache.proofs.OpeningLemmas.{opens}
-use Rattle.msg_cache.proofs.SenderLemmas.{header_step, bucket_step, version_step, enter_step, leave_step}
+use Rattle.msg_cache.proofs.SenderLemmas.{header_seen, header_step, bucket_seen, bucket_step, version_step, enter_step, leave_step}
 use Rattle.msg_cache.proofs.TokenLemmas.{give_step, take_step, lend_step, home_step}
 
 module _ (look : History → ClassRef → ℕ → ℕ) (z : Layout) (origin : OriginView) (words : List ℕ) (views : List View) (r r' : Ruled look z origin words views) where
@@ -35,8 +41,9 @@ module _ (look : History → ClassRef → ℕ → ℕ) (z : Layout) (origin : Or
   pub one_shown : shown_by look z origin r ≡ shown_by look z origin r'
   one_shown = λ i. shown z (one_keeper i) (λ n. one_place n i)
 
-event : (key : SettingView) (s s' : Table ℕ View) (r : holds lookup key s) (e : Event) → GoesBy lookup (layout_of key) key.origin r e s'.words s'.views → IsEvent key s r e s'
-event key s s' r e t = record { legal = t.0; keeps_rule = t.1.0; shows = λ r'. one_shown lookup (layout_of key) key.origin s'.words s'.views r' t.1.0 ∙ t.1.1 }
+event : (key : SettingView) (s s' : Table ℕ View) (r : holds lookup key s) (e : Event) (word : ℕ) → seen_in e word ≡ shown_to (shown_at key s r) e → GoesBy lookup (layout_of key) key.origin r e s'.words s'.views
+    → IsEvent key s r e word s'
+event key s s' r e word sees t = record { legal = t.0; sees = sees; keeps_rule = t.1.0; shows = λ r'. one_shown lookup (layout_of key) key.origin s'.words s'.views r' t.1.0 ∙ t.1.1 }
 
 none : (key : SettingView) (s s' : Table ℕ View) (r : holds lookup key s) → Stays lookup (layout_of key) key.origin r s'.words s'.views → IsNone key s r s'
 none key s s' r t = record { keeps_rule = t.0; shows = λ r'. one_shown lookup (layout_of key) key.origin s'.words s'.views r' t.0 ∙ t.1 }
@@ -60,39 +67,54 @@ opening_is_shown key sound_image some_sender =
     (t.0, λ r. one_shown lookup (layout_of key) key.origin _ _ r t.0 ∙ t.1)
 
 pub enter_is_enter : EnterIsEnter
-enter_is_enter key s r id v at out = event key s _ r _ (enter_step lookup (layout_of key) key.origin s.words s.views r id v at out)
+enter_is_enter key s r id v at out = event key s _ r _ 1 refl (enter_step lookup (layout_of key) key.origin s.words s.views r id v at out)
 
 pub leave_is_leave : LeaveIsLeave
-leave_is_leave key s r id v at in_it = event key s _ r _ (leave_step lookup (layout_of key) key.origin s.words s.views r id v at in_it)
+leave_is_leave key s r id v at in_it = event key s _ r _ 0 refl (leave_step lookup (layout_of key) key.origin s.words s.views r id v at in_it)
 
 pub header_is_header : HeaderIsHeader
-header_is_header key s r id v at c sel is_in lt = event key s _ r _ (header_step lookup (layout_of key) key.origin s.words s.views r id v at c sel _ is_in lt refl).0
+header_is_header key s r id v at c sel is_in lt =
+    let z = layout_of key in
+    let n : ℕ = slice_index s.words (header_at c) in
+    event key s _ r (Header v.number c) n (ap Array (sym (header_seen lookup z key.origin s.words s.views r id v at c n lt refl))) (header_step lookup z key.origin s.words s.views r id v at c sel n is_in lt refl).0
 
 pub bucket_is_read : BucketIsRead
 bucket_is_read key s r id v at a p holds lt sought =
-    let t = bucket_step lookup (layout_of key) key.origin s.words s.views r id v at a p _ holds lt sought refl in
-    (t.0, event key s _ r _ t.1)
+    let z = layout_of key in
+    let n : ℕ = slice_index s.words (base z a + p) in
+    let t = bucket_step lookup z key.origin s.words s.views r id v at a p n holds lt sought refl in
+    (t.0, event key s _ r (Read v.number p) n (ap Word (bucket_seen lookup z key.origin s.words s.views r id v at v.last.class a p n holds lt refl)) t.1)
 
 pub version_is_none : VersionIsNone
 version_is_none key s r id v at free = none key s _ r (version_step lookup (layout_of key) key.origin s.words s.views r id v at _ free refl).0
 
 pub store_is_fill : StoreIsFill
-store_is_fill key s r id k at = of_keeper key s r id (Fills key s r id) (λ own c a p w live lt clear sel imp. event key s _ r _ (fill_step lookup (layout_of key) key.origin s.words s.views r id own c a p w live lt clear sel imp)) k at
+store_is_fill key s r id k at = of_keeper key s r id (Fills key s r id) (λ own c a p w live lt clear sel imp. event key s _ r _ w refl (fill_step lookup (layout_of key) key.origin s.words s.views r id own c a p w live lt clear sel imp)) k at
 
 pub store_is_install : StoreIsInstall
-store_is_install key s r id k at = of_keeper key s r id (Installs key s r id) (λ own c a lt there free clear. event key s _ r _ (install_step lookup (layout_of key) key.origin s.words s.views r id own c a lt there free clear)) k at
+store_is_install key s r id k at = of_keeper key s r id (Installs key s r id) (λ own c a lt there free clear. event key s _ r _ (suc a) refl (install_step lookup (layout_of key) key.origin s.words s.views r id own c a lt there free clear)) k at
 
 pub store_is_flush : StoreIsFlush
-store_is_flush key s r id k at = of_keeper key s r id (Flushes key s r id) (λ own c a lt here. event key s _ r _ (flush_step lookup (layout_of key) key.origin s.words s.views r id own c a lt here)) k at
+store_is_flush key s r id k at = of_keeper key s r id (Flushes key s r id) (λ own c a lt here. event key s _ r _ 0 refl (flush_step lookup (layout_of key) key.origin s.words s.views r id own c a lt here)) k at
+
+-- a probe word that is 0 shows a sender that is out
+out_seen : (p : Whereabouts) → (in_word p == 0) ≡ is_out p
+out_seen Out = refl
+out_seen In = refl
+out_seen (Holding c a) = refl
+
+look_seen : (key : SettingView) (s : Table ℕ View) (r : holds lookup key s) (n : ℕ) → n < key.senders
+    → seen_in (Look n) (slice_index s.words (probe_at (layout_of key) n)) ≡ shown_to (shown_at key s r) (Look n)
+look_seen key s r n lt = ap (λ w. SeenOut (w == 0)) (r.copies.probed n lt) ∙ ap SeenOut (out_seen (r.whereabouts n))
 
 pub load_is_look : LoadIsLook
-load_is_look key s r id k at = of_keeper key s r id (Looks key s r id) (λ own n lt. event key s _ r _ (look_step lookup (layout_of key) key.origin s.words s.views r id own n lt)) k at
+load_is_look key s r id k at = of_keeper key s r id (Looks key s r id) (λ own n lt. event key s _ r (Look n) (slice_index s.words (probe_at (layout_of key) n)) (look_seen key s r n lt) (look_step lookup (layout_of key) key.origin s.words s.views r id own n lt)) k at
 
 pub store_is_clear : StoreIsClear
-store_is_clear key s r id k at = of_keeper key s r id (Clears key s r id) (λ own a p free lt. event key s _ r _ (clear_step lookup (layout_of key) key.origin s.words s.views r id own a p free lt)) k at
+store_is_clear key s r id k at = of_keeper key s r id (Clears key s r id) (λ own a p free lt. event key s _ r _ 0 refl (clear_step lookup (layout_of key) key.origin s.words s.views r id own a p free lt)) k at
 
 pub store_is_commit : StoreIsCommit
-store_is_commit key s r id k at = of_keeper key s r id (Commits key s r id) (λ own x g home legal. event key s _ r _ (commit_step lookup (layout_of key) key.origin s.words s.views r id own x g home legal)) k at
+store_is_commit key s r id k at = of_keeper key s r id (Commits key s r id) (λ own x g home legal. event key s _ r _ (size r.keeper.history + 1) refl (commit_step lookup (layout_of key) key.origin s.words s.views r id own x g home legal)) k at
 
 pub recall_is_none : RecallIsNone
 recall_is_none key s r id k at = of_keeper key s r id (Recalls key s r id) (λ own. none key s _ r (idle_step lookup (layout_of key) key.origin s.words s.views r id own 0)) k at

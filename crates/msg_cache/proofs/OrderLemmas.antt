@@ -263,15 +263,15 @@ module _ (look : History → ClassRef → ℕ → ℕ) (key : SettingView) (k : 
 
 -- ---- a collection
 
-pub collects_by_rest : {z : Layout} {outs : List Bool} {k k' : KeeperView} → CollectsBy z outs k k' → k' ≡ record k { words = k'.words; standings = (looks z.senders outs k).standings; stores = k'.stores }
+pub collects_by_rest : {z : Layout} {outs : List Bool} {k k' : KeeperView} → CollectsBy z outs k k' → k' ≡ record k { words = k'.words; standings = (looks z.senders outs k).standings; stores = k'.stores; looked_at = (looks z.senders outs k).looked_at }
 collects_by_rest {z} {outs} {k} {k'} t =
     let j = looks z.senders outs k in
     t.view ∙ all_emptied_rest z t.order j ∙ (λ i. record j { words = (sym t.view i).words; stores = (sym t.view i).stores }) ∙ ap (λ (x : KeeperView). record x { words = k'.words; stores = k'.stores }) (looks_rest z.senders outs k)
 
-pub collects_rest : {z : Layout} {k k' : KeeperView} {n : ℕ} → Collects z k k' n → k' ≡ record k { words = k'.words; standings = k'.standings; stores = k'.stores }
+pub collects_rest : {z : Layout} {k k' : KeeperView} {n : ℕ} → Collects z k k' n → k' ≡ record k { words = k'.words; standings = k'.standings; stores = k'.stores; looked_at = k'.looked_at }
 collects_rest {z} {k} {k'} t =
     let is = collects_by_rest t.collects in
-    is ∙ (λ i. record k { words = k'.words; standings = (sym is i).standings; stores = k'.stores })
+    is ∙ (λ i. record k { words = k'.words; standings = (sym is i).standings; stores = k'.stores; looked_at = (sym is i).looked_at })
 
 -- the lowest free array doesn't depend on the clears
 pub lowest_free-collects : (z : Layout) (n : ℕ) (outs : List Bool) (k k' : KeeperView) → CollectsBy z outs k k' → lowest_free z n k' ≡ lowest_free z n (looks z.senders outs k)

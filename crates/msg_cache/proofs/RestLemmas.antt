@@ -1,12 +1,11 @@
 -- A fill and a collection change caches alone.
-use Rattle.std.proofs.Common.{◌≡◌, ℕ, zero, suc, ◌+◌, List, [], ◌∷◌, Bool, true, false, cond, Option, Some, None, refl, ap, ◌∙◌}
+use Rattle.std.proofs.Common.{◌≡◌, ℕ, zero, suc, ◌+◌, List, [], ◌∷◌, Bool, Option, Some, None, refl, ap, ◌∙◌}
 use Rattle.std.specs.Prelude.{MatchOption}
 use Rattle.msg_names.specs.declared.value.ClassRef.{ClassRef}
 use Rattle.msg_tables.specs.History.{History}
-use Rattle.msg_core.specs.State.{Layout, capacity, awaits}
+use Rattle.msg_core.specs.State.{Layout, capacity}
 use Rattle.msg_cache.specs.Keeping.{looks, clears, emptied, all_emptied, CollectsBy, lowest_free, grown, FillsBy, Fills, way_of}
 use Rattle.msg_cache.specs.Layout.{base}
-use Rattle.msg_cache.specs.Plays.{looked}
 use Rattle.msg_cache.specs.declared.answer.Filled.{Filled}
 use Rattle.msg_cache.specs.declared.answer.Filled.TheVariants.{Grown, NoArray}
 use Rattle.msg_cache.specs.declared.answer.Way.{Way}
@@ -28,11 +27,7 @@ rest k = record { history = k.history; given = k.given; turn = k.turn }
 
 looks-rest : (n : ℕ) (outs : List Bool) (k : KeeperView) → rest (looks n outs k) ≡ rest k
 looks-rest zero outs k = refl
-looks-rest (suc n) outs k = step (awaits outs n) (looks n outs k) (looks-rest n outs k)
-  where
-    step : (b : Bool) (j : KeeperView) → rest j ≡ rest k → rest (cond b (looked n j) j) ≡ rest k
-    step true j same = same
-    step false j same = same
+looks-rest (suc n) outs k = looks-rest n outs k
 
 clears-rest : (b n : ℕ) (k : KeeperView) → rest (clears b n k) ≡ rest k
 clears-rest b zero k = refl

@@ -14,7 +14,7 @@ use Rattle.msg_core.specs.declared.state.Standing.TheVariants.{Live, Retired}
 use Rattle.msg_core.specs.declared.state.Whereabouts.{Whereabouts}
 use Rattle.msg_core.specs.declared.state.Whereabouts.TheVariants.{Out, In, Holding}
 use Rattle.msg_core.specs.State.{Layout, capacity, size, first, Agrees, KeepsFor, Sound}
-use Rattle.msg_core.specs.Steps.{at, seeing}
+use Rattle.msg_core.specs.Steps.{at, seeing, held_word}
 use Rattle.msg_core.specs.View.{standing_at}
 use Rattle.msg_core.proofs.PointLemmas.{number_or, at_same, at_other}
 use Rattle.msg_core.proofs.RunLemmas.{sound_after, holds_seen}
@@ -80,6 +80,15 @@ module _ (look : History → ClassRef → ℕ → ℕ) (z : Layout) (origin : Or
             mine.begins (λ c a m aw e. absurd (cc)) (copies_probe 0 Out refl) (sound_after look z r.kept.some_sender (shown_by look z origin r) (Leave v.number) r.sound legal),
       )
 
+  -- the live array that a header load sees, and the word that a read sees, are the shown ones
+  pub header_seen : (c : ClassRef) (n : ℕ) → c.class < z.classes → n ≡ slice_index words (header_at c) → (shown_by look z origin r).live c ≡ named n
+  header_seen c n lt found = live_is z r.keeper.words c lt ∙ ap named (sym (found ∙ r.copies.copied (header_at c) (header_inside z c lt)))
+
+  pub bucket_seen : (c : ClassRef) (a p n : ℕ) → v.whereabouts ≡ Holding c a → p < capacity z a → n ≡ slice_index words (base z a + p)
+      → n ≡ held_word (shown_by look z origin r).word ((shown_by look z origin r).whereabouts v.number) p
+  bucket_seen c a p n holds lt found =
+      found ∙ r.copies.copied (base z a + p) (inside z a p lt) ∙ sym (word_is z r.keeper.words a p lt) ∙ sym (ap (λ w. held_word (word_in z r.keeper.words) w p) (mine.placed ∙ holds))
+
   -- the front afterwards is the history now
   pub header_step : (c : ClassRef) (s n : ℕ) → v.whereabouts ≡ In → c.class < z.classes → n ≡ slice_index words (header_at c)
       → GoesBy look z origin r (Header v.number c) (slice_set words (header_at c) n) (slice_set views id (Sender (headed c s r.keeper.history v n))) × (n ≤ length z.capacities)
@@ -87,8 +96,7 @@ module _ (look : History → ClassRef → ℕ → ℕ) (z : Layout) (origin : Or
       let k = r.keeper in
       let m = shown_by look z origin r in
       let legal = may_load look z m v.number c below lt (mine.placed ∙ is_in) in
-      let copy : n ≡ slice_index k.words (header_at c) = found ∙ r.copies.copied (header_at c) (header_inside z c lt) in
-      let is : m.live c ≡ named n = live_is z k.words c lt ∙ ap named (sym copy) in
+      let is : m.live c ≡ named n = header_seen c n lt found in
       let goes : at r.whereabouts v.number (seeing c (m.live c)) ≡ at r.whereabouts v.number (seeing c (named n)) = ap (λ o. at r.whereabouts v.number (seeing c o)) is in
       let next = sender_goes look z origin words (slice_set words (header_at c) n) views r id v (headed c s k.history v n) (at r.whereabouts v.number (seeing c (named n))) at_id refl (at_same r.whereabouts v.number (seeing c (named n)))
       (at_other r.whereabouts v.number (seeing c (named n))) (begins_refl k.history)

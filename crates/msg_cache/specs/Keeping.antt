@@ -57,7 +57,7 @@ lowest_free z n k = find (λ a. is_free (standing_of k a) && (capacity z a == n)
 -- one Look at each of the first n sender numbers; outs says of each sender number whether it was seen out
 abbrev pub looks : ℕ → List Bool → KeeperView → KeeperView
 looks zero outs k = k
-looks (suc n) outs k = if awaits outs n then looked n (looks n outs k) else looks n outs k
+looks (suc n) outs k = looked n (awaits outs n) (looks n outs k)
 
 -- the same of one array's standing
 abbrev pub looked_by : ℕ → List Bool → Standing → Standing

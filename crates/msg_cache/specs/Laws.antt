@@ -11,11 +11,13 @@ use Rattle.msg_tables.specs.declared.change.Change.{Change}
 use Rattle.msg_tables.specs.History.{History, lookup}
 use Rattle.msg_core.specs.declared.event.Event.{Event}
 use Rattle.msg_core.specs.declared.event.Event.TheVariants.{Enter, Header, Read, Leave, Fill, Install, Flush, Look, Clear, Commit}
+use Rattle.msg_core.specs.declared.event.Seen.{Seen}
+use Rattle.msg_core.specs.declared.event.Seen.TheVariants.{Nothing, Array, Word, Out as SeenOut}
 use Rattle.msg_core.specs.declared.state.Standing.TheVariants.{Free, Live}
 use Rattle.msg_core.specs.declared.state.Whereabouts.TheVariants.{Out, In, Holding}
 use Rattle.msg_core.specs.Runs.{opening}
 use Rattle.msg_core.specs.State.{State, capacity, size, awaits, Lawful, Sound}
-use Rattle.msg_core.specs.Steps.{after, Legal}
+use Rattle.msg_core.specs.Steps.{after, shows as shown_to, Legal}
 use Rattle.msg_core.specs.View.{standing_at}
 use Rattle.msg_cache.specs.declared.view.SenderView.{SenderView}
 use Rattle.msg_cache.specs.declared.view.TurnAt.TheVariants.{Away, Home}
@@ -24,15 +26,30 @@ use Rattle.msg_cache.specs.declared.view.View.{View}
 use Rattle.msg_cache.specs.declared.view.View.TheVariants.{Sender, Keeper, Turn, Spent}
 use Rattle.msg_cache.specs.Layout.{SettingView, layout_of, header_at, base, probe_at, word_count}
 use Rattle.msg_cache.specs.Plays.{headed, read_on, gone_to, newcomer, stored, flushed, installed, committed, looked, given_out, taken_in, at_home, lent}
-use Rattle.msg_cache.specs.Rule.{holds, shown_by, first_keeper}
+use Rattle.msg_cache.specs.Rule.{holds, named, shown_by, first_keeper}
 
 -- the state that a table shows, while the rule holds of it
 abbrev pub shown_at : (key : SettingView) (s : Table ℕ View) → holds lookup key s → State
 shown_at key s r = shown_by lookup (layout_of key) key.origin r
 
--- From one state of the table to the next is this event: at the state that was shown it isn't refused, the rule holds of the next one, and that shows the state after the event.
-pub record IsEvent (key : SettingView) (s : Table ℕ View) (r : holds lookup key s) (e : Event) (s' : Table ℕ View) : Type 0 where
+-- what a step that is this event sees by the word that it loads; one that stores sees nothing
+abbrev pub seen_in : Event → ℕ → Seen
+seen_in (Header n c) word = Array (named word)
+seen_in (Read n p) word = Word word
+seen_in (Look n) word = SeenOut (word == 0)
+seen_in (Enter n) word = Nothing
+seen_in (Leave n) word = Nothing
+seen_in (Fill c p entry) word = Nothing
+seen_in (Install c a) word = Nothing
+seen_in (Flush c) word = Nothing
+seen_in (Clear a p) word = Nothing
+seen_in (Commit x) word = Nothing
+
+-- From one state of the table to the next is this event, by a step that loads or stores this word: at the state that was shown it isn't refused, what is seen is what that state shows, the rule holds
+-- of the next one, and that shows the state after the event.
+pub record IsEvent (key : SettingView) (s : Table ℕ View) (r : holds lookup key s) (e : Event) (word : ℕ) (s' : Table ℕ View) : Type 0 where
   pub legal : Legal lookup (layout_of key) (shown_at key s r) e
+  pub sees : seen_in e word ≡ shown_to (shown_at key s r) e
   pub keeps_rule : holds lookup key s'
   pub shows : (r' : holds lookup key s') → shown_at key s' r' ≡ after (layout_of key) (shown_at key s r) e
 
@@ -68,23 +85,23 @@ OfSender P = (key : SettingView) (s : Table ℕ View) (r : holds lookup key s) (
 
 -- the store of 1 in the probe word of a sender that is out is Enter
 abbrev pub EnterIsEnter : Type 0
-EnterIsEnter = OfSender (λ key s r id v. v.whereabouts ≡ Out → IsEvent key s r (Enter v.number) (stepped s (probe_at (layout_of key) v.number) 1 id [] (Sender (gone_to v v.front In)) keeps))
+EnterIsEnter = OfSender (λ key s r id v. v.whereabouts ≡ Out → IsEvent key s r (Enter v.number) 1 (stepped s (probe_at (layout_of key) v.number) 1 id [] (Sender (gone_to v v.front In)) keeps))
 
 -- the store of 0 in the probe word of a sender that isn't out is Leave
 abbrev pub LeaveIsLeave : Type 0
-LeaveIsLeave = OfSender (λ key s r id v. v.whereabouts ≢ Out → IsEvent key s r (Leave v.number) (stepped s (probe_at (layout_of key) v.number) 0 id [] (Sender (gone_to v v.front Out)) keeps))
+LeaveIsLeave = OfSender (λ key s r id v. v.whereabouts ≢ Out → IsEvent key s r (Leave v.number) 0 (stepped s (probe_at (layout_of key) v.number) 0 id [] (Sender (gone_to v v.front Out)) keeps))
 
 -- the sender's front is then the history
 abbrev pub HeaderIsHeader : Type 0
 HeaderIsHeader = OfSender (λ key s r id v. (c : ClassRef) (sel : ℕ) → v.whereabouts ≡ In → c.class < class_total key.origin
     → let n = slice_index s.words (header_at c) in
-    IsEvent key s r (Header v.number c) (stepped s (header_at c) n id [] (Sender (headed c sel (shown_at key s r).history v n)) keeps))
+    IsEvent key s r (Header v.number c) n (stepped s (header_at c) n id [] (Sender (headed c sel (shown_at key s r).history v n)) keeps))
 
 -- the load of a word of the array that a sender holds is Read
 abbrev pub BucketIsRead : Type 0
 BucketIsRead = OfSender (λ key s r id v. (a p : ℕ) → v.whereabouts ≡ Holding v.last.class a → p < capacity (layout_of key) a → 0 < v.last.sel
     → let i = base (layout_of key) a + p in let n = slice_index s.words i in
-    (front : History) × IsEvent key s r (Read v.number p) (stepped s i n id [] (Sender (read_on front v i n)) keeps))
+    (front : History) × IsEvent key s r (Read v.number p) n (stepped s i n id [] (Sender (read_on front v i n)) keeps))
 
 -- a sender's load of the count of changes is no event, and the sender has then seen the whole history
 abbrev pub VersionIsNone : Type 0
@@ -102,7 +119,7 @@ OfKeeper P = (key : SettingView) (s : Table ℕ View) (r : holds lookup key s) (
 abbrev pub Fills : OfAKeeper
 Fills key s r id k = (c : ClassRef) (a p w : ℕ) → standing_at k.standings a ≡ Live c → p < capacity (layout_of key) a
     → let i = base (layout_of key) a + p in slice_index k.words i ≡ 0 → 0 < sel_of w → imp_of w ≡ lookup k.history c (sel_of w)
-    → IsEvent key s r (Fill c p w) (stepped s i w id [] (Keeper (stored i w k)) keeps)
+    → IsEvent key s r (Fill c p w) w (stepped s i w id [] (Keeper (stored i w k)) keeps)
 
 -- a store over a word that is 0, of an entry that agrees with the lookup now, in a live array is Fill
 abbrev pub StoreIsFill : Type 0
@@ -111,7 +128,7 @@ StoreIsFill = OfKeeper Fills
 abbrev pub Installs : OfAKeeper
 Installs key s r id k = (c : ClassRef) (a : ℕ) → c.class < class_total key.origin → a < length key.capacities → standing_at k.standings a ≡ Free
     → ((q : ℕ) → q < capacity (layout_of key) a → slice_index k.words (base (layout_of key) a + q) ≡ 0)
-    → IsEvent key s r (Install c a) (stepped s (header_at c) (suc a) id [] (Keeper (installed c a k)) keeps)
+    → IsEvent key s r (Install c a) (suc a) (stepped s (header_at c) (suc a) id [] (Keeper (installed c a k)) keeps)
 
 -- a store of an array's number and one in a header word, where the array is free and its words are 0, is Install
 abbrev pub StoreIsInstall : Type 0
@@ -119,7 +136,7 @@ StoreIsInstall = OfKeeper Installs
 
 abbrev pub Flushes : OfAKeeper
 Flushes key s r id k = (c : ClassRef) (a : ℕ) → c.class < class_total key.origin → slice_index k.words (header_at c) ≡ suc a
-    → IsEvent key s r (Flush c) (stepped s (header_at c) 0 id [] (Keeper (flushed c k)) keeps)
+    → IsEvent key s r (Flush c) 0 (stepped s (header_at c) 0 id [] (Keeper (flushed c k)) keeps)
 
 -- a store of 0 in the header word of a class reference that has a live array is Flush
 abbrev pub StoreIsFlush : Type 0
@@ -128,7 +145,7 @@ StoreIsFlush = OfKeeper Flushes
 abbrev pub Looks : OfAKeeper
 Looks key s r id k = (n : ℕ) → n < key.senders
     → let i = probe_at (layout_of key) n in let f = slice_index s.words i in
-    IsEvent key s r (Look n) (stepped s i f id [] (Keeper (if f == 0 then looked n k else k)) keeps)
+    IsEvent key s r (Look n) f (stepped s i f id [] (Keeper (looked n (f == 0) k)) keeps)
 
 -- the keeper's load of a probe word is Look
 abbrev pub LoadIsLook : Type 0
@@ -136,7 +153,7 @@ LoadIsLook = OfKeeper Looks
 
 abbrev pub Clears : OfAKeeper
 Clears key s r id k = (a p : ℕ) → standing_at k.standings a ≡ Free → p < capacity (layout_of key) a
-    → let i = base (layout_of key) a + p in IsEvent key s r (Clear a p) (stepped s i 0 id [] (Keeper (stored i 0 k)) keeps)
+    → let i = base (layout_of key) a + p in IsEvent key s r (Clear a p) 0 (stepped s i 0 id [] (Keeper (stored i 0 k)) keeps)
 
 -- a store of 0 in a word of a free array is Clear
 abbrev pub StoreIsClear : Type 0
@@ -144,7 +161,7 @@ StoreIsClear = OfKeeper Clears
 
 abbrev pub Commits : OfAKeeper
 Commits key s r id k = (x : Change) (g : History) → k.turn ≡ Home g → Legal lookup (layout_of key) (shown_at key s r) (Commit x)
-    → IsEvent key s r (Commit x) (stepped s 0 (size k.history + 1) id [] (Keeper (committed x k)) keeps)
+    → IsEvent key s r (Commit x) (size k.history + 1) (stepped s 0 (size k.history + 1) id [] (Keeper (committed x k)) keeps)
 
 -- the store of the count of changes, one higher, while the turn is joined, where no live entry would disagree, is Commit
 abbrev pub StoreIsCommit : Type 0

@@ -40,7 +40,7 @@ abbrev pub nobody : SenderView
 nobody = record { number = 0; front = no_history; whereabouts = Out; count = 0; last = record { class = no_class; sel = 0; array = None; reads = [] } }
 
 abbrev pub no_keeper : KeeperView
-no_keeper = record { history = no_history; words = []; standings = []; given = []; turn = Never; told = no_history; stores = [] }
+no_keeper = record { history = no_history; words = []; standings = []; given = []; turn = Never; told = no_history; stores = []; looked_at = [] }
 
 -- a setting
 abbrev pub no_setting : SettingView
@@ -154,8 +154,9 @@ installed c a k = record k { words = slice_set k.words (header_at c) (suc a); st
 abbrev pub committed : Change → KeeperView → KeeperView
 committed x k = record k { history = and_then k.history x; words = slice_set k.words 0 (size k.history + 1); turn = Home (and_then k.history x); stores = k.stores ++ (0, size k.history + 1) ∷ [] }
 
-abbrev pub looked : ℕ → KeeperView → KeeperView
-looked n k = record k { standings = map (seen_out n) k.standings }
+-- a sender number was looked at, and its sender is out or not
+abbrev pub looked : ℕ → Bool → KeeperView → KeeperView
+looked n out k = record k { standings = if out then map (seen_out n) k.standings else k.standings; looked_at = k.looked_at ++ n ∷ [] }
 
 -- a sender number is out
 abbrev pub given_out : ℕ → KeeperView → KeeperView
@@ -200,7 +201,7 @@ Commits x st m n m' = (m' ≡ kept (committed x (keeper_of m.0))) × Recalls (ke
 
 -- the sender number was looked at, and is awaited no more if its probe word was 0
 abbrev pub Looks : ℕ → Telling
-Looks i st m n m' = m' ≡ kept (if n == 0 then looked i (keeper_of m.0) else keeper_of m.0)
+Looks i st m n m' = m' ≡ kept (looked i (n == 0) (keeper_of m.0))
 
 -- the keeper's load of the version word changes nothing
 abbrev pub Witnesses : Telling

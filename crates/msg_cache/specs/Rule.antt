@@ -138,8 +138,8 @@ TidyBy look key k = IsTidy look (layout_of key) key.origin k
 abbrev pub holds : (History → ClassRef → ℕ → ℕ) → SettingView → Table ℕ View → Type 0
 holds look key s = RuledBy look key s.words s.views
 
--- the keeper's view when the table is made: no class reference has a live array, no number is given out, and nothing was stored
+-- the keeper's view when the table is made: no class reference has a live array, no number is given out, and nothing was stored or looked at
 abbrev pub first_keeper : SettingView → KeeperView
 first_keeper key =
     let z = layout_of key in
-    record { history = empty key.origin; words = replicate (probes z) 0; standings = replicate (length z.capacities) Free; given = replicate z.senders false; turn = Never; told = empty key.origin; stores = [] }
+    record { history = empty key.origin; words = replicate (probes z) 0; standings = replicate (length z.capacities) Free; given = replicate z.senders false; turn = Never; told = empty key.origin; stores = []; looked_at = [] }

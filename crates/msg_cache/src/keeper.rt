@@ -14,7 +14,7 @@ ghost use Rattle.msg_core.specs.State.{capacity as capacity_of, size, awaits};
 ghost use Rattle.msg_core.specs.Steps.{is_free};
 ghost use Rattle.msg_core.specs.declared.state.Standing.TheVariants.{Free, Live};
 ghost use Rattle.msg_cache.specs.declared.view.TurnAt.TheVariants.{Never};
-ghost use Rattle.msg_cache.specs.Counts.{AreCounts};
+ghost use Rattle.msg_cache.specs.Counts.{AreCounts, CountsFill, CountsInstall, after_entry, after_flush};
 ghost use Rattle.msg_cache.specs.Layout.{layout_of, header_at};
 ghost use Rattle.msg_cache.specs.Plays.{kept, keeper_of, flushed, installed, committed, lent, turn_in, turn_view, is_lent, sender_in, given_out, taken_in, newcomer};
 ghost use Rattle.msg_cache.specs.Keeping.{header as header_of, standing_of, array_words, remember, way_of, OnUse, OnTake, CanUse, lowest_free, filled, grown, Fills, Collects};
@@ -244,6 +244,7 @@ impl Keeper {
         ensures arena { IsOf arena.now self.new }
         ensures remembered { self.new.remembered.items ≡ self.old.remembered.items }
         ensures view { view self.new ≡ filled (layout arena.now) array place (word_of (selector_number selector) (imp_number implementation)) (view self.old) }
+        ensures report { self.new.report ≡ after_entry self.old.report }
     {
         let shared = arena.shared();
         let base = arena.base(array);
@@ -263,6 +264,7 @@ impl Keeper {
         ensures arena { IsOf arena.now self.new }
         ensures remembered { self.new.remembered.items ≡ self.old.remembered.items }
         ensures view { view self.new ≡ installed class array (view self.old) }
+        ensures report { CountsInstall self.old.report self.new.report }
     {
         let at = header_at(class);
         let header = self.words[at];
@@ -298,6 +300,7 @@ impl Keeper {
         ensures arena { IsOf arena.now self.new }
         ensures remembered { self.new.remembered.items ≡ self.old.remembered.items }
         ensures view { view self.new ≡ grown (layout arena.now) class (selector_number selector) (imp_number implementation) array (view self.old) }
+        ensures report { CountsFill Filled.Grown self.old.report self.new.report }
     {
         self.install(arena, class, array);
         let place = first_place(selector, arena.capacity(array));
@@ -310,6 +313,7 @@ impl Keeper {
         ensures arena { IsOf arena.now self.new }
         ensures remembered { self.new.remembered.items ≡ self.old.remembered.items }
         ensures collects { Collects (layout arena.now) (view self.old) (view self.new) result }
+        ensures report { self.new.report ≡ self.old.report }
     {
         collect_into(
             arena,
@@ -335,6 +339,7 @@ impl Keeper {
         ensures arena { IsOf arena.now self.new }
         ensures remembered { self.new.remembered.items ≡ self.old.remembered.items }
         ensures fills { Fills (layout arena.now) self.old.remembered.items class (selector_number selector) (imp_number implementation) (view self.old) (view self.new) result }
+        ensures report { CountsFill result self.old.report self.new.report }
     {
         match self.way(arena, class, selector) {
             Way::Present => Filled::Present,
@@ -382,6 +387,7 @@ impl Keeper {
         ensures none { result ≡ false → header_of (view self.old) class ≡ 0 }
         ensures some { result ≡ true → (a : ℕ) × (header_of (view self.old) class ≡ suc a) }
         ensures remembered { self.new.remembered.items ≡ remember (layout arena.now) class (header_of (view self.old) class) self.old.remembered.items }
+        ensures report { self.new.report ≡ cond result (after_flush self.old.report) self.old.report }
     {
         let place = header_at(class);
         let header = self.words[place];
@@ -409,6 +415,7 @@ impl Keeper {
             → live_in (layout arena.now) (view self.old).words c ≡ None }
         ensures arena { IsOf arena.now self.new }
         ensures remembered { self.new.remembered.items ≡ self.old.remembered.items }
+        ensures report { self.new.report ≡ self.old.report }
         ensures turn { turn.new.table ≡ turn.old.table }
         ensures committed { view self.new ≡ lent (committed change.now (view self.old)) }
         ensures turn_was { turn.old.history ≡ (view self.old).history }
@@ -433,6 +440,7 @@ impl Keeper {
         requires turn { turn.old.table ≡ arena.now.table }
         ensures arena { IsOf arena.now self.new }
         ensures remembered { self.new.remembered.items ≡ self.old.remembered.items }
+        ensures report { self.new.report ≡ self.old.report }
         ensures turn { turn.new.table ≡ turn.old.table }
         ensures same { view self.new ≡ lent (view self.old) }
         ensures turn_was { turn.old.history ≡ (view self.old).history }
@@ -451,6 +459,7 @@ impl Keeper {
         requires arena { IsOf arena.now self.old }
         ensures arena { IsOf arena.now self.new }
         ensures remembered { self.new.remembered.items ≡ self.old.remembered.items }
+        ensures report { self.new.report ≡ self.old.report }
         ensures view { view self.new ≡ cond (is_some result) (lent (view self.old)) (view self.old) }
         ensures once { is_some result ≡ not (is_lent (view self.old).turn) }
         ensures turn { IfSome result (λ turn. (turn.table ≡ arena.now.table) × (turn.history ≡ empty arena.now.key.origin)) }
@@ -469,6 +478,7 @@ impl Keeper {
         requires arena { IsOf arena.now self.old }
         ensures arena { IsOf arena.now self.new }
         ensures remembered { self.new.remembered.items ≡ self.old.remembered.items }
+        ensures report { self.new.report ≡ self.old.report }
         ensures view { view self.new ≡ cond (is_some result) (given_out number (view self.old)) (view self.old) }
         ensures none { IsNone result ↔ ((arena.now.key.senders ≤ number) ⊎ (awaits (view self.old).given number ≡ true)) }
         ensures some { IfSome result (λ prober. IsSenderOf arena.now prober × (prober.sender ≡ newcomer number (view self.old).history)) }
@@ -489,6 +499,7 @@ impl Keeper {
         requires prober { IsSenderOf arena.now prober }
         ensures arena { IsOf arena.now self.new }
         ensures remembered { self.new.remembered.items ≡ self.old.remembered.items }
+        ensures report { self.new.report ≡ self.old.report }
         ensures taken { view self.new ≡ taken_in (prober.sender) (view self.old) }
         ensures begins { BeginsWith (view self.new).history (prober.sender).front }
     {
@@ -505,6 +516,7 @@ impl Keeper {
         requires prober { IsSenderOf arena.now prober.old }
         ensures arena { IsOf arena.now self.new }
         ensures remembered { self.new.remembered.items ≡ self.old.remembered.items }
+        ensures report { self.new.report ≡ self.old.report }
         ensures view { view self.new ≡ given_out prober.old.sender.number (taken_in prober.old.sender (view self.old)) }
         ensures prober { IsSenderOf arena.now prober.new }
         ensures sender { prober.new.sender ≡ newcomer prober.old.sender.number (view self.old).history }

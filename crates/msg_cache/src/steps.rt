@@ -1,6 +1,6 @@
 //! Every step that is made on the table: each is one call of it. Beside each stands the event that it is, if it is one.
 
-ghost use Rattle.std.specs.Prelude.{◌≡◌, ◌≢◌, ℕ, suc, ◌+◌, ◌^◌, ◌<◌, ◌≤◌, [], None, length, slice_index, false, cond};
+ghost use Rattle.std.specs.Prelude.{◌≡◌, ◌≢◌, ℕ, suc, ◌+◌, ◌^◌, ◌<◌, ◌≤◌, [], None, length, slice_index, false};
 ghost use mathlib.Core.Option.{none};
 ghost use Rattle.atomic_table.specs.Table.{step};
 ghost use Rattle.msg_names.specs.Number.{selector_number};
@@ -281,7 +281,7 @@ fn look_as<Q: About>(words: &Words, seat: &mut Seat, word: usize, number: u32) -
     requires keeper { seat.old.me ≡ kept (keeper_of seat.old.me.0) }
     requires word { (word ≡ probe_at (layout_of words.now.key) number) × (number < words.now.key.senders) }
     ensures seat { (seat.new.table_id ≡ seat.old.table_id) × (seat.new.id ≡ seat.old.id) }
-    ensures told { seat.new.me ≡ kept (cond result (looked number (keeper_of seat.old.me.0)) (keeper_of seat.old.me.0)) }
+    ensures told { seat.new.me ≡ kept (looked number result (keeper_of seat.old.me.0)) }
     ensures tidy { TidyBy lookup words.now.key (keeper_of seat.new.me.0) }
 {
     words.load::<Tidied<Look<Q>, Q>>(seat, word) == 0
@@ -293,7 +293,7 @@ pub(crate) fn load_probe(words: &Words, seat: &mut Seat, word: usize, number: u3
     requires keeper { seat.old.me ≡ kept (keeper_of seat.old.me.0) }
     requires word { (word ≡ probe_at (layout_of words.now.key) number) × (number < words.now.key.senders) }
     ensures seat { (seat.new.table_id ≡ seat.old.table_id) × (seat.new.id ≡ seat.old.id) }
-    ensures told { seat.new.me ≡ kept (cond result (looked number (keeper_of seat.old.me.0)) (keeper_of seat.old.me.0)) }
+    ensures told { seat.new.me ≡ kept (looked number result (keeper_of seat.old.me.0)) }
     ensures tidy { TidyBy lookup words.now.key (keeper_of seat.new.me.0) }
 {
     look_as::<Brand>(words, seat, word, number)

@@ -45,7 +45,8 @@ pub enum TurnAt {
 }
 
 /// What the keeper's seat knows: the history, a copy of all words but the probe words, what each array is for, which sender numbers are
-/// given out, where the turn is, what a joined sender had seen, and each word that was stored, with its place in the table.
+/// given out, where the turn is, what a joined sender had seen, each word that was stored, with its place in the table, and each sender
+/// number that was looked at.
 pub struct KeeperView {
     pub history: Past,
     pub words: LinkedList<u64>,
@@ -54,6 +55,7 @@ pub struct KeeperView {
     pub turn: TurnAt,
     pub told: Past,
     pub stores: LinkedList<(u64, u64)>,
+    pub looked_at: LinkedList<u64>,
 }
 
 /// What a seat knows. A seat that was joined to another knows nothing.

@@ -7,7 +7,7 @@ ghost use Rattle.msg_core.specs.Steps.{everyone, seen_out};
 use crate::state::{MAX_SENDERS, Standing};
 
 // All senders, of whom there are so many.
-pub fn everyone(senders: usize) -> [bool; MAX_SENDERS]
+pub(crate) fn everyone(senders: usize) -> [bool; MAX_SENDERS]
     requires { senders ≤ MAX_SENDERS }
     ensures { result ≡ everyone senders }
 {
@@ -49,7 +49,7 @@ fn seen_out(standing: Standing, sender: usize) -> Standing
 }
 
 // Notes that a sender was seen out.
-pub fn see_out(standings: &mut [Standing], sender: usize)
+pub(crate) fn see_out(standings: &mut [Standing], sender: usize)
     requires { sender < MAX_SENDERS }
     ensures { standings.new ≡ map (seen_out sender) standings.old }
 {

@@ -17,7 +17,6 @@ mod spoiled;
 mod state;
 mod step;
 
-pub use awaited::{everyone, see_out};
 pub use event::{Event, Seen};
 pub use fault::EventFault;
 pub use machine::Machine;

@@ -1,6 +1,6 @@
 //! What stands behind the runtime lock.
 
-ghost use Rattle.std.specs.Prelude.{◌≡◌, ◌≢◌, ◌<◌, ◌≤◌, length, IfOk, IfErr, IfSome, IsErrOf, OnErr, None, Some};
+ghost use Rattle.std.specs.Prelude.{◌≡◌, ◌≢◌, ◌<◌, ◌≤◌, length, IfOk, IfErr, IfSome, IsErrOf, IsNone, OnErr, None, Some};
 ghost use Rattle.msg_tables.specs.Origin.{last_imp};
 ghost use Rattle.msg_names.specs.Number.{selector_number, imp_number};
 ghost use Rattle.msg_tables.specs.History.{BeginsWith, and_then, empty, lookup};
@@ -9,10 +9,11 @@ ghost use Rattle.msg_tables.specs.declared.fault.ChangeFault.{ChangeFault};
 ghost use Rattle.msg_cache.specs.Counts.{AreCounts};
 ghost use Rattle.msg_cache.specs.Plays.{taken_in};
 ghost use Rattle.msg_cache.specs.Views.{classes, IsSenderOf};
-ghost use Rattle.msg_runtime.specs.Parts.{IsNew};
+ghost use Rattle.msg_runtime.specs.Parts.{AreOut, IsNew};
 
 use crate::name::ArenaName;
 use msg_cache::{Arena, Prober, Report, Turn};
+use msg_core::MAX_SENDERS;
 use msg_names::{ClassRef, ImpRef, Selector};
 use msg_runtime::Runtime;
 use msg_tables::{Change, ChangeFault};
@@ -107,6 +108,7 @@ impl<N: ArenaName> Desk<N> {
         requires arena { arena.now ≡ N.arena }
         ensures prober { IfSome result (IsSenderOf N.arena) }
         ensures new { IfSome result (λ p. IsNew p.sender self.old.keeper self.new.keeper) }
+        ensures none { IsNone result → AreOut MAX_SENDERS N.arena.key.senders self.old.keeper }
         ensures origin { IfSome result (λ p. p.sender.front.origin ≡ N.arena.key.origin) }
     {
         self.runtime.sender(arena)

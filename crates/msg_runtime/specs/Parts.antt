@@ -4,6 +4,7 @@ use Rattle.msg_names.specs.declared.value.ClassRef.{ClassRef}
 use Rattle.msg_tables.specs.History.{History}
 use Rattle.msg_core.specs.State.{Layout, awaits}
 use Rattle.msg_cache.specs.Ours as cache
+use Rattle.msg_cache.specs.Counts.{CountsFill}
 use Rattle.msg_cache.specs.Keeping.{Fills}
 use Rattle.msg_cache.specs.Plays.{given_out, taken_in, newcomer}
 use Rattle.msg_cache.specs.Rule.{live_in}
@@ -34,13 +35,13 @@ keeper_remembered k = k.remembered.items
 abbrev pub keeper_report : Keeper → Report
 keeper_report k = k.report
 
--- some fill of what was found took the keeper's view k to k'
-abbrev pub IsFilled : Layout → List ℕ → ClassRef → ℕ → ℕ → KeeperView → KeeperView → Type 0
-IsFilled z remembered c s i k k' = (answer : Filled) × Fills z remembered c s i k k' answer
+-- some fill of what was found took the keeper's view k to k', and was counted from the report r to r'
+abbrev pub IsFilled : Layout → List ℕ → ClassRef → ℕ → ℕ → KeeperView → KeeperView → Report → Report → Type 0
+IsFilled z remembered c s i k k' r r' = (answer : Filled) × Fills z remembered c s i k k' answer × CountsFill answer r r'
 
 -- what was found was filled in, and the sender of the view v was then shown the history
-abbrev pub AnswersMiss : Layout → List ℕ → ClassRef → ℕ → ℕ → SenderView → KeeperView → KeeperView → Type 0
-AnswersMiss z remembered c s i v k k' = (j : KeeperView) × IsFilled z remembered c s i k j × (k' ≡ given_out v.number (taken_in v j))
+abbrev pub AnswersMiss : Layout → List ℕ → ClassRef → ℕ → ℕ → SenderView → KeeperView → KeeperView → Report → Report → Type 0
+AnswersMiss z remembered c s i v k k' r r' = (j : KeeperView) × IsFilled z remembered c s i k j r r' × (k' ≡ given_out v.number (taken_in v j))
 
 -- each of the first n sender numbers is given out, or isn't below the number of senders
 abbrev pub AreOut : ℕ → ℕ → KeeperView → Type 0

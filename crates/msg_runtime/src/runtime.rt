@@ -107,7 +107,7 @@ impl Runtime {
         ensures arena { self.new.arena ≡ self.old.arena }
         ensures history { self.new.keeper.history ≡ self.old.keeper.history }
         ensures remembered { self.new.remembered ≡ self.old.remembered }
-        ensures cached { AnswersMiss (layout self.old.arena) self.old.remembered class (selector_number sel) (imp_number result) prober.old.sender self.old.keeper self.new.keeper }
+        ensures cached { AnswersMiss (layout self.old.arena) self.old.remembered class (selector_number sel) (imp_number result) prober.old.sender self.old.keeper self.new.keeper self.old.report self.new.report }
         ensures prober { IsSenderOf self.old.arena prober.new }
         ensures number { prober.new.sender.number ≡ prober.old.sender.number }
         ensures begins { BeginsWith self.old.keeper.history prober.old.sender.front }
@@ -169,6 +169,7 @@ impl Runtime {
         ensures ok { IfOk result (λ count. (refusal self.old.keeper.history change.now ≡ None) × (self.new.keeper.history ≡ and_then self.old.keeper.history change.now) × (count ≡ length self.new.keeper.history.changes)) }
         ensures err { OnErr result (self.new.keeper.history ≡ self.old.keeper.history) }
         ensures caches { OnErr result ((self.new.keeper ≡ lent self.old.keeper) × (self.new.remembered ≡ self.old.remembered)) }
+        ensures report { OnErr result (self.new.report ≡ self.old.report) }
         ensures fault { IfErr result (λ f. f ≢ ChangeFault.Memory → refusal self.old.keeper.history change.now ≡ Some f) }
         ensures memory { IsErrOf result ChangeFault.Memory → refusal self.old.keeper.history change.now ≡ None }
     {
@@ -192,6 +193,7 @@ impl Runtime {
         requires arena { arena.now ≡ self.old.arena }
         ensures arena { self.new.arena ≡ self.old.arena }
         ensures remembered { self.new.remembered ≡ self.old.remembered }
+        ensures report { self.new.report ≡ self.old.report }
         ensures prober { IfSome result (IsSenderOf self.old.arena) }
         ensures some { IfSome result (λ p. IsNew p.sender self.old.keeper self.new.keeper) }
         ensures front { IfSome result (λ p. p.sender.front ≡ self.old.keeper.history) }
@@ -212,6 +214,7 @@ impl Runtime {
         requires prober { IsSenderOf self.old.arena prober }
         ensures arena { self.new.arena ≡ self.old.arena }
         ensures remembered { self.new.remembered ≡ self.old.remembered }
+        ensures report { self.new.report ≡ self.old.report }
         ensures keeper { self.new.keeper ≡ taken_in prober.sender self.old.keeper }
         ensures begins { BeginsWith self.old.keeper.history prober.sender.front }
     {
@@ -223,6 +226,7 @@ impl Runtime {
         requires arena { arena.now ≡ self.old.arena }
         ensures arena { self.new.arena ≡ self.old.arena }
         ensures remembered { self.new.remembered ≡ self.old.remembered }
+        ensures report { self.new.report ≡ self.old.report }
         ensures keeper { self.new.keeper ≡ cond (is_some result) (lent self.old.keeper) self.old.keeper }
         ensures once { is_some result ≡ not (is_lent self.old.keeper.turn) }
         ensures turn { IfSome result (λ t. t.table ≡ self.old.arena.table) }
@@ -239,6 +243,7 @@ impl Runtime {
         requires prober { IsSenderOf self.old.arena prober.old }
         ensures arena { self.new.arena ≡ self.old.arena }
         ensures remembered { self.new.remembered ≡ self.old.remembered }
+        ensures report { self.new.report ≡ self.old.report }
         ensures keeper { self.new.keeper ≡ given_out prober.old.sender.number (taken_in prober.old.sender (lent self.old.keeper)) }
         ensures turn { turn.new.table ≡ self.old.arena.table }
         ensures prober { IsSenderOf self.old.arena prober.new }

@@ -28,4 +28,3 @@ pub mod DepthLemmas
 pub mod PreorderLemmas
 pub mod WalkLemmas
 pub mod PlacedLemmas
-pub mod CheckedLemmas

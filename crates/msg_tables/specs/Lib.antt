@@ -2,7 +2,6 @@ pub mod Affected
 pub mod After
 pub mod Below
 pub mod Chain
-pub mod Checked
 pub mod Edits
 pub mod FaultNumber
 pub mod Given

@@ -10,7 +10,7 @@ use thiserror::Error;
 /// Why a change was not made. Where several hold, the first is answered; memory is wanted only after all others were excluded.
 #[derive(Clone, Copy, Debug, PartialEq, Eq, Error)]
 pub enum ChangeFault {
-    /// No class has the number.
+    /// No class that is present has the number, or is the superclass of one that is to be made.
     #[error("no class")]
     NoClass,
     /// An implementation is forwarding, or none has the number.

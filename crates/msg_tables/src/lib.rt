@@ -4,7 +4,6 @@
 mod apply;
 mod below;
 mod change;
-mod checked;
 mod counts;
 mod edit;
 mod fault;
@@ -24,7 +23,6 @@ mod tables;
 
 pub use below::Below;
 pub use change::Change;
-pub use checked::OriginFault;
 pub use counts::Counts;
 pub use fault::ChangeFault;
 pub use limits::{Limits, MAX_CLASSES};

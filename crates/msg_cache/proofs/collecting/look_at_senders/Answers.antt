@@ -19,7 +19,7 @@ loop-number-preserved c =
     let lt : n < length outs = let s = c.senders-number-end.ensures in let t = c.loop-number-test.true in omega (arith, i.long) in record {
       table = c.load_probe.ensures.seat.0 ∙ i.table;
       id = c.load_probe.ensures.seat.1 ∙ i.id;
-      told = c.load_probe.ensures.told ∙ ap (λ (x : Sat). kept (cond r (looked n (keeper_of x.0)) (keeper_of x.0))) i.told
+      told = c.load_probe.ensures.told ∙ ap (λ (x : Sat). kept (looked n r (keeper_of x.0))) i.told
           ∙ ap kept (sym (looks_more n outs r k0 lt)) ∙ ap (λ (m : ℕ). kept (looks m (set outs n r) k0)) next;
       long = length-set outs n r ∙ i.long;
       tidy = subst (λ (x : SettingView). TidyBy lookup x (keeper_of c.load_probe.new.seat.me.0)) c.shared-shared.ensures.key c.load_probe.ensures.tidy;

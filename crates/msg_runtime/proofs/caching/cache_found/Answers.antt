@@ -12,4 +12,4 @@ returns-clause-history c =
     kept.0
 
 pub returns-clause-filled : goal.returns-clause-filled
-returns-clause-filled c = (c.fill-filled.result, c.fill-filled.ensures.fills)
+returns-clause-filled c = (c.fill-filled.result, c.fill-filled.ensures.fills, c.fill-filled.ensures.report)

@@ -1,7 +1,8 @@
-use Rattle.std.proofs.Common.{subst}
+use Rattle.std.proofs.Common.{subst, sym}
 use Rattle.msg_names.specs.Number.{selector_number, imp_number}
 use Rattle.msg_cache.specs.Views.{ArenaView, layout}
-use Rattle.msg_runtime.specs.Parts.{IsFilled, keeper_view, keeper_remembered}
+use Rattle.msg_cache.specs.declared.answer.Report.{Report}
+use Rattle.msg_runtime.specs.Parts.{IsFilled, keeper_view, keeper_remembered, keeper_report}
 use Rattle.msg_runtime.specs.View.{RuntimeView}
 use Rattle.msg_runtime.proofs.runtime.Runtime.answer.Goals as goal
 
@@ -10,6 +11,9 @@ returns-clause-cached c =
     let s = selector_number c.args.sel in
     let i = imp_number c.lookup-imp.result in
     let was = c.self.inside.keeper in
-    let k = keeper_view c.cache_found.new.keeper in
-    let here = subst (λ (a : ArenaView). IsFilled (layout a) (keeper_remembered was) c.args.class s i (keeper_view was) k) c.requires.arena c.cache_found.ensures.filled in
-    (k, subst (λ (r : RuntimeView). IsFilled (layout c.args.self.now.arena) r.remembered c.args.class s i r.keeper k) c.self.view_is here, c.renew.ensures.view)
+    let now = c.cache_found.new.keeper in
+    let k = keeper_view now in
+    let here = subst (λ (a : ArenaView). IsFilled (layout a) (keeper_remembered was) c.args.class s i (keeper_view was) k (keeper_report was) (keeper_report now)) c.requires.arena c.cache_found.ensures.filled in
+    let seen = subst (λ (r : RuntimeView). IsFilled (layout c.args.self.now.arena) r.remembered c.args.class s i r.keeper k r.report (keeper_report now)) c.self.view_is here in
+    let counted = subst (λ (r : Report). IsFilled (layout c.args.self.now.arena) c.args.self.now.remembered c.args.class s i c.args.self.now.keeper k c.args.self.now.report r) (sym c.renew.ensures.report) seen in
+    (k, counted, c.renew.ensures.view)

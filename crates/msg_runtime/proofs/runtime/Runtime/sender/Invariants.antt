@@ -1,6 +1,6 @@
 use Rattle.std.proofs.Common.{◌≡◌}
 use Rattle.msg_runtime.specs.Inside.{AreTogether}
-use Rattle.msg_runtime.specs.Parts.{AreOut, keeper_view, keeper_remembered}
+use Rattle.msg_runtime.specs.Parts.{AreOut, keeper_view, keeper_remembered, keeper_report}
 use Rattle.msg_runtime.proofs.runtime.Runtime.sender.Given as goal
 
 abbrev pub invariant-loop-number : goal.invariant-loop-number
@@ -9,5 +9,6 @@ invariant-loop-number l = record {
   arena : l.self-inside.arena.value ≡ l.fn.self.arena;
   keeper : keeper_view l.self-inside.keeper ≡ l.fn.self.keeper;
   remembered : keeper_remembered l.self-inside.keeper ≡ l.fn.self.remembered;
+  report : keeper_report l.self-inside.keeper ≡ l.fn.self.report;
   out : AreOut l.number l.fn.self.arena.key.senders l.fn.self.keeper;
 }
