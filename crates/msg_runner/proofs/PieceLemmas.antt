@@ -24,25 +24,25 @@ use Rattle.msg_runner.specs.Serving.{AllSends, IsOneChange, IsAnswered, AreAnswe
 
 pub pieces_most : (cut n : ℕ) → 0 < cut → pieces_of cut n ≤ n
 pieces_most cut n some = elim (cases_lt n cut) [
-    inl short ↦ let d = div-eq_of_lt short in let m = mod-eq_of_lt short in omega (arith, d, m)
+  | inl short ↦ let d = div-eq_of_lt short in let m = mod-eq_of_lt short in omega (arith, d, m)
   | inr long ↦ let d = div-add-mod' n cut in let w : n / cut * 1 ≤ n / cut * cut = mul-le-mul_left (n / cut) some in omega (arith, d, w)
 ]
 
 -- a piece is of `cut` places, or of all that are left
 pub pieces_step : (cut n : ℕ) → 0 < cut → 0 < n → pieces_of cut n ≡ 1 + pieces_of cut (n - min n cut)
 pieces_step cut n some more = elim (cases_lt n cut) [
-    inl short ↦
-        let d : n / cut ≡ 0 = div-eq_of_lt short in
-        let m : n % cut ≡ n = mod-eq_of_lt short in
-        let left : n - min n cut ≡ 0 = omega (arith, short) in
-        let none : pieces_of cut (n - min n cut) ≡ 0 = ap (pieces_of cut) left ∙ ap₂ (λ q r. q + min 1 r) (div-eq_of_lt some) (mod-eq_of_lt some) in
-        omega (arith, d, m, none, more)
+  | inl short ↦
+      let d : n / cut ≡ 0 = div-eq_of_lt short in
+      let m : n % cut ≡ n = mod-eq_of_lt short in
+      let left : n - min n cut ≡ 0 = omega (arith, short) in
+      let none : pieces_of cut (n - min n cut) ≡ 0 = ap (pieces_of cut) left ∙ ap₂ (λ q r. q + min 1 r) (div-eq_of_lt some) (mod-eq_of_lt some) in
+      omega (arith, d, m, none, more)
   | inr long ↦
-        let d : n / cut ≡ (n - cut) / cut + 1 = div-eq-sub-div some long in
-        let m : n % cut ≡ (n - cut) % cut = mod-eq-sub-mod long in
-        let left : n - min n cut ≡ n - cut = omega (arith, long) in
-        let rest : pieces_of cut (n - min n cut) ≡ pieces_of cut (n - cut) = ap (pieces_of cut) left in
-        ap₂ (λ q r. q + min 1 r) d m ∙ omega (arith, rest)
+      let d : n / cut ≡ (n - cut) / cut + 1 = div-eq-sub-div some long in
+      let m : n % cut ≡ (n - cut) % cut = mod-eq-sub-mod long in
+      let left : n - min n cut ≡ n - cut = omega (arith, long) in
+      let rest : pieces_of cut (n - min n cut) ≡ pieces_of cut (n - cut) = ap (pieces_of cut) left in
+      ap₂ (λ q r. q + min 1 r) d m ∙ omega (arith, rest)
 ]
 
 pub pieces_none : (cut : ℕ) → 0 < cut → pieces_of cut 0 ≡ 0
@@ -112,16 +112,16 @@ module _ (image : ImageParts) (cut used workers : ℕ) (h : History) (items : Li
         count = a.count;
         text = a.text;
         points = λ w below. elim (cases_lt w used) [
-            inl mine ↦
-                let (last, s, b) = a.points w mine in
-                let of_sends = share_alike (worker_of cut used) (worker_of cut workers) w 0 sends (λ k lt. same k (omega (arith, lt))) in
-                let of_replies = share_alike (worker_of cut used) (worker_of cut workers) w 0 a.replies (λ k lt. same k (let c = a.count in omega (arith, lt, c))) in
-                (last, subst (λ ms. Served h ms (share_of (worker_of cut workers) w 0 a.replies) last) of_sends (subst (λ rs. Served h (share_of (worker_of cut used) w 0 sends) rs last) of_replies s), b)
+          | inl mine ↦
+              let (last, s, b) = a.points w mine in
+              let of_sends = share_alike (worker_of cut used) (worker_of cut workers) w 0 sends (λ k lt. same k (omega (arith, lt))) in
+              let of_replies = share_alike (worker_of cut used) (worker_of cut workers) w 0 a.replies (λ k lt. same k (let c = a.count in omega (arith, lt, c))) in
+              (last, subst (λ ms. Served h ms (share_of (worker_of cut workers) w 0 a.replies) last) of_sends (subst (λ rs. Served h (share_of (worker_of cut used) w 0 sends) rs last) of_replies s), b)
           | inr past ↦
-                let off : (k : ℕ) → k < length sends → worker_of cut workers k ≢ w = λ k lt is. let (_, high, inside) = own k lt in omega (arith, past, high, inside, is) in
-                let no_sends = share_none (worker_of cut workers) w 0 sends (λ k lt. off k (omega (arith, lt))) in
-                let no_replies = share_none (worker_of cut workers) w 0 a.replies (λ k lt. off k (let c = a.count in omega (arith, lt, c))) in
-                (h, subst (λ ms. Served h ms (share_of (worker_of cut workers) w 0 a.replies) h) (sym no_sends) (subst (λ rs. Served h [] rs h) (sym no_replies) (begins_refl h)), items_begin h items)
+              let off : (k : ℕ) → k < length sends → worker_of cut workers k ≢ w = λ k lt is. let (_, high, inside) = own k lt in omega (arith, past, high, inside, is) in
+              let no_sends = share_none (worker_of cut workers) w 0 sends (λ k lt. off k (omega (arith, lt))) in
+              let no_replies = share_none (worker_of cut workers) w 0 a.replies (λ k lt. off k (let c = a.count in omega (arith, lt, c))) in
+              (h, subst (λ ms. Served h ms (share_of (worker_of cut workers) w 0 a.replies) h) (sym no_sends) (subst (λ rs. Served h [] rs h) (sym no_replies) (begins_refl h)), items_begin h items)
         ];
       }
 
