@@ -1,4 +1,3 @@
 pub mod ArrayLemmas
 pub mod BeginLemmas
-pub mod CrossingLemmas
 pub mod KeepLemmas
