@@ -3,42 +3,88 @@
 #include <stdlib.h>
 #include <string.h>
 
+uint32_t shim_row_count;
+
+bool shim_room_for_rows(uint32_t more) { return shim_selector_count + shim_row_count + more <= MOST_ROWS; }
+
+/* The count is read first: so many rows any array has that is there then. */
 struct row *shim_row(struct record *record, uint32_t sel)
 {
-    for (uint32_t i = 0; i < record->count; i++)
-        if (record->rows[i].sel == sel) return &record->rows[i];
+    uint32_t count = record->count;
+    struct rows *rows = record->rows;
+    for (uint32_t i = 0; i < count; i++)
+        if (rows->at[i].sel == sel) return &rows->at[i];
     return NULL;
+}
+
+static void make_room(struct record *record)
+{
+    uint32_t room = record->room * 2 + 8;
+    struct rows *before = record->rows, *rows = shim_memory(sizeof *rows + room * sizeof *rows->at);
+    rows->before = before;
+    if (before) memcpy(rows->at, before->at, record->count * sizeof *rows->at);
+    record->rows = rows;
+    record->room = room;
+}
+
+static void hide(struct record *record, Method method)
+{
+    record->hidden = realloc(record->hidden, (record->hidden_count + 1) * sizeof *record->hidden);
+    if (!record->hidden) shim_stop("no memory", "methods");
+    record->hidden[record->hidden_count++] = method;
 }
 
 void shim_put_row(struct record *record, Method method, uint32_t sel)
 {
     struct row *row = shim_row(record, sel);
-    if (!row) {
-        if (record->count == record->room) {
-            record->room = record->room * 2 + 8;
-            record->rows = realloc(record->rows, record->room * sizeof *record->rows);
-            if (!record->rows) shim_stop("no memory", "methods");
-        }
-        row = &record->rows[record->count++];
+    if (row) {
+        hide(record, row->method);
+        __atomic_store_n(&row->method, method, __ATOMIC_RELEASE);
+        return;
     }
-    *row = (struct row){sel, method};
+    if (record->count == record->room) make_room(record);
+    record->rows->at[record->count] = (struct row){sel, method};
+    record->count++;
+    shim_row_count++;
 }
 
-static void put_new(struct record *record, SEL sel, IMP imp, const char *types)
+/* Goes through a class in construction, which has no place in the tables, to its superclass. */
+Method shim_standing(Class class_, uint32_t sel)
 {
+    for (; class_; class_ = class_->superclass.class_) {
+        struct row *row = shim_row(class_->record, sel);
+        if (row) return __atomic_load_n(&row->method, __ATOMIC_ACQUIRE);
+    }
+    return NULL;
+}
+
+/* Whether a method can stand there too; of a class in construction its registration asks for the implementations. */
+static bool has_room(struct record *record, bool new, IMP imp)
+{
+    return (!new || shim_room_for_rows(1)) && (!record->number || shim_room_for_imp(imp));
+}
+
+static bool put_new(struct record *record, SEL sel, IMP imp, const char *types)
+{
+    uint32_t number = (uint32_t)sel->name.number;
+    if (!has_room(record, true, imp)) return false;
     Method method = shim_memory(sizeof *method);
     method->name.sel = shim_typed_selector(sel_getName(sel), types);
-    method->types = strdup(types);
+    method->types = shim_copy(types);
     method->imp = imp;
-    shim_put_row(record, method, (uint32_t)sel->name.number);
-    shim_replace(record, (uint32_t)sel->name.number, imp);
-    shim_fill_in(record, (uint32_t)sel->name.number);
+    shim_begin_change(record);
+    shim_put_row(record, method, number);
+    shim_replace(record, number, imp);
+    shim_fill_in(record, number);
+    return true;
 }
 
 static IMP set(struct record *record, struct row *row, IMP imp)
 {
     IMP before = row->method->imp;
-    row->method->imp = imp;
+    if (!has_room(record, false, imp)) return NULL;
+    shim_begin_change(record);
+    shim_set_imp(row->method, imp);
     shim_replace(record, row->sel, imp);
     shim_fill_in(record, row->sel);
     return before;
@@ -47,16 +93,14 @@ static IMP set(struct record *record, struct row *row, IMP imp)
 BOOL class_addMethod(Class class_, SEL sel, IMP imp, const char *types)
 {
     if (!class_ || !class_->record || !sel || !imp || !types) return false;
-    HOLDING(&shim_lock);
-    if (shim_row(class_->record, (uint32_t)sel->name.number)) return false;
-    put_new(class_->record, sel, imp, types);
-    return true;
+    LOCKED;
+    return !shim_row(class_->record, (uint32_t)sel->name.number) && put_new(class_->record, sel, imp, types);
 }
 
 IMP class_replaceMethod(Class class_, SEL sel, IMP imp, const char *types)
 {
     if (!class_ || !class_->record || !sel || !imp || !types) return NULL;
-    HOLDING(&shim_lock);
+    LOCKED;
     struct row *row = shim_row(class_->record, (uint32_t)sel->name.number);
     if (row) return set(class_->record, row, imp);
     put_new(class_->record, sel, imp, types);
@@ -80,11 +124,11 @@ IMP method_setImplementation(Method method, IMP imp)
 {
     if (!method || !imp) return NULL;
     struct record *record;
-    HOLDING(&shim_lock);
+    LOCKED;
     struct row *row = home_of(method, &record);
     if (row) return set(record, row, imp);
     IMP before = method->imp;
-    method->imp = imp;
+    shim_set_imp(method, imp);
     return before;
 }
 
@@ -92,23 +136,21 @@ void method_exchangeImplementations(Method one, Method other)
 {
     if (!one || !other) return;
     struct record *here, *there;
-    HOLDING(&shim_lock);
+    LOCKED;
     struct row *row = home_of(one, &here), *other_row = home_of(other, &there);
+    bool both = row && other_row;
     IMP imp = one->imp;
-    one->imp = other->imp;
-    other->imp = imp;
-    if (row && other_row) shim_exchange(here, row->sel, there, other_row->sel);
+    if (both) shim_begin_change(here);
     else if (row || other_row) shim_outdate();
+    shim_set_imp(one, other->imp);
+    shim_set_imp(other, imp);
+    if (both) shim_exchange(here, row->sel, there, other_row->sel);
 }
 
-/* A class in construction has no place in the tables: its own methods, and then its superclass's. */
 static Method instance_method(Class class_, uint32_t sel)
 {
-    if (shim_in_construction(class_)) {
-        struct row *row = shim_row(class_->record, sel);
-        if (row || !class_->superclass.class_) return row ? row->method : NULL;
-        return instance_method(class_->superclass.class_, sel);
-    }
+    LOCKED;
+    if (shim_in_construction(class_)) return shim_standing(class_, sel);
     struct record *holder = shim_holder(class_->record, sel);
     struct row *row = holder ? shim_row(holder, sel) : NULL;
     return row ? row->method : NULL;
@@ -118,22 +160,23 @@ Method class_getInstanceMethod(Class class_, SEL sel)
 {
     if (!class_ || !class_->record || !sel) return NULL;
     for (bool resolved = false;; resolved = true) {
-        pthread_mutex_lock(&shim_lock);
         Method method = instance_method(class_, (uint32_t)sel->name.number);
-        pthread_mutex_unlock(&shim_lock);
         if (method || resolved || !shim_resolve(class_, sel)) return method;
     }
 }
 
 Method class_getClassMethod(Class class_, SEL sel) { return class_ ? class_getInstanceMethod(class_isMetaClass(class_) ? class_ : class_->isa, sel) : NULL; }
 
+/* The newest first, and then what these hide. */
 Method *class_copyMethodList(Class class_, unsigned int *count)
 {
-    HOLDING(&shim_lock);
-    unsigned int many = class_ && class_->record && !shim_in_construction(class_) ? class_->record->count : 0;
+    LOCKED;
+    struct record *record = class_ ? class_->record : NULL;
+    unsigned int many = record && record->number ? record->count + record->hidden_count : 0, at = 0;
     if (count) *count = many;
     if (!many) return NULL;
     Method *list = shim_memory((many + 1) * sizeof *list);
-    for (unsigned int i = 0; i < many; i++) list[i] = class_->record->rows[i].method;
+    for (unsigned int i = record->count; i-- > 0;) list[at++] = record->rows->at[i].method;
+    for (unsigned int i = record->hidden_count; i-- > 0;) list[at++] = record->hidden[i];
     return list;
 }

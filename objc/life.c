@@ -8,11 +8,51 @@ enum { SPARE = 128, SPARE_CLASSES = 2, NAMES = MOST_IMPS + 1 };
 pthread_mutex_t shim_lock = PTHREAD_MUTEX_INITIALIZER;
 static _Atomic(struct life *) current;
 static uint32_t made; /* classes at run time: a life has room for as many again, since each that it has costs every change */
-static struct life nowhere;
+static struct life nowhere = {.count = OVER};
 static struct seat nobody = {MSG_SENDER_INIT, &nowhere}; /* its sender is closed, and has noted nothing */
-_Thread_local struct seat *shim_seat = &nobody;          /* until the thread's first send */
+static _Thread_local struct seat *own = &nobody;         /* until the thread's first send */
 static pthread_key_t seats;
 static pthread_once_t once = PTHREAD_ONCE_INIT;
+
+/* How often the thread's seat was taken back at its end: later destructors of its data that send do without one, else the last would leave one behind. */
+enum { MOST_ENDS = 3 };
+static _Thread_local unsigned ends;
+
+/* On the slow way, or in a change: the thread's sender and perhaps the lock are in use. Only a handler of a signal that interrupts it can find it so,
+ * and finds nobody's seat, in which nothing is noted. */
+static _Thread_local volatile bool busy;
+_Thread_local struct seat *shim_seat = &nobody;
+
+/* A handler has seen rows that the tables may not have yet: they do when the lock was free once. */
+static _Thread_local volatile bool ahead;
+
+static void begin(void)
+{
+    busy = true;
+    shim_seat = &nobody;
+    atomic_signal_fence(memory_order_seq_cst);
+}
+
+static void end(void)
+{
+    atomic_signal_fence(memory_order_seq_cst);
+    shim_seat = own;
+    busy = false;
+}
+
+bool shim_take(void)
+{
+    bool before = busy;
+    begin();
+    pthread_mutex_lock(&shim_lock);
+    return before;
+}
+
+void shim_give(bool *before)
+{
+    pthread_mutex_unlock(&shim_lock);
+    if (!*before) end();
+}
 
 /* The number of a function in this life, or 0 where there is no more room. */
 static uint32_t number_of(struct life *life, IMP imp)
@@ -25,11 +65,15 @@ static uint32_t number_of(struct life *life, IMP imp)
     return life->function_at[at] = (uint16_t)life->imp_count;
 }
 
-static void number_functions(struct life *life, struct record *record)
+static bool number_functions(struct life *life, struct record *record)
 {
+    struct rows *rows = record->rows;
     for (uint32_t i = 0; i < record->count; i++)
-        if (!number_of(life, record->rows[i].method->imp)) shim_stop("too many implementations", sel_getName(record->rows[i].method->name.sel));
+        if (!number_of(life, rows->at[i].method->imp)) return false;
+    return true;
 }
+
+static bool number_both(struct life *life, Class class_) { return number_functions(life, class_->record) && number_functions(life, class_->isa->record); }
 
 /* Classes, selectors and implementations are named n0, n1, .. by their numbers, from one text. Selector 1 is forwardingTargetForSelector:, which no row has. */
 static struct { uint8_t text[NAMES * 5 + 1]; msg_name of[NAMES]; uint32_t length; } names;
@@ -45,7 +89,9 @@ static void make_names(void)
 
 static void put_rows(struct life *life, msg_arrays *arrays, msg_method_row *rows, struct record *record)
 {
-    for (uint32_t i = 0; i < record->count; i++) rows[arrays->method_count++] = (msg_method_row){names.of[record->rows[i].sel], number_of(life, record->rows[i].method->imp)};
+    struct rows *of = record->rows;
+    for (uint32_t i = 0; i < record->count; i++)
+        rows[arrays->method_count++] = (msg_method_row){names.of[of->at[i].sel], number_of(life, of->at[i].method->imp)};
 }
 
 /* The first class lists the selectors in order, which fixes their numbers. */
@@ -110,15 +156,15 @@ static struct life *open_life(void)
 {
     struct life *life = atomic_load(&current);
     if (life) return life;
+    if (msg_sender_size() != sizeof(msg_sender)) shim_stop("the library is of another header", "msg_sender");
     life = shim_lines(sizeof *life);
     life->users = 1;
     life->classes = with_spare(shim_class_count, SPARE_CLASSES + made, MOST_CLASSES);
     life->selectors = with_spare(shim_selector_count, SPARE, MOST_SELECTORS);
+    life->selectors = with_spare(life->selectors, 0, MOST_ROWS - shim_row_count);
     life->imps = MOST_IMPS;
-    for (uint32_t i = 1; i <= shim_class_count; i++) {
-        number_functions(life, shim_classes[i]->record);
-        number_functions(life, shim_classes[i]->isa->record);
-    }
+    for (uint32_t i = 1; i <= shim_class_count; i++)
+        if (!number_both(life, shim_classes[i])) shim_stop("too many implementations", shim_classes[i]->name);
     life->imps = with_spare(life->imp_count, SPARE, MOST_IMPS);
     uint32_t fault = open_tables(life);
     if (fault) {
@@ -142,10 +188,11 @@ static void give_back(struct seat *seat)
 static void at_thread_end(void *taken)
 {
     struct seat *seat = taken;
-    HOLDING(&shim_lock);
+    LOCKED;
+    own = &nobody;
     give_back(seat);
     free(seat);
-    shim_seat = &nobody;
+    ends++;
 }
 
 static void make_key(void) { if (pthread_key_create(&seats, at_thread_end)) shim_stop("no key", "pthread"); }
@@ -153,11 +200,11 @@ static void make_key(void) { if (pthread_key_create(&seats, at_thread_end)) shim
 /* The thread's own, or nobody's where none can be kept for it. */
 static struct seat *own_seat(void)
 {
-    if (shim_seat != &nobody) return shim_seat;
+    if (own != &nobody || ends == MOST_ENDS) return own;
     pthread_once(&once, make_key);
     struct seat *seat = shim_lines(sizeof *seat);
     seat->life = &nowhere;
-    if (!pthread_setspecific(seats, seat)) return shim_seat = seat;
+    if (!pthread_setspecific(seats, seat)) return own = seat;
     free(seat);
     return &nobody;
 }
@@ -165,7 +212,7 @@ static struct seat *own_seat(void)
 /* The thread's seat then is of the current life, unless all senders are out. */
 static struct life *sit_down(struct seat *seat)
 {
-    HOLDING(&shim_lock);
+    LOCKED;
     struct life *life = open_life();
     if (seat->life == life || seat == &nobody) return life;
     give_back(seat);
@@ -188,15 +235,22 @@ struct record *shim_holder(struct record *record, uint32_t sel)
 static IMP find_seatless(struct record *record, uint32_t sel)
 {
     uint32_t imp = 0;
-    HOLDING(&shim_lock);
+    LOCKED;
     struct life *life = open_life();
     if (sel <= life->selectors && msg_lookup(&life->runtime, record->number, record->meta, sel, &imp)) shim_stop("no lookup", "seatless");
     return shim_function(life, imp);
 }
 
-IMP shim_find(struct record *record, uint32_t sel)
+static void wait_for_changer(void)
+{
+    LOCKED;
+    ahead = false;
+}
+
+static IMP find(struct record *record, uint32_t sel)
 {
     struct seat *seat = own_seat();
+    if (ahead) wait_for_changer();
     for (;;) {
         uint32_t imp;
         uint64_t seen;
@@ -211,22 +265,54 @@ IMP shim_find(struct record *record, uint32_t sel)
     }
 }
 
-/* Before a change of the tables: from here on no send goes by what was noted before it. One thread so never sees a change and then what was before it. */
+IMP shim_find(Class class_, uint32_t sel)
+{
+    if (busy) {
+        ahead = true;
+        Method method = shim_standing(class_, sel);
+        return method ? shim_imp(method) : NULL;
+    }
+    begin();
+    IMP imp = find(class_->record, sel);
+    end();
+    return imp;
+}
+
+/* At the second attempt the tables are opened anew, so that what no longer stands has no number. */
+static bool room_in_tables(Class class_, IMP imp)
+{
+    for (;;) {
+        struct life *life = open_life();
+        if (class_ ? number_both(life, class_) : number_of(life, imp)) return true;
+        if (!atomic_load(&life->count)) return false;
+        shim_outdate();
+    }
+}
+
+bool shim_room_for_class(Class class_) { return shim_row_count < MOST_IMPS || room_in_tables(class_, NULL); }
+bool shim_room_for_imp(IMP imp) { return shim_row_count < MOST_IMPS || room_in_tables(NULL, imp); }
+
 static void begin_change(struct life *life) { atomic_store_explicit(&life->count, life->count + 1, memory_order_release); }
+
+/* One thread so never sees a change and then what was before it. */
+void shim_begin_change(struct record *record)
+{
+    struct life *life = atomic_load(&current);
+    if (life && record->number) begin_change(life);
+}
 
 void shim_replace(struct record *record, uint32_t sel, IMP imp)
 {
     struct life *life = atomic_load(&current);
     if (!life || !record->number) return;
     uint32_t number = sel > life->selectors ? 0 : number_of(life, imp);
-    begin_change(life);
     if (!number || msg_replace(&life->runtime, record->number, record->meta, sel, number)) shim_outdate();
 }
 
 /* Else each thread that sends the method next would wait for the lock that the change holds now. */
 void shim_fill_in(struct record *record, uint32_t sel)
 {
-    struct seat *seat = shim_seat;
+    struct seat *seat = own;
     uint32_t imp;
     if (seat->life != atomic_load(&current) || sel > seat->life->selectors || !record->number) return;
     msg_fill(&seat->life->runtime, &seat->sender, record->number, record->meta, sel, &imp);
@@ -236,13 +322,16 @@ void shim_exchange(struct record *one, uint32_t sel, struct record *other, uint3
 {
     struct life *life = atomic_load(&current);
     if (!life) return;
-    begin_change(life);
     if (msg_exchange(&life->runtime, one->number, one->meta, sel, other->number, other->meta, other_sel)) shim_outdate();
 }
 
 static void replace_rows(struct record *record)
 {
-    for (uint32_t i = 0; i < record->count; i++) shim_replace(record, record->rows[i].sel, record->rows[i].method->imp);
+    struct rows *rows = record->rows;
+    for (uint32_t i = 0; i < record->count; i++) {
+        shim_begin_change(record);
+        shim_replace(record, rows->at[i].sel, rows->at[i].method->imp);
+    }
 }
 
 void shim_make(Class class_)
@@ -261,4 +350,11 @@ void shim_make(Class class_)
     }
     replace_rows(class_->record);
     replace_rows(class_->isa->record);
+}
+
+/* Senders of threads that are gone may look as if they were in a call for ever: their tables are left. */
+void shim_leave_dead(void)
+{
+    struct life *life = atomic_load(&current);
+    if (life && life->users > 1 + (own->life == life)) shim_outdate();
 }

@@ -30,8 +30,9 @@ struct seat { _Alignas(LINE) msg_sender sender; struct life *life; };
 #endif
 extern _Thread_local __attribute__((tls_model(SHIM_TLS))) struct seat *shim_seat;
 
-/* What the calling thread's sender finds, by all changes that returned before; NULL is forwarding. */
-IMP shim_find(struct record *record, uint32_t sel);
+/* What the calling thread's sender finds, by all changes that returned before; NULL is forwarding. In a handler of a signal that interrupts its own
+ * thread on the slow way or in a change: what the rows say, which is no older than what that change began with. */
+IMP shim_find(Class class_, uint32_t sel);
 
 static inline IMP shim_function(struct life *life, uint32_t imp) { return atomic_load_explicit(&life->functions[imp], memory_order_acquire); }
 
@@ -45,6 +46,21 @@ static inline bool shim_recall(Class class_, SEL sel, IMP *imp)
     uint32_t number = msg_recall_key(&seat->sender, __atomic_load_n(&class_->key, __ATOMIC_ACQUIRE) + sel->name.number, count);
     if (__builtin_expect(!number, 0)) return false;
     *imp = shim_function(life, number);
+    return true;
+}
+
+/* The same also of a lookup that found nothing, which msg_recall_key doesn't tell from one that isn't noted: then NULL is written. The note is read here as
+ * msg_recall_key reads it; were its place another, nothing would be found here. */
+static inline bool shim_noted(Class class_, SEL sel, IMP *imp)
+{
+    struct seat *seat = shim_seat;
+    struct life *life = seat->life;
+    uint64_t key = __atomic_load_n(&class_->key, __ATOMIC_ACQUIRE) + sel->name.number;
+    uint64_t count = atomic_load_explicit(&life->count, memory_order_acquire);
+    const msg_note *note = &seat->sender.notes[(uint32_t)((key >> 27) + key) % MSG_NOTES];
+    if (msg_key(note->slot, note->sel) != key || note->count != count) return false;
+    MSG_TEST(note->imp == msg_recall(&seat->sender, key >> 32, (uint32_t)key, count));
+    *imp = shim_function(life, note->imp);
     return true;
 }
 
