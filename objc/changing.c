@@ -27,18 +27,21 @@ static void make_room(struct record *record)
     record->room = room;
 }
 
-static void hide(struct record *record, Method method)
+static void list(struct record *record, Method method)
 {
-    record->hidden = realloc(record->hidden, (record->hidden_count + 1) * sizeof *record->hidden);
-    if (!record->hidden) shim_stop("no memory", "methods");
-    record->hidden[record->hidden_count++] = method;
+    if (record->method_count == record->method_room) {
+        record->method_room = record->method_room * 2 + 8;
+        record->methods = realloc(record->methods, record->method_room * sizeof *record->methods);
+        if (!record->methods) shim_stop("no memory", "methods");
+    }
+    record->methods[record->method_count++] = method;
 }
 
 void shim_put_row(struct record *record, Method method, uint32_t sel)
 {
     struct row *row = shim_row(record, sel);
+    list(record, method);
     if (row) {
-        hide(record, row->method);
         __atomic_store_n(&row->method, method, __ATOMIC_RELEASE);
         return;
     }
@@ -167,16 +170,15 @@ Method class_getInstanceMethod(Class class_, SEL sel)
 
 Method class_getClassMethod(Class class_, SEL sel) { return class_ ? class_getInstanceMethod(class_isMetaClass(class_) ? class_ : class_->isa, sel) : NULL; }
 
-/* The newest first, and then what these hide. */
+/* The newest first. */
 Method *class_copyMethodList(Class class_, unsigned int *count)
 {
     LOCKED;
     struct record *record = class_ ? class_->record : NULL;
-    unsigned int many = record && record->number ? record->count + record->hidden_count : 0, at = 0;
+    unsigned int many = record && record->number ? record->method_count : 0;
     if (count) *count = many;
     if (!many) return NULL;
     Method *list = shim_memory((many + 1) * sizeof *list);
-    for (unsigned int i = record->count; i-- > 0;) list[at++] = record->rows->at[i].method;
-    for (unsigned int i = record->hidden_count; i-- > 0;) list[at++] = record->hidden[i];
+    for (unsigned int i = 0; i < many; i++) list[i] = record->methods[many - 1 - i];
     return list;
 }

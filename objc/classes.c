@@ -78,7 +78,6 @@ Class objc_getMetaClass(const char *name)
 Class objc_get_class(const char *name) { return objc_getRequiredClass(name); }
 /* As clang asks. */
 Class objc_lookup_class(const char *name) { return objc_getClass(name); }
-Class _objc_lookup_class(const char *name) { return objc_getClass(name); }
 Class objc_get_meta_class(const char *name) { return objc_getRequiredClass(name)->isa; }
 
 objc_get_unknown_class_handler objc_setGetUnknownClassHandler(objc_get_unknown_class_handler handler)
@@ -167,6 +166,7 @@ static void free_methods(struct record *record)
         before = rows->before;
         free(rows);
     }
+    free(record->methods);
     free(record);
 }
 

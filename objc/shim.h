@@ -21,7 +21,7 @@ struct rows { struct rows *before; struct row at[]; };
 enum { NOT_YET, RUNNING, DONE };
 
 /* `number` is 0 for a class in construction, which no tables hold. `plain`: of a metaclass's record, its class's; else itself.
- * `hidden`: methods of the class that a category has in their place. */
+ * `methods`: all, in the order in which they came; a row has the last of a name. */
 struct record {
     bool meta;
     uint32_t number;
@@ -29,8 +29,8 @@ struct record {
     struct record *plain;
     _Atomic(struct rows *) rows;
     _Atomic(uint32_t) count;
-    uint32_t room, hidden_count;
-    Method *hidden;
+    uint32_t room, method_count, method_room;
+    Method *methods;
 };
 
 extern pthread_mutex_t shim_lock;
