@@ -29,7 +29,7 @@ static void in_child(void)
     shim_renew_property_locks();
 }
 
-static __attribute__((constructor)) void care_for_forks(void)
+void shim_care_for_forks(void)
 {
     if (pthread_atfork(before_fork, give_all, in_child)) shim_stop("no memory", "fork");
 }

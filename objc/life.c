@@ -352,6 +352,9 @@ void shim_make(Class class_)
     replace_rows(class_->isa->record);
 }
 
+/* Here, since this file is linked into every program. */
+static __attribute__((constructor)) void at_start(void) { shim_care_for_forks(); }
+
 /* Senders of threads that are gone may look as if they were in a call for ever: their tables are left. */
 void shim_leave_dead(void)
 {

@@ -86,7 +86,8 @@ static inline void shim_set_imp(Method method, IMP imp) { __atomic_store_n(&meth
 IMP shim_look(Class class_, SEL sel);
 bool shim_resolve(Class class_, SEL sel);
 
-/* What forking.c asks of the files that have locks of their own. */
+/* forking.c, and what it asks of the files that have locks of their own. */
+void shim_care_for_forks(void);
 extern pthread_mutex_t shim_initializing;
 void shim_hold_places(bool hold);
 void shim_renew_property_locks(void);
