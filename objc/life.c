@@ -9,7 +9,7 @@ pthread_mutex_t shim_lock = PTHREAD_MUTEX_INITIALIZER;
 static _Atomic(struct life *) current;
 static uint32_t made; /* classes at run time: a life has room for as many again, since each that it has costs every change */
 static struct life nowhere = {.count = OVER};
-static struct seat nobody = {MSG_SENDER_INIT, &nowhere}; /* its sender is closed, and has noted nothing */
+static struct seat nobody = {MSG_SENDER_INIT, &nowhere, NULL}; /* its sender is closed, and has noted nothing */
 static _Thread_local struct seat *own = &nobody;         /* until the thread's first send */
 static pthread_key_t seats;
 static pthread_once_t once = PTHREAD_ONCE_INIT;
@@ -140,7 +140,10 @@ static void check_numbers(struct life *life)
     if (msg_find_selector(&life->runtime, names.text + last.at, last.length, &sel) || sel != life->selectors) shim_stop("selectors are numbered otherwise", "shim");
 }
 
-static void leave(struct life *life) { if (!--life->users) free(life); }
+static void leave(struct life *life)
+{
+    if (life != &nowhere && !--life->users) free(life);
+}
 
 void shim_outdate(void)
 {
@@ -177,21 +180,29 @@ static struct life *open_life(void)
     return life;
 }
 
-static void give_back(struct seat *seat)
+static struct seat *new_seat(void)
 {
-    if (seat->life == &nowhere) return;
-    msg_sender_close(&seat->life->runtime, &seat->sender);
-    leave(seat->life);
+    struct seat *seat = shim_lines(sizeof *seat);
     seat->life = &nowhere;
+    return seat;
 }
 
-static void at_thread_end(void *taken)
+static void free_seat(struct seat *seat)
 {
-    struct seat *seat = taken;
-    LOCKED;
-    own = &nobody;
-    give_back(seat);
+    if (!seat) return;
+    msg_sender_close(&seat->life->runtime, &seat->sender);
+    leave(seat->life);
     free(seat);
+}
+
+static void at_thread_end(void *none)
+{
+    (void)none;
+    LOCKED;
+    struct seat *seat = own;
+    own = &nobody;
+    free_seat(seat->other);
+    free_seat(seat);
     ends++;
 }
 
@@ -202,20 +213,32 @@ static struct seat *own_seat(void)
 {
     if (own != &nobody || ends == MOST_ENDS) return own;
     pthread_once(&once, make_key);
-    struct seat *seat = shim_lines(sizeof *seat);
-    seat->life = &nowhere;
+    struct seat *seat = new_seat();
     if (!pthread_setspecific(seats, seat)) return own = seat;
     free(seat);
     return &nobody;
 }
 
-/* The thread's seat then is of the current life, unless all senders are out. */
-static struct life *sit_down(struct seat *seat)
+/* The thread's other seat, when it leaves this one. */
+static struct seat *next_seat(struct seat *seat)
+{
+    struct seat *next = seat->other ? seat->other : new_seat();
+    leave(next->life);
+    next->life = &nowhere;
+    next->other = seat;
+    seat->other = next;
+    msg_sender_close(&seat->life->runtime, &seat->sender);
+    return own = next;
+}
+
+/* Then the thread's own seat is of the current life, unless all senders are out. */
+static struct life *sit_down(void)
 {
     LOCKED;
     struct life *life = open_life();
+    struct seat *seat = own;
     if (seat->life == life || seat == &nobody) return life;
-    give_back(seat);
+    if (seat->life != &nowhere) seat = next_seat(seat);
     if (msg_sender_open(&life->runtime, &seat->sender)) return life;
     seat->life = life;
     life->users++;
@@ -255,7 +278,8 @@ static IMP find(struct record *record, uint32_t sel)
         uint32_t imp;
         uint64_t seen;
         struct life *life = atomic_load_explicit(&current, memory_order_acquire);
-        if (!life || seat->life != life) life = sit_down(seat);
+        if (!life || seat->life != life) life = sit_down();
+        seat = own;
         if (seat->life != life) return find_seatless(record, sel);
         if (sel > life->selectors) return NULL; /* no method of the name stands anywhere */
         if (msg_refresh(&seat->sender, &seen)) shim_stop("no refresh", "sender");

@@ -21,8 +21,9 @@ struct life {
     uint16_t function_at[IMP_PLACES];
 };
 
-/* `life` is never NULL. */
-struct seat { _Alignas(LINE) msg_sender sender; struct life *life; };
+/* `life` is never NULL. `other`: the thread's seat in the life before, and in the next: a handler of a signal may come between any two steps of a send that goes by
+ * one, and send; so what a seat was for stays until the thread has sat in another. */
+struct seat { _Alignas(LINE) msg_sender sender; struct life *life; struct seat *other; };
 
 /* What is linked into programs alone may say local-exec, which takes an instruction less. */
 #ifndef SHIM_TLS
@@ -36,32 +37,28 @@ IMP shim_find(Class class_, uint32_t sel);
 
 static inline IMP shim_function(struct life *life, uint32_t imp) { return atomic_load_explicit(&life->functions[imp], memory_order_acquire); }
 
-/* Whether the thread's sender has noted a method, by all changes that were begun before; then it is written. No sender notes anything for key 0, which all
- * classes have until they were initialized. */
-static inline bool shim_recall(Class class_, SEL sel, IMP *imp)
-{
-    struct seat *seat = shim_seat;
-    struct life *life = seat->life;
-    uint64_t count = atomic_load_explicit(&life->count, memory_order_acquire);
-    uint32_t number = msg_recall_key(&seat->sender, __atomic_load_n(&class_->key, __ATOMIC_ACQUIRE) + sel->name.number, count);
-    if (__builtin_expect(!number, 0)) return false;
-    *imp = shim_function(life, number);
-    return true;
-}
-
-/* The same also of a lookup that found nothing, which msg_recall_key doesn't tell from one that isn't noted: then NULL is written. The note is read here as
- * msg_recall_key reads it; were its place another, nothing would be found here. */
+/* What the note at the one place of a class and a selector says by all changes that were begun before, or false where it is another's, or older. No sender notes
+ * anything for key 0, which all classes have until they were initialized.
+ * As msg_recall_key, but in an order in which a handler of a signal may come between any two loads, and send: the count comes first, then the number, and then it
+ * is seen that both are of one note. With MSG_CHECK it is compared with the proved msg_recall. */
 static inline bool shim_noted(Class class_, SEL sel, IMP *imp)
 {
     struct seat *seat = shim_seat;
     struct life *life = seat->life;
-    uint64_t key = __atomic_load_n(&class_->key, __ATOMIC_ACQUIRE) + sel->name.number;
-    uint64_t count = atomic_load_explicit(&life->count, memory_order_acquire);
+    uint64_t key = __atomic_load_n(&class_->key, __ATOMIC_ACQUIRE) + sel->name.number, noted;
     const msg_note *note = &seat->sender.notes[(uint32_t)((key >> 27) + key) % MSG_NOTES];
-    if (msg_key(note->slot, note->sel) != key || note->count != count) return false;
-    MSG_TEST(note->imp == msg_recall(&seat->sender, key >> 32, (uint32_t)key, count));
-    *imp = shim_function(life, note->imp);
+    uint64_t count = atomic_load_explicit(&life->count, memory_order_acquire);
+    atomic_signal_fence(memory_order_seq_cst);
+    uint32_t number = note->imp;
+    atomic_signal_fence(memory_order_seq_cst);
+    memcpy(&noted, note, sizeof noted);
+    if (__builtin_expect(noted != key || note->count != count, 0)) return false;
+    MSG_TEST(msg_recall(&seat->sender, key >> 32, (uint32_t)key, count) == number || msg_key(note->slot, note->sel) != key || note->count != count);
+    *imp = shim_function(life, number);
     return true;
 }
+
+/* The same of a lookup that found a method: function 0 is NULL. */
+static inline bool shim_recall(Class class_, SEL sel, IMP *imp) { return shim_noted(class_, sel, imp) && __builtin_expect(*imp != NULL, 1); }
 
 #endif
