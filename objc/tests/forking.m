@@ -72,6 +72,7 @@ static void *locking(void *none)
         @synchronized(own) { shared.kept = own; }
         shared.kept = nil;
     }
+    object_dispose(own);
     return none;
 }
 

@@ -70,6 +70,7 @@ int main(void)
     printf("one that is known can be added: %d\n", class_addMethod(root, known, answer, "@16@0:8") && class_getMethodImplementation(root, known) == answer);
     printf("names refused: %d\n", was_refused(fill_names()));
     printf("known ones are found: %d %d\n", sel_registerName("known") == known || sel_isEqual(sel_registerName("known"), known), is_answered(root, known));
+    objc_disposeClassPair(late);
     printf("after: %d %d\n", class_respondsToSelector(root, known), class_respondsToSelector(root, sel_registerName("name0")));
     return 0;
 }
