@@ -52,8 +52,6 @@ void shim_publish(Class class_)
     atomic_store(&by_name[at], class_);
 }
 
-bool shim_in_construction(Class class_) { return class_->record && !class_->record->number; }
-
 Class objc_lookUpClass(const char *name) { return name ? shim_class_named(name) : NULL; }
 
 Class objc_getClass(const char *name)

@@ -41,24 +41,30 @@ static inline IMP shim_function(struct life *life, uint32_t imp) { return atomic
  * anything for key 0, which all classes have until they were initialized.
  * As msg_recall_key, but in an order in which a handler of a signal may come between any two loads, and send: the count comes first, then the number, and then it
  * is seen that both are of one note. With MSG_CHECK it is compared with the proved msg_recall. */
-static inline bool shim_noted(Class class_, SEL sel, IMP *imp)
+static inline bool shim_note(Class class_, SEL sel, struct life **life, uint32_t *number)
 {
     struct seat *seat = shim_seat;
-    struct life *life = seat->life;
-    uint64_t key = __atomic_load_n(&class_->key, __ATOMIC_ACQUIRE) + sel->name.number, noted;
-    const msg_note *note = &seat->sender.notes[(uint32_t)((key >> 27) + key) % MSG_NOTES];
-    uint64_t count = atomic_load_explicit(&life->count, memory_order_acquire);
+    *life = seat->life;
+    uint64_t count = atomic_load_explicit(&(*life)->count, memory_order_acquire), noted;
     atomic_signal_fence(memory_order_seq_cst);
-    uint32_t number = note->imp;
+    uint64_t key = __atomic_load_n(&class_->key, __ATOMIC_ACQUIRE) + sel->name.number;
+    const msg_note *note = &seat->sender.notes[(uint32_t)((key >> 27) + key) % MSG_NOTES];
+    *number = note->imp;
     atomic_signal_fence(memory_order_seq_cst);
     memcpy(&noted, note, sizeof noted);
-    if (__builtin_expect(noted != key || note->count != count, 0)) return false;
-    MSG_TEST(msg_recall(&seat->sender, key >> 32, (uint32_t)key, count) == number || msg_key(note->slot, note->sel) != key || note->count != count);
+    bool is_of = noted == key && note->count == count;
+    MSG_TEST(!is_of || msg_recall(&seat->sender, key >> 32, (uint32_t)key, count) == *number || msg_key(note->slot, note->sel) != key || note->count != count);
+    return is_of;
+}
+
+/* The function that is noted, or NULL, which is number 0's, where it is noted that the lookup finds nothing. */
+static inline bool shim_noted(Class class_, SEL sel, IMP *imp)
+{
+    struct life *life;
+    uint32_t number;
+    if (!shim_note(class_, sel, &life, &number)) return false;
     *imp = shim_function(life, number);
     return true;
 }
-
-/* The same of a lookup that found a method: function 0 is NULL. */
-static inline bool shim_recall(Class class_, SEL sel, IMP *imp) { return shim_noted(class_, sel, imp) && __builtin_expect(*imp != NULL, 1); }
 
 #endif

@@ -42,18 +42,28 @@ IMP shim_look(Class class_, SEL sel)
     return shim_noted(class_, sel, &imp) ? imp : shim_find(class_, (uint32_t)sel->name.number);
 }
 
+static inline bool resolve(Class class_, SEL sel)
+{
+    IMP imp;
+    Class plain = plain_class(class_);
+    SEL asked = &shim_own[class_->record->meta ? RESOLVE_CLASS : RESOLVE_INSTANCE];
+    if (!shim_noted(plain->isa, asked, &imp)) imp = shim_find(plain->isa, (uint32_t)asked->name.number);
+    return __builtin_expect(imp != NULL, 0) && ((BOOL (*)(id, SEL, SEL))(void (*)(void))imp)((id)plain, asked, sel);
+}
+
 /* Asks the class to add a method that it lacks: whether it says that it has. */
 bool shim_resolve(Class class_, SEL sel)
 {
     if (shim_in_construction(class_)) return false;
     ensure_initialized(class_);
-    Class plain = plain_class(class_);
-    SEL asked = &shim_own[class_->record->meta ? RESOLVE_CLASS : RESOLVE_INSTANCE];
-    IMP imp = shim_look(plain->isa, asked);
-    return imp && ((BOOL (*)(id, SEL, SEL))(void (*)(void))imp)((id)plain, asked, sel);
+    return resolve(class_, sel);
 }
 
-static __attribute__((noinline, cold)) IMP look_first(Class class_, SEL sel)
+/* Where it is noted that nothing is found, or was found to be so: NULL is forwarding. */
+static inline IMP find_resolved(Class class_, SEL sel) { return resolve(class_, sel) ? shim_look(class_, sel) : NULL; }
+
+/* Where nothing is noted, as before a class's first message. */
+static __attribute__((noinline, cold)) IMP find_first(Class class_, SEL sel)
 {
     if (!class_->record) shim_stop("a class is used before its superclass is there", class_->name);
     if (shim_in_construction(class_)) {
@@ -61,18 +71,19 @@ static __attribute__((noinline, cold)) IMP look_first(Class class_, SEL sel)
         return method ? shim_imp(method) : NULL;
     }
     ensure_initialized(class_);
-    return shim_find(class_, (uint32_t)sel->name.number);
+    IMP imp = shim_look(class_, sel);
+    return imp ? imp : find_resolved(class_, sel);
 }
 
-/* NULL is forwarding. */
 static inline IMP find(Class class_, SEL sel)
 {
     IMP imp;
-    if (!shim_noted(class_, sel, &imp)) imp = look_first(class_, sel);
-    return imp || !shim_resolve(class_, sel) ? imp : shim_look(class_, sel);
+    if (!shim_noted(class_, sel, &imp)) return find_first(class_, sel);
+    return imp ? imp : find_resolved(class_, sel);
 }
 
-static __attribute__((noinline, cold)) IMP find_from(id receiver, Class class_, SEL sel)
+/* Of a class that may be NULL, as above a root. */
+static __attribute__((noinline)) IMP find_from(id receiver, Class class_, SEL sel)
 {
     if (!class_) shim_stop("a root class has no super to be sent", sel_getName(sel));
     IMP imp = find(class_, sel);
@@ -81,18 +92,27 @@ static __attribute__((noinline, cold)) IMP find_from(id receiver, Class class_, 
 
 static __attribute__((noinline, cold)) IMP find_slowly(id receiver, SEL sel) { return find_from(receiver, receiver->isa, sel); }
 
-IMP objc_msg_lookup(id receiver, SEL sel)
+static __attribute__((noinline)) IMP find_nothing(id receiver, SEL sel)
 {
-    IMP imp;
+    IMP imp = find_resolved(receiver->isa, sel);
+    return imp ? imp : shim_forward(receiver, sel);
+}
+
+/* At the begin of a line of the cache, as it is wherever the linker puts it. */
+__attribute__((aligned(LINE))) IMP objc_msg_lookup(id receiver, SEL sel)
+{
+    struct life *life;
+    uint32_t number;
     if (__builtin_expect(!receiver, 0)) return nil_method;
-    return shim_recall(receiver->isa, sel, &imp) ? imp : find_slowly(receiver, sel);
+    if (__builtin_expect(!shim_note(receiver->isa, sel, &life, &number), 0)) return find_slowly(receiver, sel);
+    return __builtin_expect(number != 0, 1) ? shim_function(life, number) : find_nothing(receiver, sel);
 }
 
 IMP objc_msg_lookup_super(struct objc_super *super_, SEL sel)
 {
     IMP imp;
     if (!super_->self) return nil_method;
-    if (super_->class_ && shim_recall(super_->class_, sel, &imp)) return imp;
+    if (super_->class_ && shim_noted(super_->class_, sel, &imp) && imp) return imp;
     return find_from(super_->self, super_->class_, sel);
 }
 
@@ -100,13 +120,15 @@ IMP class_getMethodImplementation(Class class_, SEL sel)
 {
     IMP imp;
     if (!class_ || !sel) return NULL;
-    return shim_recall(class_, sel, &imp) ? imp : find_from(NULL, class_, sel);
+    return shim_noted(class_, sel, &imp) && imp ? imp : find_from(NULL, class_, sel);
 }
 
 BOOL class_respondsToSelector(Class class_, SEL sel)
 {
-    if (!class_ || !class_->record || !sel || shim_in_construction(class_)) return false;
-    return find(class_, sel) != NULL;
+    IMP imp;
+    if (!class_ || !sel) return false;
+    if (shim_noted(class_, sel, &imp)) return imp || find_resolved(class_, sel);
+    return class_->record && !shim_in_construction(class_) && find_first(class_, sel);
 }
 
 /* In no header; programs ask it. */

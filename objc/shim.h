@@ -65,7 +65,7 @@ Class shim_class_named(const char *name); /* without the lock */
 struct record *shim_new_record(Class class_, bool meta);
 void shim_number_class(Class class_);
 void shim_publish(Class class_); /* found by its name from now on: the tables have it, or there are none */
-bool shim_in_construction(Class class_);
+static inline bool shim_in_construction(Class class_) { return class_->record && !class_->record->number; }
 
 /* roots.c: the module of Object, Protocol and NXConstantString. */
 extern struct module shim_roots;
