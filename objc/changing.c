@@ -10,10 +10,10 @@ bool shim_room_for_rows(uint32_t more) { return shim_selector_count + shim_row_c
 /* The count is read first: so many rows any array has that is there then. */
 struct row *shim_row(struct record *record, uint32_t sel)
 {
-    uint32_t count = record->count;
-    struct rows *rows = record->rows;
-    for (uint32_t i = 0; i < count; i++)
-        if (rows->at[i].sel == sel) return &rows->at[i];
+    size_t count = record->count;
+    struct row *row = count ? record->rows->at : NULL;
+    for (struct row *end = row + count; row < end; row++)
+        if (row->sel == sel) return row;
     return NULL;
 }
 
@@ -62,34 +62,27 @@ Method shim_standing(Class class_, uint32_t sel)
 }
 
 /* Whether a method can stand there too; of a class in construction its registration asks for the implementations. */
-static bool has_room(struct record *record, bool new, IMP imp)
+static inline bool has_room(struct record *record, bool new, IMP imp)
 {
-    return (!new || shim_room_for_rows(1)) && (!record->number || shim_room_for_imp(imp));
+    return (!new || shim_room_for_rows(1)) && (!record->number || shim_room_for(NULL, imp));
 }
 
 static bool put_new(struct record *record, SEL sel, IMP imp, const char *types)
 {
-    uint32_t number = (uint32_t)sel->name.number;
     if (!has_room(record, true, imp)) return false;
     Method method = shim_memory(sizeof *method);
     method->name.sel = shim_typed_selector(sel_getName(sel), types);
     method->types = shim_copy(types);
     method->imp = imp;
-    shim_begin_change(record);
-    shim_put_row(record, method, number);
-    shim_replace(record, number, imp);
-    shim_fill_in(record, number);
+    shim_add(record, method, (uint32_t)sel->name.number);
     return true;
 }
 
-static IMP set(struct record *record, struct row *row, IMP imp)
+static inline IMP set(struct record *record, struct row *row, IMP imp)
 {
     IMP before = row->method->imp;
     if (!has_room(record, false, imp)) return NULL;
-    shim_begin_change(record);
-    shim_set_imp(row->method, imp);
-    shim_replace(record, row->sel, imp);
-    shim_fill_in(record, row->sel);
+    shim_replace(record, row, imp);
     return before;
 }
 
@@ -141,13 +134,14 @@ void method_exchangeImplementations(Method one, Method other)
     struct record *here, *there;
     LOCKED;
     struct row *row = home_of(one, &here), *other_row = home_of(other, &there);
-    bool both = row && other_row;
+    if (row && other_row) {
+        shim_exchange(here, row, there, other_row);
+        return;
+    }
     IMP imp = one->imp;
-    if (both) shim_begin_change(here);
-    else if (row || other_row) shim_outdate();
+    if (row || other_row) shim_outdate();
     shim_set_imp(one, other->imp);
     shim_set_imp(other, imp);
-    if (both) shim_exchange(here, row->sel, there, other_row->sel);
 }
 
 static Method instance_method(Class class_, uint32_t sel)

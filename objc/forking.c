@@ -3,19 +3,17 @@
 #define _GNU_SOURCE /* for a recursive lock without a call */
 #include "shim.h"
 
-static bool busy_before;
-
 /* In the order in which they are taken elsewhere; so no +initialize of another thread's is half done, nor a change. */
 static void before_fork(void)
 {
     pthread_mutex_lock(&shim_initializing);
     shim_hold_places(true);
-    busy_before = shim_take();
+    shim_take();
 }
 
 static void give_all(void)
 {
-    shim_give(&busy_before);
+    shim_give(NULL);
     shim_hold_places(false);
     pthread_mutex_unlock(&shim_initializing);
 }

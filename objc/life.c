@@ -40,18 +40,17 @@ static void end(void)
     busy = false;
 }
 
-bool shim_take(void)
+void shim_take(void)
 {
-    bool before = busy;
     begin();
     pthread_mutex_lock(&shim_lock);
-    return before;
 }
 
-void shim_give(bool *before)
+void shim_give(const int *unused)
 {
+    (void)unused;
     pthread_mutex_unlock(&shim_lock);
-    if (!*before) end();
+    end();
 }
 
 /* The number of a function in this life, or 0 where there is no more room. */
@@ -234,7 +233,7 @@ static struct seat *next_seat(struct seat *seat)
 /* Then the thread's own seat is of the current life, unless all senders are out. */
 static struct life *sit_down(void)
 {
-    LOCKED;
+    HOLDING(&shim_lock);
     struct life *life = open_life();
     struct seat *seat = own;
     if (seat->life == life || seat == &nobody) return life;
@@ -258,7 +257,7 @@ struct record *shim_holder(struct record *record, uint32_t sel)
 static IMP find_seatless(struct record *record, uint32_t sel)
 {
     uint32_t imp = 0;
-    LOCKED;
+    HOLDING(&shim_lock);
     struct life *life = open_life();
     if (sel <= life->selectors && msg_lookup(&life->runtime, record->number, record->meta, sel, &imp)) shim_stop("no lookup", "seatless");
     return shim_function(life, imp);
@@ -266,7 +265,7 @@ static IMP find_seatless(struct record *record, uint32_t sel)
 
 static void wait_for_changer(void)
 {
-    LOCKED;
+    HOLDING(&shim_lock);
     ahead = false;
 }
 
@@ -303,7 +302,7 @@ IMP shim_find(Class class_, uint32_t sel)
 }
 
 /* At the second attempt the tables are opened anew, so that what no longer stands has no number. */
-static bool room_in_tables(Class class_, IMP imp)
+bool shim_room_in_tables(Class class_, IMP imp)
 {
     for (;;) {
         struct life *life = open_life();
@@ -313,67 +312,78 @@ static bool room_in_tables(Class class_, IMP imp)
     }
 }
 
-bool shim_room_for_class(Class class_) { return shim_row_count < MOST_IMPS || room_in_tables(class_, NULL); }
-bool shim_room_for_imp(IMP imp) { return shim_row_count < MOST_IMPS || room_in_tables(NULL, imp); }
-
-static void begin_change(struct life *life) { atomic_store_explicit(&life->count, life->count + 1, memory_order_release); }
-
-/* One thread so never sees a change and then what was before it. */
-void shim_begin_change(struct record *record)
+/* Before a change of the tables, and of the rows that say the same: from here on no send goes by what was noted before it. One thread so never sees a change and
+ * then what was before it. NULL where no tables hold the class. */
+static inline struct life *begin_change(struct record *record)
 {
     struct life *life = atomic_load(&current);
-    if (life && record->number) begin_change(life);
+    if (!life || !record->number) return NULL;
+    atomic_store_explicit(&life->count, life->count + 1, memory_order_release);
+    return life;
 }
 
-void shim_replace(struct record *record, uint32_t sel, IMP imp)
+/* The change that was begun; where this life can't hold it, the tables are outdated. */
+static inline bool put(struct life *life, struct record *record, uint32_t sel, IMP imp)
 {
-    struct life *life = atomic_load(&current);
-    if (!life || !record->number) return;
     uint32_t number = sel > life->selectors ? 0 : number_of(life, imp);
-    if (!number || msg_replace(&life->runtime, record->number, record->meta, sel, number)) shim_outdate();
+    bool done = number && !msg_replace(&life->runtime, record->number, record->meta, sel, number);
+    if (!done) shim_outdate();
+    return done;
 }
 
-/* Else each thread that sends the method next would wait for the lock that the change holds now. */
-void shim_fill_in(struct record *record, uint32_t sel)
+/* What the tables now find is cached, and noted by the thread's own sender, where it has one: else each thread that sends the method next would wait for the lock
+ * that the change holds now. */
+static inline __attribute__((always_inline)) void put_and_fill(struct life *life, struct record *record, uint32_t sel, IMP imp)
 {
-    struct seat *seat = own;
-    uint32_t imp;
-    if (seat->life != atomic_load(&current) || sel > seat->life->selectors || !record->number) return;
-    msg_fill(&seat->life->runtime, &seat->sender, record->number, record->meta, sel, &imp);
+    uint32_t found;
+    if (life && put(life, record, sel, imp) && own->life == life) msg_fill(&life->runtime, &own->sender, record->number, record->meta, sel, &found);
 }
 
-void shim_exchange(struct record *one, uint32_t sel, struct record *other, uint32_t other_sel)
+void shim_add(struct record *record, Method method, uint32_t sel)
 {
-    struct life *life = atomic_load(&current);
-    if (!life) return;
-    if (msg_exchange(&life->runtime, one->number, one->meta, sel, other->number, other->meta, other_sel)) shim_outdate();
+    struct life *life = begin_change(record);
+    shim_put_row(record, method, sel);
+    put_and_fill(life, record, sel, method->imp);
 }
 
-static void replace_rows(struct record *record)
+void shim_replace(struct record *record, struct row *row, IMP imp)
+{
+    struct life *life = begin_change(record);
+    shim_set_imp(row->method, imp);
+    put_and_fill(life, record, row->sel, imp);
+}
+
+void shim_exchange(struct record *one, struct row *row, struct record *other, struct row *other_row)
+{
+    struct life *life = begin_change(one);
+    IMP imp = row->method->imp;
+    shim_set_imp(row->method, other_row->method->imp);
+    shim_set_imp(other_row->method, imp);
+    if (life && msg_exchange(&life->runtime, one->number, one->meta, row->sel, other->number, other->meta, other_row->sel)) shim_outdate();
+}
+
+static void put_rows_of(struct record *record)
 {
     struct rows *rows = record->rows;
-    for (uint32_t i = 0; i < record->count; i++) {
-        shim_begin_change(record);
-        shim_replace(record, rows->at[i].sel, rows->at[i].method->imp);
-    }
+    struct life *life;
+    for (uint32_t i = 0; i < record->count && (life = begin_change(record)); i++) put(life, record, rows->at[i].sel, rows->at[i].method->imp);
 }
 
 void shim_make(Class class_)
 {
-    struct life *life = atomic_load(&current);
+    struct life *life = begin_change(class_->record);
     made++;
     if (!life) return;
     uint32_t number = class_->record->number;
     Class above = class_->superclass.class_;
     uint32_t fault = MSG_LIMIT;
-    begin_change(life);
     if (number <= life->classes) fault = above ? msg_make_class(&life->runtime, number, above->record->number) : msg_make_root_class(&life->runtime, number);
     if (fault) {
         shim_outdate();
         return;
     }
-    replace_rows(class_->record);
-    replace_rows(class_->isa->record);
+    put_rows_of(class_->record);
+    put_rows_of(class_->isa->record);
 }
 
 /* Here, since this file is linked into every program. */

@@ -5,7 +5,7 @@
 #include "shim.h"
 #include "msg_runtime.h"
 
-enum { MOST_IMPS = 4095, IMP_PLACES = 16384 };
+enum { IMP_PLACES = 16384 };
 
 /* Of a life that was closed: no sender has noted anything after so many changes. */
 #define OVER UINT64_MAX

@@ -10,7 +10,7 @@
 _Static_assert(sizeof(void *) == 8 && __BYTE_ORDER__ == __ORDER_LITTLE_ENDIAN__, "notes, keys and exception tables are read as on such a machine");
 
 /* A name takes a row of the tables, as a method does. */
-enum { MOST_SELECTORS = 4095, MOST_CLASSES = 1023, MOST_ROWS = 16384, LINE = 64 };
+enum { MOST_SELECTORS = 4095, MOST_CLASSES = 1023, MOST_IMPS = 4095, MOST_ROWS = 16384, LINE = 64 };
 
 /* A method that stands in a class: what the proved tables hold, kept beside them, so that they can be opened anew. */
 struct row { uint32_t sel; Method method; };
@@ -46,9 +46,9 @@ void shim_unlock(pthread_mutex_t **lock);
 /* Held to the end of the block, also where an exception leaves it. */
 #define HOLDING(lock) pthread_mutex_t *held __attribute__((cleanup(shim_unlock), unused)) = (pthread_mutex_lock(lock), (lock))
 /* shim_lock, in the same way. A handler of a signal that interrupts the block sees that its thread is on the slow way. */
-bool shim_take(void);
-void shim_give(bool *before);
-#define LOCKED bool before_ __attribute__((cleanup(shim_give), unused)) = shim_take()
+void shim_take(void);
+void shim_give(const int *unused);
+#define LOCKED const int locked __attribute__((cleanup(shim_give), unused)) = (shim_take(), 0)
 
 /* Selectors that the shim sends itself, by fixed numbers. 1 is every image's forwardingTargetForSelector:, to which no class of a program's answers. */
 enum { INITIALIZE = 2, RESOLVE_INSTANCE, RESOLVE_CLASS, FORWARD, NOT_RECOGNIZED, RETAIN, RELEASE, AUTORELEASE, COPY, MUTABLE_COPY, FIRST_FREE };
@@ -99,17 +99,14 @@ IMP shim_forward(id receiver, SEL sel);
 /* life.c */
 /* The tables no longer hold what the rows say: the next look opens them anew. */
 void shim_outdate(void);
-/* Whether the tables can hold the class's methods, or one more implementation, beside all that stand: then they have numbers. */
-bool shim_room_for_class(Class class_);
-bool shim_room_for_imp(IMP imp);
-/* Before a change of the tables, and of the rows that say the same: from here on no send goes by what was noted before it. */
-void shim_begin_change(struct record *record);
-/* One change of the tables, beside the rows; where this life can't hold it, they are outdated. */
-void shim_replace(struct record *record, uint32_t sel, IMP imp);
-/* What the tables now find is cached in this class, and noted by the thread's own sender, where it has one. */
-void shim_fill_in(struct record *record, uint32_t sel);
+/* Whether the tables can hold one more implementation, or the class's methods, beside all that stand: then they have numbers. */
+bool shim_room_in_tables(Class class_, IMP imp);
+static inline bool shim_room_for(Class class_, IMP imp) { return shim_row_count < MOST_IMPS || shim_room_in_tables(class_, imp); }
+/* A change of the rows, and of the tables that hold the class. */
+void shim_add(struct record *record, Method method, uint32_t sel);
+void shim_replace(struct record *record, struct row *row, IMP imp);
+void shim_exchange(struct record *one, struct row *row, struct record *other, struct row *other_row);
 void shim_make(Class class_);
-void shim_exchange(struct record *one, uint32_t sel, struct record *other, uint32_t other_sel);
 /* Where the method stands that the tables find, or NULL. */
 struct record *shim_holder(struct record *record, uint32_t sel);
 
