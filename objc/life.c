@@ -387,7 +387,11 @@ void shim_make(Class class_)
 }
 
 /* Here, since this file is linked into every program. */
-static __attribute__((constructor)) void at_start(void) { shim_care_for_forks(); }
+static __attribute__((constructor)) void at_start(void)
+{
+    shim_care_for_forks();
+    shim_take_roots();
+}
 
 /* Senders of threads that are gone may look as if they were in a call for ever: their tables are left. */
 void shim_leave_dead(void)

@@ -153,12 +153,16 @@ static void take_module(struct module *module)
 {
     static bool begun;
     LOCKED;
+    if (begun && module == &shim_roots) return;
     shim_outdate();
     if (!begun) take_symbols(shim_roots.symbols);
     begun = true;
-    take_symbols(module->symbols);
+    if (module != &shim_roots) take_symbols(module->symbols);
     take_what_waits();
 }
+
+/* A program may have no module, and those of others may come before. */
+void shim_take_roots(void) { take_module(&shim_roots); }
 
 void __objc_exec_class(struct module *module)
 {

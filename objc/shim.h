@@ -67,8 +67,9 @@ void shim_number_class(Class class_);
 void shim_publish(Class class_); /* found by its name from now on: the tables have it, or there are none */
 static inline bool shim_in_construction(Class class_) { return class_->record && !class_->record->number; }
 
-/* roots.c: the module of Object, Protocol and NXConstantString. */
+/* roots.c: the module of Object, Protocol and NXConstantString; loading.c takes it. */
 extern struct module shim_roots;
+void shim_take_roots(void);
 
 /* protocols.c */
 void shim_take_protocol(struct protocol *protocol, Class class_);

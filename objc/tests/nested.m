@@ -57,7 +57,7 @@ int main(void)
     pthread_t threads[THREADS];
     holder = (Holder *)class_createInstance(objc_getClass("Holder"), 0);
     for (int i = 0; i < 64; i++) { /* of many addresses: some have the holder's lock */
-        values[i] = (Value *)class_createInstance(objc_getClass("Value"), 0);
+        values[i] = (Value *)class_createInstance(objc_getClass("Value"), i % 2 * 16);
         holder.value = values[i];
         if (holder.value != values[i]) wrong++;
     }

@@ -14,6 +14,7 @@ __attribute__((objc_root_class)) @interface Base { Class isa; }
 @end
 
 static int wrong, found, waiting[2] = {-1, -1};
+static SEL value, own; /* there before, since a name is registered under a lock */
 
 static void count(int *at) { __atomic_fetch_add(at, 1, __ATOMIC_SEQ_CST); }
 
@@ -21,8 +22,8 @@ static int sent(Class class_, SEL sel) { return ((int (*)(id, SEL))objc_msg_look
 
 static int is_right(Class class_, int module, int asks)
 {
-    if (asks) return class_respondsToSelector(class_, sel_registerName("own")) && !class_respondsToSelector(class_, sel_registerName("value"));
-    return sent(class_, sel_registerName("value")) == 100 + module;
+    if (asks) return class_respondsToSelector(class_, own) && !class_respondsToSelector(class_, value);
+    return sent(class_, value) == 100 + module;
 }
 
 /* Those of each module's classes that come first, in the middle and last. */
@@ -35,7 +36,7 @@ static void *find(void *asks)
             Class class_;
             snprintf(name, sizeof name, "Opened%d_%s", module, ends[i]);
             do {
-                if (sent(objc_getClass("Base"), sel_registerName("value")) != 1) count(&wrong);
+                if (sent(objc_getClass("Base"), value) != 1) count(&wrong);
                 class_ = objc_lookUpClass(name);
                 __atomic_store_n(&waiting[asks != NULL], module, __ATOMIC_SEQ_CST);
             } while (!class_);
@@ -60,6 +61,8 @@ static void load(int module)
 int main(void)
 {
     pthread_t threads[2];
+    value = sel_registerName("value");
+    own = sel_registerName("own");
     [Base value];
     for (int i = 0; i < 2; i++) pthread_create(&threads[i], NULL, find, i ? &wrong : NULL);
     for (int module = 0; module < MODULES_COUNT; module++) {

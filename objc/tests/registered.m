@@ -13,28 +13,28 @@ __attribute__((objc_root_class)) @interface Base { Class isa; }
 @end
 
 static int wrong, waited = -1;
+static SEL value, first, last, none; /* there before, since a name is registered under a lock */
 
 static int five(id self, SEL sel) { return 5; }
 static int six(id self, SEL sel) { return 6; }
 
-static int sent(Class class_, const char *name)
+static int sent(Class class_, SEL sel)
 {
-    SEL sel = sel_registerName(name);
     return ((int (*)(id, SEL))objc_msg_lookup((id)class_, sel))((id)class_, sel);
 }
 
-static void *find(void *none)
+static void *find(void *nothing)
 {
     for (int i = 0; i < MADE; i++) {
         char name[32];
         Class class_;
         snprintf(name, sizeof name, "Made%d", i);
         while (!(class_ = objc_lookUpClass(name))) __atomic_store_n(&waited, i, __ATOMIC_SEQ_CST);
-        int right = sent(class_, "value") == 6 && sent(class_, "method19") == 6;
-        right = right && class_respondsToSelector(class_, sel_registerName("method0")) && !class_respondsToSelector(class_, sel_registerName("none"));
+        int right = class_respondsToSelector(class_, first) && !class_respondsToSelector(class_, none);
+        right = right && sent(class_, value) == 6 && sent(class_, last) == 6;
         if (!right) wrong++;
     }
-    return none;
+    return nothing;
 }
 
 static void make(int i)
@@ -55,6 +55,10 @@ int main(void)
 {
     pthread_t thread;
     [Base value];
+    value = sel_registerName("value");
+    first = sel_registerName("method0");
+    last = sel_registerName("method19");
+    none = sel_registerName("none");
     pthread_create(&thread, NULL, find, NULL);
     for (int i = 0; i < MADE; i++) {
         while (__atomic_load_n(&waited, __ATOMIC_SEQ_CST) < i) [Base value];
