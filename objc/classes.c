@@ -145,7 +145,8 @@ void objc_registerClassPair(Class class_)
 {
     if (!class_ || class_isMetaClass(class_)) return;
     LOCKED;
-    if (!shim_in_construction(class_) || shim_class_named(class_->name) || shim_class_count == MOST_CLASSES || !shim_room_for(class_, NULL)) return;
+    if (!shim_in_construction(class_) || shim_class_named(class_->name)) return;
+    if (shim_class_count == MOST_CLASSES || !shim_room_for(class_, NULL)) return;
     in_construction--;
     shim_number_class(class_);
     shim_make(class_);

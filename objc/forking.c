@@ -1,5 +1,6 @@
-/* A fork beside other threads: the child has one thread, and no lock of the shim's stays with one that is gone. Trusted: that the C library's locks and
- * memory are right in the child, and that the library may be called there, of which its header promises nothing. */
+/* A fork beside other threads: the child has one thread, and no lock of the shim's stays with one that is gone.
+ * Trusted: that the C library's locks and memory are right in the child, and that the library may be called there, of
+ * which its header promises nothing. */
 #define _GNU_SOURCE /* for a recursive lock without a call */
 #include "shim.h"
 
@@ -18,7 +19,8 @@ static void give_all(void)
     pthread_mutex_unlock(&shim_initializing);
 }
 
-/* A recursive lock knows its owner by a number that the child's thread no longer has: it is made anew, as is what a dead thread may hold. */
+/* A recursive lock knows its owner by a number that the child's thread no longer has: it is made anew, as is what a
+ * dead thread may hold. */
 static void in_child(void)
 {
     shim_leave_dead();

@@ -14,12 +14,13 @@ static _Thread_local struct seat *own = &nobody;         /* until the thread's f
 static pthread_key_t seats;
 static pthread_once_t once = PTHREAD_ONCE_INIT;
 
-/* How often the thread's seat was taken back at its end: later destructors of its data that send do without one, else the last would leave one behind. */
+/* How often the thread's seat was taken back at its end: later destructors of its data that send do without one, else
+ * the last would leave one behind. */
 enum { MOST_ENDS = 3 };
 static _Thread_local unsigned ends;
 
-/* On the slow way, or in a change: the thread's sender and perhaps the lock are in use. Only a handler of a signal that interrupts it can find it so,
- * and finds nobody's seat, in which nothing is noted. */
+/* On the slow way, or in a change: the thread's sender and perhaps the lock are in use. Only a handler of a signal
+ * that interrupts it can find it so, and finds nobody's seat, in which nothing is noted. */
 static _Thread_local volatile bool busy;
 _Thread_local struct seat *shim_seat = &nobody;
 
@@ -72,7 +73,10 @@ static bool number_functions(struct life *life, struct record *record)
     return true;
 }
 
-static bool number_both(struct life *life, Class class_) { return number_functions(life, class_->record) && number_functions(life, class_->isa->record); }
+static bool number_both(struct life *life, Class class_)
+{
+    return number_functions(life, class_->record) && number_functions(life, class_->isa->record);
+}
 
 /* Classes, selectors and implementations are named n0, n1, .. by their numbers, from one text. Selector 1 is forwardingTargetForSelector:, which no row has. */
 static struct { uint8_t text[NAMES * 5 + 1]; msg_name of[NAMES]; uint32_t length; } names;
@@ -88,9 +92,10 @@ static void make_names(void)
 
 static void put_rows(struct life *life, msg_arrays *arrays, msg_method_row *rows, struct record *record)
 {
-    struct rows *of = record->rows;
-    for (uint32_t i = 0; i < record->count; i++)
-        rows[arrays->method_count++] = (msg_method_row){names.of[of->at[i].sel], number_of(life, of->at[i].method->imp)};
+    for (uint32_t i = 0; i < record->count; i++) {
+        struct row *row = &record->rows->at[i];
+        rows[arrays->method_count++] = (msg_method_row){names.of[row->sel], number_of(life, row->method->imp)};
+    }
 }
 
 /* The first class lists the selectors in order, which fixes their numbers. */
@@ -312,8 +317,8 @@ bool shim_room_in_tables(Class class_, IMP imp)
     }
 }
 
-/* Before a change of the tables, and of the rows that say the same: from here on no send goes by what was noted before it. One thread so never sees a change and
- * then what was before it. NULL where no tables hold the class. */
+/* Before a change of the tables, and of the rows that say the same: from here on no send goes by what was noted
+ * before it. One thread so never sees a change and then what was before it. NULL where no tables hold the class. */
 static inline struct life *begin_change(struct record *record)
 {
     struct life *life = atomic_load(&current);
@@ -331,12 +336,14 @@ static inline bool put(struct life *life, struct record *record, uint32_t sel, I
     return done;
 }
 
-/* What the tables now find is cached, and noted by the thread's own sender, where it has one: else each thread that sends the method next would wait for the lock
- * that the change holds now. */
-static inline __attribute__((always_inline)) void put_and_fill(struct life *life, struct record *record, uint32_t sel, IMP imp)
+/* What the tables now find is cached, and noted by the thread's own sender, where it has one: else each thread that
+ * sends the method next would wait for the lock that the change holds now. */
+static inline __attribute__((always_inline))
+void put_and_fill(struct life *life, struct record *of, uint32_t sel, IMP imp)
 {
     uint32_t found;
-    if (life && put(life, record, sel, imp) && own->life == life) msg_fill(&life->runtime, &own->sender, record->number, record->meta, sel, &found);
+    if (!life || !put(life, of, sel, imp) || own->life != life) return;
+    msg_fill(&life->runtime, &own->sender, of->number, of->meta, sel, &found);
 }
 
 void shim_add(struct record *record, Method method, uint32_t sel)
@@ -359,14 +366,18 @@ void shim_exchange(struct record *one, struct row *row, struct record *other, st
     IMP imp = row->method->imp;
     shim_set_imp(row->method, other_row->method->imp);
     shim_set_imp(other_row->method, imp);
-    if (life && msg_exchange(&life->runtime, one->number, one->meta, row->sel, other->number, other->meta, other_row->sel)) shim_outdate();
+    if (!life) return;
+    uint32_t number = other->number, sel = other_row->sel;
+    if (msg_exchange(&life->runtime, one->number, one->meta, row->sel, number, other->meta, sel)) shim_outdate();
 }
 
 static void put_rows_of(struct record *record)
 {
-    struct rows *rows = record->rows;
-    struct life *life;
-    for (uint32_t i = 0; i < record->count && (life = begin_change(record)); i++) put(life, record, rows->at[i].sel, rows->at[i].method->imp);
+    for (uint32_t i = 0; i < record->count; i++) {
+        struct row *row = &record->rows->at[i];
+        struct life *life = begin_change(record);
+        if (!life || !put(life, record, row->sel, row->method->imp)) return;
+    }
 }
 
 void shim_make(Class class_)

@@ -10,9 +10,10 @@ enum { PLACES = 16384 };
 struct typed { SEL sel; struct typed *next; };
 
 #define OWN(list) \
-    list(INITIALIZE, "initialize") list(RESOLVE_INSTANCE, "resolveInstanceMethod:") list(RESOLVE_CLASS, "resolveClassMethod:") \
-    list(FORWARD, "forward::") list(NOT_RECOGNIZED, "doesNotRecognize:") list(RETAIN, "retain") list(RELEASE, "release") \
-    list(AUTORELEASE, "autorelease") list(COPY, "copyWithZone:") list(MUTABLE_COPY, "mutableCopyWithZone:")
+    list(INITIALIZE, "initialize") list(RESOLVE_INSTANCE, "resolveInstanceMethod:") \
+    list(RESOLVE_CLASS, "resolveClassMethod:") list(FORWARD, "forward::") list(NOT_RECOGNIZED, "doesNotRecognize:") \
+    list(RETAIN, "retain") list(RELEASE, "release") list(AUTORELEASE, "autorelease") list(COPY, "copyWithZone:") \
+    list(MUTABLE_COPY, "mutableCopyWithZone:")
 #define NAME(number_, text_) [number_] = text_,
 #define SELECTOR(number_, text_) [number_] = {.name.number = number_},
 
@@ -68,7 +69,7 @@ static uint16_t *place_from(uint32_t at, const char *name)
 static uint16_t *name_place(const char *name)
 {
     static bool own_are_there;
-    for (uint32_t i = own_are_there ? FIRST_FREE : INITIALIZE; i < FIRST_FREE; i++) *place_from(place_of(names[i]), names[i]) = (uint16_t)i;
+    for (uint16_t i = INITIALIZE; !own_are_there && i < FIRST_FREE; i++) *place_from(place_of(names[i]), names[i]) = i;
     own_are_there = true;
     return place_from(place_of(name), name);
 }

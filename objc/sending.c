@@ -33,7 +33,8 @@ static Class plain_class(Class class_) { return class_->record->meta ? shim_clas
 
 static void ensure_initialized(Class class_)
 {
-    if (atomic_load_explicit(&class_->record->plain->initialized, memory_order_acquire) != DONE) initialize(plain_class(class_));
+    atomic_int *state = &class_->record->plain->initialized;
+    if (atomic_load_explicit(state, memory_order_acquire) != DONE) initialize(plain_class(class_));
 }
 
 IMP shim_look(Class class_, SEL sel)

@@ -7,7 +7,8 @@
 #include <pthread.h>
 #include <stdatomic.h>
 
-_Static_assert(sizeof(void *) == 8 && __BYTE_ORDER__ == __ORDER_LITTLE_ENDIAN__, "notes, keys and exception tables are read as on such a machine");
+_Static_assert(sizeof(void *) == 8 && __BYTE_ORDER__ == __ORDER_LITTLE_ENDIAN__,
+               "notes, keys and exception tables are read as on such a machine");
 
 /* A name takes a row of the tables, as a method does. */
 enum { MOST_SELECTORS = 4095, MOST_CLASSES = 1023, MOST_IMPS = 4095, MOST_ROWS = 16384, LINE = 64 };
@@ -20,7 +21,8 @@ struct rows { struct rows *before; struct row at[]; };
 
 enum { NOT_YET, RUNNING, DONE };
 
-/* `number` is 0 for a class in construction, which no tables hold. `plain`: of a metaclass's record, its class's; else itself.
+/* `number` is 0 for a class in construction, which no tables hold. `plain`: of a metaclass's record, its class's;
+ * else itself.
  * `methods`: all, in the order in which they came; a row has the last of a name. */
 struct record {
     bool meta;
@@ -45,13 +47,16 @@ char *shim_copy(const char *text);
 void shim_unlock(pthread_mutex_t **lock);
 /* Held to the end of the block, also where an exception leaves it. */
 #define HOLDING(lock) pthread_mutex_t *held __attribute__((cleanup(shim_unlock), unused)) = (pthread_mutex_lock(lock), (lock))
-/* shim_lock, in the same way. A handler of a signal that interrupts the block sees that its thread is on the slow way. */
+/* shim_lock, in the same way. A handler of a signal that interrupts the block sees that its thread is on the slow
+ * way. */
 void shim_take(void);
 void shim_give(const int *unused);
 #define LOCKED const int locked __attribute__((cleanup(shim_give), unused)) = (shim_take(), 0)
 
-/* Selectors that the shim sends itself, by fixed numbers. 1 is every image's forwardingTargetForSelector:, to which no class of a program's answers. */
-enum { INITIALIZE = 2, RESOLVE_INSTANCE, RESOLVE_CLASS, FORWARD, NOT_RECOGNIZED, RETAIN, RELEASE, AUTORELEASE, COPY, MUTABLE_COPY, FIRST_FREE };
+/* Selectors that the shim sends itself, by fixed numbers. 1 is every image's forwardingTargetForSelector:, to which
+ * no class of a program's answers. */
+enum { INITIALIZE = 2, RESOLVE_INSTANCE, RESOLVE_CLASS, FORWARD, NOT_RECOGNIZED };
+enum { RETAIN = NOT_RECOGNIZED + 1, RELEASE, AUTORELEASE, COPY, MUTABLE_COPY, FIRST_FREE };
 extern const struct objc_selector shim_own[FIRST_FREE];
 
 /* names.c: number 0, or NULL, where no name is to be had any more. */
@@ -100,9 +105,13 @@ IMP shim_forward(id receiver, SEL sel);
 /* life.c */
 /* The tables no longer hold what the rows say: the next look opens them anew. */
 void shim_outdate(void);
-/* Whether the tables can hold one more implementation, or the class's methods, beside all that stand: then they have numbers. */
+/* Whether the tables can hold one more implementation, or the class's methods, beside all that stand: then they have
+ * numbers. */
 bool shim_room_in_tables(Class class_, IMP imp);
-static inline bool shim_room_for(Class class_, IMP imp) { return shim_row_count < MOST_IMPS || shim_room_in_tables(class_, imp); }
+static inline bool shim_room_for(Class class_, IMP imp)
+{
+    return shim_row_count < MOST_IMPS || shim_room_in_tables(class_, imp);
+}
 /* A change of the rows, and of the tables that hold the class. */
 void shim_add(struct record *record, Method method, uint32_t sel);
 void shim_replace(struct record *record, struct row *row, IMP imp);

@@ -64,13 +64,16 @@ int main(void)
 
     printf("classes refused: %d\n", was_refused(fill_classes(root)));
     printf("methods refused: %d\n", was_refused(fill_methods()));
-    printf("a replacement too: %d\n", !class_replaceMethod(root->isa, known, function(-5000), "@16@0:8") && is_answered(root, known));
+    int refused = !class_replaceMethod(root->isa, known, function(-5000), "@16@0:8");
+    printf("a replacement too: %d\n", refused && is_answered(root, known));
     objc_registerClassPair(late);
     printf("a class that waited, for its functions: %d\n", !objc_getClass("Late"));
-    printf("one that is known can be added: %d\n", class_addMethod(root, known, answer, "@16@0:8") && class_getMethodImplementation(root, known) == answer);
+    int added = class_addMethod(root, known, answer, "@16@0:8");
+    printf("one that is known can be added: %d\n", added && class_getMethodImplementation(root, known) == answer);
     printf("names refused: %d\n", was_refused(fill_names()));
-    printf("known ones are found: %d %d\n", sel_registerName("known") == known || sel_isEqual(sel_registerName("known"), known), is_answered(root, known));
+    printf("known ones are found: %d %d\n", sel_isEqual(sel_registerName("known"), known), is_answered(root, known));
     objc_disposeClassPair(late);
-    printf("after: %d %d\n", class_respondsToSelector(root, known), class_respondsToSelector(root, sel_registerName("name0")));
+    SEL other = sel_registerName("name0");
+    printf("after: %d %d\n", class_respondsToSelector(root, known), class_respondsToSelector(root, other));
     return 0;
 }

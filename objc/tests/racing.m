@@ -1,4 +1,5 @@
-/* Threads that send what no class has, which a hook answers, and at the same time what a class resolves: for a sanitizer, and for the answers. */
+/* Threads that send what no class has, which a hook answers, and at the same time what a class resolves: for a
+ * sanitizer, and for the answers. */
 #include "../roots.h"
 #include <pthread.h>
 #include <stdio.h>
@@ -19,7 +20,10 @@ static IMP hook(id self, SEL sel) { return (IMP)by_hook; }
 
 @implementation Base
 + (int)value { return 1; }
-+ (BOOL)resolveClassMethod:(SEL)sel { return sel_isEqual(sel, @selector(late)) && class_addMethod(objc_getMetaClass("Base"), sel, (IMP)late, "i16@0:8"); }
++ (BOOL)resolveClassMethod:(SEL)sel
+{
+    return sel_isEqual(sel, @selector(late)) && class_addMethod(objc_getMetaClass("Base"), sel, (IMP)late, "i16@0:8");
+}
 @end
 
 static int wrong;
@@ -30,7 +34,8 @@ static void *run(void *first)
     pthread_barrier_wait(&together);
     if (first && [Base late] != 4) __atomic_fetch_add(&wrong, 1, __ATOMIC_SEQ_CST);
     for (int i = 0; i < TURNS; i++) {
-        int right = [Base nowhere] == 9 && [Base value] == 1 && !class_respondsToSelector(objc_getMetaClass("Base"), @selector(nowhere));
+        int right = [Base nowhere] == 9 && [Base value] == 1;
+        right = right && !class_respondsToSelector(objc_getMetaClass("Base"), @selector(nowhere));
         if (!right) __atomic_fetch_add(&wrong, 1, __ATOMIC_SEQ_CST);
     }
     if ([Base late] != 4) __atomic_fetch_add(&wrong, 1, __ATOMIC_SEQ_CST);

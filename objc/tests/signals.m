@@ -1,5 +1,6 @@
-/* Handlers of signals that send what was sent before: in the thread that changes methods, and in one that sends beside it. No answer is older than a change that
- * had returned, or than one that the thread had seen; none is newer than what was begun. */
+/* Handlers of signals that send what was sent before: in the thread that changes methods, and in one that sends
+ * beside it. No answer is older than a change that had returned, or than one that the thread had seen; none is newer
+ * than what was begun. */
 #include "../roots.h"
 #include <pthread.h>
 #include <signal.h>
@@ -9,7 +10,8 @@
 
 enum { KINDS = 64, SECONDS = 2, EVERY = 150 };
 
-/* The first send after the tables were opened anew takes memory, of which ThreadSanitizer tells where a handler does it; after 65,536 changes they are. */
+/* The first send after the tables were opened anew takes memory, of which ThreadSanitizer tells where a handler does
+ * it; after 65,536 changes they are. */
 #ifdef __SANITIZE_THREAD__
 enum { MOST_CHANGES = 60000 };
 #else

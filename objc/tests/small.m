@@ -69,9 +69,10 @@ int main(void)
     tell_layout();
     printf("a class is no object to free: %d, %d\n", object_dispose((id)base) == nil, [Base value]);
     printf("an object is: %d\n", object_dispose(class_createInstance(base, 0)) == nil);
-    printf("responds: %d %d %d\n", class_respondsToSelector(base, @selector(one)), class_respondsToSelector(base, sel_registerName("none")),
-           class_respondsToSelector(NULL, @selector(one)));
+    SEL one = @selector(one), none = sel_registerName("none");
+    printf("responds: %d %d", class_respondsToSelector(base, one), class_respondsToSelector(base, none));
+    printf(" %d\n", class_respondsToSelector(NULL, one));
     class_ivar_set_gcinvisible(base, "isa", 1);
-    printf("asked by another name: %d %d\n", __objc_responds_to((id)base, @selector(value)), __objc_responds_to((id)base, @selector(one)));
+    printf("asked by another name: %d %d\n", __objc_responds_to((id)base, one), __objc_responds_to((id)base, none));
     return 0;
 }

@@ -1,4 +1,5 @@
-/* Encodings that come from anywhere: none ends the program, or leads past its end; and what GCC writes of instance variables is measured. */
+/* Encodings that come from anywhere: none ends the program, or leads past its end; and what GCC writes of instance
+ * variables is measured. */
 #include "../calls.h"
 #include <stdio.h>
 #include <stdlib.h>
@@ -10,7 +11,8 @@ struct pair { int n; void *text; };
 struct bits { void *a; int b : 3; char c; };
 struct outer { char c; struct pair pairs[3]; union { int n; void *text; } u; };
 
-#define IS(type, text) (objc_sizeof_type(text) == sizeof(type) && objc_alignof_type(text) == _Alignof(type) && !*objc_skip_typespec(text))
+#define IS(type, text) \
+    (objc_sizeof_type(text) == sizeof(type) && objc_alignof_type(text) == _Alignof(type) && !*objc_skip_typespec(text))
 
 /* A letter so often, then an end. */
 static void nested(const char *begin, const char *end)
@@ -57,7 +59,8 @@ static int drawn_texts(void)
         text[length] = 0;
         const char *after = objc_skip_argspec(text);
         int in = after >= text && after <= text + length;
-        right += in && objc_sizeof_type(text) >= 0 && objc_alignof_type(text) >= 1 && objc_aligned_size(text) >= 0 && objc_promoted_size(text) >= 0 && layout_ends(text);
+        int sized = objc_sizeof_type(text) >= 0 && objc_aligned_size(text) >= 0 && objc_promoted_size(text) >= 0;
+        right += in && sized && objc_alignof_type(text) >= 1 && layout_ends(text);
         free(text);
     }
     return right;
@@ -65,13 +68,15 @@ static int drawn_texts(void)
 
 int main(void)
 {
-    printf("quoted: %d %d %d\n", IS(struct pair, "{?=\"n\"i\"text\"@\"NSString\"}"), IS(struct bits, "{?=\"a\"@\"X\"\"b\"b64i3\"c\"c}"),
-           IS(struct outer, "{outer=\"c\"c\"pairs\"[3{pair=\"n\"i\"text\"@\"NSString\"}]\"u\"(?=\"n\"i\"text\"@\"A\")}"));
+    const char *outer = "{outer=\"c\"c\"pairs\"[3{pair=\"n\"i\"text\"@\"NSString\"}]\"u\"(?=\"n\"i\"text\"@\"A\")}";
+    printf("quoted: %d %d", IS(struct pair, "{?=\"n\"i\"text\"@\"NSString\"}"), IS(struct outer, outer));
+    printf(" %d\n", IS(struct bits, "{?=\"a\"@\"X\"\"b\"b64i3\"c\"c}"));
     printf("of a block: %d %d\n", IS(void *, "@?"), IS(struct pair, "{?=i@?}"));
     printf("unknown: %d %d\n", objc_sizeof_type("A"), objc_sizeof_type("{s=iA}"));
     printf("nothing: %d %d %d\n", objc_sizeof_type(""), objc_alignof_type(""), objc_sizeof_type("{s"));
     printf("no alignment: %d\n", objc_alignof_type("![16,0f]"));
-    printf("large: %d %d\n", objc_sizeof_type("[99999999999999999999i]") > 0, objc_aligned_size("[4294967295[4294967295[4294967295d]]]") > 0);
+    printf("large: %d", objc_sizeof_type("[99999999999999999999i]") > 0);
+    printf(" %d\n", objc_aligned_size("[4294967295[4294967295[4294967295d]]]") > 0);
     printf("no structure: %d\n", layout_ends("i"));
     nested("{", "");
     nested("{a=", "i");

@@ -1,12 +1,15 @@
-/* A stand-in for those calls of the library that the shim makes: plain tables, nothing proved. For trying the shim's own logic where the archive isn't built, and under
- * sanitizers: what is seen with it says nothing of the proved dispatcher.
- * It goes the ways that the library goes: notes are written, so that a send hits; a shared cache is probed without a lock; 64 senders are given out; closed tables are
- * kept for their senders; the faults are the header's. What would break the one `requires` that the header leaves ends the program. */
+/* A stand-in for those calls of the library that the shim makes: plain tables, nothing proved. For trying the shim's
+ * own logic where the archive isn't built, and under sanitizers: what is seen with it says nothing of the proved
+ * dispatcher.
+ * It goes the ways that the library goes: notes are written, so that a send hits; a shared cache is probed without a
+ * lock; 64 senders are given out; closed tables are kept for their senders; the faults are the header's. What would
+ * break the one `requires` that the header leaves ends the program. */
 #include "msg_runtime.h"
 #include <stdatomic.h>
 #include <stdlib.h>
 
-enum { CLASSES = 1024, SELECTORS = 4096, IMPS = 4096, CHANGES = 65536, ROWS = 16384, SENDERS = 64, PLACES = 8192, REFUSED = 18 };
+enum { CLASSES = 1024, SELECTORS = 4096, IMPS = 4096, CHANGES = 65536, ROWS = 16384, SENDERS = 64 };
+enum { PLACES = 8192, REFUSED = 18 };
 
 /* A place of the cache: what was found for a slot and a selector at a version, as one word. */
 enum { VERSION_BITS = 21, IMP_BITS = 16, SEL_BITS = 14 };
@@ -47,9 +50,9 @@ static const msg_method_row *put_rows(struct tables *tables, const uint8_t *name
     return row;
 }
 
-uint32_t msg_open_rows(msg_runtime *runtime, const uint8_t *names, size_t length, const msg_class_row *classes, size_t class_count,
-                       const msg_method_row *methods, size_t method_count, const msg_imp_row *imps, size_t imp_count,
-                       const msg_name *made, size_t made_count)
+uint32_t msg_open_rows(msg_runtime *runtime, const uint8_t *names, size_t length, const msg_class_row *classes,
+                       size_t class_count, const msg_method_row *methods, size_t method_count, const msg_imp_row *imps,
+                       size_t imp_count, const msg_name *made, size_t made_count)
 {
     (void)length, (void)imps, (void)made;
     if (runtime->open) return MSG_ALREADY_OPEN;
@@ -165,7 +168,11 @@ static uint32_t make(msg_runtime *runtime, uint32_t number, int above)
     return MSG_DONE;
 }
 
-uint32_t msg_make_class(msg_runtime *runtime, uint32_t number, uint32_t superclass) { return make(runtime, number, (int)superclass); }
+uint32_t msg_make_class(msg_runtime *runtime, uint32_t number, uint32_t superclass)
+{
+    return make(runtime, number, (int)superclass);
+}
+
 uint32_t msg_make_root_class(msg_runtime *runtime, uint32_t number) { return make(runtime, number, -1); }
 
 uint32_t msg_sender_open(msg_runtime *runtime, msg_sender *sender)
@@ -200,7 +207,10 @@ uint32_t msg_sender_close(msg_runtime *runtime, msg_sender *sender)
 
 size_t msg_sender_size(void) { return sizeof(msg_sender); }
 
-static const msg_note *note_at(const msg_sender *sender, uint64_t key) { return &sender->notes[(uint32_t)((key >> 27) + key) % MSG_NOTES]; }
+static const msg_note *note_at(const msg_sender *sender, uint64_t key)
+{
+    return &sender->notes[(uint32_t)((key >> 27) + key) % MSG_NOTES];
+}
 
 static void note(msg_sender *sender, uint32_t slot, uint32_t sel, uint64_t count, uint32_t imp)
 {
@@ -218,7 +228,10 @@ size_t msg_recall(const msg_sender *sender, size_t slot, uint32_t sel, uint64_t 
     return is_noted(sender, (uint32_t)slot, sel, count) ? note_at(sender, msg_key((uint32_t)slot, sel))->imp : 0;
 }
 
-static _Atomic(uint64_t) *place(struct tables *tables, uint32_t slot, uint32_t sel) { return &tables->cache[(slot * 31 + sel * 7) % PLACES]; }
+static _Atomic(uint64_t) *place(struct tables *tables, uint32_t slot, uint32_t sel)
+{
+    return &tables->cache[(slot * 31 + sel * 7) % PLACES];
+}
 
 /* One more than the version, since 0 is an empty place. */
 static uint64_t word(uint32_t slot, uint32_t sel, uint32_t imp, uint64_t version)
