@@ -23,8 +23,8 @@ static void note_load(Class class_, struct objc_category *category, IMP imp, SEL
 static void take_method(Class class_, struct record *record, Method method)
 {
     const char *name = method->name.text;
-    if (!shim_room_for_rows(1)) shim_stop("too many methods", class_->name);
     method->name.sel = shim_needed_selector(name, method->types);
+    if (!shim_room_for_rows(1)) shim_stop("too many methods", class_->name);
     if (record->meta && !strcmp(name, "load")) note_load(class_, NULL, method->imp, method->name.sel);
     shim_put_row(record, method, (uint32_t)method->name.sel->name.number);
 }

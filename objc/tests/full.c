@@ -62,6 +62,9 @@ int main(void)
         class_addMethod(late, sel_registerName(name), function(-i - 1), "v16@0:8");
     }
 
+    int taken = class_addIvar(late, "wide", SIZE_MAX, 3, "c") + class_addIvar(late, "aligned", 1, 255, "c");
+    int made = objc_allocateClassPair(root, "Large", SIZE_MAX) || class_createInstance(root, SIZE_MAX);
+    printf("too large: %d %d\n", taken, made);
     printf("classes refused: %d\n", was_refused(fill_classes(root)));
     printf("methods refused: %d\n", was_refused(fill_methods()));
     int refused = !class_replaceMethod(root->isa, known, function(-5000), "@16@0:8");
