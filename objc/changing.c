@@ -3,60 +3,100 @@
 #include <stdlib.h>
 #include <string.h>
 
+uint32_t shim_row_count;
+
+bool shim_room_for_rows(uint32_t more) { return shim_selector_count + shim_row_count + more <= MOST_ROWS; }
+
+/* The count is read first: so many rows any array has that is there then. */
 struct row *shim_row(struct record *record, uint32_t sel)
 {
-    for (uint32_t i = 0; i < record->count; i++)
-        if (record->rows[i].sel == sel) return &record->rows[i];
+    size_t count = record->count;
+    struct row *row = count ? record->rows->at : NULL;
+    for (struct row *end = row + count; row < end; row++)
+        if (row->sel == sel) return row;
     return NULL;
+}
+
+static void make_room(struct record *record)
+{
+    uint32_t room = record->room * 2 + 8;
+    struct rows *before = record->rows, *rows = shim_memory(sizeof *rows + room * sizeof *rows->at);
+    rows->before = before;
+    if (before) memcpy(rows->at, before->at, record->count * sizeof *rows->at);
+    record->rows = rows;
+    record->room = room;
+}
+
+static void list(struct record *record, Method method)
+{
+    if (record->method_count == record->method_room) {
+        record->method_room = record->method_room * 2 + 8;
+        record->methods = realloc(record->methods, record->method_room * sizeof *record->methods);
+        if (!record->methods) shim_stop("no memory", "methods");
+    }
+    record->methods[record->method_count++] = method;
 }
 
 void shim_put_row(struct record *record, Method method, uint32_t sel)
 {
     struct row *row = shim_row(record, sel);
-    if (!row) {
-        if (record->count == record->room) {
-            record->room = record->room * 2 + 8;
-            record->rows = realloc(record->rows, record->room * sizeof *record->rows);
-            if (!record->rows) shim_stop("no memory", "methods");
-        }
-        row = &record->rows[record->count++];
+    list(record, method);
+    if (row) {
+        __atomic_store_n(&row->method, method, __ATOMIC_RELEASE);
+        return;
     }
-    *row = (struct row){sel, method};
+    if (record->count == record->room) make_room(record);
+    record->rows->at[record->count] = (struct row){sel, method};
+    record->count++;
+    shim_row_count++;
 }
 
-static void put_new(struct record *record, SEL sel, IMP imp, const char *types)
+/* Goes through a class in construction, which has no place in the tables, to its superclass. */
+Method shim_standing(Class class_, uint32_t sel)
 {
+    for (; class_; class_ = class_->superclass.class_) {
+        struct row *row = shim_row(class_->record, sel);
+        if (row) return __atomic_load_n(&row->method, __ATOMIC_ACQUIRE);
+    }
+    return NULL;
+}
+
+/* Whether a method can stand there too; of a class in construction its registration asks for the implementations. */
+static inline bool has_room(struct record *record, bool new, IMP imp)
+{
+    return (!new || shim_room_for_rows(1)) && (!record->number || shim_room_for(NULL, imp));
+}
+
+static bool put_new(struct record *record, SEL sel, IMP imp, const char *types)
+{
+    if (!has_room(record, true, imp)) return false;
     Method method = shim_memory(sizeof *method);
     method->name.sel = shim_typed_selector(sel_getName(sel), types);
-    method->types = strdup(types);
+    method->types = shim_copy(types);
     method->imp = imp;
-    shim_put_row(record, method, (uint32_t)sel->name.number);
-    shim_replace(record, (uint32_t)sel->name.number, imp);
-    shim_fill_in(record, (uint32_t)sel->name.number);
+    shim_add(record, method, (uint32_t)sel->name.number);
+    return true;
 }
 
-static IMP set(struct record *record, struct row *row, IMP imp)
+static inline IMP set(struct record *record, struct row *row, IMP imp)
 {
     IMP before = row->method->imp;
-    row->method->imp = imp;
-    shim_replace(record, row->sel, imp);
-    shim_fill_in(record, row->sel);
+    if (!has_room(record, false, imp)) return NULL;
+    shim_replace(record, row, imp);
     return before;
 }
 
 BOOL class_addMethod(Class class_, SEL sel, IMP imp, const char *types)
 {
     if (!class_ || !class_->record || !sel || !imp || !types) return false;
-    HOLDING(&shim_lock);
-    if (shim_row(class_->record, (uint32_t)sel->name.number)) return false;
-    put_new(class_->record, sel, imp, types);
-    return true;
+    LOCKED;
+    return !shim_row(class_->record, (uint32_t)sel->name.number) && put_new(class_->record, sel, imp, types);
 }
 
 IMP class_replaceMethod(Class class_, SEL sel, IMP imp, const char *types)
 {
     if (!class_ || !class_->record || !sel || !imp || !types) return NULL;
-    HOLDING(&shim_lock);
+    LOCKED;
     struct row *row = shim_row(class_->record, (uint32_t)sel->name.number);
     if (row) return set(class_->record, row, imp);
     put_new(class_->record, sel, imp, types);
@@ -80,11 +120,11 @@ IMP method_setImplementation(Method method, IMP imp)
 {
     if (!method || !imp) return NULL;
     struct record *record;
-    HOLDING(&shim_lock);
+    LOCKED;
     struct row *row = home_of(method, &record);
     if (row) return set(record, row, imp);
     IMP before = method->imp;
-    method->imp = imp;
+    shim_set_imp(method, imp);
     return before;
 }
 
@@ -92,23 +132,22 @@ void method_exchangeImplementations(Method one, Method other)
 {
     if (!one || !other) return;
     struct record *here, *there;
-    HOLDING(&shim_lock);
+    LOCKED;
     struct row *row = home_of(one, &here), *other_row = home_of(other, &there);
+    if (row && other_row) {
+        shim_exchange(here, row, there, other_row);
+        return;
+    }
     IMP imp = one->imp;
-    one->imp = other->imp;
-    other->imp = imp;
-    if (row && other_row) shim_exchange(here, row->sel, there, other_row->sel);
-    else if (row || other_row) shim_outdate();
+    if (row || other_row) shim_outdate();
+    shim_set_imp(one, other->imp);
+    shim_set_imp(other, imp);
 }
 
-/* A class in construction has no place in the tables: its own methods, and then its superclass's. */
 static Method instance_method(Class class_, uint32_t sel)
 {
-    if (shim_in_construction(class_)) {
-        struct row *row = shim_row(class_->record, sel);
-        if (row || !class_->superclass.class_) return row ? row->method : NULL;
-        return instance_method(class_->superclass.class_, sel);
-    }
+    LOCKED;
+    if (shim_in_construction(class_)) return shim_standing(class_, sel);
     struct record *holder = shim_holder(class_->record, sel);
     struct row *row = holder ? shim_row(holder, sel) : NULL;
     return row ? row->method : NULL;
@@ -118,22 +157,22 @@ Method class_getInstanceMethod(Class class_, SEL sel)
 {
     if (!class_ || !class_->record || !sel) return NULL;
     for (bool resolved = false;; resolved = true) {
-        pthread_mutex_lock(&shim_lock);
         Method method = instance_method(class_, (uint32_t)sel->name.number);
-        pthread_mutex_unlock(&shim_lock);
         if (method || resolved || !shim_resolve(class_, sel)) return method;
     }
 }
 
 Method class_getClassMethod(Class class_, SEL sel) { return class_ ? class_getInstanceMethod(class_isMetaClass(class_) ? class_ : class_->isa, sel) : NULL; }
 
+/* The newest first. */
 Method *class_copyMethodList(Class class_, unsigned int *count)
 {
-    HOLDING(&shim_lock);
-    unsigned int many = class_ && class_->record && !shim_in_construction(class_) ? class_->record->count : 0;
+    LOCKED;
+    struct record *record = class_ ? class_->record : NULL;
+    unsigned int many = record && record->number ? record->method_count : 0;
     if (count) *count = many;
     if (!many) return NULL;
     Method *list = shim_memory((many + 1) * sizeof *list);
-    for (unsigned int i = 0; i < many; i++) list[i] = class_->record->rows[i].method;
+    for (unsigned int i = 0; i < many; i++) list[i] = record->methods[many - 1 - i];
     return list;
 }

@@ -7,6 +7,7 @@ enum { PLACES = 4096 };
 
 Class shim_classes[MOST_CLASSES + 1];
 uint32_t shim_class_count;
+static uint32_t in_construction; /* for which a number is kept */
 static _Atomic(Class) by_name[PLACES];
 static objc_get_unknown_class_handler unknown_class;
 
@@ -34,7 +35,7 @@ struct record *shim_new_record(Class class_, bool meta)
     return class_->record = record;
 }
 
-/* The class and its metaclass have records; the tables have them from now on. */
+/* The class and its metaclass have records; the tables have them when they are opened next. */
 void shim_number_class(Class class_)
 {
     if (shim_class_count == MOST_CLASSES) shim_stop("too many classes", class_->name);
@@ -42,12 +43,14 @@ void shim_number_class(Class class_)
     class_->record->number = shim_class_count;
     class_->isa->record->number = shim_class_count;
     class_->isa->record->plain = class_->record;
+}
+
+void shim_publish(Class class_)
+{
     uint32_t at = place_of(class_->name);
     while (atomic_load(&by_name[at])) at = (at + 1) % PLACES;
     atomic_store(&by_name[at], class_);
 }
-
-bool shim_in_construction(Class class_) { return class_->record && !class_->record->number; }
 
 Class objc_lookUpClass(const char *name) { return name ? shim_class_named(name) : NULL; }
 
@@ -84,7 +87,7 @@ objc_get_unknown_class_handler objc_setGetUnknownClassHandler(objc_get_unknown_c
 
 int objc_getClassList(Class *into, int most)
 {
-    HOLDING(&shim_lock);
+    LOCKED;
     int count = (int)shim_class_count;
     if (!into) return count;
     if (count > most) count = most;
@@ -92,7 +95,7 @@ int objc_getClassList(Class *into, int most)
     return count;
 }
 
-const char *class_getName(Class class_) { return class_ ? class_->name : "Nil"; }
+const char *class_getName(Class class_) { return class_ ? class_->name : "nil"; }
 BOOL class_isMetaClass(Class class_) { return class_ && class_->info & CLASS_META; }
 int class_getVersion(Class class_) { return class_ ? (int)class_->version : 0; }
 void class_setVersion(Class class_, int version) { if (class_) class_->version = version; }
@@ -108,7 +111,8 @@ Class class_getSuperclass(Class class_)
 
 static Class new_class(Class above, const char *name, size_t extra, unsigned long info)
 {
-    Class class_ = shim_memory(sizeof *class_ + extra);
+    Class class_ = extra < SIZE_MAX - sizeof *class_ ? calloc(1, sizeof *class_ + extra) : NULL;
+    if (!class_) return NULL;
     class_->name = name;
     class_->info = info;
     class_->superclass.class_ = above;
@@ -120,32 +124,48 @@ static Class new_class(Class above, const char *name, size_t extra, unsigned lon
 Class objc_allocateClassPair(Class superclass, const char *name, size_t extra)
 {
     if (!name || objc_lookUpClass(name) || (superclass && (!superclass->record || shim_in_construction(superclass)))) return NULL;
-    char *copy = strdup(name);
-    if (!copy) shim_stop("no memory", name);
-    Class class_ = new_class(superclass, copy, extra, CLASS_PLAIN);
-    Class meta = new_class(superclass ? superclass->isa : class_, copy, extra, CLASS_META);
+    LOCKED;
+    if (shim_class_count + in_construction >= MOST_CLASSES) return NULL;
+    Class class_ = new_class(superclass, name, extra, CLASS_PLAIN);
+    Class meta = class_ ? new_class(superclass ? superclass->isa : class_, name, extra, CLASS_META) : NULL;
+    if (!meta) {
+        if (class_) free(class_->record);
+        free(class_);
+        return NULL;
+    }
+    class_->name = meta->name = shim_copy(name);
     if (!superclass) meta->instance_size = sizeof(struct objc_class);
     class_->isa = meta;
     meta->isa = superclass ? superclass->isa->isa : meta;
+    in_construction++;
     return class_;
 }
 
 void objc_registerClassPair(Class class_)
 {
     if (!class_ || class_isMetaClass(class_)) return;
-    HOLDING(&shim_lock);
+    LOCKED;
     if (!shim_in_construction(class_) || shim_class_named(class_->name)) return;
+    if (shim_class_count == MOST_CLASSES || !shim_room_for(class_, NULL)) return;
+    in_construction--;
     shim_number_class(class_);
     shim_make(class_);
+    shim_publish(class_);
 }
 
 static void free_methods(struct record *record)
 {
+    struct rows *rows = record->rows;
     for (uint32_t i = 0; i < record->count; i++) {
-        free((char *)record->rows[i].method->types);
-        free(record->rows[i].method);
+        free((char *)rows->at[i].method->types);
+        free(rows->at[i].method);
     }
-    free(record->rows);
+    shim_row_count -= record->count;
+    for (struct rows *before; rows; rows = before) {
+        before = rows->before;
+        free(rows);
+    }
+    free(record->methods);
     free(record);
 }
 
@@ -171,8 +191,9 @@ static void free_class(Class class_)
 void objc_disposeClassPair(Class class_)
 {
     if (!class_ || class_isMetaClass(class_)) return;
-    HOLDING(&shim_lock);
+    LOCKED;
     if (!shim_in_construction(class_)) return;
+    in_construction--;
     free((char *)class_->name);
     free_class(class_->isa);
     free_class(class_);

@@ -12,14 +12,12 @@ typedef void *(*forwarder)(id, SEL, SEL, void *);
 IMP (*__objc_msg_forward)(SEL);
 IMP (*__objc_msg_forward2)(id, SEL);
 
-static SEL forward_name(void) { return sel_registerTypedName("forward::", "^v32@0:8:16^v24"); }
-
 static void *forward(id self, SEL sel, void *frame)
 {
-    SEL name = forward_name();
+    SEL name = &shim_own[FORWARD];
     IMP imp = self ? shim_look(self->isa, name) : NULL;
     if (imp) return ((forwarder)(void (*)(void))imp)(self, name, sel, frame);
-    name = sel_registerName("doesNotRecognize:");
+    name = &shim_own[NOT_RECOGNIZED];
     imp = self ? shim_look(self->isa, name) : NULL;
     if (!imp) shim_stop("unrecognized selector", sel_getName(sel));
     ((void (*)(id, SEL, SEL))(void (*)(void))imp)(self, name, sel);

@@ -8,11 +8,51 @@ enum { SPARE = 128, SPARE_CLASSES = 2, NAMES = MOST_IMPS + 1 };
 pthread_mutex_t shim_lock = PTHREAD_MUTEX_INITIALIZER;
 static _Atomic(struct life *) current;
 static uint32_t made; /* classes at run time: a life has room for as many again, since each that it has costs every change */
-static struct life nowhere;
-static struct seat nobody = {MSG_SENDER_INIT, &nowhere}; /* its sender is closed, and has noted nothing */
-_Thread_local struct seat *shim_seat = &nobody;          /* until the thread's first send */
+static struct life nowhere = {.count = OVER};
+static struct seat nobody = {MSG_SENDER_INIT, &nowhere, NULL}; /* its sender is closed, and has noted nothing */
+static _Thread_local struct seat *own = &nobody;         /* until the thread's first send */
 static pthread_key_t seats;
 static pthread_once_t once = PTHREAD_ONCE_INIT;
+
+/* How often the thread's seat was taken back at its end: later destructors of its data that send do without one, else
+ * the last would leave one behind. */
+enum { MOST_ENDS = 3 };
+static _Thread_local unsigned ends;
+
+/* On the slow way, or in a change: the thread's sender and perhaps the lock are in use. Only a handler of a signal
+ * that interrupts it can find it so, and finds nobody's seat, in which nothing is noted. */
+static _Thread_local volatile bool busy;
+_Thread_local struct seat *shim_seat = &nobody;
+
+/* A handler has seen rows that the tables may not have yet: they do when the lock was free once. */
+static _Thread_local volatile bool ahead;
+
+static void begin(void)
+{
+    busy = true;
+    shim_seat = &nobody;
+    atomic_signal_fence(memory_order_seq_cst);
+}
+
+static void end(void)
+{
+    atomic_signal_fence(memory_order_seq_cst);
+    shim_seat = own;
+    busy = false;
+}
+
+void shim_take(void)
+{
+    begin();
+    pthread_mutex_lock(&shim_lock);
+}
+
+void shim_give(const int *unused)
+{
+    (void)unused;
+    pthread_mutex_unlock(&shim_lock);
+    end();
+}
 
 /* The number of a function in this life, or 0 where there is no more room. */
 static uint32_t number_of(struct life *life, IMP imp)
@@ -25,10 +65,17 @@ static uint32_t number_of(struct life *life, IMP imp)
     return life->function_at[at] = (uint16_t)life->imp_count;
 }
 
-static void number_functions(struct life *life, struct record *record)
+static bool number_functions(struct life *life, struct record *record)
 {
+    struct rows *rows = record->rows;
     for (uint32_t i = 0; i < record->count; i++)
-        if (!number_of(life, record->rows[i].method->imp)) shim_stop("too many implementations", sel_getName(record->rows[i].method->name.sel));
+        if (!number_of(life, rows->at[i].method->imp)) return false;
+    return true;
+}
+
+static bool number_both(struct life *life, Class class_)
+{
+    return number_functions(life, class_->record) && number_functions(life, class_->isa->record);
 }
 
 /* Classes, selectors and implementations are named n0, n1, .. by their numbers, from one text. Selector 1 is forwardingTargetForSelector:, which no row has. */
@@ -45,7 +92,10 @@ static void make_names(void)
 
 static void put_rows(struct life *life, msg_arrays *arrays, msg_method_row *rows, struct record *record)
 {
-    for (uint32_t i = 0; i < record->count; i++) rows[arrays->method_count++] = (msg_method_row){names.of[record->rows[i].sel], number_of(life, record->rows[i].method->imp)};
+    for (uint32_t i = 0; i < record->count; i++) {
+        struct row *row = &record->rows->at[i];
+        rows[arrays->method_count++] = (msg_method_row){names.of[row->sel], number_of(life, row->method->imp)};
+    }
 }
 
 /* The first class lists the selectors in order, which fixes their numbers. */
@@ -94,7 +144,10 @@ static void check_numbers(struct life *life)
     if (msg_find_selector(&life->runtime, names.text + last.at, last.length, &sel) || sel != life->selectors) shim_stop("selectors are numbered otherwise", "shim");
 }
 
-static void leave(struct life *life) { if (!--life->users) free(life); }
+static void leave(struct life *life)
+{
+    if (life != &nowhere && !--life->users) free(life);
+}
 
 void shim_outdate(void)
 {
@@ -110,15 +163,15 @@ static struct life *open_life(void)
 {
     struct life *life = atomic_load(&current);
     if (life) return life;
+    if (msg_sender_size() != sizeof(msg_sender)) shim_stop("the library is of another header", "msg_sender");
     life = shim_lines(sizeof *life);
     life->users = 1;
     life->classes = with_spare(shim_class_count, SPARE_CLASSES + made, MOST_CLASSES);
     life->selectors = with_spare(shim_selector_count, SPARE, MOST_SELECTORS);
+    life->selectors = with_spare(life->selectors, 0, MOST_ROWS - shim_row_count);
     life->imps = MOST_IMPS;
-    for (uint32_t i = 1; i <= shim_class_count; i++) {
-        number_functions(life, shim_classes[i]->record);
-        number_functions(life, shim_classes[i]->isa->record);
-    }
+    for (uint32_t i = 1; i <= shim_class_count; i++)
+        if (!number_both(life, shim_classes[i])) shim_stop("too many implementations", shim_classes[i]->name);
     life->imps = with_spare(life->imp_count, SPARE, MOST_IMPS);
     uint32_t fault = open_tables(life);
     if (fault) {
@@ -131,21 +184,30 @@ static struct life *open_life(void)
     return life;
 }
 
-static void give_back(struct seat *seat)
+static struct seat *new_seat(void)
 {
-    if (seat->life == &nowhere) return;
-    msg_sender_close(&seat->life->runtime, &seat->sender);
-    leave(seat->life);
+    struct seat *seat = shim_lines(sizeof *seat);
     seat->life = &nowhere;
+    return seat;
 }
 
-static void at_thread_end(void *taken)
+static void free_seat(struct seat *seat)
 {
-    struct seat *seat = taken;
-    HOLDING(&shim_lock);
-    give_back(seat);
+    if (!seat) return;
+    msg_sender_close(&seat->life->runtime, &seat->sender);
+    leave(seat->life);
     free(seat);
-    shim_seat = &nobody;
+}
+
+static void at_thread_end(void *none)
+{
+    (void)none;
+    LOCKED;
+    struct seat *seat = own;
+    own = &nobody;
+    free_seat(seat->other);
+    free_seat(seat);
+    ends++;
 }
 
 static void make_key(void) { if (pthread_key_create(&seats, at_thread_end)) shim_stop("no key", "pthread"); }
@@ -153,22 +215,34 @@ static void make_key(void) { if (pthread_key_create(&seats, at_thread_end)) shim
 /* The thread's own, or nobody's where none can be kept for it. */
 static struct seat *own_seat(void)
 {
-    if (shim_seat != &nobody) return shim_seat;
+    if (own != &nobody || ends == MOST_ENDS) return own;
     pthread_once(&once, make_key);
-    struct seat *seat = shim_lines(sizeof *seat);
-    seat->life = &nowhere;
-    if (!pthread_setspecific(seats, seat)) return shim_seat = seat;
+    struct seat *seat = new_seat();
+    if (!pthread_setspecific(seats, seat)) return own = seat;
     free(seat);
     return &nobody;
 }
 
-/* The thread's seat then is of the current life, unless all senders are out. */
-static struct life *sit_down(struct seat *seat)
+/* The thread's other seat, when it leaves this one. */
+static struct seat *next_seat(struct seat *seat)
+{
+    struct seat *next = seat->other ? seat->other : new_seat();
+    leave(next->life);
+    next->life = &nowhere;
+    next->other = seat;
+    seat->other = next;
+    msg_sender_close(&seat->life->runtime, &seat->sender);
+    return own = next;
+}
+
+/* Then the thread's own seat is of the current life, unless all senders are out. */
+static struct life *sit_down(void)
 {
     HOLDING(&shim_lock);
     struct life *life = open_life();
+    struct seat *seat = own;
     if (seat->life == life || seat == &nobody) return life;
-    give_back(seat);
+    if (seat->life != &nowhere) seat = next_seat(seat);
     if (msg_sender_open(&life->runtime, &seat->sender)) return life;
     seat->life = life;
     life->users++;
@@ -194,14 +268,22 @@ static IMP find_seatless(struct record *record, uint32_t sel)
     return shim_function(life, imp);
 }
 
-IMP shim_find(struct record *record, uint32_t sel)
+static void wait_for_changer(void)
+{
+    HOLDING(&shim_lock);
+    ahead = false;
+}
+
+static IMP find(struct record *record, uint32_t sel)
 {
     struct seat *seat = own_seat();
+    if (ahead) wait_for_changer();
     for (;;) {
         uint32_t imp;
         uint64_t seen;
         struct life *life = atomic_load_explicit(&current, memory_order_acquire);
-        if (!life || seat->life != life) life = sit_down(seat);
+        if (!life || seat->life != life) life = sit_down();
+        seat = own;
         if (seat->life != life) return find_seatless(record, sel);
         if (sel > life->selectors) return NULL; /* no method of the name stands anywhere */
         if (msg_refresh(&seat->sender, &seen)) shim_stop("no refresh", "sender");
@@ -211,54 +293,120 @@ IMP shim_find(struct record *record, uint32_t sel)
     }
 }
 
-/* Before a change of the tables: from here on no send goes by what was noted before it. One thread so never sees a change and then what was before it. */
-static void begin_change(struct life *life) { atomic_store_explicit(&life->count, life->count + 1, memory_order_release); }
+IMP shim_find(Class class_, uint32_t sel)
+{
+    if (busy) {
+        ahead = true;
+        Method method = shim_standing(class_, sel);
+        return method ? shim_imp(method) : NULL;
+    }
+    begin();
+    IMP imp = find(class_->record, sel);
+    end();
+    return imp;
+}
 
-void shim_replace(struct record *record, uint32_t sel, IMP imp)
+/* At the second attempt the tables are opened anew, so that what no longer stands has no number. */
+bool shim_room_in_tables(Class class_, IMP imp)
+{
+    for (;;) {
+        struct life *life = open_life();
+        if (class_ ? number_both(life, class_) : number_of(life, imp)) return true;
+        if (!atomic_load(&life->count)) return false;
+        shim_outdate();
+    }
+}
+
+/* Before a change of the tables, and of the rows that say the same: from here on no send goes by what was noted
+ * before it. One thread so never sees a change and then what was before it. NULL where no tables hold the class. */
+static inline struct life *begin_change(struct record *record)
 {
     struct life *life = atomic_load(&current);
-    if (!life || !record->number) return;
+    if (!life || !record->number) return NULL;
+    atomic_store_explicit(&life->count, life->count + 1, memory_order_release);
+    return life;
+}
+
+/* The change that was begun; where this life can't hold it, the tables are outdated. */
+static inline bool put(struct life *life, struct record *record, uint32_t sel, IMP imp)
+{
     uint32_t number = sel > life->selectors ? 0 : number_of(life, imp);
-    begin_change(life);
-    if (!number || msg_replace(&life->runtime, record->number, record->meta, sel, number)) shim_outdate();
+    bool done = number && !msg_replace(&life->runtime, record->number, record->meta, sel, number);
+    if (!done) shim_outdate();
+    return done;
 }
 
-/* Else each thread that sends the method next would wait for the lock that the change holds now. */
-void shim_fill_in(struct record *record, uint32_t sel)
+/* What the tables now find is cached, and noted by the thread's own sender, where it has one: else each thread that
+ * sends the method next would wait for the lock that the change holds now. */
+static inline __attribute__((always_inline))
+void put_and_fill(struct life *life, struct record *of, uint32_t sel, IMP imp)
 {
-    struct seat *seat = shim_seat;
-    uint32_t imp;
-    if (seat->life != atomic_load(&current) || sel > seat->life->selectors || !record->number) return;
-    msg_fill(&seat->life->runtime, &seat->sender, record->number, record->meta, sel, &imp);
+    uint32_t found;
+    if (!life || !put(life, of, sel, imp) || own->life != life) return;
+    msg_fill(&life->runtime, &own->sender, of->number, of->meta, sel, &found);
 }
 
-void shim_exchange(struct record *one, uint32_t sel, struct record *other, uint32_t other_sel)
+void shim_add(struct record *record, Method method, uint32_t sel)
 {
-    struct life *life = atomic_load(&current);
+    struct life *life = begin_change(record);
+    shim_put_row(record, method, sel);
+    put_and_fill(life, record, sel, method->imp);
+}
+
+void shim_replace(struct record *record, struct row *row, IMP imp)
+{
+    struct life *life = begin_change(record);
+    shim_set_imp(row->method, imp);
+    put_and_fill(life, record, row->sel, imp);
+}
+
+void shim_exchange(struct record *one, struct row *row, struct record *other, struct row *other_row)
+{
+    struct life *life = begin_change(one);
+    IMP imp = row->method->imp;
+    shim_set_imp(row->method, other_row->method->imp);
+    shim_set_imp(other_row->method, imp);
     if (!life) return;
-    begin_change(life);
-    if (msg_exchange(&life->runtime, one->number, one->meta, sel, other->number, other->meta, other_sel)) shim_outdate();
+    uint32_t number = other->number, sel = other_row->sel;
+    if (msg_exchange(&life->runtime, one->number, one->meta, row->sel, number, other->meta, sel)) shim_outdate();
 }
 
-static void replace_rows(struct record *record)
+static void put_rows_of(struct record *record)
 {
-    for (uint32_t i = 0; i < record->count; i++) shim_replace(record, record->rows[i].sel, record->rows[i].method->imp);
+    for (uint32_t i = 0; i < record->count; i++) {
+        struct row *row = &record->rows->at[i];
+        struct life *life = begin_change(record);
+        if (!life || !put(life, record, row->sel, row->method->imp)) return;
+    }
 }
 
 void shim_make(Class class_)
 {
-    struct life *life = atomic_load(&current);
+    struct life *life = begin_change(class_->record);
     made++;
     if (!life) return;
     uint32_t number = class_->record->number;
     Class above = class_->superclass.class_;
     uint32_t fault = MSG_LIMIT;
-    begin_change(life);
     if (number <= life->classes) fault = above ? msg_make_class(&life->runtime, number, above->record->number) : msg_make_root_class(&life->runtime, number);
     if (fault) {
         shim_outdate();
         return;
     }
-    replace_rows(class_->record);
-    replace_rows(class_->isa->record);
+    put_rows_of(class_->record);
+    put_rows_of(class_->isa->record);
+}
+
+/* Here, since this file is linked into every program. */
+static __attribute__((constructor)) void at_start(void)
+{
+    shim_care_for_forks();
+    shim_take_roots();
+}
+
+/* Senders of threads that are gone may look as if they were in a call for ever: their tables are left. */
+void shim_leave_dead(void)
+{
+    struct life *life = atomic_load(&current);
+    if (life && life->users > 1 + (own->life == life)) shim_outdate();
 }

@@ -9,23 +9,22 @@ void (*_objc_load_callback)(Class, struct objc_category *);
 static struct { void *rows[MOST_WAITING]; uint32_t count; } classes, categories, constants;
 
 /* What is to be done without the lock, in order: a +load that is sent, or, without an implementation, the callback of a class or category. */
-static struct { Class class_; struct objc_category *category; IMP imp; SEL sel; } loads[2 * MOST_WAITING];
+struct load { Class class_; struct objc_category *category; IMP imp; SEL sel; };
+static struct load loads[2 * MOST_WAITING];
 static uint32_t load_count, loaded_count;
 
 static void note_load(Class class_, struct objc_category *category, IMP imp, SEL sel)
 {
     if (load_count == 2 * MOST_WAITING) shim_stop("too many +load", class_->name);
-    loads[load_count].class_ = class_;
-    loads[load_count].category = category;
-    loads[load_count].imp = imp;
-    loads[load_count++].sel = sel;
+    loads[load_count++] = (struct load){class_, category, imp, sel};
 }
 
 /* The first method of a name in the newest list counts: a category's stands before the class's. */
 static void take_method(Class class_, struct record *record, Method method)
 {
     const char *name = method->name.text;
-    method->name.sel = shim_typed_selector(name, method->types);
+    method->name.sel = shim_needed_selector(name, method->types);
+    if (!shim_room_for_rows(1)) shim_stop("too many methods", class_->name);
     if (record->meta && !strcmp(name, "load")) note_load(class_, NULL, method->imp, method->name.sel);
     shim_put_row(record, method, (uint32_t)method->name.sel->name.number);
 }
@@ -50,6 +49,7 @@ static void take_class(Class class_, Class above)
     take_lists(class_, class_->record, class_->methods);
     take_lists(class_, meta->record, meta->methods);
     shim_take_protocols(class_->protocols, shim_class_named("Protocol"));
+    shim_publish(class_);
 }
 
 /* Whether the class no longer waits: a second class of a name is left aside. */
@@ -130,29 +130,43 @@ static void take_what_waits(void)
     try_all(constants.rows, &constants.count, try_constants);
 }
 
+static bool next_load(struct load *load)
+{
+    LOCKED;
+    bool some = loaded_count < load_count;
+    if (some) *load = loads[loaded_count++];
+    else loaded_count = load_count = 0;
+    return some;
+}
+
 static void send_loads(void)
 {
-    for (;;) {
-        pthread_mutex_lock(&shim_lock);
-        uint32_t at = loaded_count;
-        if (at < load_count) loaded_count++;
-        pthread_mutex_unlock(&shim_lock);
-        if (at == load_count) return;
-        if (loads[at].imp) loads[at].imp((id)loads[at].class_, loads[at].sel);
-        else if (_objc_load_callback) _objc_load_callback(loads[at].class_, loads[at].category);
+    struct load load;
+    while (next_load(&load)) {
+        if (load.imp) load.imp((id)load.class_, load.sel);
+        else if (_objc_load_callback) _objc_load_callback(load.class_, load.category);
     }
 }
 
-void __objc_exec_class(struct module *module)
+/* The tables are closed first: who finds a new class by its name before the next are there waits for the lock. */
+static void take_module(struct module *module)
 {
     static bool begun;
-    if (module->version != 8 || module->size != sizeof *module) shim_stop("a module of another version", module->name);
-    pthread_mutex_lock(&shim_lock);
+    LOCKED;
+    if (begun && module == &shim_roots) return;
+    shim_outdate();
     if (!begun) take_symbols(shim_roots.symbols);
     begun = true;
-    take_symbols(module->symbols);
+    if (module != &shim_roots) take_symbols(module->symbols);
     take_what_waits();
-    shim_outdate();
-    pthread_mutex_unlock(&shim_lock);
+}
+
+/* A program may have no module, and those of others may come before. */
+void shim_take_roots(void) { take_module(&shim_roots); }
+
+void __objc_exec_class(struct module *module)
+{
+    if (module->version != 8 || module->size != sizeof *module) shim_stop("a module of another version", module->name);
+    take_module(module);
     send_loads();
 }

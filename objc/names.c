@@ -9,9 +9,17 @@ enum { PLACES = 16384 };
 /* The selectors of one name that differ in their types. */
 struct typed { SEL sel; struct typed *next; };
 
-/* Number 1 is every image's forwardingTargetForSelector:, to which no class of a program's answers. */
-uint32_t shim_selector_count = 1;
-static const char *names[MOST_SELECTORS + 1];
+#define OWN(list) \
+    list(INITIALIZE, "initialize") list(RESOLVE_INSTANCE, "resolveInstanceMethod:") \
+    list(RESOLVE_CLASS, "resolveClassMethod:") list(FORWARD, "forward::") list(NOT_RECOGNIZED, "doesNotRecognize:") \
+    list(RETAIN, "retain") list(RELEASE, "release") list(AUTORELEASE, "autorelease") list(COPY, "copyWithZone:") \
+    list(MUTABLE_COPY, "mutableCopyWithZone:")
+#define NAME(number_, text_) [number_] = text_,
+#define SELECTOR(number_, text_) [number_] = {.name.number = number_},
+
+const struct objc_selector shim_own[FIRST_FREE] = {OWN(SELECTOR)};
+uint32_t shim_selector_count = FIRST_FREE - 1;
+static const char *names[MOST_SELECTORS + 1] = {OWN(NAME)};
 static struct typed *typed[MOST_SELECTORS + 1];
 static uint16_t name_at[PLACES];
 
@@ -35,6 +43,13 @@ void *shim_lines(size_t size)
     return memset(memory, 0, size);
 }
 
+char *shim_copy(const char *text)
+{
+    char *copy = strdup(text);
+    if (!copy) shim_stop("no memory", "name");
+    return copy;
+}
+
 void shim_unlock(pthread_mutex_t **lock) { pthread_mutex_unlock(*lock); }
 
 static uint32_t place_of(const char *name)
@@ -44,22 +59,27 @@ static uint32_t place_of(const char *name)
     return mixed % PLACES;
 }
 
+static uint16_t *place_from(uint32_t at, const char *name)
+{
+    while (name_at[at] && strcmp(names[name_at[at]], name)) at = (at + 1) % PLACES;
+    return &name_at[at];
+}
+
 /* Where a name's number stands, or would. */
 static uint16_t *name_place(const char *name)
 {
-    uint32_t at = place_of(name);
-    while (name_at[at] && strcmp(names[name_at[at]], name)) at = (at + 1) % PLACES;
-    return &name_at[at];
+    static bool own_are_there;
+    for (uint16_t i = INITIALIZE; !own_are_there && i < FIRST_FREE; i++) *place_from(place_of(names[i]), names[i]) = i;
+    own_are_there = true;
+    return place_from(place_of(name), name);
 }
 
 uint32_t shim_selector(const char *name)
 {
     uint16_t *place = name_place(name);
     if (*place) return *place;
-    if (shim_selector_count == MOST_SELECTORS) shim_stop("too many selectors", name);
-    char *copy = strdup(name);
-    if (!copy) shim_stop("no memory", name);
-    names[++shim_selector_count] = copy;
+    if (shim_selector_count == MOST_SELECTORS || !shim_room_for_rows(1)) return 0;
+    names[++shim_selector_count] = shim_copy(name);
     return *place = (uint16_t)shim_selector_count;
 }
 
@@ -94,25 +114,34 @@ SEL shim_typed_selector(const char *name, const char *types)
 {
     uint32_t number = shim_selector(name);
     SEL known = selector_of(number, types);
-    if (known) return known;
+    if (known || !number) return known;
     struct objc_selector *sel = shim_memory(sizeof *sel);
     sel->name.number = number;
-    sel->types = types ? strdup(types) : NULL;
+    sel->types = types ? shim_copy(types) : NULL;
     note_selector(sel);
+    return sel;
+}
+
+SEL shim_needed_selector(const char *name, const char *types)
+{
+    SEL sel = shim_typed_selector(name, types);
+    if (!sel) shim_stop("too many selectors", name);
     return sel;
 }
 
 /* A selector of a module is its own: code compares it by its number. */
 void shim_take_selector(struct objc_selector *sel)
 {
-    sel->name.number = shim_selector(sel->name.text);
+    const char *name = sel->name.text;
+    sel->name.number = shim_selector(name);
+    if (!sel->name.number) shim_stop("too many selectors", name);
     if (!selector_of((uint32_t)sel->name.number, sel->types)) note_selector(sel);
 }
 
 SEL sel_registerTypedName(const char *name, const char *types)
 {
     if (!name) return NULL;
-    HOLDING(&shim_lock);
+    LOCKED;
     return shim_typed_selector(name, types);
 }
 
@@ -122,7 +151,7 @@ SEL sel_getUid(const char *name) { return sel_registerName(name); }
 SEL sel_getTypedSelector(const char *name)
 {
     if (!name) return NULL;
-    HOLDING(&shim_lock);
+    LOCKED;
     SEL found = NULL;
     for (struct typed *at = typed[*name_place(name)]; at; at = at->next) {
         if (!at->sel->types) continue;
@@ -136,13 +165,12 @@ SEL *sel_copyTypedSelectorList(const char *name, unsigned int *count)
 {
     unsigned int many = 0;
     SEL *list = NULL;
-    pthread_mutex_lock(&shim_lock);
+    LOCKED;
     struct typed *first = name ? typed[*name_place(name)] : NULL;
     for (struct typed *at = first; at; at = at->next) many++;
     if (many) list = shim_memory((many + 1) * sizeof *list);
     many = 0;
     for (struct typed *at = first; at; at = at->next) list[many++] = at->sel;
-    pthread_mutex_unlock(&shim_lock);
     if (count) *count = many;
     return list;
 }

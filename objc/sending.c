@@ -1,90 +1,119 @@
 /* Sends: +initialize before a class's first, and then what the proved dispatcher finds. */
+#define _GNU_SOURCE /* for a recursive lock without a call */
 #include "seat.h"
 
-static pthread_mutex_t initializing;
-static pthread_once_t once = PTHREAD_ONCE_INIT;
-
-static void make_lock(void)
-{
-    pthread_mutexattr_t kind;
-    pthread_mutexattr_init(&kind);
-    pthread_mutexattr_settype(&kind, PTHREAD_MUTEX_RECURSIVE);
-    pthread_mutex_init(&initializing, &kind);
-}
-
-static id answer_nil(id self, SEL sel, ...) { (void)sel; return self; }
-
-IMP shim_look(Class class_, SEL sel)
-{
-    if (!class_->record) shim_stop("a class is used before its superclass is there", class_->name);
-    if (shim_in_construction(class_)) shim_stop("a class in construction is sent a message", class_->name);
-    return shim_find(class_->record, (uint32_t)sel->name.number);
-}
-
-static SEL named(struct objc_selector *kept, const char *name)
-{
-    pthread_mutex_lock(&shim_lock);
-    kept->name.number = shim_selector(name);
-    pthread_mutex_unlock(&shim_lock);
-    return kept;
-}
-
 /* The thread that sends +initialize may send to the class meanwhile; others wait for it. */
-static void initialize(Class class_)
+pthread_mutex_t shim_initializing = PTHREAD_RECURSIVE_MUTEX_INITIALIZER_NP;
+
+id nil_method(id self, SEL sel, ...) { (void)sel; return self; }
+
+/* Also where its +initialize was left by an exception: the class is as it would have been. */
+static void end_initialize(Class *ending)
 {
-    static struct objc_selector kept;
-    pthread_once(&once, make_lock);
-    HOLDING(&initializing);
-    Class above = class_->superclass.class_;
-    if (above && atomic_load(&above->record->initialized) == NOT_YET) initialize(above);
-    if (atomic_load(&class_->record->initialized) != NOT_YET) return;
-    atomic_store(&class_->record->initialized, RUNNING);
-    SEL sel = named(&kept, "initialize");
-    IMP imp = shim_look(class_->isa, sel);
-    if (imp) imp((id)class_, sel);
+    Class class_ = *ending;
     atomic_store(&class_->record->initialized, DONE);
     __atomic_store_n(&class_->key, msg_key(2 * class_->record->number, 0), __ATOMIC_RELEASE);
     __atomic_store_n(&class_->isa->key, msg_key(2 * class_->record->number + 1, 0), __ATOMIC_RELEASE);
 }
 
+static void initialize(Class class_)
+{
+    SEL sel = &shim_own[INITIALIZE];
+    HOLDING(&shim_initializing);
+    Class above = class_->superclass.class_;
+    if (above && atomic_load(&above->record->initialized) == NOT_YET) initialize(above);
+    if (atomic_load(&class_->record->initialized) != NOT_YET) return;
+    atomic_store(&class_->record->initialized, RUNNING);
+    Class ending __attribute__((cleanup(end_initialize), unused)) = class_;
+    IMP imp = shim_look(class_->isa, sel);
+    if (imp) imp((id)class_, sel);
+}
+
 static Class plain_class(Class class_) { return class_->record->meta ? shim_classes[class_->record->number] : class_; }
+
+static void ensure_initialized(Class class_)
+{
+    atomic_int *state = &class_->record->plain->initialized;
+    if (atomic_load_explicit(state, memory_order_acquire) != DONE) initialize(plain_class(class_));
+}
+
+IMP shim_look(Class class_, SEL sel)
+{
+    IMP imp;
+    return shim_noted(class_, sel, &imp) ? imp : shim_find(class_, (uint32_t)sel->name.number);
+}
+
+static inline bool resolve(Class class_, SEL sel)
+{
+    IMP imp;
+    Class plain = plain_class(class_);
+    SEL asked = &shim_own[class_->record->meta ? RESOLVE_CLASS : RESOLVE_INSTANCE];
+    if (!shim_noted(plain->isa, asked, &imp)) imp = shim_find(plain->isa, (uint32_t)asked->name.number);
+    return __builtin_expect(imp != NULL, 0) && ((BOOL (*)(id, SEL, SEL))(void (*)(void))imp)((id)plain, asked, sel);
+}
 
 /* Asks the class to add a method that it lacks: whether it says that it has. */
 bool shim_resolve(Class class_, SEL sel)
 {
-    static struct objc_selector kept[2];
     if (shim_in_construction(class_)) return false;
-    bool meta = class_->record->meta;
-    Class plain = plain_class(class_);
-    SEL asked = named(&kept[meta], meta ? "resolveClassMethod:" : "resolveInstanceMethod:");
-    IMP imp = shim_look(plain->isa, asked);
-    return imp && ((BOOL (*)(id, SEL, SEL))(void (*)(void))imp)((id)plain, asked, sel);
+    ensure_initialized(class_);
+    return resolve(class_, sel);
 }
 
-static __attribute__((noinline, cold)) IMP find_from(id receiver, Class class_, SEL sel)
+/* Where it is noted that nothing is found, or was found to be so: NULL is forwarding. */
+static inline IMP find_resolved(Class class_, SEL sel) { return resolve(class_, sel) ? shim_look(class_, sel) : NULL; }
+
+/* Where nothing is noted, as before a class's first message. */
+static __attribute__((noinline, cold)) IMP find_first(Class class_, SEL sel)
+{
+    if (!class_->record) shim_stop("a class is used before its superclass is there", class_->name);
+    if (shim_in_construction(class_)) {
+        Method method = shim_standing(class_, (uint32_t)sel->name.number);
+        return method ? shim_imp(method) : NULL;
+    }
+    ensure_initialized(class_);
+    IMP imp = shim_look(class_, sel);
+    return imp ? imp : find_resolved(class_, sel);
+}
+
+static inline IMP find(Class class_, SEL sel)
+{
+    IMP imp;
+    if (!shim_noted(class_, sel, &imp)) return find_first(class_, sel);
+    return imp ? imp : find_resolved(class_, sel);
+}
+
+/* Of a class that may be NULL, as above a root. */
+static __attribute__((noinline)) IMP find_from(id receiver, Class class_, SEL sel)
 {
     if (!class_) shim_stop("a root class has no super to be sent", sel_getName(sel));
-    if (!class_->record) shim_stop("a class is used before its superclass is there", class_->name);
-    if (atomic_load(&class_->record->plain->initialized) != DONE && !shim_in_construction(class_)) initialize(plain_class(class_));
-    IMP imp = shim_look(class_, sel);
-    if (!imp && shim_resolve(class_, sel)) imp = shim_look(class_, sel);
+    IMP imp = find(class_, sel);
     return imp ? imp : shim_forward(receiver, sel);
 }
 
 static __attribute__((noinline, cold)) IMP find_slowly(id receiver, SEL sel) { return find_from(receiver, receiver->isa, sel); }
 
-IMP objc_msg_lookup(id receiver, SEL sel)
+static __attribute__((noinline)) IMP find_nothing(id receiver, SEL sel)
 {
-    IMP imp;
-    if (__builtin_expect(!receiver, 0)) return answer_nil;
-    return shim_recall(receiver->isa, sel, &imp) ? imp : find_slowly(receiver, sel);
+    IMP imp = find_resolved(receiver->isa, sel);
+    return imp ? imp : shim_forward(receiver, sel);
+}
+
+/* At the begin of a line of the cache, as it is wherever the linker puts it. */
+__attribute__((aligned(LINE))) IMP objc_msg_lookup(id receiver, SEL sel)
+{
+    struct life *life;
+    uint32_t number;
+    if (__builtin_expect(!receiver, 0)) return nil_method;
+    if (__builtin_expect(!shim_note(receiver->isa, sel, &life, &number), 0)) return find_slowly(receiver, sel);
+    return __builtin_expect(number != 0, 1) ? shim_function(life, number) : find_nothing(receiver, sel);
 }
 
 IMP objc_msg_lookup_super(struct objc_super *super_, SEL sel)
 {
     IMP imp;
-    if (!super_->self) return answer_nil;
-    if (super_->class_ && shim_recall(super_->class_, sel, &imp)) return imp;
+    if (!super_->self) return nil_method;
+    if (super_->class_ && shim_noted(super_->class_, sel, &imp) && imp) return imp;
     return find_from(super_->self, super_->class_, sel);
 }
 
@@ -92,11 +121,16 @@ IMP class_getMethodImplementation(Class class_, SEL sel)
 {
     IMP imp;
     if (!class_ || !sel) return NULL;
-    return shim_recall(class_, sel, &imp) ? imp : find_from(NULL, class_, sel);
+    return shim_noted(class_, sel, &imp) && imp ? imp : find_from(NULL, class_, sel);
 }
 
 BOOL class_respondsToSelector(Class class_, SEL sel)
 {
-    if (!class_ || !class_->record || !sel || shim_in_construction(class_)) return false;
-    return shim_look(class_, sel) || (shim_resolve(class_, sel) && shim_look(class_, sel));
+    IMP imp;
+    if (!class_ || !sel) return false;
+    if (shim_noted(class_, sel, &imp)) return imp || find_resolved(class_, sel);
+    return class_->record && !shim_in_construction(class_) && find_first(class_, sel);
 }
+
+/* In no header; programs ask it. */
+BOOL __objc_responds_to(id object, SEL sel) { return object && class_respondsToSelector(object->isa, sel); }

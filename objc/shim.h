@@ -7,53 +7,97 @@
 #include <pthread.h>
 #include <stdatomic.h>
 
-enum { MOST_SELECTORS = 4095, MOST_CLASSES = 1023, LINE = 64 };
+_Static_assert(sizeof(void *) == 8 && __BYTE_ORDER__ == __ORDER_LITTLE_ENDIAN__,
+               "notes, keys and exception tables are read as on such a machine");
+
+/* A name takes a row of the tables, as a method does. */
+enum { MOST_SELECTORS = 4095, MOST_CLASSES = 1023, MOST_IMPS = 4095, MOST_ROWS = 16384, LINE = 64 };
 
 /* A method that stands in a class: what the proved tables hold, kept beside them, so that they can be opened anew. */
 struct row { uint32_t sel; Method method; };
 
+/* Handlers of signals read rows without the lock: what a larger array took the place of stays, behind it. */
+struct rows { struct rows *before; struct row at[]; };
+
 enum { NOT_YET, RUNNING, DONE };
 
-/* `number` is 0 for a class in construction, which no tables hold. `plain`: of a metaclass's record, its class's; else itself. */
-struct record { bool meta; uint32_t number; atomic_int initialized; struct record *plain; struct row *rows; uint32_t count, room; };
+/* `number` is 0 for a class in construction, which no tables hold. `plain`: of a metaclass's record, its class's;
+ * else itself.
+ * `methods`: all, in the order in which they came; a row has the last of a name. */
+struct record {
+    bool meta;
+    uint32_t number;
+    atomic_int initialized;
+    struct record *plain;
+    _Atomic(struct rows *) rows;
+    _Atomic(uint32_t) count;
+    uint32_t room, method_count, method_room;
+    Method *methods;
+};
 
 extern pthread_mutex_t shim_lock;
 extern Class shim_classes[MOST_CLASSES + 1]; /* by number, from 1; class 0 of the tables lists the selectors */
-extern uint32_t shim_class_count, shim_selector_count;
+extern uint32_t shim_class_count, shim_selector_count, shim_row_count;
 
 /* Without the lock. */
 _Noreturn void shim_stop(const char *why, const char *what);
 void *shim_memory(size_t size);
 void *shim_lines(size_t size); /* zeros that begin with a cache line, of so many whole ones */
+char *shim_copy(const char *text);
 void shim_unlock(pthread_mutex_t **lock);
 /* Held to the end of the block, also where an exception leaves it. */
 #define HOLDING(lock) pthread_mutex_t *held __attribute__((cleanup(shim_unlock), unused)) = (pthread_mutex_lock(lock), (lock))
+/* shim_lock, in the same way. A handler of a signal that interrupts the block sees that its thread is on the slow
+ * way. */
+void shim_take(void);
+void shim_give(const int *unused);
+#define LOCKED const int locked __attribute__((cleanup(shim_give), unused)) = (shim_take(), 0)
 
-/* names.c */
+/* Selectors that the shim sends itself, by fixed numbers. 1 is every image's forwardingTargetForSelector:, to which
+ * no class of a program's answers. */
+enum { INITIALIZE = 2, RESOLVE_INSTANCE, RESOLVE_CLASS, FORWARD, NOT_RECOGNIZED };
+enum { RETAIN = NOT_RECOGNIZED + 1, RELEASE, AUTORELEASE, COPY, MUTABLE_COPY, FIRST_FREE };
+extern const struct objc_selector shim_own[FIRST_FREE];
+
+/* names.c: number 0, or NULL, where no name is to be had any more. */
 uint32_t shim_selector(const char *name);
 SEL shim_typed_selector(const char *name, const char *types);
+SEL shim_needed_selector(const char *name, const char *types); /* or the program ends: of a module's */
 void shim_take_selector(struct objc_selector *sel);
 
 /* classes.c */
 Class shim_class_named(const char *name); /* without the lock */
 struct record *shim_new_record(Class class_, bool meta);
 void shim_number_class(Class class_);
-bool shim_in_construction(Class class_);
+void shim_publish(Class class_); /* found by its name from now on: the tables have it, or there are none */
+static inline bool shim_in_construction(Class class_) { return class_->record && !class_->record->number; }
 
-/* roots.c: the module of Object, Protocol and NXConstantString. */
+/* roots.c: the module of Object, Protocol and NXConstantString; loading.c takes it. */
 extern struct module shim_roots;
+void shim_take_roots(void);
 
 /* protocols.c */
 void shim_take_protocol(struct protocol *protocol, Class class_);
 void shim_take_protocols(struct protocol_list *list, Class class_);
 
 /* changing.c */
+bool shim_room_for_rows(uint32_t more);
 struct row *shim_row(struct record *record, uint32_t sel);
 void shim_put_row(struct record *record, Method method, uint32_t sel);
+Method shim_standing(Class class_, uint32_t sel); /* what the rows say; also without the lock */
+static inline IMP shim_imp(Method method) { return __atomic_load_n(&method->imp, __ATOMIC_ACQUIRE); }
+static inline void shim_set_imp(Method method, IMP imp) { __atomic_store_n(&method->imp, imp, __ATOMIC_RELEASE); }
 
-/* sending.c: without the lock, and without +initialize. */
+/* sending.c: without the lock. A look is without +initialize; to resolve is with it. */
 IMP shim_look(Class class_, SEL sel);
 bool shim_resolve(Class class_, SEL sel);
+
+/* forking.c, and what it asks of the files that have locks of their own. */
+void shim_care_for_forks(void);
+extern pthread_mutex_t shim_initializing;
+void shim_hold_places(bool hold);
+void shim_renew_property_locks(void);
+void shim_leave_dead(void);
 
 /* forwarding.c: what is called where no method is found. Without the lock. */
 IMP shim_forward(id receiver, SEL sel);
@@ -61,12 +105,18 @@ IMP shim_forward(id receiver, SEL sel);
 /* life.c */
 /* The tables no longer hold what the rows say: the next look opens them anew. */
 void shim_outdate(void);
-/* One change of the tables, beside the rows; where this life can't hold it, they are outdated. */
-void shim_replace(struct record *record, uint32_t sel, IMP imp);
-/* What the tables now find is cached in this class, and noted by the thread's own sender, where it has one. */
-void shim_fill_in(struct record *record, uint32_t sel);
+/* Whether the tables can hold one more implementation, or the class's methods, beside all that stand: then they have
+ * numbers. */
+bool shim_room_in_tables(Class class_, IMP imp);
+static inline bool shim_room_for(Class class_, IMP imp)
+{
+    return shim_row_count < MOST_IMPS || shim_room_in_tables(class_, imp);
+}
+/* A change of the rows, and of the tables that hold the class. */
+void shim_add(struct record *record, Method method, uint32_t sel);
+void shim_replace(struct record *record, struct row *row, IMP imp);
+void shim_exchange(struct record *one, struct row *row, struct record *other, struct row *other_row);
 void shim_make(Class class_);
-void shim_exchange(struct record *one, uint32_t sel, struct record *other, uint32_t other_sel);
 /* Where the method stands that the tables find, or NULL. */
 struct record *shim_holder(struct record *record, uint32_t sel);
 

@@ -1,7 +1,10 @@
-/* bench LOAD THREADS: for each line of standard input a window, and how many nanoseconds one of its steps took on its slowest thread; so two programs take turns.
+/* bench LOAD THREADS: for each line of standard input a window, and how many nanoseconds one of its steps took on its
+ * slowest thread; so two programs take turns.
  * bench LOAD THREADS WINDOWS: so many windows at once, of which nothing is told, for a count of instructions.
- * LOAD: own, inherited, mixed (objc_msg_lookup); class (a send to a class by name); on one thread, class_replaceMethod with the next send: replace, in a
- * class without subclasses, and replace_above, in one that has two. */
+ * LOAD: own, inherited, mixed (objc_msg_lookup); class (a send to a class by name); responds, lacks
+ * (class_respondsToSelector that answers YES, NO); forwarded (objc_msg_lookup of what no class has, which a hook
+ * answers); on one thread, class_replaceMethod with the next send: replace, in a class without subclasses, and
+ * replace_above, in one that has two. */
 #include "../calls.h"
 #include <pthread.h>
 #include <stdbool.h>
@@ -40,7 +43,7 @@ LEVEL(Level6, Level1, own)
 LEVEL(Level7, Level2, fourth)
 
 static id objects[OBJECTS];
-static SEL sels[4];
+static SEL sels[4], nowhere;
 static struct { id object; SEL sel; } order[ORDER];
 static double times[MOST_THREADS];
 static bool over;
@@ -75,6 +78,13 @@ static uintptr_t send_class(void)
     return sum;
 }
 
+static uintptr_t ask(Class class_, SEL sel)
+{
+    uintptr_t sum = 0;
+    for (int i = 0; i < STEPS; i++) sum += class_respondsToSelector(class_, sel);
+    return sum;
+}
+
 static long one(id self, SEL sel) { return 1; }
 static long two(id self, SEL sel) { return 2; }
 
@@ -96,6 +106,9 @@ static uintptr_t step(void)
     if (!strcmp(load, "inherited")) return look(object, sels[1]);
     if (!strcmp(load, "mixed")) return look_mixed();
     if (!strcmp(load, "class")) return send_class();
+    if (!strcmp(load, "responds")) return ask(object->isa, sels[0]);
+    if (!strcmp(load, "lacks")) return ask(object->isa, nowhere);
+    if (!strcmp(load, "forwarded")) return look(object, nowhere);
     return replace(strcmp(load, "replace") ? object : objects[5]);
 }
 
@@ -124,9 +137,13 @@ static double window(int threads)
     return slowest / (strncmp(load, "replace", 7) ? STEPS : REPLACEMENTS);
 }
 
+static IMP by_hook(id receiver, SEL sel) { return (IMP)one; }
+
 static void prepare(void)
 {
     uint32_t drawn = 1;
+    __objc_msg_forward2 = by_hook;
+    nowhere = sel_registerName("nowhere");
     sels[0] = @selector(own);
     sels[1] = @selector(inherited);
     sels[2] = @selector(third);

@@ -1,0 +1,82 @@
+/* Names, methods and classes until there is no room: what has none is refused, and what was there before is right. */
+#include "../calls.h"
+#include <stdio.h>
+
+enum { MOST = 200000 };
+
+static id answer(id self, SEL sel, ...) { (void)sel; return self; }
+
+/* So many different functions as are wanted: nobody calls them. */
+static IMP function(int number) { return (IMP)(void (*)(void))((uintptr_t)answer + (uintptr_t)number); }
+
+static int is_answered(Class class_, SEL sel) { return objc_msg_lookup((id)class_, sel) == answer; }
+
+static int fill_classes(Class above)
+{
+    char name[32];
+    for (int i = 0; i < MOST; i++) {
+        snprintf(name, sizeof name, "Class%d", i);
+        Class class_ = objc_allocateClassPair(above, name, 0);
+        if (!class_) return i;
+        objc_registerClassPair(class_);
+        if (objc_getClass(name) != class_) return -1;
+    }
+    return MOST;
+}
+
+static int fill_methods(void)
+{
+    char name[32], owner[32];
+    for (int i = 0; i < MOST; i++) {
+        snprintf(name, sizeof name, "method%d", i % 1000);
+        snprintf(owner, sizeof owner, "Class%d", i / 1000);
+        if (!class_addMethod(objc_getClass(owner), sel_registerName(name), function(i + 1), "v16@0:8")) return i;
+    }
+    return MOST;
+}
+
+static int fill_names(void)
+{
+    char name[32];
+    for (int i = 0; i < MOST; i++) {
+        snprintf(name, sizeof name, "name%d", i);
+        SEL sel = sel_registerName(name);
+        if (!sel) return sel_registerTypedName(name, "v16@0:8") ? -1 : i;
+    }
+    return MOST;
+}
+
+static int was_refused(int count) { return count > 500 && count < MOST; }
+
+int main(void)
+{
+    SEL known = sel_registerName("known");
+    Class root = objc_allocateClassPair(NULL, "Root", 0), late;
+    class_addMethod(root->isa, known, answer, "@16@0:8");
+    objc_registerClassPair(root);
+    printf("before: %d\n", is_answered(root, known));
+    late = objc_allocateClassPair(root, "Late", 0);
+    for (int i = 0; i < 100; i++) {
+        char name[32];
+        snprintf(name, sizeof name, "late%d", i);
+        class_addMethod(late, sel_registerName(name), function(-i - 1), "v16@0:8");
+    }
+
+    int taken = class_addIvar(late, "wide", SIZE_MAX, 3, "c") + class_addIvar(late, "aligned", 1, 255, "c");
+    int made = objc_allocateClassPair(root, "Large", SIZE_MAX) || class_createInstance(root, SIZE_MAX);
+    printf("too large: %d %d\n", taken, made);
+    printf("classes refused: %d\n", was_refused(fill_classes(root)));
+    printf("methods refused: %d\n", was_refused(fill_methods()));
+    int refused = !class_replaceMethod(root->isa, known, function(-5000), "@16@0:8");
+    printf("a replacement too: %d\n", refused && is_answered(root, known));
+    objc_registerClassPair(late);
+    printf("a class that waited, for its functions: %d\n", !objc_getClass("Late"));
+    int added = class_addMethod(root, known, answer, "@16@0:8");
+    printf("one that is known can be added: %d\n", added && class_getMethodImplementation(root, known) == answer);
+    printf("names refused: %d\n", was_refused(fill_names()));
+    printf("known ones are found: %d %d\n", sel_isEqual(sel_registerName("known"), known), is_answered(root, known));
+    objc_disposeClassPair(late);
+    SEL other = sel_registerName("name0");
+    printf("after: %d %d\n", class_respondsToSelector(root, known), class_respondsToSelector(root, other));
+    return 0;
+}

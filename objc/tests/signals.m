@@ -1,0 +1,107 @@
+/* Handlers of signals that send what was sent before: in the thread that changes methods, and in one that sends
+ * beside it. No answer is older than a change that had returned, or than one that the thread had seen; none is newer
+ * than what was begun. */
+#include "../roots.h"
+#include <pthread.h>
+#include <signal.h>
+#include <stdio.h>
+#include <sys/time.h>
+#include <time.h>
+
+enum { KINDS = 64, SECONDS = 2, EVERY = 150 };
+
+/* The first send after the tables were opened anew takes memory, of which ThreadSanitizer tells where a handler does
+ * it; after 65,536 changes they are. */
+#ifdef __SANITIZE_THREAD__
+enum { MOST_CHANGES = 60000 };
+#else
+enum { MOST_CHANGES = 100000000 };
+#endif
+
+__attribute__((objc_root_class)) @interface Base { Class isa; }
++ (int)value;
++ (int)other;
+@end
+@implementation Base
++ (int)value { return 0; }
++ (int)other { return -2; }
+@end
+
+#define KIND(n) static int kind##n(id self, SEL sel) { return n; }
+#define FOUR(n, k) k(n##0) k(n##1) k(n##2) k(n##3) k(n##4) k(n##5) k(n##6) k(n##7)
+#define ALL(k) FOUR(00, k) FOUR(01, k) FOUR(02, k) FOUR(03, k) FOUR(04, k) FOUR(05, k) FOUR(06, k) FOUR(07, k)
+ALL(KIND)
+#define NAME(n) kind##n,
+static int (*const kinds[KINDS])(id, SEL) = {ALL(NAME)};
+
+/* How many changes of `value` were begun, and how many returned; and what each thread has seen. */
+static long begun, returned, wrong, handled[2], over;
+static _Thread_local volatile long seen;
+static _Thread_local int thread;
+static Class base;
+static SEL value, other;
+
+static long get(long *at) { return __atomic_load_n(at, __ATOMIC_SEQ_CST); }
+static void set(long *at, long to) { __atomic_store_n(at, to, __ATOMIC_SEQ_CST); }
+static void count(long *at) { __atomic_fetch_add(at, 1, __ATOMIC_SEQ_CST); }
+
+static int sent(SEL sel) { return ((int (*)(id, SEL))objc_msg_lookup((id)base, sel))((id)base, sel); }
+
+/* Unless so many changes were made meanwhile that an answer stands for more than one. */
+static void look(void)
+{
+    long least = get(&returned);
+    if (least < seen) least = seen;
+    int answer = sent(value);
+    long most = get(&begun);
+    if (most - least >= KINDS) return;
+    while (least % KINDS != answer && least <= most) least++;
+    if (least > most) count(&wrong);
+    else if (least > seen) seen = least;
+}
+
+static void handle(int signal)
+{
+    if (sent(other) != -2) count(&wrong);
+    look();
+    count(&handled[thread]);
+}
+
+static void *send_beside(void *none)
+{
+    thread = 1;
+    while (!get(&over)) look();
+    return none;
+}
+
+static void change(Class meta, long number)
+{
+    set(&begun, number);
+    class_replaceMethod(meta, value, (IMP)kinds[number % KINDS], "i16@0:8");
+    set(&returned, number);
+}
+
+int main(void)
+{
+    pthread_t beside;
+    [Base value];
+    [Base other];
+    base = objc_getClass("Base");
+    value = @selector(value);
+    other = @selector(other);
+    pthread_create(&beside, NULL, send_beside, NULL);
+    signal(SIGALRM, handle);
+    signal(SIGUSR1, handle);
+    setitimer(ITIMER_REAL, &(struct itimerval){{0, EVERY}, {0, EVERY}}, NULL);
+    time_t end = time(NULL) + SECONDS + 1;
+    for (long number = 1; time(NULL) < end && number < MOST_CHANGES; number++) {
+        change(base->isa, number);
+        look();
+        if (number % 50 == 0) pthread_kill(beside, SIGUSR1);
+    }
+    setitimer(ITIMER_REAL, &(struct itimerval){{0, 0}, {0, 0}}, NULL);
+    set(&over, 1);
+    pthread_join(beside, NULL);
+    printf("handled %d %d, wrong %ld\n", get(&handled[0]) > 10, get(&handled[1]) > 10, get(&wrong));
+    return 0;
+}
