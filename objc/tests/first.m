@@ -95,7 +95,8 @@ int main(void)
     pthread_join(thread, NULL);
     again = try_it(send_to_throwing);
     printf("after it threw: %d %d, thrown %d\n", again, answer, thrown);
-    printf("as fast as others: %d\n", objc_getClass("Throwing")->key && objc_getMetaClass("Throwing")->key);
+    struct objc_class *class_ = (void *)objc_getClass("Throwing"), *meta = (void *)objc_getMetaClass("Throwing");
+    printf("as fast as others: %d\n", class_->key && meta->key);
 
     class_replaceMethod(objc_getMetaClass("Replaced"), @selector(own), (IMP)late, "i16@0:8");
     answer = [Replaced own];

@@ -3,6 +3,7 @@
 #include "../threads.h"
 #include <stdio.h>
 #include <stdlib.h>
+#include <string.h>
 
 __attribute__((objc_root_class)) @interface Base { Class isa; }
 + (int)value;
@@ -25,14 +26,21 @@ __attribute__((objc_root_class)) @interface Base { Class isa; }
 
 static int added(id self, SEL sel) { return 4; }
 
+static int by_text(const void *a, const void *b) { return strcmp(a, b); }
+
+/* In which order a list has its methods is the compiler's. */
 static void tell_methods(Class class_)
 {
+    char lines[8][32];
     unsigned int count;
     Method *list = class_copyMethodList(class_, &count);
-    for (unsigned int i = 0; i < count; i++) {
+    for (unsigned int i = 0; i < count && i < 8; i++) {
+        SEL sel = method_getName(list[i]);
         int (*call)(id, SEL) = (int (*)(id, SEL))method_getImplementation(list[i]);
-        printf("%s answers %d\n", sel_getName(method_getName(list[i])), call(nil, method_getName(list[i])));
+        snprintf(lines[i], sizeof lines[i], "%s answers %d", sel_getName(sel), call(nil, sel));
     }
+    qsort(lines, count, sizeof lines[0], by_text);
+    for (unsigned int i = 0; i < count && i < 8; i++) puts(lines[i]);
     free(list);
 }
 
