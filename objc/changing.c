@@ -95,7 +95,7 @@ BOOL class_addMethod(Class class_, SEL sel, IMP imp, const char *types)
 
 IMP class_replaceMethod(Class class_, SEL sel, IMP imp, const char *types)
 {
-    if (!class_ || !class_->record || !sel || !imp || !types) return NULL;
+    if (!class_ || !sel || !imp || !types || !class_->record) return NULL;
     LOCKED;
     struct row *row = shim_row(class_->record, (uint32_t)sel->name.number);
     if (row) return set(class_->record, row, imp);

@@ -21,7 +21,7 @@ static _Thread_local unsigned ends;
 
 /* On the slow way, or in a change: the thread's sender and perhaps the lock are in use. Only a handler of a signal
  * that interrupts it can find it so, and finds nobody's seat, in which nothing is noted. */
-static _Thread_local volatile bool busy;
+static _Thread_local volatile unsigned busy;
 _Thread_local struct seat *shim_seat = &nobody;
 
 /* A handler has seen rows that the tables may not have yet: they do when the lock was free once. */
@@ -29,7 +29,7 @@ static _Thread_local volatile bool ahead;
 
 static void begin(void)
 {
-    busy = true;
+    busy++;
     shim_seat = &nobody;
     atomic_signal_fence(memory_order_seq_cst);
 }
@@ -37,8 +37,8 @@ static void begin(void)
 static void end(void)
 {
     atomic_signal_fence(memory_order_seq_cst);
-    shim_seat = own;
-    busy = false;
+    if (busy == 1) shim_seat = own;
+    busy--;
 }
 
 void shim_take(void)
@@ -47,7 +47,7 @@ void shim_take(void)
     pthread_mutex_lock(&shim_lock);
 }
 
-void shim_give(const int *unused)
+void shim_give(char *unused)
 {
     (void)unused;
     pthread_mutex_unlock(&shim_lock);
@@ -327,22 +327,28 @@ static inline struct life *begin_change(struct record *record)
     return life;
 }
 
-/* The change that was begun; where this life can't hold it, the tables are outdated. */
-static inline bool put(struct life *life, struct record *record, uint32_t sel, IMP imp)
+/* The change that was begun, of an implementation's number; where this life can't hold it, or there is no number, the
+ * tables are outdated. */
+static inline bool put(struct life *life, struct record *record, uint32_t sel, uint32_t imp)
 {
-    uint32_t number = sel > life->selectors ? 0 : number_of(life, imp);
-    bool done = number && !msg_replace(&life->runtime, record->number, record->meta, sel, number);
+    bool done = imp && !msg_replace(&life->runtime, record->number, record->meta, sel, imp);
     if (!done) shim_outdate();
     return done;
+}
+
+/* Of a row that came after the life was opened, perhaps with a name that it doesn't have. */
+static uint32_t number_in(struct life *life, struct row *row)
+{
+    return row->sel > life->selectors ? 0 : number_of(life, row->method->imp);
 }
 
 /* What the tables now find is cached, and noted by the thread's own sender, where it has one: else each thread that
  * sends the method next would wait for the lock that the change holds now. */
 static inline __attribute__((always_inline))
-void put_and_fill(struct life *life, struct record *of, uint32_t sel, IMP imp)
+void put_and_fill(struct life *life, struct record *of, uint32_t sel, uint32_t imp)
 {
     uint32_t found;
-    if (!life || !put(life, of, sel, imp) || own->life != life) return;
+    if (!put(life, of, sel, imp) || own->life != life) return;
     msg_fill(&life->runtime, &own->sender, of->number, of->meta, sel, &found);
 }
 
@@ -350,14 +356,14 @@ void shim_add(struct record *record, Method method, uint32_t sel)
 {
     struct life *life = begin_change(record);
     shim_put_row(record, method, sel);
-    put_and_fill(life, record, sel, method->imp);
+    if (life) put_and_fill(life, record, sel, number_in(life, &(struct row){sel, method}));
 }
 
 void shim_replace(struct record *record, struct row *row, IMP imp)
 {
     struct life *life = begin_change(record);
     shim_set_imp(row->method, imp);
-    put_and_fill(life, record, row->sel, imp);
+    if (life) put_and_fill(life, record, row->sel, number_of(life, imp));
 }
 
 void shim_exchange(struct record *one, struct row *row, struct record *other, struct row *other_row)
@@ -376,7 +382,7 @@ static void put_rows_of(struct record *record)
     for (uint32_t i = 0; i < record->count; i++) {
         struct row *row = &record->rows->at[i];
         struct life *life = begin_change(record);
-        if (!life || !put(life, record, row->sel, row->method->imp)) return;
+        if (!life || !put(life, record, row->sel, number_in(life, row))) return;
     }
 }
 
