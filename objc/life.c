@@ -159,7 +159,7 @@ void shim_outdate(void)
     leave(life);
 }
 
-static struct life *open_life(void)
+static struct life *open_life_for(uint32_t more_imps)
 {
     struct life *life = atomic_load(&current);
     if (life) return life;
@@ -172,7 +172,8 @@ static struct life *open_life(void)
     life->imps = MOST_IMPS;
     for (uint32_t i = 1; i <= shim_class_count; i++)
         if (!number_both(life, shim_classes[i])) shim_stop("too many implementations", shim_classes[i]->name);
-    life->imps = with_spare(life->imp_count, SPARE, MOST_IMPS);
+    life->standing = life->imp_count;
+    life->imps = with_spare(life->standing, more_imps, MOST_IMPS);
     uint32_t fault = open_tables(life);
     if (fault) {
         char number[16];
@@ -183,6 +184,8 @@ static struct life *open_life(void)
     atomic_store(&current, life);
     return life;
 }
+
+static struct life *open_life(void) { return open_life_for(SPARE); }
 
 static struct seat *new_seat(void)
 {
@@ -306,15 +309,20 @@ IMP shim_find(Class class_, uint32_t sel)
     return imp;
 }
 
-/* At the second attempt the tables are opened anew, so that what no longer stands has no number. */
+static bool fits(struct life *life, Class class_, IMP imp)
+{
+    return class_ ? number_both(life, class_) : number_of(life, imp);
+}
+
+/* At the second attempt the tables are opened anew, so that what doesn't stand has no number, with as much room as
+ * there is. */
 bool shim_room_in_tables(Class class_, IMP imp)
 {
-    for (;;) {
-        struct life *life = open_life();
-        if (class_ ? number_both(life, class_) : number_of(life, imp)) return true;
-        if (!atomic_load(&life->count)) return false;
-        shim_outdate();
-    }
+    struct life *life = open_life();
+    if (fits(life, class_, imp)) return true;
+    if (life->imps == MOST_IMPS && life->imp_count == life->standing && !life->count) return false;
+    shim_outdate();
+    return fits(open_life_for(MOST_IMPS), class_, imp);
 }
 
 /* Before a change of the tables, and of the rows that say the same: from here on no send goes by what was noted
