@@ -1,4 +1,6 @@
-/* Methods that stand in classes, and changes of them: of the rows, and by the proved calls of the tables, under one lock. */
+/* Methods that stand in classes, and changes of them: of the rows, and by the proved calls of the tables, under one
+ * lock. Trusted: that rows and tables say the same after each change, and that a change that has no room changes
+ * neither. */
 #include "shim.h"
 #include <stdlib.h>
 #include <string.h>

@@ -1,4 +1,7 @@
-/* A life of the proved runtime: its tables are opened from the rows of the classes; when it can't hold more, the next is opened with the tables as they are. */
+/* A life of the proved runtime: its tables are opened from the rows of the classes; when it can't hold more, the next
+ * is opened with the tables as they are. Trusted: that the tables are opened from all that stands, that a change is
+ * counted before it is made, that each sender is in one call at a time and given to calls on its own runtime, and
+ * that a number finds its function. */
 #include "seat.h"
 #include <stdio.h>
 #include <stdlib.h>

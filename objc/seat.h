@@ -1,4 +1,6 @@
-/* The way of a send that hits, without the lock: the book of the thread's own sender of the current life of the runtime. */
+/* The way of a send that hits, without the lock: the book of the thread's own sender of the current life of the
+ * runtime. Trusted: that a note is of its key and count, in whatever order other threads and handlers of signals come
+ * between. */
 #ifndef MSG_OBJC_SEAT_H
 #define MSG_OBJC_SEAT_H
 

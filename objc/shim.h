@@ -1,4 +1,5 @@
-/* What the files of the shim share. All of it is called under `shim_lock` where nothing else is said. */
+/* What the files of the shim share. All of it is called under `shim_lock` where nothing else is said. Trusted: as the
+ * files that it names. */
 #ifndef MSG_OBJC_SHIM_H
 #define MSG_OBJC_SHIM_H
 
