@@ -1,4 +1,6 @@
-/* Methods that stand in classes, and changes of them: of the rows, and by the proved calls of the tables, under one lock. */
+/* Methods that stand in classes, and changes of them: of the rows, and by the proved calls of the tables, under one
+ * lock. Trusted: that rows and tables say the same after each change, and that a change that has no room changes
+ * neither. */
 #include "shim.h"
 #include <stdlib.h>
 #include <string.h>
@@ -95,7 +97,7 @@ BOOL class_addMethod(Class class_, SEL sel, IMP imp, const char *types)
 
 IMP class_replaceMethod(Class class_, SEL sel, IMP imp, const char *types)
 {
-    if (!class_ || !class_->record || !sel || !imp || !types) return NULL;
+    if (!class_ || !sel || !imp || !types || !class_->record) return NULL;
     LOCKED;
     struct row *row = shim_row(class_->record, (uint32_t)sel->name.number);
     if (row) return set(class_->record, row, imp);

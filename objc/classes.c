@@ -1,4 +1,5 @@
-/* Classes by name and by number, and classes that are made at run time. */
+/* Classes by name and by number, and classes that are made at run time. Trusted: that a name finds the class that has
+ * it, once the tables have it, and that a class is freed only before it has a number. */
 #include "shim.h"
 #include <stdlib.h>
 #include <string.h>

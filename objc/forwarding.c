@@ -1,5 +1,7 @@
-/* What is called where no method is found: a program's hook, the receiver's forward::, its doesNotRecognize:, or the end.
- * forward:: is given the arguments' registers and memory as __builtin_apply_args makes them, and answers a result as __builtin_apply does (GCC's manual, Constructing Calls). */
+/* What is called where no method is found: a program's hook, the receiver's forward::, its doesNotRecognize:, or the
+ * end. forward:: is given the arguments' registers and memory as __builtin_apply_args makes them, and answers a
+ * result as __builtin_apply does (GCC's manual, Constructing Calls). Trusted: that the result of forward:: is
+ * returned where the message's is sought. */
 #include "shim.h"
 
 enum { MOST_IN_REGISTERS = 16 };

@@ -1,4 +1,7 @@
-/* A life of the proved runtime: its tables are opened from the rows of the classes; when it can't hold more, the next is opened with the tables as they are. */
+/* A life of the proved runtime: its tables are opened from the rows of the classes; when it can't hold more, the next
+ * is opened with the tables as they are. Trusted: that the tables are opened from all that stands, that a change is
+ * counted before it is made, that each sender is in one call at a time and given to calls on its own runtime, and
+ * that a number finds its function. */
 #include "seat.h"
 #include <stdio.h>
 #include <stdlib.h>
@@ -21,7 +24,7 @@ static _Thread_local unsigned ends;
 
 /* On the slow way, or in a change: the thread's sender and perhaps the lock are in use. Only a handler of a signal
  * that interrupts it can find it so, and finds nobody's seat, in which nothing is noted. */
-static _Thread_local volatile bool busy;
+static _Thread_local volatile unsigned busy;
 _Thread_local struct seat *shim_seat = &nobody;
 
 /* A handler has seen rows that the tables may not have yet: they do when the lock was free once. */
@@ -29,7 +32,7 @@ static _Thread_local volatile bool ahead;
 
 static void begin(void)
 {
-    busy = true;
+    busy++;
     shim_seat = &nobody;
     atomic_signal_fence(memory_order_seq_cst);
 }
@@ -37,8 +40,8 @@ static void begin(void)
 static void end(void)
 {
     atomic_signal_fence(memory_order_seq_cst);
-    shim_seat = own;
-    busy = false;
+    if (busy == 1) shim_seat = own;
+    busy--;
 }
 
 void shim_take(void)
@@ -47,7 +50,7 @@ void shim_take(void)
     pthread_mutex_lock(&shim_lock);
 }
 
-void shim_give(const int *unused)
+void shim_give(char *unused)
 {
     (void)unused;
     pthread_mutex_unlock(&shim_lock);
@@ -159,7 +162,7 @@ void shim_outdate(void)
     leave(life);
 }
 
-static struct life *open_life(void)
+static struct life *open_life_for(uint32_t more_imps)
 {
     struct life *life = atomic_load(&current);
     if (life) return life;
@@ -172,7 +175,8 @@ static struct life *open_life(void)
     life->imps = MOST_IMPS;
     for (uint32_t i = 1; i <= shim_class_count; i++)
         if (!number_both(life, shim_classes[i])) shim_stop("too many implementations", shim_classes[i]->name);
-    life->imps = with_spare(life->imp_count, SPARE, MOST_IMPS);
+    life->standing = life->imp_count;
+    life->imps = with_spare(life->standing, more_imps, MOST_IMPS);
     uint32_t fault = open_tables(life);
     if (fault) {
         char number[16];
@@ -183,6 +187,8 @@ static struct life *open_life(void)
     atomic_store(&current, life);
     return life;
 }
+
+static struct life *open_life(void) { return open_life_for(SPARE); }
 
 static struct seat *new_seat(void)
 {
@@ -306,15 +312,20 @@ IMP shim_find(Class class_, uint32_t sel)
     return imp;
 }
 
-/* At the second attempt the tables are opened anew, so that what no longer stands has no number. */
+static bool fits(struct life *life, Class class_, IMP imp)
+{
+    return class_ ? number_both(life, class_) : number_of(life, imp);
+}
+
+/* At the second attempt the tables are opened anew, so that what doesn't stand has no number, with as much room as
+ * there is. */
 bool shim_room_in_tables(Class class_, IMP imp)
 {
-    for (;;) {
-        struct life *life = open_life();
-        if (class_ ? number_both(life, class_) : number_of(life, imp)) return true;
-        if (!atomic_load(&life->count)) return false;
-        shim_outdate();
-    }
+    struct life *life = open_life();
+    if (fits(life, class_, imp)) return true;
+    if (life->imps == MOST_IMPS && life->imp_count == life->standing && !life->count) return false;
+    shim_outdate();
+    return fits(open_life_for(MOST_IMPS), class_, imp);
 }
 
 /* Before a change of the tables, and of the rows that say the same: from here on no send goes by what was noted
@@ -327,22 +338,28 @@ static inline struct life *begin_change(struct record *record)
     return life;
 }
 
-/* The change that was begun; where this life can't hold it, the tables are outdated. */
-static inline bool put(struct life *life, struct record *record, uint32_t sel, IMP imp)
+/* The change that was begun, of an implementation's number; where this life can't hold it, or there is no number, the
+ * tables are outdated. */
+static inline bool put(struct life *life, struct record *record, uint32_t sel, uint32_t imp)
 {
-    uint32_t number = sel > life->selectors ? 0 : number_of(life, imp);
-    bool done = number && !msg_replace(&life->runtime, record->number, record->meta, sel, number);
+    bool done = imp && !msg_replace(&life->runtime, record->number, record->meta, sel, imp);
     if (!done) shim_outdate();
     return done;
+}
+
+/* Of a row that came after the life was opened, perhaps with a name that it doesn't have. */
+static uint32_t number_in(struct life *life, struct row *row)
+{
+    return row->sel > life->selectors ? 0 : number_of(life, row->method->imp);
 }
 
 /* What the tables now find is cached, and noted by the thread's own sender, where it has one: else each thread that
  * sends the method next would wait for the lock that the change holds now. */
 static inline __attribute__((always_inline))
-void put_and_fill(struct life *life, struct record *of, uint32_t sel, IMP imp)
+void put_and_fill(struct life *life, struct record *of, uint32_t sel, uint32_t imp)
 {
     uint32_t found;
-    if (!life || !put(life, of, sel, imp) || own->life != life) return;
+    if (!put(life, of, sel, imp) || own->life != life) return;
     msg_fill(&life->runtime, &own->sender, of->number, of->meta, sel, &found);
 }
 
@@ -350,14 +367,14 @@ void shim_add(struct record *record, Method method, uint32_t sel)
 {
     struct life *life = begin_change(record);
     shim_put_row(record, method, sel);
-    put_and_fill(life, record, sel, method->imp);
+    if (life) put_and_fill(life, record, sel, number_in(life, &(struct row){sel, method}));
 }
 
 void shim_replace(struct record *record, struct row *row, IMP imp)
 {
     struct life *life = begin_change(record);
     shim_set_imp(row->method, imp);
-    put_and_fill(life, record, row->sel, imp);
+    if (life) put_and_fill(life, record, row->sel, number_of(life, imp));
 }
 
 void shim_exchange(struct record *one, struct row *row, struct record *other, struct row *other_row)
@@ -376,7 +393,7 @@ static void put_rows_of(struct record *record)
     for (uint32_t i = 0; i < record->count; i++) {
         struct row *row = &record->rows->at[i];
         struct life *life = begin_change(record);
-        if (!life || !put(life, record, row->sel, row->method->imp)) return;
+        if (!life || !put(life, record, row->sel, number_in(life, row))) return;
     }
 }
 

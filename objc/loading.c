@@ -1,4 +1,6 @@
-/* Modules: classes are taken when their superclass is there; categories and constant objects wait for their class; +load is sent once, a superclass's first. */
+/* Modules: classes are taken when their superclass is there; categories and constant objects wait for their class;
+ * +load is sent once, a superclass's first. Trusted: that what a module says is taken once, in the order of classes
+ * above others, and found by its name only with its methods. */
 #include "shim.h"
 #include <string.h>
 

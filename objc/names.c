@@ -1,4 +1,5 @@
-/* Numbers of selectors: equal names, equal numbers. They outlast every life of the runtime. */
+/* Numbers of selectors: equal names, equal numbers. They outlast every life of the runtime. Trusted: that equal names
+ * have one number and others another, and that the numbers of the selectors that the shim sends are right. */
 #include "shim.h"
 #include <stdio.h>
 #include <stdlib.h>

@@ -1,4 +1,6 @@
-/* The way of a send that hits, without the lock: the book of the thread's own sender of the current life of the runtime. */
+/* The way of a send that hits, without the lock: the book of the thread's own sender of the current life of the
+ * runtime. Trusted: that a note is of its key and count, in whatever order other threads and handlers of signals come
+ * between. */
 #ifndef MSG_OBJC_SEAT_H
 #define MSG_OBJC_SEAT_H
 
@@ -12,12 +14,13 @@ enum { IMP_PLACES = 16384 };
 
 /* `count`: how many changes were made or begun; sends go by it.
  * `classes`, `selectors` and `imps` are how many its document has, with those to spare; `functions` are numbered as it needs them; number 0 is forwarding, and NULL.
+ * `standing`: how many functions stood in classes when it was opened.
  * `users`: the senders of it that are out, and one while it is the current. */
 struct life {
     _Alignas(LINE) _Atomic(IMP) functions[MOST_IMPS + 1];
     _Atomic(uint64_t) count;
     _Alignas(LINE) msg_runtime runtime;
-    uint32_t classes, selectors, imps, imp_count, users;
+    uint32_t classes, selectors, imps, imp_count, standing, users;
     uint16_t function_at[IMP_PLACES];
 };
 

@@ -1,4 +1,5 @@
-/* Sends: +initialize before a class's first, and then what the proved dispatcher finds. */
+/* Sends: +initialize before a class's first, and then what the proved dispatcher finds. Trusted: that +initialize is
+ * sent before the first message and once, and that what is found is what the library answers. */
 #define _GNU_SOURCE /* for a recursive lock without a call */
 #include "seat.h"
 

@@ -1,4 +1,5 @@
-/* What the files of the shim share. All of it is called under `shim_lock` where nothing else is said. */
+/* What the files of the shim share. All of it is called under `shim_lock` where nothing else is said. Trusted: as the
+ * files that it names. */
 #ifndef MSG_OBJC_SHIM_H
 #define MSG_OBJC_SHIM_H
 
@@ -50,8 +51,8 @@ void shim_unlock(pthread_mutex_t **lock);
 /* shim_lock, in the same way. A handler of a signal that interrupts the block sees that its thread is on the slow
  * way. */
 void shim_take(void);
-void shim_give(const int *unused);
-#define LOCKED const int locked __attribute__((cleanup(shim_give), unused)) = (shim_take(), 0)
+void shim_give(char *unused);
+#define LOCKED shim_take(); char locked __attribute__((cleanup(shim_give), unused))
 
 /* Selectors that the shim sends itself, by fixed numbers. 1 is every image's forwardingTargetForSelector:, to which
  * no class of a program's answers. */

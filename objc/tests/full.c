@@ -35,6 +35,27 @@ static int fill_methods(void)
     return MOST;
 }
 
+/* More methods than there are numbers of functions, all of one function; and then a class with more new ones than the
+ * tables had to spare. */
+static int share(Class above)
+{
+    char name[32];
+    for (int i = 0; i < 5000; i++) {
+        snprintf(name, sizeof name, "Shared%d", i / 500);
+        Class class_ = i % 500 ? objc_getClass(name) : objc_allocateClassPair(above, name, 0);
+        if (i % 500 == 0) objc_registerClassPair(class_);
+        snprintf(name, sizeof name, "method%d", i % 500);
+        if (!class_addMethod(class_, sel_registerName(name), answer, "v16@0:8")) return 0;
+    }
+    Class large = objc_allocateClassPair(above, "Large", 0);
+    for (int i = 0; i < 300; i++) {
+        snprintf(name, sizeof name, "method%d", i);
+        class_addMethod(large->isa, sel_registerName(name), i ? function(-1000 - i) : answer, "v16@0:8");
+    }
+    objc_registerClassPair(large);
+    return objc_getClass("Large") == large && is_answered(large, sel_registerName("method0"));
+}
+
 static int fill_names(void)
 {
     char name[32];
@@ -65,6 +86,7 @@ int main(void)
     int taken = class_addIvar(late, "wide", SIZE_MAX, 3, "c") + class_addIvar(late, "aligned", 1, 255, "c");
     int made = objc_allocateClassPair(root, "Large", SIZE_MAX) || class_createInstance(root, SIZE_MAX);
     printf("too large: %d %d\n", taken, made);
+    printf("functions that are shared: %d\n", share(root));
     printf("classes refused: %d\n", was_refused(fill_classes(root)));
     printf("methods refused: %d\n", was_refused(fill_methods()));
     int refused = !class_replaceMethod(root->isa, known, function(-5000), "@16@0:8");
