@@ -1,12 +1,12 @@
 -- What calls answer.
-use Rattle.std.specs.Prelude.{◌≡◌, ◌≢◌, ℕ, Option, Some, None, option_map}
+use Rattle.std.specs.Prelude.{◌≡◌, ℕ, Option, Some, None, option_map}
 use Rattle.msg_form.specs.FaultNumber.{document_fault_number}
 use Rattle.msg_form.specs.declared.faults.DocumentFault.{DocumentFault}
 use Rattle.msg_form.specs.declared.faults.DocumentFault.TheVariants.{Shape}
 use Rattle.msg_tables.specs.declared.change.Change.{Change}
 use Rattle.msg_tables.specs.History.{History, BeginsWith}
-use Rattle.msg_cache.specs.Views.{ArenaView, classes}
-use Rattle.msg_host.specs.Asking.{ChangesBy, ask_fault, ask_fault_number}
+use Rattle.msg_cache.specs.Views.{ArenaView}
+use Rattle.msg_host.specs.Asking.{ChangesBy, ask_fault_number}
 use Rattle.msg_host.specs.View.{RuntimeView, SenderView}
 use Rattle.msg_host.specs.declared.fault.AskFault.{AskFault}
 

@@ -1,4 +1,4 @@
-use Rattle.std.proofs.Common.{rules, ap, ◌∙◌, sym, Some}
+use Rattle.std.proofs.Common.{ap, ◌∙◌, sym, Some}
 use Rattle.msg_host.specs.View.{SenderView}
 use Rattle.msg_c.specs.Answers.{sender_front}
 use Rattle.msg_c.proofs.sending.msg_fill.Goals as goal
