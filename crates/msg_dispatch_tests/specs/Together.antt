@@ -1,5 +1,5 @@
 -- The keeper of an arena, with class tables at its history.
-use Rattle.std.specs.Prelude.{◌≡◌, ◌<◌, None, length}
+use Rattle.std.specs.Prelude.{◌≡◌, None, length}
 use Rattle.msg_names.specs.declared.value.ClassRef.{ClassRef}
 use Rattle.msg_tables.specs.History.{History, empty}
 use Rattle.msg_tables.specs.Stands.{StandsAt}
