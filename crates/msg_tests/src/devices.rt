@@ -148,10 +148,12 @@ fn calls() -> u32 {
 #[test]
 fn each_read_of_a_byte_fails(rt: HostRuntime) {
     for way in WAYS {
-        for call in 1..=calls() {
-            reads_end(&rt, rt.alloc(), way, SMALL, (1, call), Some(RunFault::Read));
+        for before in 0..calls() {
+            let row = (1, before + 1);
+            reads_end(&rt, rt.alloc(), way, SMALL, row, Some(RunFault::Read));
         }
-        reads_end(&rt, rt.alloc(), way, SMALL, (1, calls() + 1), None);
+        let later = (1, calls().saturating_add(1));
+        reads_end(&rt, rt.alloc(), way, SMALL, later, None);
     }
 }
 

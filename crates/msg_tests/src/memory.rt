@@ -45,7 +45,18 @@ struct Bed {
     names: Names,
     tables: Tables,
     machine: Machine,
-    ghost sizes: { table_sizes tables ≡ sizes_of image },
+}
+
+fn image(rt: &impl Abort, alloc: Global) -> Box<Image> {
+    let document = read_document(alloc, IMAGE.as_bytes()).expect(rt, "a document");
+    Box::new(alloc, document.image).expect(rt, "memory")
+}
+
+fn tables_of(rt: &impl Abort, alloc: Global, image: &Image) -> Box<Tables>
+    ensures { table_sizes result.value ≡ sizes_of image.now }
+{
+    let tables = Tables::open(alloc, image).expect(rt, "memory");
+    Box::new(alloc, tables).expect(rt, "memory")
 }
 
 fn opened(rt: &impl Abort, alloc: Global) -> Box<Bed> {
@@ -189,15 +200,15 @@ fn each_want_of_memory_is_told(rt: HostRuntime) {
 }
 
 // What is sent to an object without arguments is answered so.
-fn is_replied(rt: &impl Abort, bed: &Bed, object: u32, sel: u32, want: Reply) {
-    assert!(rt; object < bed.image.object_count());
+fn is_replied(rt: &impl Abort, image: &Image, tables: &Tables, object: u32, sel: u32, want: Reply)
+    requires { table_sizes tables.now ≡ sizes_of image.now }
+{
+    assert!(rt; object < image.object_count());
     let receiver = Value::Object(ObjectRef { object });
-    let mut finder = Tabled {
-        tables: &bed.tables,
-    };
+    let mut finder = Tabled { tables };
     let reply = send(
         &mut finder,
-        &bed.image,
+        image,
         receiver,
         selector(rt, sel),
         &Args::new(),
@@ -207,7 +218,8 @@ fn is_replied(rt: &impl Abort, bed: &Bed, object: u32, sel: u32, want: Reply) {
 
 #[test]
 fn a_send_takes_no_memory(rt: HostRuntime) {
-    let bed = opened(&rt, rt.alloc());
+    let image = image(&rt, rt.alloc());
+    let tables = tables_of(&rt, rt.alloc(), &image);
     let _hog = Hog::new(&rt).expect(&rt, "memory");
     for (object, sel, want) in [
         (1, 2, Reply::Value(Value::Number(7))),
@@ -219,7 +231,7 @@ fn a_send_takes_no_memory(rt: HostRuntime) {
         (3, 2, Reply::Value(Value::Number(7))),
         (3, 11, Reply::Fault(SendFault::TargetNotAnObject)),
     ] {
-        is_replied(&rt, &bed, object, sel, want);
+        is_replied(&rt, &image, &tables, object, sel, want);
     }
 }
 

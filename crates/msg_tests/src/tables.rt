@@ -117,29 +117,44 @@ fn superclasses_are_found(rt: &impl Abort, image: &Image, tables: &Tables)
     }
 }
 
-// How many class references descend from this one, whether the other does, and whether it is marked when the marks were taken away.
-fn descendants(
-    tables: &Tables,
-    class: ClassRef,
-    other: ClassRef,
-    marks: &mut Marks,
-) -> (usize, bool, bool)
-    requires class { class.class < length tables.now.supers }
-    requires other { other.class < length tables.now.supers }
-    requires marks { length marks.old ≡ 2 * length tables.now.supers }
-    ensures { length marks.new ≡ length marks.old }
-{
-    tables.descendants(class, marks);
-    let count = marks.count();
-    let is_below = marks.has(other);
-    marks.clear();
-    (count, is_below, marks.has(other))
+// Marks, with the tables that they are of.
+#[derive(Drop)]
+struct Marked<'t> {
+    tables: &'t Tables,
+    marks: Marks,
+    classes: u32,
+    ghost room: { length marks ≡ 2 * length tables.now.supers },
+    ghost classes_are: { classes ≡ length tables.now.supers },
 }
 
-fn descendants_are(rt: &impl Abort, image: &Image, tables: &Tables, marks: &mut Marks)
-    requires marks { length marks.old ≡ 2 * length tables.now.supers }
-    requires supers { length tables.now.supers ≡ class_total (origin_of image.now) }
+impl Marked<'_> {
+    // How many class references descend from this one, whether the other does, and whether it is marked when the marks were taken away.
+    fn descendants(
+        &mut self,
+        rt: &impl Abort,
+        class: ClassRef,
+        other: ClassRef,
+    ) -> (usize, bool, bool) {
+        assert!(rt; class.class < self.classes && other.class < self.classes);
+        self.tables.descendants(class, &mut self.marks);
+        let count = self.marks.count();
+        let is_below = self.marks.has(other);
+        self.marks.clear();
+        (count, is_below, self.marks.has(other))
+    }
+}
+
+fn with_marks<'t>(rt: &impl Abort, alloc: Global, image: &Image, tables: &'t Tables) -> Marked<'t>
+    requires { length tables.now.supers ≡ class_total (origin_of image.now) }
 {
+    Marked {
+        tables,
+        marks: tables.marks(alloc).expect(rt, "memory"),
+        classes: image.class_count(),
+    }
+}
+
+fn descendants_are(rt: &impl Abort, marked: &mut Marked<'_>) {
     for (class, other, count, is_below) in [
         (ROOT, GRAND, 8, true),
         (ROOT, metaclass(SIDE), 8, true),
@@ -150,8 +165,7 @@ fn descendants_are(rt: &impl Abort, image: &Image, tables: &Tables, marks: &mut 
         (CHILD, metaclass(CHILD), 2, false),
         (PROXY, metaclass(PROXY), 2, true),
     ] {
-        assert!(rt; class.class < image.class_count() && other.class < image.class_count());
-        let found = descendants(tables, class, other, marks);
+        let found = marked.descendants(rt, class, other);
         same_at(rt, &(class, other), found, (count, is_below, false));
     }
 }
@@ -161,12 +175,12 @@ fn lookups_and_descendants_of_fresh_tables(rt: HostRuntime) {
     let image = image(&rt, rt.alloc());
     same(&rt, image.class_count(), 5);
     let tables = opened(&rt, rt.alloc(), &image);
-    let mut marks = tables.marks(rt.alloc()).expect(&rt, "memory");
+    let mut marked = with_marks(&rt, rt.alloc(), &image, &tables);
     // the calls take no memory
     let _hog = Hog::new(&rt).expect(&rt, "memory");
     methods_are_found(&rt, &image, &tables);
     superclasses_are_found(&rt, &image, &tables);
-    descendants_are(&rt, &image, &tables, &mut marks);
+    descendants_are(&rt, &mut marked);
     are_refused(&rt, &tables);
 }
 
