@@ -76,6 +76,8 @@ static int try_it(int (*send)(void))
 static int send_to_throwing(void) { return [Throwing value]; }
 static int send_below(void) { return [BelowThrowing value]; }
 
+static int has_key(Class class_) { return ((struct objc_class *)(void *)class_)->key != 0; }
+
 int main(void)
 {
     SEL none = sel_registerName("none");
@@ -95,8 +97,7 @@ int main(void)
     pthread_join(thread, NULL);
     again = try_it(send_to_throwing);
     printf("after it threw: %d %d, thrown %d\n", again, answer, thrown);
-    struct objc_class *class_ = (void *)objc_getClass("Throwing"), *meta = (void *)objc_getMetaClass("Throwing");
-    printf("as fast as others: %d\n", class_->key && meta->key);
+    printf("as fast as others: %d\n", has_key(objc_getClass("Throwing")) && has_key(objc_getMetaClass("Throwing")));
 
     class_replaceMethod(objc_getMetaClass("Replaced"), @selector(own), (IMP)late, "i16@0:8");
     answer = [Replaced own];

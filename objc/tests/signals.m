@@ -12,7 +12,7 @@ enum { KINDS = 64, SECONDS = 2, EVERY = 150 };
 
 /* The first send after the tables were opened anew takes memory, of which ThreadSanitizer tells where a handler does
  * it; after 65,536 changes they are. */
-#ifdef __SANITIZE_THREAD__
+#ifdef SANITIZED
 enum { MOST_CHANGES = 60000 };
 #else
 enum { MOST_CHANGES = 100000000 };

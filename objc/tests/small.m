@@ -3,44 +3,32 @@
 #include "../threads.h"
 #include <stdio.h>
 #include <stdlib.h>
-#include <string.h>
 
 __attribute__((objc_root_class)) @interface Base { Class isa; }
 + (int)value;
-- (int)one;
 - (int)two;
 @end
 @interface Base (More)
 - (int)two;
-- (int)three;
 @end
 @implementation Base
 + (int)value { return 1; }
-- (int)one { return 1; }
 - (int)two { return 2; }
 @end
 @implementation Base (More)
 - (int)two { return 22; }
-- (int)three { return 3; }
 @end
 
 static int added(id self, SEL sel) { return 4; }
 
-static int by_text(const void *a, const void *b) { return strcmp(a, b); }
-
-/* In which order a list has its methods is the compiler's. */
 static void tell_methods(Class class_)
 {
-    char lines[8][32];
     unsigned int count;
     Method *list = class_copyMethodList(class_, &count);
-    for (unsigned int i = 0; i < count && i < 8; i++) {
-        SEL sel = method_getName(list[i]);
+    for (unsigned int i = 0; i < count; i++) {
         int (*call)(id, SEL) = (int (*)(id, SEL))method_getImplementation(list[i]);
-        snprintf(lines[i], sizeof lines[i], "%s answers %d", sel_getName(sel), call(nil, sel));
+        printf("%s answers %d\n", sel_getName(method_getName(list[i])), call(nil, method_getName(list[i])));
     }
-    qsort(lines, count, sizeof lines[0], by_text);
-    for (unsigned int i = 0; i < count && i < 8; i++) puts(lines[i]);
     free(list);
 }
 
@@ -77,10 +65,10 @@ int main(void)
     tell_layout();
     printf("a class is no object to free: %d, %d\n", object_dispose((id)base) == nil, [Base value]);
     printf("an object is: %d\n", object_dispose(class_createInstance(base, 0)) == nil);
-    SEL one = @selector(one), none = sel_registerName("none");
-    printf("responds: %d %d", class_respondsToSelector(base, one), class_respondsToSelector(base, none));
-    printf(" %d\n", class_respondsToSelector(NULL, one));
+    SEL two = @selector(two), none = sel_registerName("none");
+    printf("responds: %d %d", class_respondsToSelector(base, two), class_respondsToSelector(base, none));
+    printf(" %d\n", class_respondsToSelector(NULL, two));
     class_ivar_set_gcinvisible(base, "isa", 1);
-    printf("asked by another name: %d %d\n", __objc_responds_to((id)base, one), __objc_responds_to((id)base, none));
+    printf("asked by another name: %d %d\n", __objc_responds_to((id)base, two), __objc_responds_to((id)base, none));
     return 0;
 }
