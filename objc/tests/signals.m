@@ -8,7 +8,7 @@
 #include <sys/time.h>
 #include <time.h>
 
-enum { KINDS = 64, SECONDS = 2, EVERY = 150 };
+enum { KINDS = 64, SECONDS = 2, MOST_SECONDS = 60, EVERY = 150 };
 
 /* The first send after the tables were opened anew takes memory, of which ThreadSanitizer tells where a handler does
  * it; after 65,536 changes they are. */
@@ -81,6 +81,8 @@ static void change(Class meta, long number)
     set(&returned, number);
 }
 
+static bool too_few(void) { return get(&handled[0]) <= 10 || get(&handled[1]) <= 10; }
+
 int main(void)
 {
     pthread_t beside;
@@ -94,10 +96,10 @@ int main(void)
     signal(SIGUSR1, handle);
     setitimer(ITIMER_REAL, &(struct itimerval){{0, EVERY}, {0, EVERY}}, NULL);
     time_t end = time(NULL) + SECONDS + 1;
-    for (long number = 1; time(NULL) < end && number < MOST_CHANGES; number++) {
+    for (long number = 1; (time(NULL) < end || (too_few() && time(NULL) < end + MOST_SECONDS)) && number < MOST_CHANGES; number++) {
         change(base->isa, number);
         look();
-        if (number % 50 == 0) pthread_kill(beside, SIGUSR1);
+        if (number % 16 == 0) pthread_kill(beside, SIGUSR1);
     }
     setitimer(ITIMER_REAL, &(struct itimerval){{0, 0}, {0, 0}}, NULL);
     set(&over, 1);
