@@ -8,7 +8,7 @@
 #include <sys/time.h>
 #include <time.h>
 
-enum { KINDS = 64, SECONDS = 2, MOST_SECONDS = 60, EVERY = 150 };
+enum { KINDS = 64, SECONDS = 2, PATIENCE = 30, ENOUGH = 10, EVERY = 150 };
 
 /* The first send after the tables were opened anew takes memory, of which ThreadSanitizer tells where a handler does
  * it; after 65,536 changes they are. */
@@ -81,7 +81,7 @@ static void change(Class meta, long number)
     set(&returned, number);
 }
 
-static bool too_few(void) { return get(&handled[0]) <= 10 || get(&handled[1]) <= 10; }
+static int few_handled(void) { return get(&handled[0]) < ENOUGH || get(&handled[1]) < ENOUGH; }
 
 int main(void)
 {
@@ -96,14 +96,14 @@ int main(void)
     signal(SIGUSR1, handle);
     setitimer(ITIMER_REAL, &(struct itimerval){{0, EVERY}, {0, EVERY}}, NULL);
     time_t end = time(NULL) + SECONDS + 1;
-    for (long number = 1; (time(NULL) < end || (too_few() && time(NULL) < end + MOST_SECONDS)) && number < MOST_CHANGES; number++) {
-        change(base->isa, number);
+    for (long step = 1; time(NULL) < end || (few_handled() && time(NULL) < end + PATIENCE); step++) {
+        if (step < MOST_CHANGES) change(base->isa, step);
         look();
-        if (number % 16 == 0) pthread_kill(beside, SIGUSR1);
+        if (step % 50 == 0) pthread_kill(beside, SIGUSR1);
     }
     setitimer(ITIMER_REAL, &(struct itimerval){{0, 0}, {0, 0}}, NULL);
     set(&over, 1);
     pthread_join(beside, NULL);
-    printf("handled %d %d, wrong %ld\n", get(&handled[0]) > 10, get(&handled[1]) > 10, get(&wrong));
+    printf("handled %s, wrong %ld\n", few_handled() ? "few" : "enough", get(&wrong));
     return 0;
 }
