@@ -1,12 +1,10 @@
 -- What calls answer.
-use Rattle.std.specs.Prelude.{◌≡◌, ℕ, Option, Some, None, option_map}
-use Rattle.msg_form.specs.FaultNumber.{document_fault_number}
-use Rattle.msg_form.specs.declared.faults.DocumentFault.{DocumentFault}
-use Rattle.msg_form.specs.declared.faults.DocumentFault.TheVariants.{Shape}
+use Rattle.std.specs.Prelude.{◌≡◌, ◌||◌, ℕ, Bool, List, Option, Some, None, not, option_map}
 use Rattle.msg_tables.specs.declared.change.Change.{Change}
 use Rattle.msg_tables.specs.History.{History, BeginsWith}
 use Rattle.msg_cache.specs.Views.{ArenaView}
 use Rattle.msg_host.specs.Asking.{ChangesBy, ask_fault_number}
+use Rattle.msg_host.specs.Config.{are_known, config_of, is_refused}
 use Rattle.msg_host.specs.View.{RuntimeView, SenderView}
 use Rattle.msg_host.specs.declared.fault.AskFault.{AskFault}
 
@@ -15,10 +13,9 @@ abbrev pub number_of_fault : Option AskFault → ℕ
 number_of_fault None = 0
 number_of_fault (Some f) = ask_fault_number f
 
--- the number of why rows aren't opened: of their form's fault as of a document's, but for rows that stand for no form
-abbrev pub rows_fault_number : DocumentFault → ℕ
-rows_fault_number Shape = 72
-rows_fault_number f = document_fault_number f
+-- the words of a config aren't known, or ask for what isn't given
+abbrev pub are_refused : List ℕ → Bool
+are_refused words = not (are_known words) || is_refused (config_of words)
 
 -- A change took a handle's state from was to is with the answer n.
 abbrev pub Changes : Option RuntimeView → Option RuntimeView → Change → ℕ → Type 0

@@ -1,6 +1,5 @@
 -- What a handle holds, and something where it holds nothing.
 use Rattle.std.specs.Prelude.{Option, Some, None, []}
-use Rattle.msg_image.specs.Parts.{ImageParts}
 use Rattle.msg_cache.specs.Plays.{no_history, no_setting, nobody}
 use Rattle.msg_cache.specs.Views.{ArenaView}
 use Rattle.msg_host.specs.View.{RuntimeView, SenderView}
@@ -8,12 +7,9 @@ use Rattle.msg_host.specs.View.{RuntimeView, SenderView}
 abbrev no_arena : ArenaView
 no_arena = record { table = record { words = 0; slots = 0; views_name = 0; atom = 0; block = 0; offset = 0; slot_names = [] }; key = no_setting }
 
-abbrev no_image : ImageParts
-no_image = record { names = []; classes = []; made = []; categories = []; objects = []; imps = [] }
-
 -- the runtime in an open handle
 abbrev pub runtime_in : Option RuntimeView → RuntimeView
-runtime_in None = record { arena = no_arena; history = no_history; image = no_image }
+runtime_in None = record { arena = no_arena; history = no_history }
 runtime_in (Some v) = v
 
 -- the sender in an open handle

@@ -1,10 +1,7 @@
 //! Questions to a runtime.
 
-ghost use Rattle.std.specs.Prelude.{◌≡◌, ◌≢◌, ◌<◌, ◌≤◌, ℕ, length, slice_get, IsUtf8, Some, None};
+ghost use Rattle.std.specs.Prelude.{◌≡◌, ◌≢◌, ◌≤◌, length, Some, None};
 ghost use Rattle.msg_names.specs.declared.value.ClassRef.{ClassRef};
-ghost use Rattle.msg_names.specs.Numbering.{number_of};
-ghost use Rattle.msg_image.specs.Opened.{origin_of};
-ghost use Rattle.msg_image.specs.Parts.{class_names};
 ghost use Rattle.msg_tables.specs.Origin.{last_imp};
 ghost use Rattle.msg_tables.specs.History.{holder, lookup, superclass};
 ghost use Rattle.msg_cache.specs.Views.{classes};
@@ -26,7 +23,7 @@ pub struct MsgClass {
     pub meta: bool,
 }
 
-/// How many classes have numbers: the listed ones, and after them those that may be made. `objc_getClassList` counts those that are made.
+/// How many class numbers are reserved. `objc_getClassList` counts the classes that are made.
 #[unsafe(no_mangle)]
 pub extern "C" fn msg_class_count(
     alloc: Global,
@@ -37,7 +34,7 @@ pub extern "C" fn msg_class_count(
     ensures closed { runtime.old.held.state ≡ None → result ≡ CLOSED }
     ensures left { result ≢ 0 → count.new ≡ count.old }
     ensures done { (v : RuntimeView) → runtime.old.held.state ≡ Some v → (result ≡ 0) × (count.new ≡ classes v.arena) }
-    ensures image { (v : RuntimeView) → runtime.old.held.state ≡ Some v → origin_of v.image ≡ v.history.origin }
+    ensures origin { (v : RuntimeView) → runtime.old.held.state ≡ Some v → v.history.origin ≡ v.arena.key.origin }
 {
     let Some(held) = runtime.take(alloc) else {
         return CLOSED;
@@ -65,64 +62,6 @@ pub extern "C" fn msg_change_count(
     *count = held.count();
     *runtime = RuntimeHandle::of(held);
     DONE
-}
-
-/// `objc_lookUpClass`: the number of the class of a name, made or not. The names are looked at one by one.
-#[unsafe(no_mangle)]
-pub extern "C" fn msg_find_class(
-    alloc: Global,
-    runtime: &mut RuntimeHandle,
-    name: &[u8],
-    class: &mut u32,
-) -> u32
-    ensures kept { runtime.new.held.state ≡ runtime.old.held.state }
-    ensures closed { runtime.old.held.state ≡ None → result ≡ CLOSED }
-    ensures left { result ≢ 0 → class.new ≡ class.old }
-    ensures done { (v : RuntimeView) → runtime.old.held.state ≡ Some v → result ≡ 0 → slice_get (class_names v.image) class.new ≡ Some name.now }
-    ensures none { (v : RuntimeView) → runtime.old.held.state ≡ Some v → result ≢ 0 → result ≡ NONE }
-    ensures unnamed { (v : RuntimeView) → runtime.old.held.state ≡ Some v → result ≢ 0 → IsUtf8 name.now → (k : ℕ) → k < classes v.arena → slice_get (class_names v.image) k ≢ Some name.now }
-{
-    let Some(held) = runtime.take(alloc) else {
-        return CLOSED;
-    };
-    let found = held.class_by(name);
-    *runtime = RuntimeHandle::of(held);
-    match found {
-        Some(found) => {
-            *class = found;
-            DONE
-        }
-        None => NONE,
-    }
-}
-
-/// `sel_getUid`, of the image's selectors alone. It hashes the name once.
-#[unsafe(no_mangle)]
-pub extern "C" fn msg_find_selector(
-    alloc: Global,
-    runtime: &mut RuntimeHandle,
-    name: &[u8],
-    sel: &mut u32,
-) -> u32
-    ensures kept { runtime.new.held.state ≡ runtime.old.held.state }
-    ensures closed { runtime.old.held.state ≡ None → result ≡ CLOSED }
-    ensures left { result ≢ 0 → sel.new ≡ sel.old }
-    ensures done { (v : RuntimeView) → runtime.old.held.state ≡ Some v → result ≡ 0 → number_of v.image.names name.now ≡ Some sel.new }
-    ensures none { (v : RuntimeView) → runtime.old.held.state ≡ Some v → result ≢ 0 → result ≡ NONE }
-    ensures unnamed { (v : RuntimeView) → runtime.old.held.state ≡ Some v → result ≢ 0 → IsUtf8 name.now → number_of v.image.names name.now ≡ None }
-{
-    let Some(held) = runtime.take(alloc) else {
-        return CLOSED;
-    };
-    let found = held.selector_by(name);
-    *runtime = RuntimeHandle::of(held);
-    match found {
-        Some(found) => {
-            *sel = found;
-            DONE
-        }
-        None => NONE,
-    }
 }
 
 /// `class_getMethodImplementation`: the implementation's number, 0 for forwarding. No cache is looked at or filled.

@@ -7,15 +7,16 @@
 mod answer;
 mod asking;
 mod changing;
+#[cfg(test)]
+mod config_tests;
 mod crossing;
+#[cfg(test)]
+mod memory_tests;
 mod opening;
-mod opening_rows;
 mod parts;
 #[cfg(test)]
 mod report_tests;
 mod reporting;
-#[cfg(test)]
-mod row_tests;
 mod runtime_handle;
 #[cfg(test)]
 mod same;

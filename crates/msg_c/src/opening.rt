@@ -1,59 +1,67 @@
 //! Opening and closing a runtime.
 
-ghost use Rattle.std.specs.Prelude.{◌≡◌, ◌≢◌, Err, Some, None, IfOk, IfErr, IfSome, is_some, true, false};
-ghost use Rattle.msg_form.specs.FaultNumber.{document_fault_number};
-ghost use Rattle.msg_form.specs.declared.faults.DocumentFault.{DocumentFault};
-ghost use Rattle.msg_image.specs.Answer.{IsAnswer};
+ghost use Rattle.std.specs.Prelude.{◌≡◌, ◌≢◌, ◌⊎◌, Some, None, IfOk, IfSome, IsErrOf, OnOk, is_some, true, false};
+ghost use Rattle.msg_host.specs.Config.{config_of, is_refused};
 ghost use Rattle.msg_host.specs.Opening.{OpensAs};
+ghost use Rattle.msg_host.specs.declared.fault.OpenFault.{OpenFault};
+ghost use Rattle.msg_c.specs.Answers.{are_refused};
 
-use crate::answer::{ALREADY_OPEN, CLOSED, DONE};
+use crate::answer::{ALREADY_OPEN, BAD_CONFIG, CLOSED, DONE, NO_MEMORY};
 use crate::runtime_handle::RuntimeHandle;
-use msg_form::DocumentFault;
-use msg_host::HostedRuntime;
+use msg_host::{HostConfig, HostedRuntime, OpenFault};
 use std::alloc::Global;
 
-// An open handle of a runtime. The one error is want of memory.
-pub(crate) fn handle_of(
-    alloc: Global,
-    runtime: HostedRuntime,
-) -> Result<RuntimeHandle, DocumentFault>
-    ensures ok { IfOk result (λ handle. handle.held.state ≡ Some runtime) }
-    ensures err { IfErr result (λ f. f ≡ DocumentFault.Memory) }
+// An open handle of a new runtime.
+fn opened(alloc: Global, config: HostConfig) -> Result<RuntimeHandle, OpenFault>
+    ensures open { IfOk result (λ handle. is_some handle.held.state ≡ true) }
+    ensures ok { IfOk result (λ handle. IfSome handle.held.state (λ v. OpensAs config v)) }
+    ensures allowed { OnOk result (is_refused config ≡ false) }
+    ensures refused { IsErrOf result OpenFault.BadConfig → is_refused config ≡ true }
+    ensures memory { IsErrOf result OpenFault.Memory → is_refused config ≡ false }
 {
+    let runtime = HostedRuntime::open(alloc, config)?;
     match Box::new(alloc, runtime) {
         Ok(runtime) => Ok(RuntimeHandle::of(runtime)),
-        Err(_) => Err(DocumentFault::Memory),
+        Err(_) => Err(OpenFault::Memory),
     }
 }
 
-fn opened(alloc: Global, text: &[u8]) -> Result<RuntimeHandle, DocumentFault>
+// As of words.
+fn opened_of(alloc: Global, words: &[u32]) -> Result<RuntimeHandle, OpenFault>
     ensures open { IfOk result (λ handle. is_some handle.held.state ≡ true) }
-    ensures ok { IfOk result (λ handle. IfSome handle.held.state (λ v. OpensAs text.now v)) }
-    ensures fault { IfErr result (λ f. f ≢ DocumentFault.Memory → IsAnswer text.now (Err f)) }
+    ensures ok { IfOk result (λ handle. IfSome handle.held.state (λ v. OpensAs (config_of words.now) v)) }
+    ensures allowed { OnOk result (are_refused words.now ≡ false) }
+    ensures refused { IsErrOf result OpenFault.BadConfig → are_refused words.now ≡ true }
+    ensures memory { IsErrOf result OpenFault.Memory → are_refused words.now ≡ false }
 {
-    handle_of(alloc, HostedRuntime::open(alloc, text)?)
+    match HostConfig::of_words(words) {
+        Some(config) => opened(alloc, config),
+        None => Err(OpenFault::BadConfig),
+    }
 }
 
-/// `map_images`: opens the image that a document's text spells, version 1 or 2, with no change made yet. What the document sends and changes is left aside.
+/// Opens a runtime without classes, with no change made. The words are the fields of `msg_config` of C, one after another; those that lack are the default.
 ///
-/// The number of a fault is that of docs/FORMAT.md, and the least; 17, want of memory, may come wherever a growth is refused.
+/// 73 says that a field is beyond its most, or that there are more fields than are known and one of those isn't 0. 69, want of memory, may come wherever a growth is refused.
 #[unsafe(no_mangle)]
-pub extern "C" fn msg_open(alloc: Global, runtime: &mut RuntimeHandle, text: &[u8]) -> u32
+pub extern "C" fn msg_open_words(alloc: Global, runtime: &mut RuntimeHandle, config: &[u32]) -> u32
     ensures already { is_some runtime.old.held.state ≡ true → result ≡ ALREADY_OPEN }
     ensures left { result ≢ 0 → runtime.new.held.state ≡ runtime.old.held.state }
     ensures open { result ≡ 0 → is_some runtime.new.held.state ≡ true }
-    ensures done { result ≡ 0 → IfSome runtime.new.held.state (λ v. OpensAs text.now v) }
-    ensures fault { runtime.old.held.state ≡ None → result ≢ 0 → (f : DocumentFault) × (result ≡ document_fault_number f) × (f ≢ DocumentFault.Memory → IsAnswer text.now (Err f)) }
+    ensures done { result ≡ 0 → IfSome runtime.new.held.state (λ v. OpensAs (config_of config.now) v) }
+    ensures refused { runtime.old.held.state ≡ None → are_refused config.now ≡ true → result ≡ BAD_CONFIG }
+    ensures allowed { runtime.old.held.state ≡ None → are_refused config.now ≡ false → (result ≡ DONE) ⊎ (result ≡ NO_MEMORY) }
 {
     if runtime.is_open() {
         return ALREADY_OPEN;
     }
-    match opened(alloc, text) {
+    match opened_of(alloc, config) {
         Ok(handle) => {
             *runtime = handle;
             DONE
         }
-        Err(fault) => fault.number(),
+        Err(OpenFault::BadConfig) => BAD_CONFIG,
+        Err(OpenFault::Memory) => NO_MEMORY,
     }
 }
 

@@ -34,6 +34,13 @@ fn reports<R: Abort>(rt: &R, alloc: Global, runtime: &mut RuntimeHandle, stored:
     same(rt, report.given_again, 0);
 }
 
+// How many entries were stored, and how many arrays were installed.
+pub(crate) fn stored<R: Abort>(rt: &R, alloc: Global, runtime: &mut RuntimeHandle) -> (u64, u64) {
+    let mut report = other();
+    answers(rt, msg_report(alloc, runtime, &mut report), DONE);
+    (report.fills, report.growths)
+}
+
 fn fills_and_flushes<R: Abort>(
     rt: &R,
     alloc: Global,

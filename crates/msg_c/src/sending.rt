@@ -30,7 +30,7 @@ pub extern "C" fn msg_sender_size() -> usize
     SENDER_BYTES
 }
 
-/// A sender of the runtime, which has seen all changes that were made. 64 may be out at a time.
+/// A sender of the runtime, which has seen all changes that were made. As many may be out at a time as the runtime was opened for.
 #[unsafe(no_mangle)]
 pub extern "C" fn msg_sender_open(
     alloc: Global,

@@ -3,16 +3,15 @@
 ghost use Rattle.std.specs.Prelude.{◌≡◌, Some, None, IfOk, is_some, true};
 ghost use Rattle.msg_c.specs.Answers.{AreOfOneArena};
 
-use crate::answer::{ALREADY_OPEN, CLOSED, DONE, MISSED, NO_SENDER, NONE, NOT_NOTED};
+use crate::answer::{ALREADY_OPEN, BAD_CONFIG, CLOSED, DONE, MISSED, NO_SENDER, NONE, NOT_NOTED};
 use crate::asking::{
-    MsgClass, msg_change_count, msg_class_count, msg_find_class, msg_find_selector, msg_holder,
-    msg_lookup, msg_superclass,
+    MsgClass, msg_change_count, msg_class_count, msg_holder, msg_lookup, msg_superclass,
 };
 use crate::changing::{
     msg_add, msg_attach, msg_exchange, msg_make_class, msg_make_root_class, msg_replace,
     msg_set_imp,
 };
-use crate::opening::{msg_close, msg_open};
+use crate::opening::{msg_close, msg_open_words};
 use crate::runtime_handle::RuntimeHandle;
 use crate::same::{answers, same};
 use crate::sender_handle::SenderHandle;
@@ -25,21 +24,33 @@ use std::alloc::Global;
 use std::process::Abort;
 use std::test::Fail;
 
+// Class numbers 0 to 3, three senders, and two arrays of each capacity.
+const CONFIG: &[u32] = &[4, 3, 2, 2, 2, 2, 2, 2, 2, 2, 2];
+
 // Root (0), with `value` (selector 2) by implementation 1 and `name` (3) by 2, and the class method `new` (4) by 4; Child (1) below it, with `name` by 3.
-// `take:` (5) has no method. Made (2) and Other (3) may be made.
-const TEXT: &[u8] = br#"{"version":2,"classes":[
-{"name":"Root","super":null,"methods":[["value","r_value"],["name","r_name"]],"class_methods":[["new","r_new"]]},
-{"name":"Child","super":"Root","methods":[["name","c_name"]],"class_methods":[]}],"made":["Made","Other"],"categories":[],"objects":[],
-"imps":[{"name":"r_value","class":"Root","meta":false,"args":0,"body":7},
-{"name":"r_name","class":"Root","meta":false,"args":0,"body":1},
-{"name":"c_name","class":"Child","meta":false,"args":0,"body":11},
-{"name":"r_new","class":"Root","meta":true,"args":0,"body":["sel","take:"]}],"items":[]}"#;
+// `take:` (5) has no method. Made (2) and Other (3) aren't made.
+const ROOT_METHODS: &[MethodRow] = &[
+    MethodRow { sel: VALUE, imp: 1 },
+    MethodRow { sel: NAME, imp: 2 },
+];
+
+const ROOT_CLASS_METHODS: &[MethodRow] = &[MethodRow { sel: NEW, imp: 4 }];
+
+const CHILD_METHODS: &[MethodRow] = &[MethodRow { sel: NAME, imp: 3 }];
+
+// So many changes make these classes.
+const MADE_BY: u64 = 4;
 
 pub(crate) const ROOT: u32 = 0;
 
 pub(crate) const CHILD: u32 = 1;
 
 const MADE: u32 = 2;
+
+const OTHER: u32 = 3;
+
+// No class number, where four are reserved.
+const BEYOND: u32 = 4;
 
 pub(crate) const VALUE: u32 = 2;
 
@@ -49,9 +60,25 @@ const NEW: u32 = 4;
 
 const TAKE: u32 = 5;
 
+fn make<R: Abort>(rt: &R, alloc: Global, runtime: &mut RuntimeHandle) {
+    answers(rt, msg_make_root_class(alloc, runtime, ROOT), DONE);
+    answers(
+        rt,
+        msg_attach(alloc, runtime, ROOT, ROOT_METHODS, ROOT_CLASS_METHODS),
+        DONE,
+    );
+    answers(rt, msg_make_class(alloc, runtime, CHILD, ROOT), DONE);
+    answers(
+        rt,
+        msg_attach(alloc, runtime, CHILD, CHILD_METHODS, &[]),
+        DONE,
+    );
+}
+
 pub(crate) fn opened<R: Abort>(rt: &R, alloc: Global) -> RuntimeHandle {
     let mut runtime = RuntimeHandle::closed(alloc);
-    answers(rt, msg_open(alloc, &mut runtime, TEXT), DONE);
+    answers(rt, msg_open_words(alloc, &mut runtime, CONFIG), DONE);
+    make(rt, alloc, &mut runtime);
     runtime
 }
 
@@ -73,56 +100,48 @@ fn found<R: Abort>(
 }
 
 #[test]
-fn a_text_opens_once_and_closes_once(rt: HostRuntime) -> Result<(), Fail> {
+fn a_runtime_opens_once_and_closes_once(rt: HostRuntime) -> Result<(), Fail> {
     let alloc = rt.alloc();
     let mut runtime = RuntimeHandle::closed(alloc);
-    answers(&rt, msg_open(alloc, &mut runtime, b"{"), 1);
-    answers(&rt, msg_open(alloc, &mut runtime, br#"{"version":3}"#), 2);
+    answers(
+        &rt,
+        msg_open_words(alloc, &mut runtime, &[u32::MAX]),
+        BAD_CONFIG,
+    );
     answers(&rt, msg_close(alloc, &mut runtime), CLOSED);
-    answers(&rt, msg_open(alloc, &mut runtime, TEXT), DONE);
-    answers(&rt, msg_open(alloc, &mut runtime, TEXT), ALREADY_OPEN);
+    answers(&rt, msg_open_words(alloc, &mut runtime, CONFIG), DONE);
+    answers(
+        &rt,
+        msg_open_words(alloc, &mut runtime, CONFIG),
+        ALREADY_OPEN,
+    );
+    answers(
+        &rt,
+        msg_open_words(alloc, &mut runtime, &[u32::MAX]),
+        ALREADY_OPEN,
+    );
     answers(&rt, msg_close(alloc, &mut runtime), DONE);
     answers(&rt, msg_close(alloc, &mut runtime), CLOSED);
     Ok(())
 }
 
 #[test]
-fn names_are_found(rt: HostRuntime) -> Result<(), Fail> {
+fn a_new_runtime_has_no_classes(rt: HostRuntime) -> Result<(), Fail> {
     let alloc = rt.alloc();
-    let mut runtime = opened(&rt, alloc);
-    let (mut count, mut class, mut sel) = (0, 99, 99);
-    answers(&rt, msg_class_count(alloc, &mut runtime, &mut count), DONE);
-    same(&rt, count, 4);
+    let mut runtime = RuntimeHandle::closed(alloc);
+    answers(&rt, msg_open_words(alloc, &mut runtime, CONFIG), DONE);
+    let (mut numbers, mut count) = (99, 99);
     answers(
         &rt,
-        msg_find_class(alloc, &mut runtime, b"Child", &mut class),
+        msg_class_count(alloc, &mut runtime, &mut numbers),
         DONE,
     );
-    answers(&rt, class, CHILD);
-    answers(
-        &rt,
-        msg_find_class(alloc, &mut runtime, b"Made", &mut class),
-        DONE,
-    );
-    answers(&rt, class, MADE);
-    answers(
-        &rt,
-        msg_find_class(alloc, &mut runtime, b"child", &mut class),
-        NONE,
-    );
-    answers(&rt, class, MADE);
-    answers(
-        &rt,
-        msg_find_selector(alloc, &mut runtime, b"take:", &mut sel),
-        DONE,
-    );
-    answers(&rt, sel, TAKE);
-    answers(
-        &rt,
-        msg_find_selector(alloc, &mut runtime, b"\xff", &mut sel),
-        NONE,
-    );
-    answers(&rt, sel, TAKE);
+    answers(&rt, msg_change_count(alloc, &mut runtime, &mut count), DONE);
+    same(&rt, (numbers, count), (4, 0));
+    for class in [ROOT, OTHER] {
+        answers(&rt, found(&rt, alloc, &mut runtime, class, false, VALUE), 0);
+        answers(&rt, found(&rt, alloc, &mut runtime, class, true, VALUE), 0);
+    }
     Ok(())
 }
 
@@ -136,10 +155,15 @@ fn lookups_go_up(rt: HostRuntime) -> Result<(), Fail> {
     answers(&rt, found(&rt, alloc, &mut runtime, CHILD, true, VALUE), 1);
     answers(&rt, found(&rt, alloc, &mut runtime, CHILD, false, TAKE), 0);
     answers(&rt, found(&rt, alloc, &mut runtime, MADE, false, VALUE), 0);
+    answers(
+        &rt,
+        found(&rt, alloc, &mut runtime, CHILD, false, u32::MAX),
+        0,
+    );
     let mut imp = 99;
     answers(
         &rt,
-        msg_lookup(alloc, &mut runtime, 4, false, VALUE, &mut imp),
+        msg_lookup(alloc, &mut runtime, BEYOND, false, VALUE, &mut imp),
         66,
     );
     answers(
@@ -166,7 +190,12 @@ fn superclasses_and_holders_are_told(rt: HostRuntime) -> Result<(), Fail> {
     );
     answers(
         &rt,
-        msg_superclass(alloc, &mut runtime, 4, false, &mut at),
+        msg_superclass(alloc, &mut runtime, MADE, true, &mut at),
+        NONE,
+    );
+    answers(
+        &rt,
+        msg_superclass(alloc, &mut runtime, BEYOND, false, &mut at),
         66,
     );
     answers(
@@ -233,7 +262,42 @@ fn methods_are_changed(rt: HostRuntime) -> Result<(), Fail> {
     answers(&rt, found(&rt, alloc, &mut runtime, ROOT, false, NAME), 3);
     let mut count = 0;
     answers(&rt, msg_change_count(alloc, &mut runtime, &mut count), DONE);
-    same(&rt, count, 4);
+    same(&rt, count, MADE_BY + 4);
+    Ok(())
+}
+
+// Each number from 1 is a selector and an implementation, and each fits each.
+#[test]
+fn any_number_is_an_implementation(rt: HostRuntime) -> Result<(), Fail> {
+    let alloc = rt.alloc();
+    let mut runtime = opened(&rt, alloc);
+    answers(
+        &rt,
+        msg_add(alloc, &mut runtime, CHILD, false, u32::MAX, u32::MAX),
+        DONE,
+    );
+    answers(
+        &rt,
+        found(&rt, alloc, &mut runtime, CHILD, false, u32::MAX),
+        u32::MAX,
+    );
+    answers(&rt, msg_add(alloc, &mut runtime, CHILD, false, 1, 1), DONE);
+    answers(&rt, found(&rt, alloc, &mut runtime, CHILD, false, 1), 1);
+    answers(
+        &rt,
+        msg_exchange(alloc, &mut runtime, CHILD, false, u32::MAX, CHILD, false, 1),
+        DONE,
+    );
+    answers(
+        &rt,
+        found(&rt, alloc, &mut runtime, CHILD, false, u32::MAX),
+        1,
+    );
+    answers(
+        &rt,
+        found(&rt, alloc, &mut runtime, CHILD, false, 1),
+        u32::MAX,
+    );
     Ok(())
 }
 
@@ -241,7 +305,11 @@ fn methods_are_changed(rt: HostRuntime) -> Result<(), Fail> {
 fn a_refused_change_changes_nothing(rt: HostRuntime) -> Result<(), Fail> {
     let alloc = rt.alloc();
     let mut runtime = opened(&rt, alloc);
-    answers(&rt, msg_replace(alloc, &mut runtime, 4, false, VALUE, 1), 1);
+    answers(
+        &rt,
+        msg_replace(alloc, &mut runtime, BEYOND, false, VALUE, 1),
+        1,
+    );
     answers(
         &rt,
         msg_replace(alloc, &mut runtime, MADE, false, VALUE, 1),
@@ -252,16 +320,8 @@ fn a_refused_change_changes_nothing(rt: HostRuntime) -> Result<(), Fail> {
         msg_replace(alloc, &mut runtime, CHILD, false, VALUE, 0),
         2,
     );
-    answers(
-        &rt,
-        msg_replace(alloc, &mut runtime, CHILD, false, VALUE, 5),
-        2,
-    );
-    answers(
-        &rt,
-        msg_replace(alloc, &mut runtime, CHILD, false, TAKE, 1),
-        3,
-    );
+    answers(&rt, msg_add(alloc, &mut runtime, CHILD, false, NAME, 1), 4);
+    answers(&rt, msg_add(alloc, &mut runtime, CHILD, false, TAKE, 0), 2);
     answers(
         &rt,
         msg_replace(alloc, &mut runtime, CHILD, false, 0, 1),
@@ -277,10 +337,21 @@ fn a_refused_change_changes_nothing(rt: HostRuntime) -> Result<(), Fail> {
         msg_exchange(alloc, &mut runtime, ROOT, false, VALUE, ROOT, false, 0),
         67,
     );
+    answers(
+        &rt,
+        msg_exchange(alloc, &mut runtime, ROOT, false, VALUE, MADE, false, NAME),
+        1,
+    );
+    answers(
+        &rt,
+        msg_exchange(alloc, &mut runtime, ROOT, false, VALUE, CHILD, false, TAKE),
+        5,
+    );
     let mut count = 99;
     answers(&rt, msg_change_count(alloc, &mut runtime, &mut count), DONE);
-    same(&rt, count, 0);
+    same(&rt, count, MADE_BY);
     answers(&rt, found(&rt, alloc, &mut runtime, CHILD, false, VALUE), 1);
+    answers(&rt, found(&rt, alloc, &mut runtime, CHILD, false, TAKE), 0);
     Ok(())
 }
 
@@ -300,7 +371,24 @@ fn categories_are_attached(rt: HostRuntime) -> Result<(), Fail> {
     );
     answers(&rt, found(&rt, alloc, &mut runtime, CHILD, false, VALUE), 3);
     answers(&rt, found(&rt, alloc, &mut runtime, CHILD, true, NEW), 2);
+    answers(&rt, found(&rt, alloc, &mut runtime, CHILD, false, NAME), 3);
+    let later = [MethodRow { sel: VALUE, imp: 5 }];
+    answers(
+        &rt,
+        msg_attach(alloc, &mut runtime, CHILD, &later, &[]),
+        DONE,
+    );
+    answers(&rt, found(&rt, alloc, &mut runtime, CHILD, false, VALUE), 5);
+    Ok(())
+}
+
+#[test]
+fn refused_categories_are_not_attached(rt: HostRuntime) -> Result<(), Fail> {
+    let alloc = rt.alloc();
+    let mut runtime = opened(&rt, alloc);
+    let methods = [MethodRow { sel: VALUE, imp: 3 }];
     let unnamed = [MethodRow { sel: 0, imp: 2 }];
+    let forwarding = [MethodRow { sel: NEW, imp: 0 }];
     answers(
         &rt,
         msg_attach(alloc, &mut runtime, CHILD, &methods, &unnamed),
@@ -308,9 +396,20 @@ fn categories_are_attached(rt: HostRuntime) -> Result<(), Fail> {
     );
     answers(
         &rt,
-        msg_attach(alloc, &mut runtime, MADE, &methods, &class_methods),
+        msg_attach(alloc, &mut runtime, CHILD, &methods, &forwarding),
+        2,
+    );
+    answers(
+        &rt,
+        msg_attach(alloc, &mut runtime, MADE, &methods, &forwarding),
         1,
     );
+    answers(
+        &rt,
+        msg_attach(alloc, &mut runtime, BEYOND, &methods, &[]),
+        1,
+    );
+    answers(&rt, found(&rt, alloc, &mut runtime, CHILD, false, VALUE), 1);
     Ok(())
 }
 
@@ -318,12 +417,17 @@ fn categories_are_attached(rt: HostRuntime) -> Result<(), Fail> {
 fn classes_are_made(rt: HostRuntime) -> Result<(), Fail> {
     let alloc = rt.alloc();
     let mut runtime = opened(&rt, alloc);
-    answers(&rt, msg_make_class(alloc, &mut runtime, MADE, 3), 1);
+    answers(&rt, msg_make_class(alloc, &mut runtime, MADE, OTHER), 1);
+    answers(&rt, msg_make_class(alloc, &mut runtime, MADE, MADE), 1);
+    answers(&rt, msg_make_class(alloc, &mut runtime, BEYOND, ROOT), 1);
+    answers(&rt, msg_make_root_class(alloc, &mut runtime, BEYOND), 1);
     answers(&rt, msg_make_class(alloc, &mut runtime, MADE, CHILD), DONE);
     answers(&rt, msg_make_class(alloc, &mut runtime, MADE, CHILD), 8);
+    answers(&rt, msg_make_root_class(alloc, &mut runtime, MADE), 8);
     answers(&rt, found(&rt, alloc, &mut runtime, MADE, false, NAME), 3);
-    answers(&rt, msg_make_root_class(alloc, &mut runtime, 3), DONE);
-    answers(&rt, found(&rt, alloc, &mut runtime, 3, false, NAME), 0);
+    answers(&rt, found(&rt, alloc, &mut runtime, MADE, true, NEW), 4);
+    answers(&rt, msg_make_root_class(alloc, &mut runtime, OTHER), DONE);
+    answers(&rt, found(&rt, alloc, &mut runtime, OTHER, false, NAME), 0);
     Ok(())
 }
 
@@ -345,16 +449,6 @@ fn a_closed_runtime_answers_nothing(rt: HostRuntime) -> Result<(), Fail> {
     answers(
         &rt,
         msg_change_count(alloc, &mut runtime, &mut count),
-        CLOSED,
-    );
-    answers(
-        &rt,
-        msg_find_class(alloc, &mut runtime, b"Root", &mut number),
-        CLOSED,
-    );
-    answers(
-        &rt,
-        msg_find_selector(alloc, &mut runtime, b"value", &mut number),
         CLOSED,
     );
     answers(
@@ -468,7 +562,7 @@ fn a_change_flushes_and_is_seen(rt: HostRuntime) -> Result<(), Fail> {
         DONE,
     );
     answers(&rt, msg_refresh(alloc, &mut sender, &mut count), DONE);
-    same(&rt, count, 1);
+    same(&rt, count, MADE_BY + 1);
     answers(
         &rt,
         msg_probe(alloc, &mut sender, CHILD, false, VALUE, &mut imp),
@@ -523,7 +617,7 @@ fn a_sender_refuses_what_is_nobodys(rt: HostRuntime) -> Result<(), Fail> {
     let mut imp = 99;
     answers(
         &rt,
-        msg_probe(alloc, &mut sender, 4, false, VALUE, &mut imp),
+        msg_probe(alloc, &mut sender, BEYOND, false, VALUE, &mut imp),
         66,
     );
     answers(
@@ -533,7 +627,15 @@ fn a_sender_refuses_what_is_nobodys(rt: HostRuntime) -> Result<(), Fail> {
     );
     answers(
         &rt,
-        msg_fill(alloc, &mut runtime, &mut sender, 4, false, VALUE, &mut imp),
+        msg_fill(
+            alloc,
+            &mut runtime,
+            &mut sender,
+            BEYOND,
+            false,
+            VALUE,
+            &mut imp,
+        ),
         66,
     );
     answers(
@@ -576,24 +678,20 @@ fn a_closed_sender_answers_nothing(rt: HostRuntime) -> Result<(), Fail> {
 }
 
 #[test]
-fn sixty_four_senders_are_out_at_most(rt: HostRuntime) -> Result<(), Fail> {
+fn as_many_senders_are_out_as_are_asked_for(rt: HostRuntime) -> Result<(), Fail> {
     let alloc = rt.alloc();
     let mut runtime = opened(&rt, alloc);
     let mut first = sending(&rt, alloc, &mut runtime);
-    for _ in 1..64 {
-        let mut another = SenderHandle::closed(alloc);
-        answers(
-            &rt,
-            msg_sender_open(alloc, &mut runtime, &mut another),
-            DONE,
-        );
-    }
+    let _second = sending(&rt, alloc, &mut runtime);
+    let mut third = sending(&rt, alloc, &mut runtime);
     let mut last = SenderHandle::closed(alloc);
     answers(
         &rt,
         msg_sender_open(alloc, &mut runtime, &mut last),
         NO_SENDER,
     );
+    answers(&rt, msg_sender_close(alloc, &mut runtime, &mut third), DONE);
+    answers(&rt, msg_sender_open(alloc, &mut runtime, &mut last), DONE);
     answers(&rt, msg_close(alloc, &mut runtime), DONE);
     let mut imp = 99;
     answers(
@@ -674,7 +772,11 @@ fn what_is_noted_is_recalled_at_its_count(rt: HostRuntime) -> Result<(), Fail> {
     let mut runtime = opened(&rt, alloc);
     let mut sender = sending(&rt, alloc, &mut runtime);
     let mut imp = 99;
-    same(&rt, msg_recall(&sender, CHILD_SLOT, VALUE, 0), NOT_NOTED);
+    same(
+        &rt,
+        msg_recall(&sender, CHILD_SLOT, VALUE, MADE_BY),
+        NOT_NOTED,
+    );
     answers(
         &rt,
         msg_fill(
@@ -688,16 +790,32 @@ fn what_is_noted_is_recalled_at_its_count(rt: HostRuntime) -> Result<(), Fail> {
         ),
         DONE,
     );
-    same(&rt, msg_recall(&sender, CHILD_SLOT, VALUE, 0), 1);
-    same(&rt, msg_recall(&sender, META_SLOT, VALUE, 0), NOT_NOTED);
-    same(&rt, msg_recall(&sender, CHILD_SLOT, NAME, 0), NOT_NOTED);
-    same(&rt, msg_recall(&sender, CHILD_SLOT, VALUE, 1), NOT_NOTED);
+    same(&rt, msg_recall(&sender, CHILD_SLOT, VALUE, MADE_BY), 1);
+    same(
+        &rt,
+        msg_recall(&sender, META_SLOT, VALUE, MADE_BY),
+        NOT_NOTED,
+    );
+    same(
+        &rt,
+        msg_recall(&sender, CHILD_SLOT, NAME, MADE_BY),
+        NOT_NOTED,
+    );
+    same(
+        &rt,
+        msg_recall(&sender, CHILD_SLOT, VALUE, MADE_BY + 1),
+        NOT_NOTED,
+    );
     answers(
         &rt,
         msg_replace(alloc, &mut runtime, CHILD, false, VALUE, 2),
         DONE,
     );
-    same(&rt, msg_recall(&sender, CHILD_SLOT, VALUE, 1), NOT_NOTED);
+    same(
+        &rt,
+        msg_recall(&sender, CHILD_SLOT, VALUE, MADE_BY + 1),
+        NOT_NOTED,
+    );
     answers(
         &rt,
         msg_fill(
@@ -711,8 +829,12 @@ fn what_is_noted_is_recalled_at_its_count(rt: HostRuntime) -> Result<(), Fail> {
         ),
         DONE,
     );
-    same(&rt, msg_recall(&sender, CHILD_SLOT, VALUE, 1), 2);
-    same(&rt, msg_recall(&sender, CHILD_SLOT, VALUE, 0), NOT_NOTED);
+    same(&rt, msg_recall(&sender, CHILD_SLOT, VALUE, MADE_BY + 1), 2);
+    same(
+        &rt,
+        msg_recall(&sender, CHILD_SLOT, VALUE, MADE_BY),
+        NOT_NOTED,
+    );
     Ok(())
 }
 
@@ -730,15 +852,15 @@ fn a_closed_handle_recalls_nothing(rt: HostRuntime) -> Result<(), Fail> {
         msg_fill(alloc, &mut runtime, &mut sender, CHILD, true, NEW, &mut imp),
         DONE,
     );
-    same(&rt, msg_recall(&sender, META_SLOT, NEW, 0), 4);
+    same(&rt, msg_recall(&sender, META_SLOT, NEW, MADE_BY), 4);
     answers(
         &rt,
         msg_sender_close(alloc, &mut runtime, &mut sender),
         DONE,
     );
-    same(&rt, msg_recall(&sender, META_SLOT, NEW, 0), NOT_NOTED);
+    same(&rt, msg_recall(&sender, META_SLOT, NEW, MADE_BY), NOT_NOTED);
     answers(&rt, msg_sender_open(alloc, &mut runtime, &mut sender), DONE);
-    same(&rt, msg_recall(&sender, META_SLOT, NEW, 0), NOT_NOTED);
+    same(&rt, msg_recall(&sender, META_SLOT, NEW, MADE_BY), NOT_NOTED);
     same(&rt, msg_sender_size(), 49168);
     Ok(())
 }

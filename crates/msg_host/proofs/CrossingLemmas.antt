@@ -3,7 +3,6 @@ use denote.Param.Send.{IsSend, sendable}
 use Rattle.std.proofs.Crossing.{crosses}
 use Rattle.std.proofs.MapsCrossing as maps
 use Rattle.msg_cache.proofs.CrossingLemmas.{Arena-sync, Keeper-send}
-use Rattle.msg_image.proofs.expr.Expr.TheLaws.TheKnot as expr
 use Rattle.msg_cache.proofs.arena.Arena.TheSendSync as arena
 use Rattle.msg_cache.proofs.keeper.Turn.TheSendSync as turn
 use Rattle.msg_host.proofs.sender.HostedSender.TheSendSync as sender
@@ -13,11 +12,6 @@ use Rattle.msg_cache.specs.contracts.keeper.Turn as Turn
 use Rattle.msg_tables.specs.contracts.tables.Tables as Tables
 use Rattle.msg_tables.specs.contracts.rows.MethodRows as Rows
 use Rattle.msg_tables.specs.contracts.below.Below as Below
-use Rattle.msg_tables.specs.contracts.origin.Origin as Origin
-use Rattle.msg_names.specs.contracts.names.Names as Names
-use Rattle.msg_image.specs.contracts.image.Base as Base
-use Rattle.msg_image.specs.contracts.image.Imp as Imp
-use Rattle.msg_image.specs.contracts.whole.Image as Image
 use Rattle.msg_runtime.specs.contracts.runtime.Runtime as Runtime
 use Rattle.msg_host.specs.contracts.runtime.HostedRuntime as HostedRuntime
 use Rattle.msg_host.specs.contracts.sender.HostedSender as HostedSender
@@ -40,21 +34,6 @@ Runtime-send = let k = Keeper-send in let t = Tables-send in let b = Below-send 
 Turn-send : IsSend Turn.the_row
 Turn-send = turn.the_send
 
-Names-send : IsSend Names.the_row
-Names-send = search (sendable, crosses, maps.crosses) depth 30
-
-Imp-send : IsSend Imp.the_row
-Imp-send = search (crosses, expr.crosses, sendable) depth 60 fits 20000
-
-Base-send : IsSend Base.the_row
-Base-send = search (Names-send, Imp-send, sendable, crosses) depth 30
-
-Origin-send : IsSend Origin.the_row
-Origin-send = search (sendable, crosses) depth 30
-
-Image-send : IsSend Image.the_row
-Image-send = search (Base-send, Origin-send, sendable, crosses) depth 30
-
 Arena-send : IsSend Arena.the_row
 Arena-send = arena.the_send
 
@@ -62,4 +41,4 @@ pub HostedSender-send : IsSend HostedSender.the_row
 HostedSender-send = sender.the_send
 
 pub HostedRuntime-send : IsSend HostedRuntime.the_row
-HostedRuntime-send = search (Runtime-send, Turn-send, Image-send, Arena-send, Arena-sync, sendable, crosses) depth 30
+HostedRuntime-send = search (Runtime-send, Turn-send, Arena-send, Arena-sync, sendable, crosses) depth 30

@@ -1,4 +1,3 @@
 pub mod ChangingLemmas
+pub mod ConfigLemmas
 pub mod CrossingLemmas
-pub mod NamedLemmas
-pub mod OpeningLemmas

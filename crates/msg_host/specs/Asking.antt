@@ -25,7 +25,6 @@ want_of_memory = 7
 -- A change took a runtime from v to w with the answer n: 0 where it was made, and else its fault's number, and nothing has changed.
 pub record ChangesBy (v w : RuntimeView) (x : Change) (n : ℕ) : Type 0 where
   pub arena : w.arena ≡ v.arena
-  pub image : w.image ≡ v.image
   pub made : n ≡ 0 → (refusal v.history x ≡ None) × (w.history ≡ and_then v.history x)
   pub left : n ≢ 0 → w ≡ v
   pub fault : n ≢ 0 → n ≢ want_of_memory → option_map change_fault_number (refusal v.history x) ≡ Some n

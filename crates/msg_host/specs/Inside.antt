@@ -1,7 +1,6 @@
 -- The fields of what handles hold.
 use Rattle.std.specs.Prelude.{◌≡◌, ◌≤◌, length, IfSome}
 use Rattle.std.specs.Arc.{arc_value}
-use Rattle.msg_image.specs.Opened.{origin_of}
 use Rattle.msg_tables.specs.declared.limits.TheConstants.{MAX_CLASSES}
 use Rattle.msg_cache.specs.Views.{IsSenderOf, classes}
 use Rattle.msg_host.specs.View.{RuntimeView, SenderView}
@@ -10,13 +9,14 @@ use Rattle.msg_host.specs.declared.sender.HostedSender.TheInside.{Inside as Send
 
 -- what contracts see of a runtime
 abbrev pub runtime_view : RuntimeInside → RuntimeView
-runtime_view r = record { arena = r.runtime.arena; history = r.runtime.keeper.history; image = r.image }
+runtime_view r = record { arena = r.runtime.arena; history = r.runtime.keeper.history }
 
 -- the invariant of runtimes
 pub record AreOfOne (r : RuntimeInside) : Type 0 where
   pub arena : arc_value r.arena ≡ r.runtime.arena
   pub turn : r.turn.table ≡ r.runtime.arena.table
-  pub image : origin_of r.image ≡ r.runtime.arena.key.origin
+  pub classes : r.classes ≡ classes r.runtime.arena
+  pub few_classes : r.classes ≤ MAX_CLASSES
   pub history : r.runtime.keeper.history.origin ≡ r.runtime.arena.key.origin
 
 -- what contracts see of a sender

@@ -1,4 +1,5 @@
 pub mod Asking
+pub mod Config
 pub mod Inside
 pub mod Opening
 pub mod View

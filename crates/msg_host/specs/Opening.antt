@@ -1,23 +1,12 @@
--- What a text or rows open as.
-use Rattle.std.specs.Prelude.{◌≡◌, ℕ, List, Ok}
-use Rattle.msg_image.specs.Answer.{IsAnswer, judged}
-use Rattle.msg_image.specs.Items.{DocumentParts}
-use Rattle.msg_image.specs.Opened.{origin_of}
-use Rattle.msg_image.specs.Parts.{ImageParts}
-use Rattle.msg_rows.specs.Given.{form_of}
-use Rattle.msg_rows.specs.View.{RowsView}
+-- What a host's runtime opens as.
+use Rattle.std.specs.Prelude.{◌≡◌}
 use Rattle.msg_tables.specs.History.{empty}
+use Rattle.msg_cache.specs.Config.{setting_of}
+use Rattle.msg_host.specs.Config.{arena_config, host_origin}
 use Rattle.msg_host.specs.View.{RuntimeView}
+use Rattle.msg_host.specs.declared.config.HostConfig.{HostConfig}
 
--- the runtime has this image, and the history of it without changes
-pub record IsNewOf (m : ImageParts) (v : RuntimeView) : Type 0 where
-  pub image : v.image ≡ m
-  pub history : v.history ≡ empty (origin_of m)
-
--- the runtime of the image that a text spells, without changes
-abbrev pub OpensAs : List ℕ → RuntimeView → Type 0
-OpensAs text v = (d : DocumentParts) × IsAnswer text (Ok d) × IsNewOf d.image v
-
--- the runtime of the image of the form that rows stand for, which has no fault, without changes
-abbrev pub OpensFrom : RowsView → RuntimeView → Type 0
-OpensFrom rows v = (d : DocumentParts) × (judged (form_of rows) ≡ Ok d) × IsNewOf d.image v
+-- the runtime has the history without changes of the config's class numbers, and an arena of its senders and arrays
+pub record OpensAs (config : HostConfig) (v : RuntimeView) : Type 0 where
+  pub history : v.history ≡ empty (host_origin config)
+  pub arena : v.arena.key ≡ setting_of (host_origin config) (arena_config config)

@@ -1,5 +1,4 @@
 -- What contracts see of what a host's handles hold.
-use Rattle.msg_image.specs.Parts.{ImageParts}
 use Rattle.msg_tables.specs.History.{History}
 use Rattle.msg_cache.specs.Views.{ArenaView}
 use Rattle.msg_cache.specs.declared.view.SenderView.{SenderView as Seen}
@@ -8,10 +7,8 @@ use Rattle.msg_cache.specs.declared.view.SenderView.{SenderView as Seen}
 pub record RuntimeView : Type 0 where
   -- which arena it keeps
   pub arena : ArenaView
-  -- the changes that were made, on the classes of the image that was opened
+  -- the changes that were made, on the class numbers that it was opened with
   pub history : History
-  -- that image, for its names
-  pub image : ImageParts
 
 -- a sender
 pub record SenderView : Type 0 where

@@ -1,8 +1,6 @@
 //! Questions in numbers.
 
-ghost use Rattle.std.specs.Prelude.{◌≡◌, ◌≢◌, ◌<◌, ◌≤◌, ℕ, slice_get, option_map, IsUtf8, None, Some, IfOk, IfErr, IfSome, IsNone, OnOk};
-ghost use Rattle.msg_names.specs.Numbering.{number_of};
-ghost use Rattle.msg_image.specs.Parts.{class_names};
+ghost use Rattle.std.specs.Prelude.{◌≡◌, ◌≤◌, None, Some, IfOk, IfErr, OnOk};
 ghost use Rattle.msg_tables.specs.Origin.{last_imp};
 ghost use Rattle.msg_tables.specs.History.{holder, lookup, superclass};
 ghost use Rattle.msg_cache.specs.Views.{classes};
@@ -11,7 +9,6 @@ ghost use Rattle.msg_host.specs.Asking.{ask_fault};
 use crate::fault::{AskFault, asked, asked_class};
 use crate::runtime::HostedRuntime;
 use msg_names::ClassRef;
-use std::str;
 
 impl HostedRuntime {
     /// As `lookup`.
@@ -43,23 +40,5 @@ impl HostedRuntime {
     {
         let class = asked_class(self.class_count(), class, meta)?;
         Ok(self.superclass(class))
-    }
-
-    /// As `find_class`. A text that isn't UTF-8 is no name.
-    pub fn class_by(&self, name: &[u8]) -> Option<u32>
-        ensures some { IfSome result (λ class. slice_get (class_names self.now.image) class ≡ Some name.now) }
-        ensures none { IsNone result → IsUtf8 name.now → (class : ℕ) → class < classes self.now.arena → slice_get (class_names self.now.image) class ≢ Some name.now }
-    {
-        let name = str::from_utf8(name).ok()?;
-        self.find_class(name)
-    }
-
-    /// As `find_selector`. A text that isn't UTF-8 is no name.
-    pub fn selector_by(&self, name: &[u8]) -> Option<u32>
-        ensures some { IfSome result (λ sel. number_of self.now.image.names name.now ≡ Some sel) }
-        ensures none { IsNone result → IsUtf8 name.now → number_of self.now.image.names name.now ≡ None }
-    {
-        let name = str::from_utf8(name).ok()?;
-        Some(self.find_selector(name)?.number())
     }
 }

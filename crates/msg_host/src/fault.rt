@@ -3,7 +3,8 @@
 ghost use Rattle.std.specs.Prelude.{◌≡◌, ◌<◌, ◌≤◌, None, Some, IfOk, IfErr, OnOk};
 ghost use Rattle.msg_names.specs.Number.{selector_of};
 ghost use Rattle.msg_host.specs.Asking.{ask_fault, ask_fault_number};
-ghost use Rattle.msg_host.specs.declared.fault.SenderFault.TheVariants.{Memory};
+ghost use Rattle.msg_host.specs.declared.fault.OpenFault.TheVariants as opening;
+ghost use Rattle.msg_host.specs.declared.fault.SenderFault.TheVariants as sending;
 
 use msg_names::{ClassRef, Selector};
 use std::alloc::AllocError;
@@ -29,6 +30,22 @@ impl AskFault {
     }
 }
 
+/// Why no runtime is opened.
+#[derive(Clone, Copy, Debug, PartialEq, Eq)]
+pub enum OpenFault {
+    /// A field of the config is beyond its most, or the arena would be too large.
+    BadConfig,
+    Memory,
+}
+
+impl From<AllocError> for OpenFault {
+    ghost from_gives = { λ _ e. e ≡ opening.Memory };
+
+    fn from(_refused: AllocError) -> OpenFault {
+        OpenFault::Memory
+    }
+}
+
 /// Why no sender is given.
 #[derive(Clone, Copy, Debug, PartialEq, Eq)]
 pub enum SenderFault {
@@ -38,7 +55,7 @@ pub enum SenderFault {
 }
 
 impl From<AllocError> for SenderFault {
-    ghost from_gives = { λ _ e. e ≡ Memory };
+    ghost from_gives = { λ _ e. e ≡ sending.Memory };
 
     fn from(_refused: AllocError) -> SenderFault {
         SenderFault::Memory

@@ -5,16 +5,20 @@
 
 mod asking;
 mod changing;
+mod config;
 mod crossing;
 mod fault;
-mod named;
 mod opening;
 mod runtime;
 mod sender;
 mod sending;
 
 pub use changing::MethodRow;
+pub use config::{
+    DEFAULT_ARRAYS, DEFAULT_CLASSES, DEFAULT_SENDERS, HostConfig, MOST_ARRAYS, MOST_CLASSES,
+    MOST_SENDERS,
+};
 pub use crossing::{a_runtime_may_cross, a_sender_may_cross};
-pub use fault::{AskFault, SenderFault};
+pub use fault::{AskFault, OpenFault, SenderFault};
 pub use runtime::HostedRuntime;
 pub use sender::HostedSender;

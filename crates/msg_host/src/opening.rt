@@ -1,48 +1,63 @@
-//! Opening what a text spells, or rows stand for.
+//! What a runtime is opened of.
 
-ghost use Rattle.std.specs.Prelude.{◌≡◌, ◌≢◌, Ok, Err, IfOk, IfErr, false};
-ghost use Rattle.msg_form.specs.declared.faults.DocumentFault.{DocumentFault};
-ghost use Rattle.msg_image.specs.Answer.{judged};
-ghost use Rattle.msg_image.specs.DocumentParts.{document_parts};
-ghost use Rattle.msg_image.specs.Opened.{origin_of};
-ghost use Rattle.msg_rows.specs.Given.{form_of};
-ghost use Rattle.msg_rows.specs.View.{rows_view};
+ghost use Rattle.std.specs.Prelude.{◌≡◌, IfOk, IsErrOf, OnOk, None, false, is_some, true};
 ghost use Rattle.msg_tables.specs.History.{empty};
 ghost use Rattle.msg_runtime.specs.Parts.{IsKeeperOf, keeper_history, keeper_view};
+ghost use Rattle.msg_cache.specs.Config.{refusal_of, setting_of};
 ghost use Rattle.msg_cache.specs.Plays.{is_lent};
+ghost use Rattle.msg_host.specs.declared.fault.OpenFault.{OpenFault};
+ghost use Rattle.std.specs.Arc.{arc_value};
 
-use msg_cache::{Arena, Config, Keeper};
-use msg_core::MAX_SENDERS;
-use msg_form::DocumentFault;
-use msg_image::{Document, Image, judge_form};
-use msg_rows::Rows;
+use crate::fault::OpenFault;
+use msg_cache::{Arena, ArenaFault, Config, Keeper, Turn};
+use msg_runtime::Runtime;
+use msg_tables::Origin;
 use std::alloc::{AllocError, Global};
+use std::sync::Arc;
 
-// How many arrays of 4, 8, .., 1,024 buckets: some 29,000 words in all, of which the keeper has a copy. An arena of this size is too large for no image.
-const ARRAYS: [u16; 9] = [2048, 512, 128, 64, 32, 16, 8, 4, 4];
-
-// The document of the form that rows stand for. The form isn't kept beside what is made of it.
-pub(crate) fn document_of(alloc: Global, rows: &Rows) -> Result<Document, DocumentFault>
-    ensures ok { IfOk result (λ d. judged (form_of (rows_view rows.now)) ≡ Ok (document_parts d)) }
-    ensures err { IfErr result (λ f. f ≢ DocumentFault.Memory → judged (form_of (rows_view rows.now)) ≡ Err f) }
+// The arena of an origin and its keeper.
+fn arena_of(alloc: Global, origin: &Origin, config: Config) -> Result<(Arena, Keeper), OpenFault>
+    ensures key { IfOk result (λ r. r.0.key ≡ setting_of origin.now config) }
+    ensures keeper { IfOk result (λ r. IsKeeperOf r.0 r.1) }
+    ensures history { IfOk result (λ r. keeper_history r.1 ≡ empty origin.now) }
+    ensures turn { IfOk result (λ r. is_lent (keeper_view r.1).turn ≡ false) }
+    ensures ok { OnOk result (refusal_of origin.now config ≡ None) }
+    ensures refused { IsErrOf result OpenFault.BadConfig → is_some (refusal_of origin.now config) ≡ true }
+    ensures memory { IsErrOf result OpenFault.Memory → refusal_of origin.now config ≡ None }
 {
-    let form = msg_rows::form_of(alloc, rows)?;
-    judge_form(alloc, &form)
+    match Arena::open(alloc, origin, config) {
+        Ok(opened) => Ok(opened),
+        Err(ArenaFault::Memory) => Err(OpenFault::Memory),
+        Err(_) => Err(OpenFault::BadConfig),
+    }
 }
 
-// The arena of an image and its keeper. The one error is want of memory.
-pub(crate) fn arena_of(alloc: Global, image: &Image) -> Result<(Arena, Keeper), AllocError>
-    ensures origin { IfOk result (λ r. r.0.key.origin ≡ origin_of image.now) }
-    ensures keeper { IfOk result (λ r. IsKeeperOf r.0 r.1) }
-    ensures history { IfOk result (λ r. keeper_history r.1 ≡ empty (origin_of image.now)) }
-    ensures turn { IfOk result (λ r. is_lent (keeper_view r.1).turn ≡ false) }
+fn shared(alloc: Global, arena: Arena) -> Result<Arc<Arena, Global>, AllocError>
+    ensures { IfOk result (λ shared. arc_value shared ≡ arena) }
 {
-    let config = Config {
-        senders: MAX_SENDERS as u32,
-        arrays: ARRAYS,
-    };
-    match Arena::open(alloc, image, config) {
-        Ok(opened) => Ok(opened),
+    match Arc::new(alloc, arena) {
+        Ok(shared) => Ok(shared),
         Err(_) => Err(AllocError),
     }
+}
+
+// What shares an origin's caches, keeps them, and may change them.
+pub(crate) fn opened(
+    alloc: Global,
+    origin: &Origin,
+    config: Config,
+) -> Result<(Arc<Arena, Global>, Runtime, Turn), OpenFault>
+    ensures arena { IfOk result (λ r. arc_value r.0 ≡ r.1.arena) }
+    ensures key { IfOk result (λ r. r.1.arena.key ≡ setting_of origin.now config) }
+    ensures history { IfOk result (λ r. r.1.keeper.history ≡ empty origin.now) }
+    ensures turn { IfOk result (λ r. r.2.table ≡ r.1.arena.table) }
+    ensures ok { OnOk result (refusal_of origin.now config ≡ None) }
+    ensures refused { IsErrOf result OpenFault.BadConfig → is_some (refusal_of origin.now config) ≡ true }
+    ensures memory { IsErrOf result OpenFault.Memory → refusal_of origin.now config ≡ None }
+{
+    let (arena, keeper) = arena_of(alloc, origin, config)?;
+    let arena = shared(alloc, arena)?;
+    let mut runtime = Runtime::open(alloc, &arena, keeper, origin)?;
+    let turn = runtime.turn(&arena).unwrap();
+    Ok((arena, runtime, turn))
 }

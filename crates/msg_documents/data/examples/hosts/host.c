@@ -1,12 +1,15 @@
-/* A host in C: four threads send, each by a sender of its own, while the main thread exchanges two methods. */
+/* A whole small host in C: it opens a runtime, makes its classes, and sends in four threads, each by a sender of its own, while the main thread exchanges two methods. */
 #include "msg_runtime.h"
 #include <pthread.h>
 #include <stdio.h>
 #include <stdlib.h>
-#include <string.h>
 
-enum { THREADS = 4, SENDS = 1000000, CHANGES = 1001 };
-enum { SHAPE, SQUARE, TILE };
+enum { THREADS = 4, SENDS = 1000000, EXCHANGES = 1001 };
+
+/* All numbers are the host's to give: class numbers from 0, selectors and implementations from 1. */
+enum { SHAPE, SQUARE, TILE, UNKNOWN };
+enum { AREA = 1, SIDES, COUNT };
+enum { FORWARD, SHAPE_AREA, SHAPE_SIDES, SHAPE_COUNT, SQUARE_AREA, METHODS };
 
 /* What the library says of a sender's handle, msg_sender_size, is proved to be this. */
 _Static_assert(sizeof(msg_sender) == 49168, "the header spells a sender's handle otherwise than the library");
@@ -20,8 +23,8 @@ static uint32_t shape_sides(object *self) { (void)self; return 4; }
 static uint32_t shape_count(object *self) { (void)self; return 1; }
 static uint32_t square_area(object *self) { return self->side * self->side; }
 
-/* In the order of the document's implementations, and forwarding before them. */
-static method methods[] = {forward, shape_area, shape_sides, shape_count, square_area};
+/* By an implementation's number. What a lookup answers is a number that the host gave with a method, or 0 for forwarding: no test of the bounds is wanted. */
+static const method methods[METHODS] = {forward, shape_area, shape_sides, shape_count, square_area};
 
 static msg_runtime runtime = MSG_RUNTIME_INIT;
 static pthread_mutex_t lock = PTHREAD_MUTEX_INITIALIZER;
@@ -33,24 +36,44 @@ static void want(uint32_t answer)
     exit(1);
 }
 
-static uint32_t selector(const char *name)
+/* ---- changes: under the lock, counted before they are made ---- */
+
+/* How many changes were made or begun. */
+static _Atomic(uint64_t) changes;
+
+static void begin(void)
 {
-    uint32_t sel;
-    want(msg_find_selector(&runtime, (const uint8_t *)name, strlen(name), &sel));
-    return sel;
+    pthread_mutex_lock(&lock);
+    changes++;
 }
 
+static uint32_t ended(uint32_t answer)
+{
+    if (answer != MSG_DONE) changes--; /* refused: nothing has changed */
+    pthread_mutex_unlock(&lock);
+    return answer;
+}
+
+#define CHANGE(call) (begin(), ended(call))
+
+static void make_classes(void)
+{
+    static const msg_method of_shape[] = {{AREA, SHAPE_AREA}, {SIDES, SHAPE_SIDES}}, of_shapes_class[] = {{COUNT, SHAPE_COUNT}}, of_square[] = {{AREA, SQUARE_AREA}};
+    want(CHANGE(msg_make_root_class(&runtime, SHAPE)));
+    want(CHANGE(msg_attach(&runtime, SHAPE, of_shape, 2, of_shapes_class, 1)));
+    want(CHANGE(msg_make_class(&runtime, SQUARE, SHAPE)));
+    want(CHANGE(msg_attach(&runtime, SQUARE, of_square, 1, of_square, 0)));
+}
+
+/* ---- sends ---- */
+
+/* By the lock after a miss: what the sender has seen is found. */
 static uint32_t send(msg_sender *sender, object *self, uint32_t sel)
 {
     uint32_t imp;
     want(msg_find(&runtime, &lock, sender, self->class_, false, sel, &imp));
     return methods[imp](self);
 }
-
-static uint32_t area, sides;
-
-/* How many exchanges were made or begun. */
-static _Atomic(uint64_t) changes;
 
 /* The short way: what the sender has noted by all changes that were begun before, else by the lock, at all changes that were made. */
 static uint32_t send_recalled(msg_sender *sender, object *self, uint32_t sel)
@@ -68,58 +91,55 @@ static void *work(void *taken)
     object square = {SQUARE, 3};
     size_t odd = 0;
     for (int i = 0; i < SENDS; i++) {
-        uint32_t answer = i & 1 ? send(sender, &square, area) : send_recalled(sender, &square, area);
+        uint32_t answer = i & 1 ? send(sender, &square, AREA) : send_recalled(sender, &square, AREA);
         if (answer != 9 && answer != 4) odd++; /* the area, or after an exchange the sides: nothing else */
     }
     return (void *)odd;
 }
 
-static char text[4096];
+/* Zero bytes are closed handles. */
+static _Alignas(64) msg_sender senders[THREADS + 1];
 
-int main(int count, char **words)
+static size_t exchange_beside_sends(void)
 {
-    FILE *file = count > 1 ? fopen(words[1], "rb") : NULL;
-    if (!file) return 2;
-    size_t length = fread(text, 1, sizeof text, file);
-    fclose(file);
-    printf("a text that isn't JSON: %u\n", msg_open(&runtime, (const uint8_t *)"{", 1));
-    printf("a closed handle: %u\n", msg_change_count(&runtime, &(uint64_t){0}));
-    if (msg_sender_size() != sizeof(msg_sender)) return 3;
-    want(msg_open(&runtime, (const uint8_t *)text, length));
-    area = selector("area");
-    sides = selector("sides");
-
-    static msg_sender senders[THREADS + 1]; /* zero bytes */
     pthread_t threads[THREADS];
-    for (int i = 0; i <= THREADS; i++) want(msg_sender_open(&runtime, &senders[i]));
-    object square = {SQUARE, 3}, tile = {TILE, 5};
-    printf("area %u, sides %u\n", send(&senders[THREADS], &square, area), send(&senders[THREADS], &square, sides));
-    printf("a class that isn't made: %u\n", send(&senders[THREADS], &tile, area));
-
-    for (int i = 0; i < THREADS; i++) pthread_create(&threads[i], NULL, work, &senders[i]);
-    for (int i = 0; i < CHANGES; i++) {
-        pthread_mutex_lock(&lock);
-        changes++;
-        want(msg_exchange(&runtime, SQUARE, false, area, SHAPE, false, sides));
-        pthread_mutex_unlock(&lock);
-    }
     size_t odd = 0;
+    for (int i = 0; i < THREADS; i++) pthread_create(&threads[i], NULL, work, &senders[i]);
+    for (int i = 0; i < EXCHANGES; i++) want(CHANGE(msg_exchange(&runtime, SQUARE, false, AREA, SHAPE, false, SIDES)));
     for (int i = 0; i < THREADS; i++) {
         void *answer;
         pthread_join(threads[i], &answer);
         odd += (size_t)answer;
     }
-    printf("wrong sends beside %d exchanges: %zu\n", CHANGES, odd);
+    return odd;
+}
+
+int main(void)
+{
+    msg_config too_large = {.classes = 1048577};
+    printf("a closed handle: %u\n", msg_change_count(&runtime, &(uint64_t){0}));
+    printf("too many classes: %u\n", msg_open(&runtime, &too_large));
+    if (msg_sender_size() != sizeof(msg_sender)) return 2;
+    want(msg_open(&runtime, &(msg_config){.classes = UNKNOWN, .senders = THREADS + 1}));
+    make_classes();
+
+    for (int i = 0; i <= THREADS; i++) want(msg_sender_open(&runtime, &senders[i]));
+    msg_sender *own = &senders[THREADS], another = MSG_SENDER_INIT;
+    printf("a sender too many: %u\n", msg_sender_open(&runtime, &another));
+    object square = {SQUARE, 3}, tile = {TILE, 5};
+    printf("area %u, sides %u\n", send(own, &square, AREA), send(own, &square, SIDES));
+    printf("a class that isn't made: %u\n", send(own, &tile, AREA));
+    printf("wrong sends beside %d exchanges: %zu\n", EXCHANGES, exchange_beside_sends());
 
     uint64_t seen;
-    want(msg_refresh(&senders[THREADS], &seen));
-    printf("after %u changes: area %u, sides %u\n", (unsigned)seen, send(&senders[THREADS], &square, area), send(&senders[THREADS], &square, sides));
-    printf("recalled: area %u, sides %u\n", send_recalled(&senders[THREADS], &square, area), send_recalled(&senders[THREADS], &square, sides));
-    changes++;
-    want(msg_make_class(&runtime, TILE, SQUARE));
-    want(msg_meet(&runtime, &senders[THREADS]));
-    printf("a class that was made: sides %u\n", send(&senders[THREADS], &tile, sides));
-    printf("a method that is there: %u\n", msg_add(&runtime, SQUARE, false, area, 1));
+    want(msg_refresh(own, &seen));
+    printf("after %u changes: area %u, sides %u\n", (unsigned)seen, send(own, &square, AREA), send(own, &square, SIDES));
+    printf("recalled: area %u, sides %u\n", send_recalled(own, &square, AREA), send_recalled(own, &square, SIDES));
+    want(CHANGE(msg_make_class(&runtime, TILE, SQUARE)));
+    printf("a class that was made: sides %u\n", send_recalled(own, &tile, SIDES));
+    printf("a method that is there: %u\n", CHANGE(msg_add(&runtime, SQUARE, false, AREA, SHAPE_AREA)));
+    printf("a class that isn't there: %u\n", CHANGE(msg_make_class(&runtime, UNKNOWN, SQUARE)));
+    printf("still recalled: sides %u\n", send_recalled(own, &tile, SIDES));
     for (int i = 0; i <= THREADS; i++) want(msg_sender_close(&runtime, &senders[i]));
     want(msg_close(&runtime));
     printf("closed: %u\n", msg_close(&runtime));

@@ -7,13 +7,18 @@ class Handle(c.Structure):
     _fields_ = [("at", c.c_void_p), ("open", c.c_bool)]
 
 
+class Method(c.Structure):
+    _fields_ = [("sel", c.c_uint32), ("imp", c.c_uint32)]
+
+
 library = c.PyDLL(sys.argv[1])
-handle, number, text = c.POINTER(Handle), c.c_uint32, (c.c_char_p, c.c_size_t)
+handle, number, methods = c.POINTER(Handle), c.c_uint32, (c.POINTER(Method), c.c_size_t)
 for name, words in {
-    "msg_open": (handle, *text),
+    "msg_open_words": (handle, c.POINTER(number), c.c_size_t),
     "msg_close": (handle,),
-    "msg_find_class": (handle, *text, c.POINTER(number)),
-    "msg_find_selector": (handle, *text, c.POINTER(number)),
+    "msg_make_class": (handle, number, number),
+    "msg_make_root_class": (handle, number),
+    "msg_attach": (handle, number, *methods, *methods),
     "msg_lookup": (handle, number, c.c_bool, number, c.POINTER(number)),
     "msg_replace": (handle, number, c.c_bool, number, number),
 }.items():
@@ -26,31 +31,40 @@ class Fault(Exception):
 
 
 class Runtime:
-    def __init__(self, text, methods):
-        self.handle, self.methods = Handle(), methods
-        self.ask(library.msg_open, text, len(text))
+    """Names are kept here: the library knows numbers alone, classes from 0, selectors and implementations from 1."""
+
+    def __init__(self, classes=0):
+        self.handle, self.classes, self.selectors, self.bodies = Handle(), {}, {}, [lambda side: "forwarded"]
+        self.ask(library.msg_open_words, (number * 1)(classes), 1)
 
     def ask(self, call, *words):
         answer = call(c.byref(self.handle), *words)
         if answer:
             raise Fault(answer)
 
-    def told(self, call, *words):
-        out = number()
-        self.ask(call, *words, c.byref(out))
-        return out.value
-
     def selector(self, name):
-        return self.told(library.msg_find_selector, name.encode(), len(name.encode()))
+        return self.selectors.setdefault(name, len(self.selectors) + 1)
 
-    def class_named(self, name):
-        return self.told(library.msg_find_class, name.encode(), len(name.encode()))
+    def implementation(self, body):
+        self.bodies.append(body)
+        return len(self.bodies) - 1
+
+    def make(self, name, superclass, **methods):
+        made = self.classes.setdefault(name, len(self.classes))
+        if superclass is None:
+            self.ask(library.msg_make_root_class, made)
+        else:
+            self.ask(library.msg_make_class, made, self.classes[superclass])
+        rows = (Method * len(methods))(*((self.selector(sel), self.implementation(body)) for sel, body in methods.items()))
+        self.ask(library.msg_attach, made, rows, len(rows), rows, 0)
 
     def send(self, receiver, name, class_name):
-        return self.methods[self.told(library.msg_lookup, self.class_named(class_name), False, self.selector(name))](receiver)
+        imp = number()
+        self.ask(library.msg_lookup, self.classes[class_name], False, self.selector(name), c.byref(imp))
+        return self.bodies[imp.value](receiver)
 
-    def replace(self, class_name, name, imp):
-        self.ask(library.msg_replace, self.class_named(class_name), False, self.selector(name), imp)
+    def replace(self, class_name, name, body):
+        self.ask(library.msg_replace, self.classes[class_name], False, self.selector(name), self.implementation(body) if body else 0)
 
     def close(self):
         self.ask(library.msg_close)
@@ -63,13 +77,15 @@ def fault_of(call, *words):
         return f"fault {fault}"
 
 
-methods = [lambda side: "forwarded", lambda side: 0, lambda side: 4, lambda side: 1, lambda side: side * side]
-runtime = Runtime(open(sys.argv[2], "rb").read(), methods)
+print("too many classes:", fault_of(Runtime, 1 << 21))
+runtime = Runtime(2)
+runtime.make("Shape", None, area=lambda side: 0, sides=lambda side: 4)
+runtime.make("Square", "Shape", area=lambda side: side * side)
 print("area", runtime.send(3, "area", "Square"), "sides", runtime.send(3, "sides", "Square"))
-runtime.replace("Square", "area", 2)
+runtime.replace("Square", "area", lambda side: 4)
 print("area", runtime.send(3, "area", "Square"), "of a shape", runtime.send(3, "area", "Shape"))
-print("no such name:", fault_of(runtime.send, 3, "volume", "Square"))
-print("no such implementation:", fault_of(runtime.replace, "Square", "area", 9))
-print("not made:", runtime.send(3, "area", "Tile"))
+print("no such method:", runtime.send(3, "volume", "Square"))
+print("no implementation:", fault_of(runtime.replace, "Square", "area", None))
+print("a class too many:", fault_of(runtime.make, "Tile", "Square"))
 runtime.close()
 print("closed:", fault_of(runtime.close))

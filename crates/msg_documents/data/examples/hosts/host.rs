@@ -24,6 +24,23 @@ struct Note {
     imp: u32,
 }
 
+/// A method of a class that is made.
+#[repr(C)]
+#[derive(Clone, Copy)]
+pub struct Method {
+    pub sel: u32,
+    pub imp: u32,
+}
+
+/// How much a runtime has room for; 0 is the default.
+#[repr(C)]
+#[derive(Default)]
+pub struct Config {
+    pub classes: u32,
+    pub senders: u32,
+    pub arrays: [u32; 9],
+}
+
 const BLANK: Note = Note { sel: 0, slot: 0, count: 0, imp: 0 };
 
 const CLOSED: Handle = Handle { at: std::ptr::null_mut(), open: false };
@@ -31,9 +48,11 @@ const DONE: u32 = 0;
 const MISSED: u32 = 71;
 
 unsafe extern "C" {
-    fn msg_open(runtime: *mut Handle, text: *const u8, length: usize) -> u32;
+    fn msg_open_words(runtime: *mut Handle, config: *const u32, words: usize) -> u32;
     fn msg_close(runtime: *mut Handle) -> u32;
-    fn msg_find_selector(runtime: *mut Handle, name: *const u8, length: usize, sel: *mut u32) -> u32;
+    fn msg_make_class(runtime: *mut Handle, class: u32, superclass: u32) -> u32;
+    fn msg_make_root_class(runtime: *mut Handle, class: u32) -> u32;
+    fn msg_attach(runtime: *mut Handle, class: u32, methods: *const Method, count: usize, class_methods: *const Method, class_count: usize) -> u32;
     fn msg_replace(runtime: *mut Handle, class: u32, meta: bool, sel: u32, imp: u32) -> u32;
     fn msg_sender_open(runtime: *mut Handle, sender: *mut SenderHandle) -> u32;
     fn msg_sender_close(runtime: *mut Handle, sender: *mut SenderHandle) -> u32;
@@ -56,17 +75,22 @@ unsafe impl Send for Runtime {}
 unsafe impl Sync for Runtime {}
 
 impl Runtime {
-    pub fn open(text: &str) -> Result<Runtime, u32> {
+    pub fn open(config: &Config) -> Result<Runtime, u32> {
         let mut raw = CLOSED;
-        // SAFETY: a handle, and a slice. So it is in each call below: pointers that come from references.
-        let fault = unsafe { msg_open(&mut raw, text.as_ptr(), text.len()) };
+        // SAFETY: a handle, and as many words as the config has. So it is in each call below: pointers that come from references.
+        let fault = unsafe { msg_open_words(&mut raw, std::ptr::from_ref(config).cast(), size_of::<Config>() / 4) };
         answer(fault, Runtime { raw: Mutex::new(raw) })
     }
 
-    pub fn selector(&self, name: &str) -> Result<u32, u32> {
-        let mut sel = 0;
-        let fault = unsafe { msg_find_selector(&mut *self.raw.lock().unwrap(), name.as_ptr(), name.len(), &mut sel) };
-        answer(fault, sel)
+    /// Makes a class with its methods, below a superclass or as a root class.
+    pub fn make(&self, class: u32, superclass: Option<u32>, methods: &[Method], class_methods: &[Method]) -> Result<(), u32> {
+        let raw = &mut *self.raw.lock().unwrap();
+        let fault = match superclass {
+            Some(superclass) => unsafe { msg_make_class(raw, class, superclass) },
+            None => unsafe { msg_make_root_class(raw, class) },
+        };
+        answer(fault, ())?;
+        answer(unsafe { msg_attach(raw, class, methods.as_ptr(), methods.len(), class_methods.as_ptr(), class_methods.len()) }, ())
     }
 
     pub fn replace(&self, class: u32, sel: u32, imp: u32) -> Result<(), u32> {
@@ -114,26 +138,36 @@ impl Drop for Sender<'_> {
     }
 }
 
+// The host's own numbers: classes from 0, selectors and implementations from 1.
+const SHAPE: u32 = 0;
+const SQUARE: u32 = 1;
+const TILE: u32 = 2;
+const CLASSES: u32 = 3;
+const AREA: u32 = 1;
+const SIDES: u32 = 2;
+
 fn main() -> Result<(), u32> {
-    let methods: [fn(u32) -> u32; 5] = [|_| 404, |_| 0, |_| 4, |_| 1, |side| side * side];
-    let path = std::env::args().nth(1).expect("a document");
-    let text = std::fs::read_to_string(path).expect("a document");
-    println!("a text that isn't JSON: {:?}", Runtime::open("{").err());
-    let runtime = Runtime::open(&text)?;
-    let (area, sides) = (runtime.selector("area")?, runtime.selector("sides")?);
+    let methods: [fn(u32) -> u32; 4] = [|_| 404, |_| 0, |_| 4, |side| side * side];
+    let too_many = Config { senders: 16_385, ..Config::default() };
+    println!("too many senders: {:?}", Runtime::open(&too_many).err());
+    let runtime = Runtime::open(&Config { classes: CLASSES, ..Config::default() })?;
+    runtime.make(SHAPE, None, &[Method { sel: AREA, imp: 1 }, Method { sel: SIDES, imp: 2 }], &[])?;
+    runtime.make(SQUARE, Some(SHAPE), &[Method { sel: AREA, imp: 3 }], &[])?;
     let mut sender = runtime.sender()?;
-    println!("area {}, sides {}", methods[sender.find(1, area)?](3), methods[sender.find(1, sides)?](3));
-    println!("a class that isn't there: {:?}", sender.find(3, area).err());
+    println!("area {}, sides {}", methods[sender.find(SQUARE, AREA)?](3), methods[sender.find(SQUARE, SIDES)?](3));
+    println!("a class that isn't made: {}", methods[sender.find(TILE, AREA)?](3));
+    println!("a class that isn't there: {:?}", sender.find(CLASSES, AREA).err());
+    println!("a class that is made already: {:?}", runtime.make(SQUARE, Some(SHAPE), &[], &[]).err());
     std::thread::scope(|scope| {
         for _ in 0..4 {
             let mut sender = runtime.sender().unwrap();
             let methods = &methods;
-            scope.spawn(move || (0..100_000).for_each(|_| assert!([0, 9].contains(&methods[sender.find(1, area).unwrap()](3)))));
+            scope.spawn(move || (0..100_000).for_each(|_| assert!([0, 9].contains(&methods[sender.find(SQUARE, AREA).unwrap()](3)))));
         }
         for round in 0..1000 {
-            runtime.replace(1, area, if round % 2 == 0 { 1 } else { 4 }).unwrap();
+            runtime.replace(SQUARE, AREA, if round % 2 == 0 { 1 } else { 3 }).unwrap();
         }
     });
-    println!("an implementation that isn't there: {:?}", runtime.replace(1, area, 5).err());
+    println!("no implementation: {:?}", runtime.replace(SQUARE, AREA, 0).err());
     Ok(())
 }
