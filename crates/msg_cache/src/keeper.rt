@@ -36,9 +36,8 @@ use crate::steps::{
 use crate::view::View;
 use atomic_table::Badge;
 use msg_buckets::{first_place, pack};
-use msg_core::MAX_SENDERS;
 use msg_names::{ClassRef, ImpRef, Selector};
-use msg_tables::Change;
+use msg_tables::{Change, MOST_SENDERS};
 use std::alloc::{AllocError, Global};
 use std::marker::Model;
 use std::mem::replace;
@@ -54,6 +53,8 @@ pub struct Keeper {
     // the capacity that the next array of each class reference without one has, or 0 for the least
     pub(crate) remembered: Vec<u32>,
     given: Vec<bool>,
+    // who was out when senders were looked at last
+    outs: Vec<bool>,
     count: u64,
     lent: bool,
     // the arrays that were installed before
@@ -64,6 +65,7 @@ pub struct Keeper {
     pub ghost standings_are: { standings ≡ settled standings.senders (keeper_of seat.me.0).standings },
     pub ghost senders_are: { standings.senders ≡ length (keeper_of seat.me.0).given },
     pub ghost given_are: { given.items ≡ (keeper_of seat.me.0).given },
+    pub ghost outs_are: { length outs.items ≡ standings.senders },
     pub ghost count_is: { count ≡ size (keeper_of seat.me.0).history },
     pub ghost lent_is: { lent ≡ is_lent (keeper_of seat.me.0).turn },
     pub ghost counts: { AreCounts report },
@@ -81,7 +83,7 @@ impl ArrayNotes {
     // Of so many arrays, which are free.
     fn blank(alloc: Global, arrays: usize, senders: usize) -> Result<ArrayNotes, AllocError>
         requires arrays { arrays < 2 ^ 32 }
-        requires senders { senders ≤ MAX_SENDERS }
+        requires senders { senders ≤ MOST_SENDERS }
         ensures standings { IfOk result (λ n. n.standings ≡ record { senders = senders; notes = replicate arrays free; ready = [] }) }
         ensures occupied { IfOk result (λ n. n.occupied.items ≡ replicate arrays 0) }
         ensures used { IfOk result (λ n. length n.used.items ≡ arrays) }
@@ -103,6 +105,7 @@ struct Copies {
     words: Vec<u64>,
     remembered: Vec<u32>,
     given: Vec<bool>,
+    outs: Vec<bool>,
 }
 
 impl Copies {
@@ -117,14 +120,17 @@ impl Copies {
         ensures words { IfOk result (λ c. c.words.items ≡ replicate words 0) }
         ensures remembered { IfOk result (λ c. c.remembered.items ≡ replicate (2 * classes) 0) }
         ensures given { IfOk result (λ c. c.given.items ≡ replicate senders false) }
+        ensures outs { IfOk result (λ c. length c.outs.items ≡ senders) }
     {
         let words = vec![in alloc; 0; words]?;
         let remembered = vec![in alloc; 0; 2 * classes]?;
         let given = vec![in alloc; false; senders]?;
+        let outs = vec![in alloc; false; senders]?;
         Ok(Copies {
             words,
             remembered,
             given,
+            outs,
         })
     }
 }
@@ -166,7 +172,7 @@ impl Keeper {
     ) -> Result<Keeper, AllocError>
         requires classes { classes < 2 ^ 32 }
         requires few_arrays { arrays < 2 ^ 32 }
-        requires few_senders { senders ≤ MAX_SENDERS }
+        requires few_senders { senders ≤ MOST_SENDERS }
         requires seat { (seat.me ≡ kept (keeper_of seat.me.0)) × (size (keeper_of seat.me.0).history ≡ 0) × ((keeper_of seat.me.0).turn ≡ Never) }
         requires words { (keeper_of seat.me.0).words ≡ replicate words 0 }
         requires arrays { (keeper_of seat.me.0).standings ≡ replicate arrays Free }
@@ -182,6 +188,7 @@ impl Keeper {
             occupied: arrays.occupied,
             remembered: copies.remembered,
             given: copies.given,
+            outs: copies.outs,
             used: arrays.used,
             count: 0,
             lent: false,
@@ -322,6 +329,7 @@ impl Keeper {
             &mut self.standings,
             &mut self.occupied,
             &self.remembered,
+            &mut self.outs,
         )
     }
 

@@ -13,7 +13,7 @@ ghost use Rattle.msg_runtime.specs.Parts.{AreOut, IsNew};
 
 use crate::name::ArenaName;
 use msg_cache::{Arena, Prober, Report, Turn};
-use msg_core::MAX_SENDERS;
+use msg_core::MOST_SENDERS;
 use msg_names::{ClassRef, ImpRef, Selector};
 use msg_runtime::Runtime;
 use msg_tables::{Change, ChangeFault};
@@ -108,7 +108,7 @@ impl<N: ArenaName> Desk<N> {
         requires arena { arena.now ≡ N.arena }
         ensures prober { IfSome result (IsSenderOf N.arena) }
         ensures new { IfSome result (λ p. IsNew p.sender self.old.keeper self.new.keeper) }
-        ensures none { IsNone result → AreOut MAX_SENDERS N.arena.key.senders self.old.keeper }
+        ensures none { IsNone result → AreOut MOST_SENDERS N.arena.key.senders self.old.keeper }
         ensures origin { IfSome result (λ p. p.sender.front.origin ≡ N.arena.key.origin) }
     {
         self.runtime.sender(arena)

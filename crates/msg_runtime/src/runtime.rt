@@ -14,7 +14,7 @@ ghost use Rattle.msg_runtime.specs.Parts.{IsKeeperOf, AnswersMiss, IsNew, AreOut
 use crate::caching::cache_found;
 use crate::flushing::flush_reached;
 use msg_cache::{Arena, Keeper, Prober, Report, Turn};
-use msg_core::MAX_SENDERS;
+use msg_core::MOST_SENDERS;
 use msg_names::{ClassRef, ImpRef, Selector};
 use msg_tables::laws::{an_accepted_change_is_within_the_limit, tables_are_of_their_origin};
 use msg_tables::{Below, Change, ChangeFault, HasOrigin, Origin, Tables};
@@ -197,10 +197,10 @@ impl Runtime {
         ensures prober { IfSome result (IsSenderOf self.old.arena) }
         ensures some { IfSome result (λ p. IsNew p.sender self.old.keeper self.new.keeper) }
         ensures front { IfSome result (λ p. p.sender.front ≡ self.old.keeper.history) }
-        ensures none { IsNone result → AreOut MAX_SENDERS self.old.arena.key.senders self.old.keeper × (self.new.keeper ≡ self.old.keeper) }
+        ensures none { IsNone result → AreOut MOST_SENDERS self.old.arena.key.senders self.old.keeper × (self.new.keeper ≡ self.old.keeper) }
         ensures origin { self.old.keeper.history.origin ≡ self.old.arena.key.origin }
     {
-        for number in 0..MAX_SENDERS as u32 {
+        for number in 0..MOST_SENDERS as u32 {
             if let Some(prober) = self.keeper.give_out(arena, number) {
                 return Some(prober);
             }

@@ -10,6 +10,6 @@ invariant-loop-number l = record {
   table : l.seat.table_id ≡ l.fn.seat.table_id;
   id : l.seat.id ≡ l.fn.seat.id;
   told : l.seat.me ≡ kept (looks l.number l.outs (keeper_of l.fn.seat.me.0));
-  long : length l.outs ≡ 64;
+  long : length l.outs ≡ length l.fn.outs;
   tidy : TidyBy lookup l.arena.key (keeper_of l.seat.me.0);
 }

@@ -9,5 +9,5 @@ invariant-loop-sender l = record {
   all : (n : ℕ) → n < l.sender → l.least ≤ slice_index l.cursors n;
   some : (l.least ≡ l.end) ⊎ ((n : ℕ) × (n < l.sender) × (slice_index l.cursors n ≡ l.least));
   end : l.least ≤ l.end;
-  long : length l.cursors ≡ 64;
+  long : length l.cursors ≡ length l.initial.cursors;
 }

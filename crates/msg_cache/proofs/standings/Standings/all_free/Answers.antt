@@ -15,12 +15,12 @@ invariant_of-result c =
       unmarked = λ p lt. absurd (omega arith);
       distinct = λ p q less lt. absurd (omega arith);
       ends = omega arith;
-      within = λ n l. omega (arith, all_zero 64 n);
+      within = λ n l. omega (arith, all_zero c.args.senders n);
     }
 
 pub returns : goal.returns
 returns c =
     let marks : c.in_ok-all.field-0 ≡ replicate c.args.arrays true = c.in_ok-all.ensures in
     let first : StandingsView → StandingsView = λ v. v in
-    (λ i. record { senders = c.args.senders; notes = notes (marks i) (c.in_ok-with_capacity.ensures.items i) 0 c.args.senders (replicate 64 0); ready = [] })
-    ∙ (λ i. record { senders = c.args.senders; notes = notes_first c.args.arrays c.args.senders (replicate 64 0) i; ready = [] })
+    (λ i. record { senders = c.args.senders; notes = notes (marks i) (c.in_ok-with_capacity.ensures.items i) 0 c.args.senders (replicate c.args.senders 0); ready = [] })
+    ∙ (λ i. record { senders = c.args.senders; notes = notes_first c.args.arrays c.args.senders (replicate c.args.senders 0) i; ready = [] })
