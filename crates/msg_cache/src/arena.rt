@@ -126,9 +126,9 @@ impl Arena {
         self.spans.len()
     }
 
-    // How many senders there may be.
+    /// How many senders there may be.
     #[inline(always)]
-    pub(crate) fn senders(&self) -> u32
+    pub fn senders(&self) -> u32
         ensures senders { result ≡ self.now.key.senders }
         ensures few { result ≤ MOST_SENDERS }
     {

@@ -15,14 +15,14 @@ use crate::standings::Standings;
 use crate::steps::{Seat, Words, clear_word, load_probe};
 
 // One look at each sender number. Says who was out.
-fn look_at_senders(arena: &Arena, seat: &mut Seat, outs: &mut [bool])
+fn look_at_senders(arena: &Arena, seat: &mut Seat, outs: &mut Vec<bool>)
     requires table { seat.old.table_id ≡ arena.now.table }
     requires keeper { seat.old.me ≡ kept (keeper_of seat.old.me.0) }
     requires tidy { TidyBy lookup arena.now.key (keeper_of seat.old.me.0) }
-    requires outs { length outs.old ≡ arena.now.key.senders }
+    requires outs { length outs.old.items ≡ arena.now.key.senders }
     ensures seat { (seat.new.table_id ≡ seat.old.table_id) × (seat.new.id ≡ seat.old.id) }
-    ensures told { seat.new.me ≡ kept (looks arena.now.key.senders outs.new (keeper_of seat.old.me.0)) }
-    ensures outs { length outs.new ≡ length outs.old }
+    ensures told { seat.new.me ≡ kept (looks arena.now.key.senders outs.new.items (keeper_of seat.old.me.0)) }
+    ensures outs { length outs.new.items ≡ length outs.old.items }
     ensures tidy { TidyBy lookup arena.now.key (keeper_of seat.new.me.0) }
 {
     let shared = arena.shared();
@@ -89,21 +89,21 @@ pub(crate) fn collect_into(
     standings: &mut Standings,
     occupied: &mut Vec<u32>,
     remembered: &Vec<u32>,
-    outs: &mut [bool],
+    outs: &mut Vec<bool>,
 ) -> u32
     requires table { seat.old.table_id ≡ arena.now.table }
     requires keeper { seat.old.me ≡ kept (keeper_of seat.old.me.0) }
     requires in_order { InOrder lookup arena.now.key (keeper_of seat.old.me.0) remembered.now.items occupied.old.items }
     requires words { words.old.items ≡ (keeper_of seat.old.me.0).words }
     requires standings { standings.old ≡ settled arena.now.key.senders (keeper_of seat.old.me.0).standings }
-    requires outs { length outs.old ≡ arena.now.key.senders }
+    requires outs { length outs.old.items ≡ arena.now.key.senders }
     ensures seat { (seat.new.table_id ≡ seat.old.table_id) × (seat.new.id ≡ seat.old.id) }
     ensures keeper { seat.new.me ≡ kept (keeper_of seat.new.me.0) }
     ensures collects { Collects (layout_of arena.now.key) (keeper_of seat.old.me.0) (keeper_of seat.new.me.0) result }
     ensures in_order { InOrder lookup arena.now.key (keeper_of seat.new.me.0) remembered.now.items occupied.new.items }
     ensures words { words.new.items ≡ (keeper_of seat.new.me.0).words }
     ensures standings { standings.new ≡ settled arena.now.key.senders (keeper_of seat.new.me.0).standings }
-    ensures outs { length outs.new ≡ length outs.old }
+    ensures outs { length outs.new.items ≡ length outs.old.items }
 {
     look_at_senders(arena, seat, outs);
     let freed = standings.see_out(outs);

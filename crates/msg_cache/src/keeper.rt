@@ -14,7 +14,7 @@ ghost use Rattle.msg_core.specs.State.{capacity as capacity_of, size, awaits};
 ghost use Rattle.msg_core.specs.Steps.{is_free};
 ghost use Rattle.msg_core.specs.declared.state.Standing.TheVariants.{Free, Live};
 ghost use Rattle.msg_cache.specs.declared.view.TurnAt.TheVariants.{Never};
-ghost use Rattle.msg_cache.specs.Counts.{AreCounts, CountsFill, CountsInstall, after_entry, after_flush};
+ghost use Rattle.msg_cache.specs.Counts.{AreCounts, CountsGrowth, CountsInstall, CountsFill, after_collection, after_entry, after_flush, after_refusal};
 ghost use Rattle.msg_cache.specs.Layout.{layout_of, header_at};
 ghost use Rattle.msg_cache.specs.Plays.{kept, keeper_of, flushed, installed, committed, lent, turn_in, turn_view, is_lent, sender_in, given_out, taken_in, newcomer};
 ghost use Rattle.msg_cache.specs.Keeping.{header as header_of, standing_of, array_words, remember, way_of, OnUse, OnTake, CanUse, lowest_free, filled, grown, Fills, Collects};
@@ -26,7 +26,7 @@ ghost use Rattle.msg_tables.specs.Origin.{class_total};
 use crate::answer::{Filled, Report, Way};
 use crate::arena::Arena;
 use crate::collecting::collect_into;
-use crate::filling::{retire_in, way_in_array};
+use crate::filling::{count_want, retire_in, way_in_array};
 use crate::prober::Prober;
 use crate::standings::Standings;
 use crate::steps::{
@@ -307,7 +307,7 @@ impl Keeper {
         ensures arena { IsOf arena.now self.new }
         ensures remembered { self.new.remembered.items ≡ self.old.remembered.items }
         ensures view { view self.new ≡ grown (layout arena.now) class (selector_number selector) (imp_number implementation) array (view self.old) }
-        ensures report { CountsFill Filled.Grown self.old.report self.new.report }
+        ensures report { CountsGrowth self.old.report self.new.report }
     {
         self.install(arena, class, array);
         let place = first_place(selector, arena.capacity(array));
@@ -320,9 +320,9 @@ impl Keeper {
         ensures arena { IsOf arena.now self.new }
         ensures remembered { self.new.remembered.items ≡ self.old.remembered.items }
         ensures collects { Collects (layout arena.now) (view self.old) (view self.new) result }
-        ensures report { self.new.report ≡ self.old.report }
+        ensures report { self.new.report ≡ after_collection result self.old.report }
     {
-        collect_into(
+        let freed = collect_into(
             arena,
             &mut self.seat,
             &mut self.words,
@@ -330,7 +330,10 @@ impl Keeper {
             &mut self.occupied,
             &self.remembered,
             &mut self.outs,
-        )
+        );
+        self.report.collections = self.report.collections.saturating_add(1);
+        self.report.freed = self.report.freed.saturating_add(u64::from(freed));
+        freed
     }
 
     /// Caches what was found for a selector in a class reference.
@@ -347,7 +350,7 @@ impl Keeper {
         ensures arena { IsOf arena.now self.new }
         ensures remembered { self.new.remembered.items ≡ self.old.remembered.items }
         ensures fills { Fills (layout arena.now) self.old.remembered.items class (selector_number selector) (imp_number implementation) (view self.old) (view self.new) result }
-        ensures report { CountsFill result self.old.report self.new.report }
+        ensures report { CountsFill (way_of (layout arena.now) self.old.remembered.items (view self.old) class (selector_number selector)) result self.old.report self.new.report }
     {
         match self.way(arena, class, selector) {
             Way::Present => Filled::Present,
@@ -365,6 +368,7 @@ impl Keeper {
                     self.grow(arena, class, array, selector, implementation);
                     return Filled::Grown;
                 }
+                count_want(&mut self.report, capacity);
                 Filled::NoArray
             }
         }
@@ -499,6 +503,18 @@ impl Keeper {
         let seat = split_sender(shared, &mut self.seat, number);
         self.given[place] = true;
         Some(Prober::of(seat, number, arena.probe_at(number)))
+    }
+
+    /// A sender was asked for, and none is given out.
+    pub fn refuse(&mut self, arena: &Arena)
+        requires arena { IsOf arena.now self.old }
+        ensures arena { IsOf arena.now self.new }
+        ensures remembered { self.new.remembered.items ≡ self.old.remembered.items }
+        ensures report { self.new.report ≡ after_refusal self.old.report }
+        ensures view { view self.new ≡ view self.old }
+    {
+        let _ = arena;
+        self.report.refused_senders = self.report.refused_senders.saturating_add(1);
     }
 
     /// Takes a sender back.

@@ -53,18 +53,18 @@ fn passed(cursor: usize, is_out: bool, end: usize) -> usize
 
 // Senders that were seen out pass a queue of this length. Answers how many of its arrays all have passed.
 fn pass(
-    cursors: &mut [usize],
-    outs: &[bool],
+    cursors: &mut Vec<usize>,
+    outs: &Vec<bool>,
     senders: usize,
     end: usize,
 ) -> usize
-    requires senders { (senders ≤ length cursors.old) × (senders ≤ length outs.now) }
-    requires within { (n : ℕ) → n < senders → slice_index cursors.old n ≤ end }
-    ensures moved { (n : ℕ) → n < senders → slice_index cursors.new n ≡ (if slice_index_or outs.now n false then end else slice_index cursors.old n) }
-    ensures all { (n : ℕ) → n < senders → result ≤ slice_index cursors.new n }
-    ensures some { 0 < senders → (n : ℕ) × (n < senders) × (slice_index cursors.new n ≡ result) }
+    requires senders { (senders ≤ length cursors.old.items) × (senders ≤ length outs.now.items) }
+    requires within { (n : ℕ) → n < senders → slice_index cursors.old.items n ≤ end }
+    ensures moved { (n : ℕ) → n < senders → slice_index cursors.new.items n ≡ (if slice_index_or outs.now.items n false then end else slice_index cursors.old.items n) }
+    ensures all { (n : ℕ) → n < senders → result ≤ slice_index cursors.new.items n }
+    ensures some { 0 < senders → (n : ℕ) × (n < senders) × (slice_index cursors.new.items n ≡ result) }
     ensures end { result ≤ end }
-    ensures length { length cursors.new ≡ length cursors.old }
+    ensures length { length cursors.new.items ≡ length cursors.old.items }
 {
     let mut least = end;
     for sender in 0..senders {
@@ -76,11 +76,11 @@ fn pass(
 }
 
 // The queue's front, which all have passed, counts no more.
-fn cut(cursors: &mut [usize], senders: usize, by: usize)
-    requires senders { senders ≤ length cursors.old }
-    requires all { (n : ℕ) → n < senders → by ≤ slice_index cursors.old n }
-    ensures moved { (n : ℕ) → n < senders → slice_index cursors.new n + by ≡ slice_index cursors.old n }
-    ensures length { length cursors.new ≡ length cursors.old }
+fn cut(cursors: &mut Vec<usize>, senders: usize, by: usize)
+    requires senders { senders ≤ length cursors.old.items }
+    requires all { (n : ℕ) → n < senders → by ≤ slice_index cursors.old.items n }
+    ensures moved { (n : ℕ) → n < senders → slice_index cursors.new.items n + by ≡ slice_index cursors.old.items n }
+    ensures length { length cursors.new.items ≡ length cursors.old.items }
 {
     for sender in 0..senders {
         cursors[sender] -= by;
@@ -128,13 +128,13 @@ impl Standings {
     }
 
     // These senders were seen out. What awaits nobody then is free, and ready to be taken out. Answers how many.
-    pub(crate) fn see_out(&mut self, outs: &[bool]) -> u32
+    pub(crate) fn see_out(&mut self, outs: &Vec<bool>) -> u32
         requires senders { 0 < self.old.senders }
-        requires outs { length outs.now ≡ self.old.senders }
+        requires outs { length outs.now.items ≡ self.old.senders }
         requires awaits_some { (a : ℕ) (aw : List Bool) → note_at self.old.notes a ≡ waiting aw → (n : ℕ) × (awaits aw n ≡ true) }
         requires ready { self.old.ready ≡ [] }
         ensures senders { self.new.senders ≡ self.old.senders }
-        ensures notes { (l : List Standing) → self.old.notes ≡ map note_of l → self.new.notes ≡ map note_of (map (looked_by self.old.senders outs.now) l) }
+        ensures notes { (l : List Standing) → self.old.notes ≡ map note_of l → self.new.notes ≡ map note_of (map (looked_by self.old.senders outs.now.items) l) }
         ensures ready { IsPermutation self.new.ready (newly_freed self.old.notes self.new.notes) }
         ensures count { result ≡ length self.new.ready }
     {

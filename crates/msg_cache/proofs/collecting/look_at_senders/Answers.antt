@@ -12,7 +12,7 @@ pub loop-number-preserved : goal.loop-number-preserved
 loop-number-preserved c =
     let i = c.loop-number.invariant in
     let n = c.loop-number.number in
-    let outs = c.loop-number.outs in
+    let outs = c.loop-number.outs.items in
     let r = c.load_probe.result in
     let k0 = keeper_of c.args.seat.now.me.0 in
     let next : suc n ≡ n + 1 = omega arith in

@@ -18,6 +18,7 @@ invariant_of-self c =
     let size : length c.remove.new.self ≡ length s.free = ap (λ (l : List Bool). length l) c.remove.ensures ∙ length-set s.free c.args.array false in record {
       few_arrays = omega (arith, v.few_arrays, size);
       few_senders = v.few_senders;
+      cursors = v.cursors;
       room = omega (arith, v.room, size);
       unmarked = subst (λ (x : List Bool). Unmarked x s.queue.items) (sym c.remove.ensures) (unmarked_installed s.free s.queue.items s.senders s.cursors.items v.unmarked c.args.array lt);
       distinct = v.distinct;

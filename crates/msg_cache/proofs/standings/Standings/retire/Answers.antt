@@ -29,6 +29,7 @@ invariant_of-self c =
     let items = sym c.push_back_reserved.ensures.items in record {
       few_arrays = v.few_arrays;
       few_senders = v.few_senders;
+      cursors = v.cursors;
       room = omega (arith, v.room, c.push_back_reserved.ensures.capacity);
       unmarked = subst (Unmarked s.free) items (unmarked_retired s.free s.queue.items s.senders s.cursors.items v.unmarked c.args.array is);
       distinct = subst Differ items (differ_retired s.free s.queue.items s.senders s.cursors.items v.unmarked c.args.array is v.distinct);

@@ -28,6 +28,7 @@ invariant_of-self c =
     let size : length c.insert.new.self ≡ length s.free = ap (λ (l : List Bool). length l) c.insert.ensures ∙ length-set s.free a true in record {
       few_arrays = omega (arith, v.few_arrays, size);
       few_senders = v.few_senders;
+      cursors = v.cursors;
       room = omega (arith, v.room, size, c.pop_front.ensures.capacity);
       unmarked = subst (λ (x : List Bool). Unmarked x rest) (sym c.insert.ensures) (unmarked_taken s.free a rest s.ready s.senders s.cursors.items apart differ);
       distinct = differ_taken s.free a rest s.ready s.senders s.cursors.items apart differ;
