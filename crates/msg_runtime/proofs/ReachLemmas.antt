@@ -1,7 +1,6 @@
 -- The caches that a change flushes are at least those of the class references that it affects.
 use Rattle.std.proofs.Common.{◌≡◌, ◌<◌, ◌++◌, ◌||◌, ℕ, List, [], ◌∷◌, Bool, Option, None, Some, true, false, refl, ap, ap₂, ◌∙◌, arith}
 use Rattle.std.specs.Prelude.{is_some}
-use Rattle.std.specs.Option.{option_map_or}
 use Rattle.std.specs.List.{list_any}
 use Rattle.msg_names.proofs.TestLemmas.{not_false}
 use Rattle.msg_names.specs.declared.value.ClassRef.{ClassRef}
@@ -23,45 +22,45 @@ use Rattle.msg_tables.proofs.LimitLemmas.{none_holds}
 use Rattle.msg_tables.proofs.OrderLemmas.{present-inside}
 use Rattle.msg_tables.proofs.OwnLemmas.{holder-same}
 use Rattle.msg_tables.proofs.PresenceLemmas.{may_be_made}
-use Rattle.msg_runtime.specs.Reach.{is_below, is_flushed, unless_counted}
+use Rattle.msg_runtime.specs.Reach.{are_reached, is_below, is_flushed, unless_counted}
 
 -- ---- the classes that an accepted change names
 
 module _ (h : History) where
-  of_image : (c : ClassRef) → no_class h c ≡ false → c.class < class_total h.origin
+  of_origin : (c : ClassRef) → no_class h c ≡ false → c.class < class_total h.origin
   unfolding no_class
-  of_image c e =
+  of_origin c e =
       let inside = present-inside (table h).supers c.class (not_false _ e) in
       let count = length-supers h in
       omega (arith, inside, count)
 
-  pub of_image-add : (c : ClassRef) (s : Selector) (i : ImpRef) → refusal h (Add c s i) ≡ None → c.class < class_total h.origin
+  pub of_origin-add : (c : ClassRef) (s : Selector) (i : ImpRef) → refusal h (Add c s i) ≡ None → c.class < class_total h.origin
   unfolding refusal
-  of_image-add c s i e = of_image c (none_holds (conditions h (Add c s i)) 0 e)
+  of_origin-add c s i e = of_origin c (none_holds (conditions h (Add c s i)) 0 e)
 
-  pub of_image-replace : (c : ClassRef) (s : Selector) (i : ImpRef) → refusal h (Replace c s i) ≡ None → c.class < class_total h.origin
+  pub of_origin-replace : (c : ClassRef) (s : Selector) (i : ImpRef) → refusal h (Replace c s i) ≡ None → c.class < class_total h.origin
   unfolding refusal
-  of_image-replace c s i e = of_image c (none_holds (conditions h (Replace c s i)) 0 e)
+  of_origin-replace c s i e = of_origin c (none_holds (conditions h (Replace c s i)) 0 e)
 
   pub of_origin-set : (c : ClassRef) (s : Selector) (i : ImpRef) → refusal h (SetImp c s i) ≡ None → c.class < class_total h.origin
   unfolding refusal
-  of_origin-set c s i e = of_image c (none_holds (conditions h (SetImp c s i)) 0 e)
+  of_origin-set c s i e = of_origin c (none_holds (conditions h (SetImp c s i)) 0 e)
 
   pub of_origin-exchange : (c : ClassRef) (s : Selector) (d : ClassRef) (u : Selector) → refusal h (Exchange c s d u) ≡ None → (c.class < class_total h.origin) × (d.class < class_total h.origin)
   unfolding refusal
   of_origin-exchange c s d u e =
-      let both = apart (no_class h c) (no_class h d) (none_holds (conditions h (Exchange c s d u)) 0 e) in (of_image c both.0, of_image d both.1)
+      let both = apart (no_class h c) (no_class h d) (none_holds (conditions h (Exchange c s d u)) 0 e) in (of_origin c both.0, of_origin d both.1)
     where
       apart : (a b : Bool) → (a || b) ≡ false → (a ≡ false) × (b ≡ false)
       apart true b e = cc
       apart false b e = (refl, e)
 
-  pub of_image-attach : (k : ℕ) (ms cs : List (ℕ × ℕ)) → refusal h (Attach k ms cs) ≡ None → k < class_total h.origin
+  pub of_origin-attach : (k : ℕ) (ms cs : List (ℕ × ℕ)) → refusal h (Attach k ms cs) ≡ None → k < class_total h.origin
   unfolding refusal
-  of_image-attach k ms cs e = of_image (of_class k) (none_holds (conditions h (Attach k ms cs)) 0 e)
+  of_origin-attach k ms cs e = of_origin (of_class k) (none_holds (conditions h (Attach k ms cs)) 0 e)
 
-  pub of_image-make : (k : ℕ) (d : Option ℕ) → refusal h (AddClass k d) ≡ None → k < class_total h.origin
-  of_image-make k d e =
+  pub of_origin-make : (k : ℕ) (d : Option ℕ) → refusal h (AddClass k d) ≡ None → k < class_total h.origin
+  of_origin-make k d e =
       let may = may_be_made h k d e in
       let count = length-supers h in
       omega (arith, may.inside, count)
@@ -97,12 +96,13 @@ module _ (h : History) where
     m = selector_number u
 
     holder-exchanged : (e : ClassRef) (v : ℕ) → holder (and_then h (Exchange c s d u)) e v ≡ holder h e v
+    unfolding n m
     holder-exchanged e v = holder-kept (Exchange c s d u) e v refl (λ f.
         some-set_method (holder_at (table h) c n) n (lookup_at (table h) d m) (set_method (holder_at (table h) d m) m (lookup_at (table h) c n) (table h).rows) f v
         ∙ some-set_method (holder_at (table h) d m) m (lookup_at (table h) c n) (table h).rows f v)
 
 -- where all are flushed one is, and else those below the places
-unless_counted-flushed : (h : History) (c : ClassRef) (counts : Option CountsView) (places : List ClassRef) → is_below h c places ≡ true → option_map_or (is_below h c) (unless_counted counts places) true ≡ true
+unless_counted-flushed : (h : History) (c : ClassRef) (counts : Option CountsView) (places : List ClassRef) → is_below h c places ≡ true → are_reached h c (unless_counted counts places) ≡ true
 unless_counted-flushed h c None places below = below
 unless_counted-flushed h c (Some counts) places below = refl
 

@@ -30,6 +30,10 @@ flushed_places h (AddClass k d) = Some []
 abbrev pub is_below : History → ClassRef → List ClassRef → Bool
 is_below h c places = list_any (λ place. is_member place (chain_at h c)) places
 
+-- all caches are meant, or the class reference is one of the places or below one
+abbrev pub are_reached : History → ClassRef → Option (List ClassRef) → Bool
+are_reached h c places = option_map_or (is_below h c) places true
+
 -- a change after which this is the history flushes the cache of a class reference: it is of the class that is made, or one that is flushed, or below such a one
 abbrev pub is_flushed : History → Change → ClassRef → Bool
-is_flushed h x c = is_of_made x c || option_map_or (is_below h c) (flushed_places h x) true
+is_flushed h x c = is_of_made x c || are_reached h c (flushed_places h x)

@@ -12,7 +12,7 @@ ghost use Rattle.msg_tables.specs.Preorder.{is_in};
 ghost use Rattle.msg_tables.specs.Refusal.{refusal};
 ghost use Rattle.msg_tables.specs.Stands.{StandsAt};
 ghost use Rattle.msg_runtime.specs.Parts.{IsKeeperOf, keeper_history, HasNoArray};
-ghost use Rattle.msg_runtime.specs.Reach.{is_below, is_flushed};
+ghost use Rattle.msg_runtime.specs.Reach.{are_reached, is_below, is_flushed, unless_counted};
 
 use msg_cache::{Arena, Keeper};
 use msg_names::{ClassRef, Selector};
@@ -139,27 +139,63 @@ fn flush_holder(
     }
 }
 
-// Flushes the caches of the class references at which two methods stand, and of all below them.
-fn flush_holders(
+// Flushes the caches that a method which was set may be seen from: where it stands and below, and of a document's classes all.
+fn flush_set(
     keeper: &mut Keeper,
     arena: &Arena,
     tables: &Tables,
+    classes: u32,
+    class: ClassRef,
+    sel: Selector,
+    below: &mut Below,
+)
+    requires arena { IsKeeperOf arena.now keeper.old }
+    requires classes { classes ≡ class_total (keeper_history keeper.old).origin }
+    requires tables { length tables.now.supers ≡ classes }
+    requires class { class.class < classes }
+    requires room { classes ≤ below.old.room }
+    ensures arena { IsKeeperOf arena.now keeper.new }
+    ensures history { keeper_history keeper.new ≡ keeper_history keeper.old }
+    ensures flushed { (h : History) → StandsAt tables.now h → (c : ClassRef) → c.class < classes
+        → are_reached h c (unless_counted h.origin.counts (at_most_one (holder h class (selector_number sel)))) ≡ true → HasNoArray arena.now keeper.new c }
+    ensures room { classes ≤ below.new.room }
+{
+    if tables.counts_arguments() {
+        flush_all(keeper, arena, classes);
+    } else {
+        flush_holder(keeper, arena, tables, class, sel, below);
+    }
+}
+
+// The same of two methods that were exchanged.
+fn flush_exchanged(
+    keeper: &mut Keeper,
+    arena: &Arena,
+    tables: &Tables,
+    classes: u32,
     first: (ClassRef, Selector),
     second: (ClassRef, Selector),
     below: &mut Below,
 )
     requires arena { IsKeeperOf arena.now keeper.old }
-    requires first { first.0.class < length tables.now.supers }
-    requires second { second.0.class < length tables.now.supers }
-    requires classes { length tables.now.supers ≡ class_total (keeper_history keeper.old).origin }
-    requires room { length tables.now.supers ≤ below.old.room }
+    requires classes { classes ≡ class_total (keeper_history keeper.old).origin }
+    requires tables { length tables.now.supers ≡ classes }
+    requires first { first.0.class < classes }
+    requires second { second.0.class < classes }
+    requires room { classes ≤ below.old.room }
     ensures arena { IsKeeperOf arena.now keeper.new }
     ensures history { keeper_history keeper.new ≡ keeper_history keeper.old }
-    ensures flushed { (h : History) → StandsAt tables.now h → (c : ClassRef) → is_below h c (at_most_one (holder h first.0 (selector_number first.1)) ++ at_most_one (holder h second.0 (selector_number second.1))) ≡ true → HasNoArray arena.now keeper.new c }
-    ensures room { length tables.now.supers ≤ below.new.room }
+    ensures flushed { (h : History) → StandsAt tables.now h → (c : ClassRef) → c.class < classes
+        → are_reached h c (unless_counted h.origin.counts (at_most_one (holder h first.0 (selector_number first.1)) ++ at_most_one (holder h second.0 (selector_number second.1)))) ≡ true
+        → HasNoArray arena.now keeper.new c }
+    ensures room { classes ≤ below.new.room }
 {
-    flush_holder(keeper, arena, tables, first.0, first.1, below);
-    flush_holder(keeper, arena, tables, second.0, second.1, below);
+    if tables.counts_arguments() {
+        flush_all(keeper, arena, classes);
+    } else {
+        flush_holder(keeper, arena, tables, first.0, first.1, below);
+        flush_holder(keeper, arena, tables, second.0, second.1, below);
+    }
 }
 
 // Flushes the caches that a change reaches, which was just made.
@@ -189,11 +225,8 @@ pub(crate) fn flush_reached(
         Change::Add { class, .. } | Change::Replace { class, .. } => {
             flush_below(keeper, arena, tables, *class, below);
         }
-        Change::SetImp { .. } | Change::Exchange { .. } if tables.counts_arguments() => {
-            flush_all(keeper, arena, classes);
-        }
         Change::SetImp { class, sel, .. } => {
-            flush_holder(keeper, arena, tables, *class, *sel, below);
+            flush_set(keeper, arena, tables, classes, *class, *sel, below);
         }
         Change::Exchange {
             class,
@@ -203,7 +236,7 @@ pub(crate) fn flush_reached(
         } => {
             let first = (*class, *sel);
             let second = (*other, *other_sel);
-            flush_holders(keeper, arena, tables, first, second, below);
+            flush_exchanged(keeper, arena, tables, classes, first, second, below);
         }
         Change::Attach {
             class,
