@@ -6,6 +6,7 @@ use Rattle.std.proofs.lemmas.Bool.{cases_lt, lt-ltb, le-ltb, le-leb, lt-leb}
 use Rattle.std.proofs.lemmas.List.{get_or-set_other, ext_get_or, length-replicate, get_or_past}
 use Rattle.std.proofs.lemmas.List.FromFn.{get_or-map-range_with_len, length-map-range_with_len}
 use Rattle.std.proofs.Math.ListN.{length-set}
+use Rattle.msg_tables.specs.declared.limits.TheConstants.{MOST_SENDERS}
 use Rattle.msg_core.specs.State.{awaits}
 use Rattle.msg_core.specs.Steps.{everyone}
 use Rattle.msg_cache.specs.Standings.{awaited_at}
@@ -59,16 +60,16 @@ minus_below (suc n) i outs aw lt = ⊎_elim (λ (e : i ≡ n). here (awaits outs
 -- ---- whom a place of the queue awaits
 
 module _ (senders : ℕ) (cursors : List ℕ) (place : ℕ) where
-  pub awaited_length : length (awaited_at senders cursors place) ≡ 64
+  pub awaited_length : length (awaited_at senders cursors place) ≡ MOST_SENDERS
   unfolding awaited_at
-  awaited_length = length-map-range_with_len (λ n. nat_lt n senders && nat_le (slice_index cursors n) place) 0 64
+  awaited_length = length-map-range_with_len (λ n. nat_lt n senders && nat_le (slice_index cursors n) place) 0 MOST_SENDERS
 
-  pub awaited_is : (n : ℕ) → senders ≤ 64 → awaits (awaited_at senders cursors place) n ≡ (nat_lt n senders && nat_le (slice_index cursors n) place)
+  pub awaited_is : (n : ℕ) → senders ≤ MOST_SENDERS → awaits (awaited_at senders cursors place) n ≡ (nat_lt n senders && nat_le (slice_index cursors n) place)
   unfolding awaited_at
   awaited_is n few = ⊎_elim
-      (λ (lt : n < 64). get_or-map-range_with_len (λ m. nat_lt m senders && nat_le (slice_index cursors m) place) 0 64 n n false lt (omega arith))
-      (λ (le : 64 ≤ n). get_or_past (awaited_at senders cursors place) n false (omega (arith, awaited_length)) ∙ sym (ap (λ b. b && nat_le (slice_index cursors n) place) (le-ltb n senders (omega arith))))
-      (cases_lt n 64)
+      (λ (lt : n < MOST_SENDERS). get_or-map-range_with_len (λ m. nat_lt m senders && nat_le (slice_index cursors m) place) 0 MOST_SENDERS n n false lt (omega arith))
+      (λ (le : MOST_SENDERS ≤ n). get_or_past (awaited_at senders cursors place) n false (omega (arith, awaited_length)) ∙ sym (ap (λ b. b && nat_le (slice_index cursors n) place) (le-ltb n senders (omega arith))))
+      (cases_lt n MOST_SENDERS)
 
 -- ---- all senders
 
@@ -92,11 +93,11 @@ everyone_out (suc k) m zero le = absurd (omega arith)
 everyone_out (suc k) m (suc n) le = everyone_out k m n (omega arith)
 
 -- nobody has passed the place
-pub all_awaited : (senders : ℕ) (cursors : List ℕ) (place : ℕ) → senders ≤ 64 → ((n : ℕ) → n < senders → slice_index cursors n ≤ place) → awaited_at senders cursors place ≡ everyone senders
-all_awaited senders cursors place few behind = ext_get_or false (awaited_at senders cursors place) (everyone senders) (awaited_length senders cursors place ∙ sym (everyone_length senders (64 - senders) ∙ omega arith)) (λ n lt.
+pub all_awaited : (senders : ℕ) (cursors : List ℕ) (place : ℕ) → senders ≤ MOST_SENDERS → ((n : ℕ) → n < senders → slice_index cursors n ≤ place) → awaited_at senders cursors place ≡ everyone senders
+all_awaited senders cursors place few behind = ext_get_or false (awaited_at senders cursors place) (everyone senders) (awaited_length senders cursors place ∙ sym (everyone_length senders (MOST_SENDERS - senders) ∙ omega arith)) (λ n lt.
     awaited_is senders cursors place n few ∙ ⊎_elim
-    (λ (l : n < senders). (λ i. lt-ltb n senders l i && le-leb (slice_index cursors n) place (behind n l) i) ∙ sym (everyone_in senders (64 - senders) n l))
-    (λ (g : senders ≤ n). ap (λ b. b && nat_le (slice_index cursors n) place) (le-ltb n senders g) ∙ sym (everyone_out senders (64 - senders) n g))
+    (λ (l : n < senders). (λ i. lt-ltb n senders l i && le-leb (slice_index cursors n) place (behind n l) i) ∙ sym (everyone_in senders (MOST_SENDERS - senders) n l))
+    (λ (g : senders ≤ n). ap (λ b. b && nat_le (slice_index cursors n) place) (le-ltb n senders g) ∙ sym (everyone_out senders (MOST_SENDERS - senders) n g))
     (cases_lt n senders))
 
 -- ---- senders were seen out
@@ -106,7 +107,7 @@ pub none_left : (l : List Bool) → ((n : ℕ) → awaits l n ≡ false) → lis
 none_left [] none = refl
 none_left (x ∷ xs) none = ap (λ b. b || list_any (λ b. b) xs) (none 0) ∙ none_left xs (λ n. none (suc n))
 
-module _ (senders : ℕ) (outs : List Bool) (before after : List ℕ) (end passed : ℕ) (place : ℕ) (few : senders ≤ 64) (within : place < end)
+module _ (senders : ℕ) (outs : List Bool) (before after : List ℕ) (end passed : ℕ) (place : ℕ) (few : senders ≤ MOST_SENDERS) (within : place < end)
     (moved : (n : ℕ) → n < senders → slice_index after n + passed ≡ (if awaits outs n then end else slice_index before n)) where
   -- whom the place awaits then
   pub left_is : (n : ℕ) → awaits (minus senders outs (awaited_at senders before place)) n ≡ (nat_lt n senders && nat_le (slice_index after n + passed) place)

@@ -43,7 +43,7 @@ Standings-send : IsSend Standings.the_row
 Standings-send = let l : IsSend LayeredSet.the_field.row = LayeredSet-send in search (sendable, crosses) depth 20
 
 pub Keeper-send : IsSend Keeper.the_field.row
-Keeper-send = let s : IsSend Standings.the_field.row = Standings-send in search (sendable, crosses, Seat-send) depth 20
+Keeper-send = let s : IsSend Standings.the_field.row = Standings-send in search (sendable, crosses, Seat-send) depth 26
 
 pub Prober-send : IsSend Prober.the_row
 Prober-send = search (sendable, crosses, Badge-send) depth 20

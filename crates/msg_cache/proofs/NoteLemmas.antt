@@ -15,6 +15,7 @@ use Rattle.msg_core.specs.State.{awaits}
 use Rattle.msg_core.specs.Steps.{everyone}
 use Rattle.msg_core.specs.declared.state.Standing.{Standing}
 use Rattle.msg_core.specs.declared.state.Standing.TheVariants.{Free, Live, Retired}
+use Rattle.msg_tables.specs.declared.limits.TheConstants.{MOST_SENDERS}
 use Rattle.msg_cache.specs.Keeping.{looked_by}
 use Rattle.msg_cache.specs.Notes.{Note, free, live, waiting, note_of, note_at, is_free_note, newly_freed}
 use Rattle.msg_cache.specs.Standings.{awaited_at, place_of, note_by, note_for, notes}
@@ -196,7 +197,7 @@ module _ (marks : List Bool) (a : ℕ) (queue : List ℕ) (ready senders : ℕ) 
 
 -- ---- senders were seen out
 
-module _ (marks : List Bool) (queue : List ℕ) (senders : ℕ) (before after : List ℕ) (passed : ℕ) (outs : List Bool) (few : senders ≤ 64) (apart : Unmarked marks queue)
+module _ (marks : List Bool) (queue : List ℕ) (senders : ℕ) (before after : List ℕ) (passed : ℕ) (outs : List Bool) (few : senders ≤ MOST_SENDERS) (apart : Unmarked marks queue)
     (moved : (n : ℕ) → n < senders → slice_index after n + passed ≡ (if awaits outs n then length queue else slice_index before n))
     (all : (n : ℕ) → n < senders → passed ≤ slice_index after n + passed)
     (some : (n : ℕ) × (n < senders) × (slice_index after n + passed ≡ passed))

@@ -2,8 +2,6 @@
 use Rattle.std.specs.Prelude.{ℕ, ◌+◌, ◌*◌, ◌==◌, nat_lt, List, [], ◌∷◌, ◌++◌, replicate, Option, Some, None, if◌then◌else◌}
 use Rattle.msg_buckets.specs.Capacity.{capacities}
 use Rattle.msg_tables.specs.Origin.{OriginView, class_total}
-use Rattle.msg_core.specs.declared.state.TheConstants.{MAX_SENDERS}
-use Rattle.msg_cache.specs.declared.config.TheConstants.{MOST_WORDS}
 use Rattle.msg_cache.specs.declared.config.Config.{Config}
 use Rattle.msg_cache.specs.declared.config.ArenaFault.{ArenaFault}
 use Rattle.msg_cache.specs.declared.config.ArenaFault.TheVariants.{NoSenders, TooManySenders, TooLarge}
@@ -33,6 +31,6 @@ words_of origin config = 2 * class_total origin + weigh config.arrays capacities
 abbrev pub refusal_of : OriginView → Config → Option ArenaFault
 refusal_of origin config =
     if config.senders == 0 then Some NoSenders
-    else if nat_lt MAX_SENDERS config.senders then Some TooManySenders
-    else if nat_lt MOST_WORDS (words_of origin config) then Some TooLarge
+    else if nat_lt origin.limits.senders config.senders then Some TooManySenders
+    else if nat_lt origin.limits.words (words_of origin config) then Some TooLarge
     else None

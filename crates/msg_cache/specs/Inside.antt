@@ -1,7 +1,7 @@
 -- What contracts see of an arena, of a sender and of the turn, and what holds of their fields.
 use Rattle.std.specs.Prelude.{◌≡◌, ℕ, ◌+◌, ◌^◌, ◌<◌, ◌≤◌, [], ◌∷◌, All, length, slice_index, slice_index_or}
 use Rattle.msg_buckets.specs.Capacity.{IsCapacity, capacities as all_capacities}
-use Rattle.msg_core.specs.declared.state.TheConstants.{MAX_SENDERS}
+use Rattle.msg_tables.specs.declared.limits.TheConstants.{MOST_SENDERS}
 use Rattle.msg_core.specs.declared.state.Whereabouts.TheVariants.{Out}
 use Rattle.msg_cache.specs.declared.arena.Span.{Span}
 use Rattle.msg_cache.specs.declared.arena.Arena.TheInside.{Inside as ArenaInside}
@@ -23,7 +23,7 @@ pub record IsArena (a : ArenaInside) : Type 0 where
   pub spans_count : length a.spans.items ≡ length a.table.shared.key.capacities
   pub firsts : (i : ℕ) → i < 9 → IsGroup a.table.shared.key.capacities (slice_index all_capacities i) (slice_index a.firsts i) (slice_index a.firsts (i + 1))
   pub senders : a.senders ≡ a.table.shared.key.senders
-  pub few_senders : a.senders ≤ MAX_SENDERS
+  pub few_senders : a.senders ≤ MOST_SENDERS
   pub probes : a.probes ≡ probes (layout_of a.table.shared.key)
   pub words : a.table.shared.table_id.words ≡ word_count (layout_of a.table.shared.key)
   pub few_words : a.table.shared.table_id.words < 2 ^ 32

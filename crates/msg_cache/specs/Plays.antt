@@ -30,7 +30,7 @@ Telling = Step ℕ → Sat → ℕ → Sat → Type 0
 -- ---- what is said where a seat has no such view
 
 abbrev pub no_history : History
-no_history = record { origin = record { superclasses = []; made = 0; lists = []; counts = None; limits = record { rows = 0; changes = 0 } }; changes = [] }
+no_history = record { origin = record { superclasses = []; made = 0; lists = []; counts = None; limits = record { rows = 0; changes = 0; senders = 0; words = 0 } }; changes = [] }
 
 -- a class reference
 abbrev pub no_class : ClassRef

@@ -18,8 +18,7 @@ use crate::setting::Setting;
 use crate::steps::{Seat, Words};
 use crate::view::View;
 use atomic_table::Table;
-use msg_core::MAX_SENDERS;
-use msg_tables::{HasOrigin, Origin};
+use msg_tables::{HasOrigin, MOST_SENDERS, Origin};
 use std::alloc::{AllocError, Global};
 use std::marker::Model;
 use std::snapshot::Snapshot;
@@ -85,6 +84,7 @@ impl Arena {
         if let Some(fault) = config.refusal(origin) {
             return Err(fault);
         }
+        let classes = origin.class_count() as usize;
         let capacities = capacities_of(alloc, &config.arrays)?;
         let (arena, seat) = Arena::of(
             alloc,
@@ -93,7 +93,6 @@ impl Arena {
             capacities,
             firsts_of(&config.arrays),
         )?;
-        let classes = origin.class_count() as usize;
         let senders = config.senders as usize;
         let arrays = arena.arrays();
         let keeper = Keeper::first(alloc, seat, arena.probes(), arrays, classes, senders)?;
@@ -107,7 +106,7 @@ impl Arena {
         ensures key { result.now.key ≡ self.now.key }
         ensures count { (self.now.table.words ≡ word_count (layout_of self.now.key)) × (self.now.table.words < 2 ^ 32) }
         ensures capacities { All IsCapacity self.now.key.capacities }
-        ensures senders { self.now.key.senders ≤ MAX_SENDERS }
+        ensures senders { self.now.key.senders ≤ MOST_SENDERS }
     {
         &self.table.shared
     }
@@ -127,11 +126,11 @@ impl Arena {
         self.spans.len()
     }
 
-    // How many senders there may be.
+    /// How many senders there may be.
     #[inline(always)]
-    pub(crate) fn senders(&self) -> u32
+    pub fn senders(&self) -> u32
         ensures senders { result ≡ self.now.key.senders }
-        ensures few { result ≤ MAX_SENDERS }
+        ensures few { result ≤ MOST_SENDERS }
     {
         self.senders
     }
@@ -183,10 +182,10 @@ impl Arena {
         capacities: Vec<u32>,
         firsts: [usize; 10],
     ) -> Result<(Arena, Seat), AllocError>
-        requires senders { (0 < senders) × (senders ≤ MAX_SENDERS) }
+        requires senders { (0 < senders) × (senders ≤ MOST_SENDERS) }
         requires capacities { All IsCapacity capacities.items }
         requires firsts { (i : ℕ) → i < 9 → IsGroup capacities.items (slice_index all_capacities i) (slice_index firsts i) (slice_index firsts (i + 1)) }
-        requires room { total capacities.items < 2 ^ 21 }
+        requires room { total capacities.items < 2 ^ 29 }
         ensures seat { IfOk result (λ r. (r.1.table_id ≡ r.0.table) × (r.1.me ≡ kept (first_keeper r.0.key))) }
         ensures key { IfOk result (λ r. r.0.key ≡ record { origin = origin.now; senders = senders; capacities = capacities.items }) }
     {

@@ -13,24 +13,23 @@ ghost use Rattle.msg_cache.specs.Keeping.{standing_of, looks, cleared, emptied, 
 use crate::arena::Arena;
 use crate::standings::Standings;
 use crate::steps::{Seat, Words, clear_word, load_probe};
-use msg_core::MAX_SENDERS;
 
 // One look at each sender number. Says who was out.
-fn look_at_senders(arena: &Arena, seat: &mut Seat) -> [bool; MAX_SENDERS]
+fn look_at_senders(arena: &Arena, seat: &mut Seat, outs: &mut Vec<bool>)
     requires table { seat.old.table_id ≡ arena.now.table }
     requires keeper { seat.old.me ≡ kept (keeper_of seat.old.me.0) }
     requires tidy { TidyBy lookup arena.now.key (keeper_of seat.old.me.0) }
+    requires outs { length outs.old.items ≡ arena.now.key.senders }
     ensures seat { (seat.new.table_id ≡ seat.old.table_id) × (seat.new.id ≡ seat.old.id) }
-    ensures told { seat.new.me ≡ kept (looks arena.now.key.senders result (keeper_of seat.old.me.0)) }
+    ensures told { seat.new.me ≡ kept (looks arena.now.key.senders outs.new.items (keeper_of seat.old.me.0)) }
+    ensures outs { length outs.new.items ≡ length outs.old.items }
     ensures tidy { TidyBy lookup arena.now.key (keeper_of seat.new.me.0) }
 {
     let shared = arena.shared();
-    let mut outs = [false; MAX_SENDERS];
     for number in 0..arena.senders() {
         let word = arena.probe_at(number);
         outs[number as usize] = load_probe(shared, seat, word, number);
     }
-    outs
 }
 
 // Clears a word of a free array, where it isn't 0.
@@ -90,21 +89,24 @@ pub(crate) fn collect_into(
     standings: &mut Standings,
     occupied: &mut Vec<u32>,
     remembered: &Vec<u32>,
+    outs: &mut Vec<bool>,
 ) -> u32
     requires table { seat.old.table_id ≡ arena.now.table }
     requires keeper { seat.old.me ≡ kept (keeper_of seat.old.me.0) }
     requires in_order { InOrder lookup arena.now.key (keeper_of seat.old.me.0) remembered.now.items occupied.old.items }
     requires words { words.old.items ≡ (keeper_of seat.old.me.0).words }
     requires standings { standings.old ≡ settled arena.now.key.senders (keeper_of seat.old.me.0).standings }
+    requires outs { length outs.old.items ≡ arena.now.key.senders }
     ensures seat { (seat.new.table_id ≡ seat.old.table_id) × (seat.new.id ≡ seat.old.id) }
     ensures keeper { seat.new.me ≡ kept (keeper_of seat.new.me.0) }
     ensures collects { Collects (layout_of arena.now.key) (keeper_of seat.old.me.0) (keeper_of seat.new.me.0) result }
     ensures in_order { InOrder lookup arena.now.key (keeper_of seat.new.me.0) remembered.now.items occupied.new.items }
     ensures words { words.new.items ≡ (keeper_of seat.new.me.0).words }
     ensures standings { standings.new ≡ settled arena.now.key.senders (keeper_of seat.new.me.0).standings }
+    ensures outs { length outs.new.items ≡ length outs.old.items }
 {
-    let outs = look_at_senders(arena, seat);
-    let freed = standings.see_out(&outs);
+    look_at_senders(arena, seat, outs);
+    let freed = standings.see_out(outs);
     for _turn in 0..freed {
         let array = standings.take_ready();
         clear_array(arena, seat, words, array);

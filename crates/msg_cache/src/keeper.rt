@@ -14,7 +14,7 @@ ghost use Rattle.msg_core.specs.State.{capacity as capacity_of, size, awaits};
 ghost use Rattle.msg_core.specs.Steps.{is_free};
 ghost use Rattle.msg_core.specs.declared.state.Standing.TheVariants.{Free, Live};
 ghost use Rattle.msg_cache.specs.declared.view.TurnAt.TheVariants.{Never};
-ghost use Rattle.msg_cache.specs.Counts.{AreCounts, CountsFill, CountsInstall, after_entry, after_flush};
+ghost use Rattle.msg_cache.specs.Counts.{AreCounts, CountsGrowth, CountsInstall, CountsFill, after_collection, after_entry, after_flush, after_refusal};
 ghost use Rattle.msg_cache.specs.Layout.{layout_of, header_at};
 ghost use Rattle.msg_cache.specs.Plays.{kept, keeper_of, flushed, installed, committed, lent, turn_in, turn_view, is_lent, sender_in, given_out, taken_in, newcomer};
 ghost use Rattle.msg_cache.specs.Keeping.{header as header_of, standing_of, array_words, remember, way_of, OnUse, OnTake, CanUse, lowest_free, filled, grown, Fills, Collects};
@@ -26,7 +26,7 @@ ghost use Rattle.msg_tables.specs.Origin.{class_total};
 use crate::answer::{Filled, Report, Way};
 use crate::arena::Arena;
 use crate::collecting::collect_into;
-use crate::filling::{retire_in, way_in_array};
+use crate::filling::{count_want, retire_in, way_in_array};
 use crate::prober::Prober;
 use crate::standings::Standings;
 use crate::steps::{
@@ -36,9 +36,8 @@ use crate::steps::{
 use crate::view::View;
 use atomic_table::Badge;
 use msg_buckets::{first_place, pack};
-use msg_core::MAX_SENDERS;
 use msg_names::{ClassRef, ImpRef, Selector};
-use msg_tables::Change;
+use msg_tables::{Change, MOST_SENDERS};
 use std::alloc::{AllocError, Global};
 use std::marker::Model;
 use std::mem::replace;
@@ -54,6 +53,8 @@ pub struct Keeper {
     // the capacity that the next array of each class reference without one has, or 0 for the least
     pub(crate) remembered: Vec<u32>,
     given: Vec<bool>,
+    // who was out when senders were looked at last
+    outs: Vec<bool>,
     count: u64,
     lent: bool,
     // the arrays that were installed before
@@ -64,6 +65,7 @@ pub struct Keeper {
     pub ghost standings_are: { standings ≡ settled standings.senders (keeper_of seat.me.0).standings },
     pub ghost senders_are: { standings.senders ≡ length (keeper_of seat.me.0).given },
     pub ghost given_are: { given.items ≡ (keeper_of seat.me.0).given },
+    pub ghost outs_are: { length outs.items ≡ standings.senders },
     pub ghost count_is: { count ≡ size (keeper_of seat.me.0).history },
     pub ghost lent_is: { lent ≡ is_lent (keeper_of seat.me.0).turn },
     pub ghost counts: { AreCounts report },
@@ -81,7 +83,7 @@ impl ArrayNotes {
     // Of so many arrays, which are free.
     fn blank(alloc: Global, arrays: usize, senders: usize) -> Result<ArrayNotes, AllocError>
         requires arrays { arrays < 2 ^ 32 }
-        requires senders { senders ≤ MAX_SENDERS }
+        requires senders { senders ≤ MOST_SENDERS }
         ensures standings { IfOk result (λ n. n.standings ≡ record { senders = senders; notes = replicate arrays free; ready = [] }) }
         ensures occupied { IfOk result (λ n. n.occupied.items ≡ replicate arrays 0) }
         ensures used { IfOk result (λ n. length n.used.items ≡ arrays) }
@@ -103,6 +105,7 @@ struct Copies {
     words: Vec<u64>,
     remembered: Vec<u32>,
     given: Vec<bool>,
+    outs: Vec<bool>,
 }
 
 impl Copies {
@@ -117,14 +120,17 @@ impl Copies {
         ensures words { IfOk result (λ c. c.words.items ≡ replicate words 0) }
         ensures remembered { IfOk result (λ c. c.remembered.items ≡ replicate (2 * classes) 0) }
         ensures given { IfOk result (λ c. c.given.items ≡ replicate senders false) }
+        ensures outs { IfOk result (λ c. length c.outs.items ≡ senders) }
     {
         let words = vec![in alloc; 0; words]?;
         let remembered = vec![in alloc; 0; 2 * classes]?;
         let given = vec![in alloc; false; senders]?;
+        let outs = vec![in alloc; false; senders]?;
         Ok(Copies {
             words,
             remembered,
             given,
+            outs,
         })
     }
 }
@@ -166,7 +172,7 @@ impl Keeper {
     ) -> Result<Keeper, AllocError>
         requires classes { classes < 2 ^ 32 }
         requires few_arrays { arrays < 2 ^ 32 }
-        requires few_senders { senders ≤ MAX_SENDERS }
+        requires few_senders { senders ≤ MOST_SENDERS }
         requires seat { (seat.me ≡ kept (keeper_of seat.me.0)) × (size (keeper_of seat.me.0).history ≡ 0) × ((keeper_of seat.me.0).turn ≡ Never) }
         requires words { (keeper_of seat.me.0).words ≡ replicate words 0 }
         requires arrays { (keeper_of seat.me.0).standings ≡ replicate arrays Free }
@@ -182,6 +188,7 @@ impl Keeper {
             occupied: arrays.occupied,
             remembered: copies.remembered,
             given: copies.given,
+            outs: copies.outs,
             used: arrays.used,
             count: 0,
             lent: false,
@@ -300,7 +307,7 @@ impl Keeper {
         ensures arena { IsOf arena.now self.new }
         ensures remembered { self.new.remembered.items ≡ self.old.remembered.items }
         ensures view { view self.new ≡ grown (layout arena.now) class (selector_number selector) (imp_number implementation) array (view self.old) }
-        ensures report { CountsFill Filled.Grown self.old.report self.new.report }
+        ensures report { CountsGrowth self.old.report self.new.report }
     {
         self.install(arena, class, array);
         let place = first_place(selector, arena.capacity(array));
@@ -313,16 +320,20 @@ impl Keeper {
         ensures arena { IsOf arena.now self.new }
         ensures remembered { self.new.remembered.items ≡ self.old.remembered.items }
         ensures collects { Collects (layout arena.now) (view self.old) (view self.new) result }
-        ensures report { self.new.report ≡ self.old.report }
+        ensures report { self.new.report ≡ after_collection result self.old.report }
     {
-        collect_into(
+        let freed = collect_into(
             arena,
             &mut self.seat,
             &mut self.words,
             &mut self.standings,
             &mut self.occupied,
             &self.remembered,
-        )
+            &mut self.outs,
+        );
+        self.report.collections = self.report.collections.saturating_add(1);
+        self.report.freed = self.report.freed.saturating_add(u64::from(freed));
+        freed
     }
 
     /// Caches what was found for a selector in a class reference.
@@ -339,7 +350,7 @@ impl Keeper {
         ensures arena { IsOf arena.now self.new }
         ensures remembered { self.new.remembered.items ≡ self.old.remembered.items }
         ensures fills { Fills (layout arena.now) self.old.remembered.items class (selector_number selector) (imp_number implementation) (view self.old) (view self.new) result }
-        ensures report { CountsFill result self.old.report self.new.report }
+        ensures report { CountsFill (way_of (layout arena.now) self.old.remembered.items (view self.old) class (selector_number selector)) result self.old.report self.new.report }
     {
         match self.way(arena, class, selector) {
             Way::Present => Filled::Present,
@@ -357,6 +368,7 @@ impl Keeper {
                     self.grow(arena, class, array, selector, implementation);
                     return Filled::Grown;
                 }
+                count_want(&mut self.report, capacity);
                 Filled::NoArray
             }
         }
@@ -491,6 +503,18 @@ impl Keeper {
         let seat = split_sender(shared, &mut self.seat, number);
         self.given[place] = true;
         Some(Prober::of(seat, number, arena.probe_at(number)))
+    }
+
+    /// A sender was asked for, and none is given out.
+    pub fn refuse(&mut self, arena: &Arena)
+        requires arena { IsOf arena.now self.old }
+        ensures arena { IsOf arena.now self.new }
+        ensures remembered { self.new.remembered.items ≡ self.old.remembered.items }
+        ensures report { self.new.report ≡ after_refusal self.old.report }
+        ensures view { view self.new ≡ view self.old }
+    {
+        let _ = arena;
+        self.report.refused_senders = self.report.refused_senders.saturating_add(1);
     }
 
     /// Takes a sender back.

@@ -20,6 +20,6 @@ mod view;
 
 pub use answer::{Filled, Report};
 pub use arena::Arena;
-pub use config::{ArenaFault, Config, MOST_WORDS};
+pub use config::{ArenaFault, Config};
 pub use keeper::{Keeper, Turn};
 pub use prober::{Pause, Prober};

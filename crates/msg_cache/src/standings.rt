@@ -10,7 +10,7 @@ ghost use Rattle.msg_cache.specs.Keeping.{looked_by};
 ghost use Rattle.msg_cache.specs.Notes.{StandingsView, free, live, waiting, note_of, note_at, is_free_note, newly_freed};
 
 use crate::layered_set::LayeredSet;
-use msg_core::MAX_SENDERS;
+use msg_tables::MOST_SENDERS;
 use std::alloc::{AllocError, Global};
 use std::collections::VecDeque;
 use std::marker::Model;
@@ -28,7 +28,7 @@ pub(crate) struct Standings {
     // how many of them, from the oldest on, are free and are to be taken out
     ready: usize,
     // how many of the others, from the oldest on, each sender has passed
-    cursors: [usize; MAX_SENDERS],
+    cursors: Vec<usize>,
     senders: usize,
 }
 
@@ -53,17 +53,18 @@ fn passed(cursor: usize, is_out: bool, end: usize) -> usize
 
 // Senders that were seen out pass a queue of this length. Answers how many of its arrays all have passed.
 fn pass(
-    cursors: &mut [usize; MAX_SENDERS],
-    outs: &[bool; MAX_SENDERS],
+    cursors: &mut Vec<usize>,
+    outs: &Vec<bool>,
     senders: usize,
     end: usize,
 ) -> usize
-    requires senders { senders ≤ MAX_SENDERS }
-    requires within { (n : ℕ) → n < senders → slice_index cursors.old n ≤ end }
-    ensures moved { (n : ℕ) → n < senders → slice_index cursors.new n ≡ (if slice_index_or outs.now n false then end else slice_index cursors.old n) }
-    ensures all { (n : ℕ) → n < senders → result ≤ slice_index cursors.new n }
-    ensures some { 0 < senders → (n : ℕ) × (n < senders) × (slice_index cursors.new n ≡ result) }
+    requires senders { (senders ≤ length cursors.old.items) × (senders ≤ length outs.now.items) }
+    requires within { (n : ℕ) → n < senders → slice_index cursors.old.items n ≤ end }
+    ensures moved { (n : ℕ) → n < senders → slice_index cursors.new.items n ≡ (if slice_index_or outs.now.items n false then end else slice_index cursors.old.items n) }
+    ensures all { (n : ℕ) → n < senders → result ≤ slice_index cursors.new.items n }
+    ensures some { 0 < senders → (n : ℕ) × (n < senders) × (slice_index cursors.new.items n ≡ result) }
     ensures end { result ≤ end }
+    ensures length { length cursors.new.items ≡ length cursors.old.items }
 {
     let mut least = end;
     for sender in 0..senders {
@@ -75,10 +76,11 @@ fn pass(
 }
 
 // The queue's front, which all have passed, counts no more.
-fn cut(cursors: &mut [usize; MAX_SENDERS], senders: usize, by: usize)
-    requires senders { senders ≤ MAX_SENDERS }
-    requires all { (n : ℕ) → n < senders → by ≤ slice_index cursors.old n }
-    ensures { (n : ℕ) → n < senders → slice_index cursors.new n + by ≡ slice_index cursors.old n }
+fn cut(cursors: &mut Vec<usize>, senders: usize, by: usize)
+    requires senders { senders ≤ length cursors.old.items }
+    requires all { (n : ℕ) → n < senders → by ≤ slice_index cursors.old.items n }
+    ensures moved { (n : ℕ) → n < senders → slice_index cursors.new.items n + by ≡ slice_index cursors.old.items n }
+    ensures length { length cursors.new.items ≡ length cursors.old.items }
 {
     for sender in 0..senders {
         cursors[sender] -= by;
@@ -93,14 +95,14 @@ impl Standings {
         senders: usize,
     ) -> Result<Standings, AllocError>
         requires arrays { arrays < 2 ^ 32 }
-        requires senders { senders ≤ MAX_SENDERS }
+        requires senders { senders ≤ MOST_SENDERS }
         ensures { IfOk result (λ s. s ≡ record { senders = senders; notes = replicate arrays free; ready = [] }) }
     {
         Ok(Standings {
             free: LayeredSet::all(alloc, arrays)?,
             queue: VecDeque::with_capacity(alloc, arrays)?,
             ready: 0,
-            cursors: [0; MAX_SENDERS],
+            cursors: vec![in alloc; 0; senders]?,
             senders,
         })
     }
@@ -126,12 +128,13 @@ impl Standings {
     }
 
     // These senders were seen out. What awaits nobody then is free, and ready to be taken out. Answers how many.
-    pub(crate) fn see_out(&mut self, outs: &[bool; MAX_SENDERS]) -> u32
+    pub(crate) fn see_out(&mut self, outs: &Vec<bool>) -> u32
         requires senders { 0 < self.old.senders }
+        requires outs { length outs.now.items ≡ self.old.senders }
         requires awaits_some { (a : ℕ) (aw : List Bool) → note_at self.old.notes a ≡ waiting aw → (n : ℕ) × (awaits aw n ≡ true) }
         requires ready { self.old.ready ≡ [] }
         ensures senders { self.new.senders ≡ self.old.senders }
-        ensures notes { (l : List Standing) → self.old.notes ≡ map note_of l → self.new.notes ≡ map note_of (map (looked_by self.old.senders outs.now) l) }
+        ensures notes { (l : List Standing) → self.old.notes ≡ map note_of l → self.new.notes ≡ map note_of (map (looked_by self.old.senders outs.now.items) l) }
         ensures ready { IsPermutation self.new.ready (newly_freed self.old.notes self.new.notes) }
         ensures count { result ≡ length self.new.ready }
     {

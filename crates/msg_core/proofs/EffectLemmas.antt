@@ -10,7 +10,7 @@ use Rattle.msg_names.specs.ClassRef.{slot_of}
 use Rattle.msg_names.proofs.ClassRefLemmas.{slot_of-inside, slot_of-same}
 use Rattle.msg_core.specs.declared.state.Standing.{Standing}
 use Rattle.msg_core.specs.declared.state.Standing.TheVariants.{Free}
-use Rattle.msg_core.specs.declared.state.TheConstants.{MAX_SENDERS}
+use Rattle.msg_tables.specs.declared.limits.TheConstants.{MOST_SENDERS}
 use Rattle.msg_core.specs.declared.state.Whereabouts.{Whereabouts}
 use Rattle.msg_core.specs.declared.state.Whereabouts.TheVariants.{Out}
 use Rattle.msg_core.specs.Happens.{Becomes}
@@ -28,10 +28,10 @@ everyone_next zero m = refl
 everyone_next (suc k) m = ap (λ bs. true ∷ bs) (everyone_next k m)
 
 -- one sender more
-pub everyone_step : (k : ℕ) → k < MAX_SENDERS → set (everyone k) k true ≡ everyone (k + 1)
+pub everyone_step : (k : ℕ) → k < MOST_SENDERS → set (everyone k) k true ≡ everyone (k + 1)
 everyone_step k lt =
-    let rest : MAX_SENDERS - k ≡ suc (MAX_SENDERS - suc k) = omega arith in
-    ap (λ n. set (replicate k true ++ replicate n false) k true) rest ∙ everyone_next k (MAX_SENDERS - suc k) ∙ ap everyone (sym (add-one k))
+    let rest : MOST_SENDERS - k ≡ suc (MOST_SENDERS - suc k) = omega arith in
+    ap (λ n. set (replicate k true ++ replicate n false) k true) rest ∙ everyone_next k (MOST_SENDERS - suc k) ∙ ap everyone (sym (add-one k))
 
 map_next : {A : Type 0} (f : A → A) (xs : List A) (k : ℕ) (d : A) → k < length xs
     → set (map f (take k xs) ++ drop k xs) k (f (get_or (map f (take k xs) ++ drop k xs) k d)) ≡ map f (take (suc k) xs) ++ drop (suc k) xs

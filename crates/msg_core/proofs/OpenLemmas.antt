@@ -6,7 +6,7 @@ use Rattle.msg_tables.specs.Origin.{class_total, OriginView}
 use Rattle.msg_tables.specs.History.{History, empty}
 use Rattle.msg_names.specs.ClassRef.{slot_of}
 use Rattle.msg_core.specs.declared.state.Standing.TheVariants.{Free, Live}
-use Rattle.msg_core.specs.declared.state.TheConstants.{MAX_SENDERS}
+use Rattle.msg_tables.specs.declared.limits.TheConstants.{MOST_SENDERS}
 use Rattle.msg_core.specs.declared.state.Whereabouts.TheVariants.{Out, Holding}
 use Rattle.msg_core.specs.Runs.{opening}
 use Rattle.msg_core.specs.View.{MachineView, IsWhole, layout_of, state_of, live_at, word_at, standing_at, sender_at}
@@ -59,11 +59,11 @@ module _ (origin : OriginView) (senders : ℕ) (capacities : List ℕ) (v : Mach
     whereabouts = λ n. all_out n i;
   }
 
-  pub new_whole : senders ≤ MAX_SENDERS → IsWhole v
+  pub new_whole : senders ≤ MOST_SENDERS → IsWhole v
   new_whole few = record {
     headers = ap length new.live ∙ length-replicate (2 * class_total origin) None ∙ ap (λ (h : History). 2 * class_total h.origin) (sym new.history);
     standings = ap length new.standings ∙ length-replicate (length capacities) Free ∙ sym (ap length new.arrays ∙ length-map capacities (λ n. replicate n 0));
-    few_senders = subst (λ n. n ≤ MAX_SENDERS) (sym (ap length new.whereabouts ∙ length-replicate senders Out)) few;
+    few_senders = subst (λ n. n ≤ MOST_SENDERS) (sym (ap length new.whereabouts ∙ length-replicate senders Out)) few;
     live_arrays = λ c a e. let u : None ≡ Some a = sym (no_live c) ∙ e in absurd (cc);
     held_arrays = λ n c a e. let u : Out ≡ Holding c a = sym (all_out n) ∙ e in absurd (cc);
     live_classes = λ a c e. let u : Free ≡ Live c = sym (all_free a) ∙ e in absurd (cc);

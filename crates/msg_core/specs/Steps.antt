@@ -15,7 +15,7 @@ use Rattle.msg_core.specs.declared.fault.EventFault.{EventFault}
 use Rattle.msg_core.specs.declared.fault.EventFault.TheVariants.{NoSender, NoClass, NoArray, NotOut, NotIn, NotHolding, NotLive, NoPlace, NotFree, NotEmpty, Refused, Disagrees}
 use Rattle.msg_core.specs.declared.state.Standing.{Standing}
 use Rattle.msg_core.specs.declared.state.Standing.TheVariants.{Free, Live, Retired}
-use Rattle.msg_core.specs.declared.state.TheConstants.{MAX_SENDERS}
+use Rattle.msg_tables.specs.declared.limits.TheConstants.{MOST_SENDERS}
 use Rattle.msg_core.specs.declared.state.Whereabouts.{Whereabouts}
 use Rattle.msg_core.specs.declared.state.Whereabouts.TheVariants.{Out, In, Holding}
 use Rattle.msg_core.specs.State.{Layout, capacity, State, size}
@@ -31,7 +31,7 @@ at_class f c x d = if same_class d c then x else f d
 
 -- the set of all senders
 abbrev pub everyone : ℕ → List Bool
-everyone senders = replicate senders true ++ replicate (MAX_SENDERS - senders) false
+everyone senders = replicate senders true ++ replicate (MOST_SENDERS - senders) false
 
 -- where a sender is that has seen this array of a class reference, or none
 abbrev pub seeing : ClassRef → Option ℕ → Whereabouts

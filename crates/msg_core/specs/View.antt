@@ -6,7 +6,7 @@ use Rattle.msg_tables.specs.History.{History}
 use Rattle.msg_names.specs.ClassRef.{slot_of}
 use Rattle.msg_core.specs.declared.state.Standing.{Standing}
 use Rattle.msg_core.specs.declared.state.Standing.TheVariants.{Free, Live, Retired}
-use Rattle.msg_core.specs.declared.state.TheConstants.{MAX_SENDERS}
+use Rattle.msg_tables.specs.declared.limits.TheConstants.{MOST_SENDERS}
 use Rattle.msg_core.specs.declared.state.Whereabouts.{Whereabouts}
 use Rattle.msg_core.specs.declared.state.Whereabouts.TheVariants.{Out, In, Holding}
 use Rattle.msg_core.specs.State.{Layout, State}
@@ -57,7 +57,7 @@ pub record IsWhole (v : MachineView) : Type 0 where
   -- there is a header word for each class reference, and a standing for each array
   pub headers : length v.live ≡ 2 * class_total v.history.origin
   pub standings : length v.standings ≡ length v.arrays
-  pub few_senders : length v.whereabouts ≤ MAX_SENDERS
+  pub few_senders : length v.whereabouts ≤ MOST_SENDERS
   pub live_arrays : (c : ClassRef) (a : ℕ) → live_at v.live c ≡ Some a → a < length v.arrays
   pub held_arrays : (n : ℕ) (c : ClassRef) (a : ℕ) → sender_at v.whereabouts n ≡ Holding c a → a < length v.arrays
   pub live_classes : (a : ℕ) (c : ClassRef) → standing_at v.standings a ≡ Live c → c.class < class_total v.history.origin

@@ -4,21 +4,22 @@ ghost use Rattle.std.specs.Prelude.{◌≡◌, ◌<◌, ◌≤◌, map, length};
 ghost use Rattle.std.specs.List.{list_any};
 ghost use Rattle.msg_core.specs.Steps.{everyone, seen_out};
 
-use crate::state::{MAX_SENDERS, Standing};
+use crate::state::Standing;
+use msg_tables::MOST_SENDERS;
 
 // All senders, of whom there are so many.
-pub(crate) fn everyone(senders: usize) -> [bool; MAX_SENDERS]
-    requires { senders ≤ MAX_SENDERS }
+pub(crate) fn everyone(senders: usize) -> [bool; MOST_SENDERS]
+    requires { senders ≤ MOST_SENDERS }
     ensures { result ≡ everyone senders }
 {
-    let mut awaited = [false; MAX_SENDERS];
+    let mut awaited = [false; MOST_SENDERS];
     for sender in 0..senders {
         awaited[sender] = true;
     }
     awaited
 }
 
-fn awaits_some(awaited: &[bool; MAX_SENDERS]) -> bool
+fn awaits_some(awaited: &[bool; MOST_SENDERS]) -> bool
     ensures { result ≡ list_any (λ b. b) awaited.now }
 {
     for awaits in awaited {
@@ -31,7 +32,7 @@ fn awaits_some(awaited: &[bool; MAX_SENDERS]) -> bool
 
 // The standing of an array after the sender was seen out.
 fn seen_out(standing: Standing, sender: usize) -> Standing
-    requires { sender < MAX_SENDERS }
+    requires { sender < MOST_SENDERS }
     ensures { result ≡ seen_out sender standing }
 {
     match standing {
@@ -50,7 +51,7 @@ fn seen_out(standing: Standing, sender: usize) -> Standing
 
 // Notes that a sender was seen out.
 pub(crate) fn see_out(standings: &mut [Standing], sender: usize)
-    requires { sender < MAX_SENDERS }
+    requires { sender < MOST_SENDERS }
     ensures { standings.new ≡ map (seen_out sender) standings.old }
 {
     for array in 0..standings.len() {

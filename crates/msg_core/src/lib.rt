@@ -20,4 +20,4 @@ mod step;
 pub use event::{Event, Seen};
 pub use fault::EventFault;
 pub use machine::Machine;
-pub use state::{MAX_SENDERS, Standing, Whereabouts};
+pub use state::{Standing, Whereabouts};

@@ -8,8 +8,8 @@ ghost use Rattle.msg_core.specs.View.{layout_of, state_of};
 
 use crate::buckets::Buckets;
 use crate::machine::Machine;
-use crate::state::{MAX_SENDERS, Standing, Whereabouts};
-use msg_tables::{HasOrigin, Origin, Tables};
+use crate::state::{Standing, Whereabouts};
+use msg_tables::{HasOrigin, MOST_SENDERS, Origin, Tables};
 use std::alloc::{AllocError, Global};
 use std::snapshot::Snapshot;
 
@@ -34,7 +34,7 @@ impl Machine {
         arrays: &[u32],
     ) -> Result<Machine, AllocError>
         requires some_sender { 1 ≤ senders }
-        requires few_senders { senders ≤ MAX_SENDERS }
+        requires few_senders { senders ≤ MOST_SENDERS }
         requires arrays { All IsCapacity arrays.now }
         ensures layout { IfOk result (λ machine. layout_of machine ≡ record { classes = class_total origin.now; senders = senders; capacities = arrays.now }) }
         ensures state { IfOk result (λ machine. state_of machine ≡ opening origin.now) }
@@ -59,7 +59,7 @@ impl Machine {
         arrays: &[u32],
     ) -> Result<Machine, AllocError>
         requires some_sender { 1 ≤ senders }
-        requires few_senders { senders ≤ MAX_SENDERS }
+        requires few_senders { senders ≤ MOST_SENDERS }
         requires arrays { All IsCapacity arrays.now }
         ensures layout { IfOk result (λ machine. layout_of machine ≡ record { classes = class_total (C.given classes.now); senders = senders; capacities = arrays.now }) }
         ensures state { IfOk result (λ machine. state_of machine ≡ opening (C.given classes.now)) }

@@ -1,9 +1,7 @@
 //! What arrays are for, and where senders are.
 
 use msg_names::ClassRef;
-
-/// How many senders there may be.
-pub const MAX_SENDERS: usize = 64;
+use msg_tables::MOST_SENDERS;
 
 /// What an array is for.
 #[derive(Clone, Copy)]
@@ -13,7 +11,7 @@ pub enum Standing {
     /// It is the cache of this class reference.
     Live(ClassRef),
     /// It was taken from this class reference when the history had so many changes, and awaits each sender whose flag is set.
-    Retired(ClassRef, usize, [bool; MAX_SENDERS]),
+    Retired(ClassRef, usize, [bool; MOST_SENDERS]),
 }
 
 /// Where a sender is.

@@ -6,14 +6,13 @@ ghost use Rattle.msg_names.specs.Number.{selector_number, imp_number};
 ghost use Rattle.msg_tables.specs.History.{BeginsWith, and_then, empty, lookup};
 ghost use Rattle.msg_tables.specs.Refusal.{refusal};
 ghost use Rattle.msg_tables.specs.declared.fault.ChangeFault.{ChangeFault};
-ghost use Rattle.msg_cache.specs.Counts.{AreCounts};
+ghost use Rattle.msg_cache.specs.Counts.{AreCounts, after_refusal};
 ghost use Rattle.msg_cache.specs.Plays.{taken_in};
 ghost use Rattle.msg_cache.specs.Views.{classes, IsSenderOf};
 ghost use Rattle.msg_runtime.specs.Parts.{AreOut, IsNew};
 
 use crate::name::ArenaName;
 use msg_cache::{Arena, Prober, Report, Turn};
-use msg_core::MAX_SENDERS;
 use msg_names::{ClassRef, ImpRef, Selector};
 use msg_runtime::Runtime;
 use msg_tables::{Change, ChangeFault};
@@ -108,7 +107,8 @@ impl<N: ArenaName> Desk<N> {
         requires arena { arena.now ≡ N.arena }
         ensures prober { IfSome result (IsSenderOf N.arena) }
         ensures new { IfSome result (λ p. IsNew p.sender self.old.keeper self.new.keeper) }
-        ensures none { IsNone result → AreOut MAX_SENDERS N.arena.key.senders self.old.keeper }
+        ensures none { IsNone result → AreOut N.arena.key.senders self.old.keeper }
+        ensures refused { IsNone result → self.new.report ≡ after_refusal self.old.report }
         ensures origin { IfSome result (λ p. p.sender.front.origin ≡ N.arena.key.origin) }
     {
         self.runtime.sender(arena)

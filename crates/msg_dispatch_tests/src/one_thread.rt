@@ -7,8 +7,7 @@ use crate::asker::Asker;
 use crate::exchange::an_exchange_is_seen_below;
 use crate::images::{CHILD, GRAND, ROOT, selector};
 use crate::opening::{Steps, open};
-use crate::same::same;
-use msg_cache::Report;
+use crate::same::{five, same};
 use msg_dispatch::{ArenaName, Changer, Dispatcher, Receipt};
 use msg_image::Change;
 use msg_names::{ClassRef, ImpRef, Selector};
@@ -27,7 +26,7 @@ pub(crate) enum Row {
     DropASender,
     SetAMethod1000Times,
     // what is then reported, and what is cached of the last selector
-    FillAClass(Report, Option<ImpRef>),
+    FillAClass([u64; 5], Option<ImpRef>),
     ExchangeAbove,
 }
 
@@ -93,14 +92,11 @@ fn asks_anew<N: ArenaName, R: Wait + Abort>(rt: &R, sender: &mut Asker<'_, N>, s
 
 // One array served two lookups, with a flush between.
 fn reports<N: ArenaName, R: Wait + Abort>(rt: &R, dispatcher: &Dispatcher<N>) {
-    let report = Report {
-        fills: 2,
-        growths: 2,
-        flushes: 1,
-        retired: 1,
-        given_again: 1,
-    };
-    same(rt, dispatcher.report(rt), report);
+    let report = dispatcher.report(rt);
+    same(rt, five(report), [2, 2, 1, 1, 1]);
+    same(rt, [report.collections, report.freed], [1, 1]);
+    same(rt, report.refused_senders, 1);
+    same(rt, report.no_array, [0; 9]);
 }
 
 // A change of which it isn't told by a lookup is seen when it looks.
@@ -168,7 +164,7 @@ fn looks_up_without_arrays<N: ArenaName, R: Wait + Abort>(
     value: Selector,
 ) {
     asks_without_cache(rt, sender, value);
-    same(rt, dispatcher.report(rt), Report::default());
+    same(rt, five(dispatcher.report(rt)), [0; 5]);
 }
 
 #[test]
@@ -347,14 +343,10 @@ fn sets_a_method_1000_times<N: ArenaName, R: Wait + Abort>(
     }
     same(rt, sender.lock_takings(), 1000);
     same(rt, sender.published(), 1000);
-    let report = Report {
-        fills: 1000,
-        growths: 1000,
-        flushes: 999,
-        retired: 999,
-        given_again: 999,
-    };
-    same(rt, dispatcher.report(rt), report);
+    let report = dispatcher.report(rt);
+    same(rt, five(report), [1000, 1000, 999, 999, 999]);
+    same(rt, [report.collections, report.freed], [999, 999]);
+    same(rt, report.no_array, [0; 9]);
 }
 
 #[test]
@@ -380,7 +372,7 @@ fn fills_a_class<N: ArenaName, R: Wait + Abort>(
     rt: &R,
     dispatcher: &Dispatcher<N>,
     sender: &mut Asker<'_, N>,
-    report: Report,
+    report: [u64; 5],
     cached: Option<ImpRef>,
 ) {
     for number in 1..1535 {
@@ -391,7 +383,7 @@ fn fills_a_class<N: ArenaName, R: Wait + Abort>(
         sender.find_cached(rt, CHILD, selector(rt, 1534)),
         cached,
     );
-    same(rt, dispatcher.report(rt), report);
+    same(rt, five(dispatcher.report(rt)), report);
 }
 
 #[test]
@@ -401,13 +393,7 @@ fn a_class_outgrows_its_arrays(rt: HostRuntime) {
         (2, 1534, 10, 9, Some(ImpRef::FORWARD)),
     ] {
         let arrays = [1, 1, 1, 1, 1, 1, 1, 1, largest];
-        let report = Report {
-            fills,
-            growths,
-            flushes: 0,
-            retired,
-            given_again: 0,
-        };
+        let report = [fills, growths, 0, retired, 0];
         let row = Row::FillAClass(report, cached);
         open(&rt, rt.alloc(), SMALL, 1, arrays, Steps::InOneThread(row));
     }

@@ -2,9 +2,9 @@
 
 use crate::desk::{Desk, Reader, open};
 use crate::images::{CHILD, ROOT, image, selector};
-use crate::same::{same, same_at};
+use crate::same::{five, same, same_at};
 use crate::stops::{ONE, stop_once};
-use msg_cache::{Arena, ArenaFault, Config, Filled, Report};
+use msg_cache::{Arena, ArenaFault, Config, Filled};
 use msg_image::{Change, Image};
 use msg_names::ImpRef;
 use msg_samples::{Hog, SMALL};
@@ -110,14 +110,7 @@ fn flushes(rt: &impl Abort, desk: &mut Desk, reader: &mut Reader) {
 fn fills_and_flushes(rt: &impl Abort, desk: &mut Desk, reader: &mut Reader) {
     fills(rt, desk, reader);
     flushes(rt, desk, reader);
-    let report = Report {
-        fills: 5,
-        growths: 3,
-        flushes: 1,
-        retired: 2,
-        given_again: 1,
-    };
-    same(rt, desk.report(), report);
+    same(rt, five(desk.report()), [5, 3, 1, 2, 1]);
 }
 
 #[test]
@@ -148,15 +141,19 @@ fn refusals(rt: &impl Abort, desk: &mut Desk) -> u32 {
 }
 
 // Fills Child's cache, where so many entries find no array, and the last one is cached if there is none of these.
-fn grows(rt: &impl Abort, desk: &mut Desk, reader: &mut Reader, none: u32, report: Report) {
+fn grows(rt: &impl Abort, desk: &mut Desk, reader: &mut Reader, none: u32, report: [u64; 5]) {
     same(rt, refusals(rt, desk), none);
-    same(rt, desk.report(), report);
+    same(rt, five(desk.report()), report);
+    let none = u64::from(none);
+    same(rt, desk.report().no_array, [0, 0, 0, 0, 0, 0, 0, 0, none]);
+    same(rt, desk.report().collections, none);
+    same(rt, desk.report().freed, 8 * none);
     let last = reader.find(CHILD, selector(rt, 1534));
     same(rt, last.is_some(), none == 0);
 }
 
 // The same where so many of the largest arrays are there. An array is cleared only when it is free, so nothing that was retired is given again.
-fn grows_to(rt: &impl Abort, alloc: Global, largest: u16, none: u32, report: Report) {
+fn grows_to(rt: &impl Abort, alloc: Global, largest: u16, none: u32, report: [u64; 5]) {
     let mut desk = open(rt, alloc, 64, [1, 1, 1, 1, 1, 1, 1, 1, largest]);
     let mut reader = desk.give_out(rt, 63);
     grows(rt, &mut desk, &mut reader, none, report);
@@ -165,13 +162,7 @@ fn grows_to(rt: &impl Abort, alloc: Global, largest: u16, none: u32, report: Rep
 #[test]
 fn a_cache_grows_to_the_largest(rt: HostRuntime) {
     for (largest, none, fills, growths, retired) in [(1, 1, 1533, 9, 8), (2, 0, 1534, 10, 9)] {
-        let report = Report {
-            fills,
-            growths,
-            flushes: 0,
-            retired,
-            given_again: 0,
-        };
+        let report = [fills, growths, 0, retired, 0];
         grows_to(&rt, rt.alloc(), largest, none, report);
     }
 }
@@ -201,12 +192,5 @@ fn caches_are_kept_without_memory(rt: HostRuntime) {
     let mut reader = desk.give_out(&rt, 0);
     let _hog = Hog::new(&rt).expect(&rt, "memory");
     keeps(&rt, &mut desk, &mut reader);
-    let report = Report {
-        fills: 3,
-        growths: 3,
-        flushes: 2,
-        retired: 2,
-        given_again: 2,
-    };
-    same(&rt, desk.report(), report);
+    same(&rt, five(desk.report()), [3, 3, 2, 2, 2]);
 }

@@ -1,6 +1,7 @@
 //! What tests compare by. In functions of their own comparisons are proved once, and not at each place of a test. Where what follows rests on
 //! what was compared, the test compares by the macro, so that its proof knows it.
 
+use msg_cache::Report;
 use std::fmt::Debug;
 use std::process::Abort;
 
@@ -17,4 +18,15 @@ pub(crate) fn same_at<K: Debug, T: PartialEq + Debug + Drop>(
     wanted: T,
 ) {
     assert_eq!(rt; found, wanted, "{row:?}");
+}
+
+// What a report counts of entries and arrays.
+pub(crate) fn five(report: Report) -> [u64; 5] {
+    [
+        report.fills,
+        report.growths,
+        report.flushes,
+        report.retired,
+        report.given_again,
+    ]
 }

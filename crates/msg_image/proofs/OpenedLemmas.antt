@@ -97,4 +97,6 @@ module _ (image : ImageParts) (sound : IsSound image) where
     few_classes = omega (arith, classes, sound.few_classes);
     few_rows = omega (arith, sum_by-append size (class_lists 0 image.classes) (category_lists image.categories), class_lists-size 0 image.classes, category_lists-size image.categories, sound.few_rows);
     few_changes = omega arith;
+    few_senders = omega arith;
+    few_words = omega arith;
   }

@@ -8,7 +8,7 @@ use Rattle.msg_tables.specs.Origin.{OriginView, CountsView}
 use Rattle.msg_tables.specs.declared.origin.MethodsOf.{MethodsOf}
 use Rattle.msg_image.specs.Parts.{ImageParts, ClassParts, ImpParts, superclasses}
 use Rattle.msg_image.specs.declared.image.Category.{Category}
-use Rattle.msg_image.specs.declared.opened.TheConstants.{MAX_ROWS, MAX_CHANGES}
+use Rattle.msg_image.specs.declared.opened.TheConstants.{MAX_ROWS, MAX_CHANGES, MAX_SENDERS, MAX_WORDS}
 
 -- the method list of a class, and that of its metaclass
 abbrev pub two_lists : ℕ → List (ℕ × ℕ) → List (ℕ × ℕ) → List MethodsOf
@@ -35,7 +35,7 @@ origin_of image = record {
   made = length image.made;
   lists = class_lists 0 image.classes ++ category_lists image.categories;
   counts = Some (counts_of image);
-  limits = record { rows = MAX_ROWS; changes = MAX_CHANGES };
+  limits = record { rows = MAX_ROWS; changes = MAX_CHANGES; senders = MAX_SENDERS; words = MAX_WORDS };
 }
 
 -- a category has no method of this selector for the class reference

@@ -19,6 +19,12 @@ pub const MAX_ROWS: u32 = MAX_ENTRIES as u32;
 /// How many changes of a document's tables are accepted.
 pub const MAX_CHANGES: u32 = 65_536;
 
+/// How many senders there may be beside a document's changes.
+pub const MAX_SENDERS: u32 = 64;
+
+/// How many words the caches of a document's classes may use.
+pub const MAX_WORDS: u32 = 1_048_576;
+
 fn copied(alloc: Global, methods: &[(Selector, ImpRef)]) -> Result<MethodList, AllocError>
     ensures { IfOk result (λ list. list ≡ method_numbers methods.now) }
 {
@@ -167,7 +173,9 @@ impl Base {
         let counts = self.counts(alloc)?;
         let limits = Limits {
             rows: MAX_ROWS,
-            changes: MAX_CHANGES,
+            changes: u64::from(MAX_CHANGES),
+            senders: MAX_SENDERS,
+            words: MAX_WORDS,
         };
         Ok(Origin::new(superclasses, made, lists, Some(counts), limits))
     }

@@ -5,7 +5,7 @@ use Rattle.msg_tables.specs.History.{History}
 use Rattle.msg_core.specs.State.{Layout, awaits}
 use Rattle.msg_cache.specs.Ours as cache
 use Rattle.msg_cache.specs.Counts.{CountsFill}
-use Rattle.msg_cache.specs.Keeping.{Fills}
+use Rattle.msg_cache.specs.Keeping.{Fills, way_of}
 use Rattle.msg_cache.specs.Plays.{given_out, taken_in, newcomer}
 use Rattle.msg_cache.specs.Rule.{live_in}
 use Rattle.msg_cache.specs.Views.{ArenaView, layout}
@@ -37,15 +37,15 @@ keeper_report k = k.report
 
 -- some fill of what was found took the keeper's view k to k', and was counted from the report r to r'
 abbrev pub IsFilled : Layout → List ℕ → ClassRef → ℕ → ℕ → KeeperView → KeeperView → Report → Report → Type 0
-IsFilled z remembered c s i k k' r r' = (answer : Filled) × Fills z remembered c s i k k' answer × CountsFill answer r r'
+IsFilled z remembered c s i k k' r r' = (answer : Filled) × Fills z remembered c s i k k' answer × CountsFill (way_of z remembered k c s) answer r r'
 
 -- what was found was filled in, and the sender of the view v was then shown the history
 abbrev pub AnswersMiss : Layout → List ℕ → ClassRef → ℕ → ℕ → SenderView → KeeperView → KeeperView → Report → Report → Type 0
 AnswersMiss z remembered c s i v k k' r r' = (j : KeeperView) × IsFilled z remembered c s i k j r r' × (k' ≡ given_out v.number (taken_in v j))
 
--- each of the first n sender numbers is given out, or isn't below the number of senders
-abbrev pub AreOut : ℕ → ℕ → KeeperView → Type 0
-AreOut n senders k = (number : ℕ) → number < n → number < senders → awaits k.given number ≡ true
+-- each of the first n sender numbers is given out
+abbrev pub AreOut : ℕ → KeeperView → Type 0
+AreOut n k = (number : ℕ) → number < n → awaits k.given number ≡ true
 
 -- a sender whose number wasn't given out, and now is, and who has seen the history
 pub record IsNew (v : SenderView) (k k' : KeeperView) : Type 0 where

@@ -1,20 +1,21 @@
 //! The caches that a change flushes.
 
-ghost use Rattle.std.specs.Prelude.{◌≡◌, ◌<◌, ◌≤◌, ℕ, None, if◌then◌else◌, length, true};
+ghost use Rattle.std.specs.Prelude.{◌≡◌, ◌<◌, ◌≤◌, ◌++◌, ℕ, None, if◌then◌else◌, length, true};
+ghost use Rattle.msg_names.specs.Number.{selector_number};
 ghost use Rattle.msg_names.specs.declared.value.ClassRef.{ClassRef};
 ghost use Rattle.msg_tables.specs.Origin.{class_total};
-ghost use Rattle.msg_tables.specs.Affected.{if_any};
+ghost use Rattle.msg_tables.specs.Affected.{at_most_one, if_any};
 ghost use Rattle.msg_tables.specs.Below.{is_among};
 ghost use Rattle.msg_tables.specs.Chain.{is_member};
-ghost use Rattle.msg_tables.specs.History.{History, and_then, chain_at};
+ghost use Rattle.msg_tables.specs.History.{History, and_then, chain_at, holder};
 ghost use Rattle.msg_tables.specs.Preorder.{is_in};
 ghost use Rattle.msg_tables.specs.Refusal.{refusal};
 ghost use Rattle.msg_tables.specs.Stands.{StandsAt};
 ghost use Rattle.msg_runtime.specs.Parts.{IsKeeperOf, keeper_history, HasNoArray};
-ghost use Rattle.msg_runtime.specs.Reach.{is_below, is_flushed};
+ghost use Rattle.msg_runtime.specs.Reach.{are_reached, is_below, is_flushed, unless_counted};
 
 use msg_cache::{Arena, Keeper};
-use msg_names::ClassRef;
+use msg_names::{ClassRef, Selector};
 use msg_tables::{Below, Change, MethodList, Tables};
 
 // Flushes the cache of a class, of its metaclass, or of both.
@@ -114,10 +115,94 @@ fn flush_all(keeper: &mut Keeper, arena: &Arena, classes: u32)
     }
 }
 
+// Flushes the caches of the class reference at which a method stands, and of all below it.
+fn flush_holder(
+    keeper: &mut Keeper,
+    arena: &Arena,
+    tables: &Tables,
+    class: ClassRef,
+    sel: Selector,
+    below: &mut Below,
+)
+    requires arena { IsKeeperOf arena.now keeper.old }
+    requires class { class.class < length tables.now.supers }
+    requires classes { length tables.now.supers ≡ class_total (keeper_history keeper.old).origin }
+    requires room { length tables.now.supers ≤ below.old.room }
+    ensures arena { IsKeeperOf arena.now keeper.new }
+    ensures history { keeper_history keeper.new ≡ keeper_history keeper.old }
+    ensures flushed { (h : History) → StandsAt tables.now h → (c : ClassRef) → is_below h c (at_most_one (holder h class (selector_number sel))) ≡ true → HasNoArray arena.now keeper.new c }
+    ensures others { (c : ClassRef) → HasNoArray arena.now keeper.old c → HasNoArray arena.now keeper.new c }
+    ensures room { length tables.now.supers ≤ below.new.room }
+{
+    if let Some(place) = tables.holder(class, sel) {
+        flush_below(keeper, arena, tables, place, below);
+    }
+}
+
+// Flushes the caches that a method which was set may be seen from: where it stands and below, and of a document's classes all.
+fn flush_set(
+    keeper: &mut Keeper,
+    arena: &Arena,
+    tables: &Tables,
+    classes: u32,
+    class: ClassRef,
+    sel: Selector,
+    below: &mut Below,
+)
+    requires arena { IsKeeperOf arena.now keeper.old }
+    requires classes { classes ≡ class_total (keeper_history keeper.old).origin }
+    requires tables { length tables.now.supers ≡ classes }
+    requires class { class.class < classes }
+    requires room { classes ≤ below.old.room }
+    ensures arena { IsKeeperOf arena.now keeper.new }
+    ensures history { keeper_history keeper.new ≡ keeper_history keeper.old }
+    ensures flushed { (h : History) → StandsAt tables.now h → (c : ClassRef) → c.class < classes
+        → are_reached h c (unless_counted h.origin.counts (at_most_one (holder h class (selector_number sel)))) ≡ true → HasNoArray arena.now keeper.new c }
+    ensures room { classes ≤ below.new.room }
+{
+    if tables.counts_arguments() {
+        flush_all(keeper, arena, classes);
+    } else {
+        flush_holder(keeper, arena, tables, class, sel, below);
+    }
+}
+
+// The same of two methods that were exchanged.
+fn flush_exchanged(
+    keeper: &mut Keeper,
+    arena: &Arena,
+    tables: &Tables,
+    classes: u32,
+    first: (ClassRef, Selector),
+    second: (ClassRef, Selector),
+    below: &mut Below,
+)
+    requires arena { IsKeeperOf arena.now keeper.old }
+    requires classes { classes ≡ class_total (keeper_history keeper.old).origin }
+    requires tables { length tables.now.supers ≡ classes }
+    requires first { first.0.class < classes }
+    requires second { second.0.class < classes }
+    requires room { classes ≤ below.old.room }
+    ensures arena { IsKeeperOf arena.now keeper.new }
+    ensures history { keeper_history keeper.new ≡ keeper_history keeper.old }
+    ensures flushed { (h : History) → StandsAt tables.now h → (c : ClassRef) → c.class < classes
+        → are_reached h c (unless_counted h.origin.counts (at_most_one (holder h first.0 (selector_number first.1)) ++ at_most_one (holder h second.0 (selector_number second.1)))) ≡ true
+        → HasNoArray arena.now keeper.new c }
+    ensures room { classes ≤ below.new.room }
+{
+    if tables.counts_arguments() {
+        flush_all(keeper, arena, classes);
+    } else {
+        flush_holder(keeper, arena, tables, first.0, first.1, below);
+        flush_holder(keeper, arena, tables, second.0, second.1, below);
+    }
+}
+
 // Flushes the caches that a change reaches, which was just made.
 //
-// A method that is added or replaced is seen by the class and those below, and so is each list of an attached category. No lookup finds anything in a class
-// before it is made, and nothing is below it then but its metaclass: making one looks at no other class.
+// A method that is added or replaced is seen by the class and those below, and so is each list of an attached category. A method that is set or exchanged is seen
+// where it stands and below; of a document's classes all caches are flushed then. No lookup finds anything in a class before it is made, and nothing is below it
+// then but its metaclass: making one looks at no other class.
 pub(crate) fn flush_reached(
     keeper: &mut Keeper,
     arena: &Arena,
@@ -140,7 +225,19 @@ pub(crate) fn flush_reached(
         Change::Add { class, .. } | Change::Replace { class, .. } => {
             flush_below(keeper, arena, tables, *class, below);
         }
-        Change::SetImp { .. } | Change::Exchange { .. } => flush_all(keeper, arena, classes),
+        Change::SetImp { class, sel, .. } => {
+            flush_set(keeper, arena, tables, classes, *class, *sel, below);
+        }
+        Change::Exchange {
+            class,
+            sel,
+            other,
+            other_sel,
+        } => {
+            let first = (*class, *sel);
+            let second = (*other, *other_sel);
+            flush_exchanged(keeper, arena, tables, classes, first, second, below);
+        }
         Change::Attach {
             class,
             methods,

@@ -6,7 +6,7 @@ ghost use Rattle.msg_tables.specs.Origin.{last_imp};
 ghost use Rattle.msg_tables.specs.History.{BeginsWith, and_then, empty, holder, lookup, superclass};
 ghost use Rattle.msg_tables.specs.Refusal.{refusal};
 ghost use Rattle.msg_tables.specs.declared.fault.ChangeFault.{ChangeFault};
-ghost use Rattle.msg_cache.specs.Counts.{AreCounts};
+ghost use Rattle.msg_cache.specs.Counts.{AreCounts, after_refusal};
 ghost use Rattle.msg_cache.specs.Plays.{given_out, taken_in, lent, is_lent};
 ghost use Rattle.msg_cache.specs.Views.{classes, layout, IsSenderOf};
 ghost use Rattle.msg_runtime.specs.Parts.{IsKeeperOf, AnswersMiss, IsNew, AreOut, keeper_history, keeper_view, keeper_remembered, keeper_report};
@@ -14,7 +14,6 @@ ghost use Rattle.msg_runtime.specs.Parts.{IsKeeperOf, AnswersMiss, IsNew, AreOut
 use crate::caching::cache_found;
 use crate::flushing::flush_reached;
 use msg_cache::{Arena, Keeper, Prober, Report, Turn};
-use msg_core::MAX_SENDERS;
 use msg_names::{ClassRef, ImpRef, Selector};
 use msg_tables::laws::{an_accepted_change_is_within_the_limit, tables_are_of_their_origin};
 use msg_tables::{Below, Change, ChangeFault, HasOrigin, Origin, Tables};
@@ -189,22 +188,25 @@ impl Runtime {
     }
 
     /// A prober of a sender number that isn't given out, where there is one. It has seen the whole history.
+    ///
+    /// It looks at the numbers that are out up to the least that isn't.
     pub fn sender(&mut self, arena: &Arena) -> Option<Prober>
         requires arena { arena.now ≡ self.old.arena }
         ensures arena { self.new.arena ≡ self.old.arena }
         ensures remembered { self.new.remembered ≡ self.old.remembered }
-        ensures report { self.new.report ≡ self.old.report }
+        ensures report { self.new.report ≡ cond (is_some result) self.old.report (after_refusal self.old.report) }
         ensures prober { IfSome result (IsSenderOf self.old.arena) }
         ensures some { IfSome result (λ p. IsNew p.sender self.old.keeper self.new.keeper) }
         ensures front { IfSome result (λ p. p.sender.front ≡ self.old.keeper.history) }
-        ensures none { IsNone result → AreOut MAX_SENDERS self.old.arena.key.senders self.old.keeper × (self.new.keeper ≡ self.old.keeper) }
+        ensures none { IsNone result → AreOut self.old.arena.key.senders self.old.keeper × (self.new.keeper ≡ self.old.keeper) }
         ensures origin { self.old.keeper.history.origin ≡ self.old.arena.key.origin }
     {
-        for number in 0..MAX_SENDERS as u32 {
+        for number in 0..arena.senders() {
             if let Some(prober) = self.keeper.give_out(arena, number) {
                 return Some(prober);
             }
         }
+        self.keeper.refuse(arena);
         None
     }
 

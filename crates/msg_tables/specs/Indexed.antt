@@ -1,10 +1,10 @@
--- The fields of `MethodRows`.
+-- The fields of `IndexedRows`.
 use Rattle.std.specs.Prelude.{◌≡◌, ℕ, ◌-◌, min, nat_eq, vec_len}
 use Rattle.std.specs.Vec.{vec_capacity}
 use Rattle.std.specs.HashMap.{get, spare}
 use Rattle.msg_tables.specs.Methods.{method_numbers}
 use Rattle.msg_tables.specs.RowList.{RowList, last_index}
-use Rattle.msg_tables.specs.declared.rows.MethodRows.TheInside.{Inside}
+use Rattle.msg_tables.specs.declared.indexed_rows.IndexedRows.TheInside.{Inside}
 
 -- what contracts see of the methods of a class reference
 abbrev pub row_list : Inside → RowList

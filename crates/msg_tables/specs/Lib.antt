@@ -8,6 +8,7 @@ pub mod Given
 pub mod History
 pub mod Indexed
 pub mod Inside
+pub mod Kept
 pub mod Marking
 pub mod Methods
 pub mod Opening

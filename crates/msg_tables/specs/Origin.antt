@@ -4,7 +4,7 @@ use Rattle.std.specs.List.{list_all}
 use Rattle.msg_order.specs.Superclasses.{AreListed, has_cycle}
 use Rattle.msg_tables.specs.declared.limits.Limits.{Limits}
 use Rattle.msg_tables.specs.declared.origin.MethodsOf.{MethodsOf}
-use Rattle.msg_tables.specs.declared.limits.TheConstants.{MAX_CLASSES, MAX_IMP}
+use Rattle.msg_tables.specs.declared.limits.TheConstants.{MAX_CLASSES, MAX_IMP, MOST_SENDERS, MOST_CHANGES, MOST_WORDS}
 
 -- how many arguments each selector and each implementation takes, from number 1
 pub record CountsView : Type 0 where
@@ -71,4 +71,6 @@ pub record IsSound (o : OriginView) : Type 0 where
   pub lists : All (IsSoundList o) o.lists
   pub few_classes : class_total o ≤ MAX_CLASSES
   pub few_rows : row_total o ≤ o.limits.rows
-  pub few_changes : o.limits.changes < 2 ^ 32
+  pub few_changes : o.limits.changes ≤ MOST_CHANGES
+  pub few_senders : o.limits.senders ≤ MOST_SENDERS
+  pub few_words : o.limits.words ≤ MOST_WORDS

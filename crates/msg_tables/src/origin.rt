@@ -70,6 +70,13 @@ impl Origin {
         self.superclasses.len() as u32 + self.made
     }
 
+    /// How much tables of them may hold, and caches over these.
+    pub fn limits(&self) -> Limits
+        ensures { result ≡ self.now.limits }
+    {
+        self.limits
+    }
+
     /// How many classes are listed. They are present as the tables are opened.
     pub fn listed_count(&self) -> u32
         ensures { result ≡ length self.now.superclasses }

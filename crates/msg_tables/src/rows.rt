@@ -1,21 +1,20 @@
 //! The rows of one class reference.
 
-ghost use Rattle.std.specs.Prelude.{◌≡◌, ◌+◌, ◌<◌, ◌≤◌, [], ◌∷◌, ◌++◌, length, reverse, OnOk, OnErr, IsSome, option_map};
+ghost use Rattle.std.specs.Prelude.{◌≡◌, ◌+◌, ◌<◌, ◌≤◌, [], ◌∷◌, ◌++◌, IfOk, length, reverse, OnOk, OnErr, IsSome, option_map};
 ghost use Rattle.msg_tables.specs.Methods.{method_numbers};
 ghost use Rattle.msg_names.specs.Number.{selector_number, imp_number};
 ghost use Rattle.msg_tables.specs.RowList.{own_in, set_last};
 
+use crate::indexed_rows::IndexedRows;
 use msg_names::{ImpRef, Selector};
 use std::alloc::{AllocError, Global};
-use std::collections::HashMap;
 use std::marker::Model;
 
-// The rows, oldest first, and by each selector's number where its last row stands: what a lookup finds.
-// `find` hashes once and indexes once, however many rows there are.
+// Rows with their index. A class reference that never had a row keeps a word for them: so what is kept of a class that may be made, and isn't, is small.
 #[derive(Drop)]
 pub(crate) struct MethodRows {
-    rows: Vec<(Selector, ImpRef)>,
-    own: HashMap<u32, usize>,
+    indexed: Option<Box<IndexedRows>>,
+    alloc: Global,
 }
 
 impl Model for MethodRows {
@@ -23,11 +22,22 @@ impl Model for MethodRows {
 
     ghost Value = { RowList };
 
-    ghost use Rattle.msg_tables.specs.Indexed.{row_list, IsIndexed};
+    ghost use Rattle.msg_tables.specs.Kept.{kept_rows};
 
-    ghost view = { row_list };
+    ghost view = { kept_rows };
+}
 
-    ghost invariant = { IsIndexed };
+// No rows yet, and room for some.
+fn reserved(alloc: Global, more: usize) -> Result<Box<IndexedRows>, AllocError>
+    ensures rows { IfOk result (λ rows. rows.value.rows ≡ []) }
+    ensures room { IfOk result (λ rows. more ≤ rows.value.room) }
+{
+    let mut rows = IndexedRows::new(alloc);
+    rows.reserve(more)?;
+    match Box::new(alloc, rows) {
+        Ok(rows) => Ok(rows),
+        Err(_) => Err(AllocError),
+    }
 }
 
 impl MethodRows {
@@ -35,8 +45,8 @@ impl MethodRows {
         ensures { result.rows ≡ [] }
     {
         MethodRows {
-            rows: Vec::new(alloc),
-            own: HashMap::new(alloc),
+            indexed: None,
+            alloc,
         }
     }
 
@@ -45,8 +55,10 @@ impl MethodRows {
     pub(crate) fn find(&self, sel: Selector) -> Option<ImpRef>
         ensures { option_map imp_number result ≡ own_in (selector_number sel) self.now.rows }
     {
-        let place = *self.own.get(&sel.number())?;
-        Some(self.rows[place].1)
+        match &self.indexed {
+            Some(rows) => rows.find(sel),
+            None => None,
+        }
     }
 
     // Makes room for so many more rows.
@@ -55,8 +67,16 @@ impl MethodRows {
         ensures room { OnOk result (more ≤ self.new.room) }
         ensures refused { OnErr result (0 < more) }
     {
-        self.rows.reserve(more)?;
-        self.own.reserve(more)
+        if more == 0 {
+            return Ok(());
+        }
+        match &mut self.indexed {
+            Some(rows) => rows.reserve(more),
+            None => {
+                self.indexed = Some(reserved(self.alloc, more)?);
+                Ok(())
+            }
+        }
     }
 
     pub(crate) fn push(&mut self, sel: Selector, imp: ImpRef)
@@ -64,11 +84,7 @@ impl MethodRows {
         ensures rows { self.new.rows ≡ self.old.rows ++ (selector_number sel, imp_number imp) ∷ [] }
         ensures room { self.old.room ≤ self.new.room + 1 }
     {
-        let place = self.rows.len();
-        let indexed: Result<_, _> = self.own.insert(sel.number(), place);
-        indexed.unwrap();
-        let pushed: Result<_, _> = self.rows.push((sel, imp));
-        pushed.unwrap();
+        self.indexed.as_mut().unwrap().push(sel, imp);
     }
 
     // Writes another implementation into a selector's last row.
@@ -76,8 +92,7 @@ impl MethodRows {
         requires { IsSome (own_in (selector_number sel) self.old.rows) }
         ensures { self.new.rows ≡ set_last (selector_number sel) (imp_number imp) self.old.rows }
     {
-        let place = *self.own.get(&sel.number()).unwrap();
-        self.rows[place] = (sel, imp);
+        self.indexed.as_mut().unwrap().set(sel, imp);
     }
 
     pub(crate) fn append(&mut self, methods: &[(Selector, ImpRef)])

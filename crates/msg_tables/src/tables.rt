@@ -1,6 +1,6 @@
 //! The tables, and lookup.
 
-ghost use Rattle.std.specs.Prelude.{◌≡◌, ◌<◌, ◌≤◌, length, option_map, IfSome, Some, None, true};
+ghost use Rattle.std.specs.Prelude.{◌≡◌, ◌<◌, ◌≤◌, length, option_map, is_some, IfSome, Some, None, true};
 ghost use Rattle.msg_names.specs.Number.{selector_number, imp_number};
 ghost use Rattle.msg_names.specs.ClassRef.{above, slot_of};
 ghost use Rattle.msg_tables.specs.Chain.{super_of, chain_of, steps_of, is_present, only_present};
@@ -31,7 +31,7 @@ pub struct Tables {
     pub(crate) counts: Option<Counts>,
     pub(crate) limits: Limits,
     pub(crate) row_count: u32,
-    pub(crate) change_count: u32,
+    pub(crate) change_count: u64,
 }
 
 impl Model for Tables {
@@ -62,6 +62,13 @@ impl Tables {
         ensures meaning { (h : History) → StandsAt self.now h → result ≡ superclass h class }
     {
         self.above(class)
+    }
+
+    /// Whether it is known how many arguments each selector and each implementation takes, as of a document's. Of a host's it isn't: all of them fit one another.
+    pub fn counts_arguments(&self) -> bool
+        ensures { result ≡ is_some self.now.counts }
+    {
+        self.counts.is_some()
     }
 
     // The class reference, where its class is present.

@@ -12,11 +12,11 @@ pub loop-number-preserved : goal.loop-number-preserved
 loop-number-preserved c =
     let i = c.loop-number.invariant in
     let n = c.loop-number.number in
-    let outs = c.loop-number.outs in
+    let outs = c.loop-number.outs.items in
     let r = c.load_probe.result in
     let k0 = keeper_of c.args.seat.now.me.0 in
     let next : suc n ≡ n + 1 = omega arith in
-    let lt : n < length outs = let s = c.senders-number-end.ensures in let t = c.loop-number-test.true in omega (arith, i.long) in record {
+    let lt : n < length outs = let s = c.senders-number-end.ensures in let o = c.requires.outs in let t = c.loop-number-test.true in omega (arith, i.long) in record {
       table = c.load_probe.ensures.seat.0 ∙ i.table;
       id = c.load_probe.ensures.seat.1 ∙ i.id;
       told = c.load_probe.ensures.told ∙ ap (λ (x : Sat). kept (looked n r (keeper_of x.0))) i.told

@@ -4,7 +4,7 @@ use Rattle.msg_cache.proofs.standings.cut.Given as goal
 
 abbrev pub invariant-loop-sender : goal.invariant-loop-sender
 invariant-loop-sender l = record {
-  moved : (n : ℕ) → n < l.sender → slice_index l.cursors n + l.by ≡ slice_index l.initial.cursors n;
-  others : (n : ℕ) → l.sender ≤ n → slice_index l.cursors n ≡ slice_index l.initial.cursors n;
-  long : length l.cursors ≡ 64;
+  moved : (n : ℕ) → n < l.sender → slice_index l.cursors.items n + l.by ≡ slice_index l.initial.cursors.items n;
+  others : (n : ℕ) → l.sender ≤ n → slice_index l.cursors.items n ≡ slice_index l.initial.cursors.items n;
+  long : length l.cursors.items ≡ length l.initial.cursors.items;
 }

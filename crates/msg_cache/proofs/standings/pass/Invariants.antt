@@ -4,10 +4,10 @@ use Rattle.msg_cache.proofs.standings.pass.Given as goal
 
 abbrev pub invariant-loop-sender : goal.invariant-loop-sender
 invariant-loop-sender l = record {
-  moved : (n : ℕ) → n < l.sender → slice_index l.cursors n ≡ (if slice_index_or l.outs n false then l.end else slice_index l.initial.cursors n);
-  others : (n : ℕ) → l.sender ≤ n → slice_index l.cursors n ≡ slice_index l.initial.cursors n;
-  all : (n : ℕ) → n < l.sender → l.least ≤ slice_index l.cursors n;
-  some : (l.least ≡ l.end) ⊎ ((n : ℕ) × (n < l.sender) × (slice_index l.cursors n ≡ l.least));
+  moved : (n : ℕ) → n < l.sender → slice_index l.cursors.items n ≡ (if slice_index_or l.outs.items n false then l.end else slice_index l.initial.cursors.items n);
+  others : (n : ℕ) → l.sender ≤ n → slice_index l.cursors.items n ≡ slice_index l.initial.cursors.items n;
+  all : (n : ℕ) → n < l.sender → l.least ≤ slice_index l.cursors.items n;
+  some : (l.least ≡ l.end) ⊎ ((n : ℕ) × (n < l.sender) × (slice_index l.cursors.items n ≡ l.least));
   end : l.least ≤ l.end;
-  long : length l.cursors ≡ 64;
+  long : length l.cursors.items ≡ length l.initial.cursors.items;
 }

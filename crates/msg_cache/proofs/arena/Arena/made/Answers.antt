@@ -15,10 +15,17 @@ use Rattle.msg_cache.proofs.arena.Arena.made.Goals as goal
 pub of-requires-clause-capacities : goal.of-requires-clause-capacities
 of-requires-clause-capacities c = subst (All IsCapacity) (sym c.in_ok-capacities.ensures) (spread_all IsCapacity c.args.config.arrays capacities (search rules))
 
+pub of-requires-clause-senders : goal.of-requires-clause-senders
+of-requires-clause-senders c =
+    let none : refusal_of c.args.origin.now c.args.config ≡ None = search rules in
+    let t = not_refused c.args.origin.now c.args.config none in
+    let f = c.class_count-classes.ensures.sound.few_senders in (t.0, omega (arith, t.1))
+
 pub of-requires-clause-room : goal.of-requires-clause-room
 of-requires-clause-room c =
     let none : refusal_of c.args.origin.now c.args.config ≡ None = search rules in
-    let t = (not_refused c.args.origin.now c.args.config none).1 in
+    let t = (not_refused c.args.origin.now c.args.config none).2 in
+    let f = c.class_count-classes.ensures.sound.few_words in
     let s = total_spread c.args.config.arrays capacities in
     let u : total c.in_ok-capacities.capacities.items ≡ total (spread c.args.config.arrays capacities) = ap total c.in_ok-capacities.ensures in omega arith
 

@@ -13,6 +13,6 @@ new-requires c =
       made = sym made i;
       lists = sym c.in_ok-lists.ensures i;
       counts = Some (sym c.in_ok-counts.ensures i);
-      limits = record { rows = 16384; changes = 65536 };
+      limits = record { rows = 16384; changes = 65536; senders = 64; words = 1048576 };
     })
     (origin-sound image c.class_count.ensures.sound)

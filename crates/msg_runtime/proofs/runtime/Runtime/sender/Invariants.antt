@@ -10,5 +10,5 @@ invariant-loop-number l = record {
   keeper : keeper_view l.self-inside.keeper ≡ l.fn.self.keeper;
   remembered : keeper_remembered l.self-inside.keeper ≡ l.fn.self.remembered;
   report : keeper_report l.self-inside.keeper ≡ l.fn.self.report;
-  out : AreOut l.number l.fn.self.arena.key.senders l.fn.self.keeper;
+  out : AreOut l.number l.fn.self.keeper;
 }

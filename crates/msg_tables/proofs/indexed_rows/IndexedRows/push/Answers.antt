@@ -1,6 +1,6 @@
 use Rattle.std.proofs.Common.{arith}
 use Rattle.msg_tables.proofs.IndexLemmas.{indexes-push}
-use Rattle.msg_tables.proofs.rows.MethodRows.push.Goals as goal
+use Rattle.msg_tables.proofs.indexed_rows.IndexedRows.push.Goals as goal
 
 pub invariant_of-self : goal.invariant_of-self
 invariant_of-self c =

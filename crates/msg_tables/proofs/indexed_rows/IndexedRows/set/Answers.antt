@@ -3,7 +3,7 @@ use Rattle.msg_tables.specs.Methods.{method_numbers}
 use Rattle.msg_names.specs.Number.{selector_number, imp_number}
 use Rattle.msg_tables.specs.RowList.{set_last}
 use Rattle.msg_tables.proofs.IndexLemmas.{is_found, place_inside, rows-set, indexes-set}
-use Rattle.msg_tables.proofs.rows.MethodRows.set.Goals as goal
+use Rattle.msg_tables.proofs.indexed_rows.IndexedRows.set.Goals as goal
 
 pub unwrap-place-requires : goal.unwrap-place-requires
 unwrap-place-requires c =

@@ -1,7 +1,7 @@
 use Rattle.std.proofs.Common.{sym, ap, ◌∙◌, option_map, arith}
 use Rattle.msg_names.specs.Number.{imp_number}
 use Rattle.msg_tables.proofs.IndexLemmas.{none_found, place_inside, own_found}
-use Rattle.msg_tables.proofs.rows.MethodRows.find.Goals as goal
+use Rattle.msg_tables.proofs.indexed_rows.IndexedRows.find.Goals as goal
 
 pub returns-in_err-place : goal.returns-in_err-place
 returns-in_err-place c =
