@@ -4,7 +4,7 @@ use Rattle.msg_tables.specs.declared.change.Change.{Change}
 use Rattle.msg_tables.specs.History.{History, BeginsWith}
 use Rattle.msg_cache.specs.Views.{ArenaView}
 use Rattle.msg_host.specs.Asking.{ChangesBy, ask_fault_number}
-use Rattle.msg_host.specs.Config.{are_known, config_of, is_refused}
+use Rattle.msg_host.specs.Config.{are_known, config_of, is_beyond}
 use Rattle.msg_host.specs.View.{RuntimeView, SenderView}
 use Rattle.msg_host.specs.declared.fault.AskFault.{AskFault}
 
@@ -15,7 +15,7 @@ number_of_fault (Some f) = ask_fault_number f
 
 -- the words of a config aren't known, or ask for what isn't given
 abbrev pub are_refused : List ℕ → Bool
-are_refused words = not (are_known words) || is_refused (config_of words)
+are_refused words = not (are_known words) || is_beyond (config_of words)
 
 -- A change took a handle's state from was to is with the answer n.
 abbrev pub Changes : Option RuntimeView → Option RuntimeView → Change → ℕ → Type 0

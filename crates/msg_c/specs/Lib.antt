@@ -3,3 +3,4 @@ pub mod Book
 pub mod Nothing
 pub mod RuntimeOwned
 pub mod SenderOwned
+pub mod Shown

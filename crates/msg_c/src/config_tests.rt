@@ -100,6 +100,8 @@ fn what_is_asked_for_is_given(rt: HostRuntime) -> Result<(), Fail> {
     has_senders(&rt, alloc, &mut runtime, 1);
     let mut large = opened(&rt, alloc, &[1_048_576]);
     ends(&rt, alloc, &mut large, 1_048_576);
+    let mut many = opened(&rt, alloc, &[1, 16_384]);
+    has_senders(&rt, alloc, &mut many, 16_384);
     Ok(())
 }
 

@@ -1,7 +1,7 @@
 //! Opening and closing a runtime.
 
 ghost use Rattle.std.specs.Prelude.{◌≡◌, ◌≢◌, ◌⊎◌, Some, None, IfOk, IfSome, IsErrOf, OnOk, is_some, true, false};
-ghost use Rattle.msg_host.specs.Config.{config_of, is_refused};
+ghost use Rattle.msg_host.specs.Config.{config_of, is_beyond};
 ghost use Rattle.msg_host.specs.Opening.{OpensAs};
 ghost use Rattle.msg_host.specs.declared.fault.OpenFault.{OpenFault};
 ghost use Rattle.msg_c.specs.Answers.{are_refused};
@@ -15,9 +15,9 @@ use std::alloc::Global;
 fn opened(alloc: Global, config: HostConfig) -> Result<RuntimeHandle, OpenFault>
     ensures open { IfOk result (λ handle. is_some handle.held.state ≡ true) }
     ensures ok { IfOk result (λ handle. IfSome handle.held.state (λ v. OpensAs config v)) }
-    ensures allowed { OnOk result (is_refused config ≡ false) }
-    ensures refused { IsErrOf result OpenFault.BadConfig → is_refused config ≡ true }
-    ensures memory { IsErrOf result OpenFault.Memory → is_refused config ≡ false }
+    ensures allowed { OnOk result (is_beyond config ≡ false) }
+    ensures refused { IsErrOf result OpenFault.BadConfig → is_beyond config ≡ true }
+    ensures memory { IsErrOf result OpenFault.Memory → is_beyond config ≡ false }
 {
     let runtime = HostedRuntime::open(alloc, config)?;
     match Box::new(alloc, runtime) {

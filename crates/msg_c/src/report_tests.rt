@@ -2,43 +2,36 @@
 
 ghost use Rattle.msg_c.specs.Answers.{AreOfOneArena};
 
-use crate::answer::{CLOSED, DONE};
+use crate::answer::{CLOSED, DONE, NO_SENDER};
 use crate::changing::msg_set_imp;
-use crate::reporting::{MsgReport, msg_report};
+use crate::opening::msg_open_words;
+use crate::reporting::msg_report_words;
 use crate::runtime_handle::RuntimeHandle;
 use crate::same::{answers, same};
 use crate::sender_handle::SenderHandle;
-use crate::sending::msg_fill;
+use crate::sending::{msg_fill, msg_sender_open};
 use crate::tests::{CHILD, ROOT, VALUE, opened, sending};
 use std::alloc::Global;
 use std::process::Abort;
 use std::test::Fail;
 
-// A report that no runtime gives.
-fn other() -> MsgReport {
-    MsgReport {
-        fills: 99,
-        growths: 99,
-        flushes: 99,
-        retired: 99,
-        given_again: 99,
-    }
+// The counts that a report of this many words has; the words are another's before.
+fn told<R: Abort, const N: usize>(rt: &R, alloc: Global, runtime: &mut RuntimeHandle) -> [u64; N] {
+    let mut words = [99; N];
+    answers(rt, msg_report_words(alloc, runtime, &mut words), DONE);
+    words
 }
 
 // So many entries were stored, each in an array of its own, and so many arrays taken away.
 fn reports<R: Abort>(rt: &R, alloc: Global, runtime: &mut RuntimeHandle, stored: u64, taken: u64) {
-    let mut report = other();
-    answers(rt, msg_report(alloc, runtime, &mut report), DONE);
-    same(rt, (report.fills, report.growths), (stored, stored));
-    same(rt, (report.flushes, report.retired), (taken, taken));
-    same(rt, report.given_again, 0);
+    let words: [u64; 5] = told(rt, alloc, runtime);
+    same(rt, words, [stored, stored, taken, taken, 0]);
 }
 
 // How many entries were stored, and how many arrays were installed.
 pub(crate) fn stored<R: Abort>(rt: &R, alloc: Global, runtime: &mut RuntimeHandle) -> (u64, u64) {
-    let mut report = other();
-    answers(rt, msg_report(alloc, runtime, &mut report), DONE);
-    (report.fills, report.growths)
+    let words: [u64; 2] = told(rt, alloc, runtime);
+    (words[0], words[1])
 }
 
 fn fills_and_flushes<R: Abort>(
@@ -74,8 +67,44 @@ fn a_report_counts_what_was_done(rt: HostRuntime) -> Result<(), Fail> {
 fn a_closed_runtime_reports_nothing(rt: HostRuntime) -> Result<(), Fail> {
     let alloc = rt.alloc();
     let mut runtime = RuntimeHandle::closed(alloc);
-    let mut report = other();
-    answers(&rt, msg_report(alloc, &mut runtime, &mut report), CLOSED);
-    same(&rt, (report.fills, report.given_again), (99, 99));
+    let mut words = [99; 17];
+    answers(
+        &rt,
+        msg_report_words(alloc, &mut runtime, &mut words),
+        CLOSED,
+    );
+    same(&rt, (words[0], words[16]), (99, 99));
+    Ok(())
+}
+
+// A sender too many, and an entry for which there is no array of four, once with a look at all senders; the rest stays 0, and what is beyond.
+#[test]
+fn a_report_counts_what_was_wanted(rt: HostRuntime) -> Result<(), Fail> {
+    let alloc = rt.alloc();
+    let mut runtime = RuntimeHandle::closed(alloc);
+    answers(
+        &rt,
+        msg_open_words(alloc, &mut runtime, &[1, 1, 0, 1]),
+        DONE,
+    );
+    let mut sender = sending(&rt, alloc, &mut runtime);
+    let mut another = SenderHandle::closed(alloc);
+    answers(
+        &rt,
+        msg_sender_open(alloc, &mut runtime, &mut another),
+        NO_SENDER,
+    );
+    let mut imp = 99;
+    answers(
+        &rt,
+        msg_fill(alloc, &mut runtime, &mut sender, 0, false, 1, &mut imp),
+        DONE,
+    );
+    let words: [u64; 20] = told(&rt, alloc, &mut runtime);
+    same(
+        &rt,
+        words,
+        [0, 0, 0, 0, 0, 1, 0, 1, 0, 0, 0, 0, 0, 0, 0, 0, 1, 0, 0, 0],
+    );
     Ok(())
 }

@@ -1,59 +1,80 @@
 //! What was done to a runtime's caches.
 
-ghost use Rattle.std.specs.Prelude.{◌≡◌, ◌≢◌, Some, None};
+ghost use Rattle.std.specs.Prelude.{◌≡◌, ◌≢◌, ◌<◌, ℕ, Some, None, length};
 ghost use Rattle.msg_cache.specs.Counts.{AreCounts};
+ghost use Rattle.msg_cache.specs.declared.answer.Report.{Report};
+ghost use Rattle.msg_host.specs.Config.{word_at};
 ghost use Rattle.msg_host.specs.View.{RuntimeView};
+ghost use Rattle.msg_c.specs.Shown.{IsShown, counts_of};
 
 use crate::answer::{CLOSED, DONE};
 use crate::runtime_handle::RuntimeHandle;
 use msg_cache::Report;
 use std::alloc::Global;
 
-/// `struct msg_report_row` of C. A count stays at its greatest value once it is there.
-#[repr(C)]
-#[derive(Clone, Copy)]
-pub struct MsgReport {
-    /// Entries that were stored in caches.
-    pub fills: u64,
-    /// Arrays that were installed for an entry.
-    pub growths: u64,
-    /// Class references that lost a live array to a change.
-    pub flushes: u64,
-    /// Arrays that were taken away, by a change or by a growth.
-    pub retired: u64,
-    /// Installs of an array that was installed before.
-    pub given_again: u64,
+// How many counts a report has.
+const COUNTS: usize = 17;
+
+// The counts of a report, in the order of `struct msg_report_row` of C.
+fn counts(report: Report) -> [u64; COUNTS]
+    ensures { result ≡ counts_of report }
+{
+    let no_array = report.no_array;
+    [
+        report.fills,
+        report.growths,
+        report.flushes,
+        report.retired,
+        report.given_again,
+        report.collections,
+        report.freed,
+        no_array[0],
+        no_array[1],
+        no_array[2],
+        no_array[3],
+        no_array[4],
+        no_array[5],
+        no_array[6],
+        no_array[7],
+        no_array[8],
+        report.refused_senders,
+    ]
 }
 
-fn row(report: Report) -> MsgReport
-    ensures { result ≡ record { fills = report.fills; growths = report.growths; flushes = report.flushes; retired = report.retired; given_again = report.given_again } }
+// The count at a place, and 0 beyond the last.
+fn count_at(counts: &[u64; COUNTS], place: usize) -> u64
+    ensures { result ≡ word_at counts.now place }
 {
-    MsgReport {
-        fills: report.fills,
-        growths: report.growths,
-        flushes: report.flushes,
-        retired: report.retired,
-        given_again: report.given_again,
+    if place < COUNTS { counts[place] } else { 0 }
+}
+
+// Writes as many counts as there is room for, and 0 beyond the last.
+fn write(counts: &[u64; COUNTS], words: &mut [u64])
+    ensures { (place : ℕ) → place < length words.new → word_at words.new place ≡ word_at counts.now place }
+{
+    for place in 0..words.len() {
+        words[place] = count_at(counts, place);
     }
 }
 
-/// What was done to caches since the runtime was opened.
+/// What was done to caches since the runtime was opened: the fields of `struct msg_report_row` of C, one after another, as many as there is room for. What is beyond the
+/// fields that are known is 0.
 #[unsafe(no_mangle)]
-pub extern "C" fn msg_report(
+pub extern "C" fn msg_report_words(
     alloc: Global,
     runtime: &mut RuntimeHandle,
-    report: &mut MsgReport,
+    words: &mut [u64],
 ) -> u32
     ensures kept { runtime.new.held.state ≡ runtime.old.held.state }
     ensures closed { runtime.old.held.state ≡ None → result ≡ CLOSED }
-    ensures left { result ≢ 0 → report.new ≡ report.old }
+    ensures left { result ≢ 0 → words.new ≡ words.old }
     ensures open { (v : RuntimeView) → runtime.old.held.state ≡ Some v → result ≡ 0 }
-    ensures done { result ≡ 0 → AreCounts (record { fills = report.new.fills; growths = report.new.growths; flushes = report.new.flushes; retired = report.new.retired; given_again = report.new.given_again }) }
+    ensures done { result ≡ 0 → (report : Report) × AreCounts report × IsShown words.new report }
 {
     let Some(held) = runtime.take(alloc) else {
         return CLOSED;
     };
-    *report = row(held.report());
+    write(&counts(held.report()), words);
     *runtime = RuntimeHandle::of(held);
     DONE
 }

@@ -10,14 +10,18 @@ use Rattle.std.specs.contracts.snapshot.Snapshot as Snapshot
 use Rattle.msg_cache.specs.contracts.arena.Arena as Arena
 use Rattle.msg_cache.specs.contracts.keeper.Turn as Turn
 use Rattle.msg_tables.specs.contracts.tables.Tables as Tables
+use Rattle.msg_tables.specs.contracts.indexed_rows.IndexedRows as Indexed
 use Rattle.msg_tables.specs.contracts.rows.MethodRows as Rows
 use Rattle.msg_tables.specs.contracts.below.Below as Below
 use Rattle.msg_runtime.specs.contracts.runtime.Runtime as Runtime
 use Rattle.msg_host.specs.contracts.runtime.HostedRuntime as HostedRuntime
 use Rattle.msg_host.specs.contracts.sender.HostedSender as HostedSender
 
+Indexed-send : IsSend Indexed.the_row
+Indexed-send = search (sendable, crosses, maps.crosses) depth 30
+
 Rows-send : IsSend Rows.the_row
-Rows-send = search (sendable, crosses, maps.crosses) depth 30
+Rows-send = search (Indexed-send, sendable, crosses) depth 30
 
 Tables-send : IsSend Tables.the_row
 Tables-send = search (Rows-send, sendable, crosses, maps.crosses) depth 30

@@ -1,12 +1,11 @@
 -- What a host asks for, and what is opened for it.
-use Rattle.std.specs.Prelude.{ℕ, ◌==◌, ◌||◌, nat_lt, if◌then◌else◌, Bool, List, [], ◌∷◌, None, is_some, drop, slice_index_or}
+use Rattle.std.specs.Prelude.{ℕ, ◌==◌, ◌||◌, nat_lt, if◌then◌else◌, Bool, List, [], ◌∷◌, None, drop, slice_index_or}
 use Rattle.std.specs.List.{list_all, list_any}
 use Rattle.msg_tables.specs.Origin.{OriginView}
 use Rattle.msg_tables.specs.declared.limits.Limits.{Limits}
-use Rattle.msg_cache.specs.Config.{refusal_of}
 use Rattle.msg_cache.specs.declared.config.Config.{Config}
 use Rattle.msg_host.specs.declared.config.HostConfig.{HostConfig}
-use Rattle.msg_host.specs.declared.config.TheConstants.{CONFIG_WORDS, DEFAULT_CLASSES, DEFAULT_SENDERS, HOST_CHANGES, HOST_ROWS, MOST_ARRAYS, MOST_CLASSES, MOST_SENDERS}
+use Rattle.msg_host.specs.declared.config.TheConstants.{CONFIG_WORDS, DEFAULT_CLASSES, DEFAULT_SENDERS, HOST_CHANGES, HOST_ROWS, HOST_WORDS, MOST_ARRAYS, MOST_CLASSES, MOST_SENDERS}
 
 -- the word at a place, and 0 beyond the end
 abbrev pub word_at : List ℕ → ℕ → ℕ
@@ -48,7 +47,7 @@ abbrev pub array_counts : HostConfig → List ℕ
 array_counts config = if are_all_0 config.arrays then default_arrays else config.arrays
 
 abbrev pub host_limits : Limits
-host_limits = record { rows = HOST_ROWS; changes = HOST_CHANGES }
+host_limits = record { rows = HOST_ROWS; changes = HOST_CHANGES; senders = MOST_SENDERS; words = HOST_WORDS }
 
 -- what a host's history begins with: no classes, and numbers for those that will be made
 abbrev pub host_origin : HostConfig → OriginView
@@ -65,7 +64,3 @@ are_beyond arrays = list_any (λ count. nat_lt MOST_ARRAYS count) arrays
 -- a field is beyond its most
 abbrev pub is_beyond : HostConfig → Bool
 is_beyond config = nat_lt MOST_CLASSES config.classes || nat_lt MOST_SENDERS config.senders || are_beyond config.arrays
-
--- a field is beyond its most, or the arena would be too large
-abbrev pub is_refused : HostConfig → Bool
-is_refused config = is_beyond config || is_some (refusal_of (host_origin config) (arena_config config))

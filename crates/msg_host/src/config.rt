@@ -1,6 +1,7 @@
 //! How much a runtime has room for.
 
-ghost use Rattle.std.specs.Prelude.{◌≡◌, ◌≤◌, IfSome, false, is_some, is_none};
+ghost use Rattle.std.specs.Prelude.{◌≡◌, ◌≤◌, IfSome, None, false, is_some, is_none};
+ghost use Rattle.msg_cache.specs.Config.{refusal_of};
 ghost use Rattle.msg_host.specs.Config.{are_known, arena_config, array_counts, config_of, host_origin, is_beyond, word_at};
 ghost use Rattle.msg_host.specs.Config as spec;
 
@@ -15,10 +16,10 @@ pub const MOST_CLASSES: u32 = 1_048_576;
 pub const DEFAULT_CLASSES: u32 = 16_384;
 
 /// The most senders.
-pub const MOST_SENDERS: u32 = 64;
+pub const MOST_SENDERS: u32 = 16_384;
 
 /// So many are by default.
-pub const DEFAULT_SENDERS: u32 = 64;
+pub const DEFAULT_SENDERS: u32 = 1_024;
 
 /// The most arrays of a capacity.
 pub const MOST_ARRAYS: u32 = 65_535;
@@ -30,7 +31,10 @@ pub const DEFAULT_ARRAYS: [u16; 9] = [4096, 2048, 512, 256, 128, 64, 32, 16, 8];
 pub const HOST_ROWS: u32 = u32::MAX;
 
 /// How many changes are accepted.
-pub const HOST_CHANGES: u32 = u32::MAX;
+pub const HOST_CHANGES: u64 = 281_474_976_710_656;
+
+/// How many words caches may use: more than the most of each field come to.
+pub const HOST_WORDS: u32 = 268_435_456;
 
 // How many words a config has.
 const CONFIG_WORDS: usize = 11;
@@ -140,9 +144,11 @@ impl HostConfig {
         counts
     }
 
-    // What the arena is to have, unless a field is beyond its most.
+    // What the arena is to have, unless a field is beyond its most: then it has no fault.
+    #[tactic(auto, using(crate::proofs::ConfigLemmas::host_arena_fits))]
     pub(crate) fn arena(&self) -> Option<Config>
         ensures config { IfSome result (λ config. config ≡ arena_config self.now) }
+        ensures fits { IfSome result (λ config. refusal_of (host_origin self.now) config ≡ None) }
         ensures beyond { is_none result ≡ is_beyond self.now }
     {
         if self.is_beyond() {
@@ -164,6 +170,8 @@ impl HostConfig {
         let limits = Limits {
             rows: HOST_ROWS,
             changes: HOST_CHANGES,
+            senders: MOST_SENDERS,
+            words: HOST_WORDS,
         };
         Origin::new(Vec::new(alloc), classes, Vec::new(alloc), None, limits)
     }

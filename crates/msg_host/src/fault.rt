@@ -33,7 +33,7 @@ impl AskFault {
 /// Why no runtime is opened.
 #[derive(Clone, Copy, Debug, PartialEq, Eq)]
 pub enum OpenFault {
-    /// A field of the config is beyond its most, or the arena would be too large.
+    /// A field of the config is beyond its most.
     BadConfig,
     Memory,
 }

@@ -1,34 +1,29 @@
 //! What a runtime is opened of.
 
-ghost use Rattle.std.specs.Prelude.{◌≡◌, IfOk, IsErrOf, OnOk, None, false, is_some, true};
+ghost use Rattle.std.specs.Prelude.{◌≡◌, IfOk, None, false};
 ghost use Rattle.msg_tables.specs.History.{empty};
 ghost use Rattle.msg_runtime.specs.Parts.{IsKeeperOf, keeper_history, keeper_view};
 ghost use Rattle.msg_cache.specs.Config.{refusal_of, setting_of};
 ghost use Rattle.msg_cache.specs.Plays.{is_lent};
-ghost use Rattle.msg_host.specs.declared.fault.OpenFault.{OpenFault};
 ghost use Rattle.std.specs.Arc.{arc_value};
 
-use crate::fault::OpenFault;
-use msg_cache::{Arena, ArenaFault, Config, Keeper, Turn};
+use msg_cache::{Arena, Config, Keeper, Turn};
 use msg_runtime::Runtime;
 use msg_tables::Origin;
 use std::alloc::{AllocError, Global};
 use std::sync::Arc;
 
-// The arena of an origin and its keeper.
-fn arena_of(alloc: Global, origin: &Origin, config: Config) -> Result<(Arena, Keeper), OpenFault>
+// The arena of an origin and its keeper. The one error is want of memory.
+fn arena_of(alloc: Global, origin: &Origin, config: Config) -> Result<(Arena, Keeper), AllocError>
+    requires { refusal_of origin.now config ≡ None }
     ensures key { IfOk result (λ r. r.0.key ≡ setting_of origin.now config) }
     ensures keeper { IfOk result (λ r. IsKeeperOf r.0 r.1) }
     ensures history { IfOk result (λ r. keeper_history r.1 ≡ empty origin.now) }
     ensures turn { IfOk result (λ r. is_lent (keeper_view r.1).turn ≡ false) }
-    ensures ok { OnOk result (refusal_of origin.now config ≡ None) }
-    ensures refused { IsErrOf result OpenFault.BadConfig → is_some (refusal_of origin.now config) ≡ true }
-    ensures memory { IsErrOf result OpenFault.Memory → refusal_of origin.now config ≡ None }
 {
     match Arena::open(alloc, origin, config) {
         Ok(opened) => Ok(opened),
-        Err(ArenaFault::Memory) => Err(OpenFault::Memory),
-        Err(_) => Err(OpenFault::BadConfig),
+        Err(_) => Err(AllocError),
     }
 }
 
@@ -41,19 +36,17 @@ fn shared(alloc: Global, arena: Arena) -> Result<Arc<Arena, Global>, AllocError>
     }
 }
 
-// What shares an origin's caches, keeps them, and may change them.
+// What shares an origin's caches, keeps them, and may change them. The one error is want of memory.
 pub(crate) fn opened(
     alloc: Global,
     origin: &Origin,
     config: Config,
-) -> Result<(Arc<Arena, Global>, Runtime, Turn), OpenFault>
+) -> Result<(Arc<Arena, Global>, Runtime, Turn), AllocError>
+    requires { refusal_of origin.now config ≡ None }
     ensures arena { IfOk result (λ r. arc_value r.0 ≡ r.1.arena) }
     ensures key { IfOk result (λ r. r.1.arena.key ≡ setting_of origin.now config) }
     ensures history { IfOk result (λ r. r.1.keeper.history ≡ empty origin.now) }
     ensures turn { IfOk result (λ r. r.2.table ≡ r.1.arena.table) }
-    ensures ok { OnOk result (refusal_of origin.now config ≡ None) }
-    ensures refused { IsErrOf result OpenFault.BadConfig → is_some (refusal_of origin.now config) ≡ true }
-    ensures memory { IsErrOf result OpenFault.Memory → refusal_of origin.now config ≡ None }
 {
     let (arena, keeper) = arena_of(alloc, origin, config)?;
     let arena = shared(alloc, arena)?;

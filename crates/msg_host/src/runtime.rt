@@ -10,7 +10,7 @@ ghost use Rattle.msg_cache.specs.Counts.{AreCounts};
 ghost use Rattle.msg_cache.specs.Views.{classes};
 ghost use Rattle.msg_names.specs.ClassRef.{slot_of};
 ghost use Rattle.msg_memory.specs.Remembered.{IsMemoryOf, recalled};
-ghost use Rattle.msg_host.specs.Config.{is_refused};
+ghost use Rattle.msg_host.specs.Config.{is_beyond};
 ghost use Rattle.msg_host.specs.Opening.{OpensAs};
 ghost use Rattle.msg_host.specs.declared.fault.OpenFault.{OpenFault};
 
@@ -62,9 +62,9 @@ impl HostedRuntime {
     ///
     /// `BadConfig` is answered before memory is asked for. `Memory` may be answered wherever a growth is refused.
     pub fn open(alloc: Global, config: HostConfig) -> Result<HostedRuntime, OpenFault>
-        ensures ok { IfOk result (λ r. (is_refused config ≡ false) × OpensAs config r) }
-        ensures refused { IsErrOf result OpenFault.BadConfig → is_refused config ≡ true }
-        ensures memory { IsErrOf result OpenFault.Memory → is_refused config ≡ false }
+        ensures ok { IfOk result (λ r. (is_beyond config ≡ false) × OpensAs config r) }
+        ensures refused { IsErrOf result OpenFault.BadConfig → is_beyond config ≡ true }
+        ensures memory { IsErrOf result OpenFault.Memory → is_beyond config ≡ false }
     {
         let Some(arena) = config.arena() else {
             return Err(OpenFault::BadConfig);
