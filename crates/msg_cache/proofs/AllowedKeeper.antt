@@ -1,6 +1,6 @@
 -- The keeper's steps are allowed by the rule, in the form that the table asks for.
 use Rattle.std.proofs.Common.{◌≡◌, ◌≢◌, ℕ, suc, ◌+◌, ◌<◌, List, [], ◌∷◌, ◌++◌, length, false, None, sym, ap, ◌∙◌, subst}
-use Rattle.std.specs.Prelude.{slice_index, slice_set, ◌==◌, if◌then◌else◌}
+use Rattle.std.specs.Prelude.{slice_index, slice_set, ◌==◌}
 use mathlib.Core.Option.{some, none}
 use lib.ListN.{get_elem?}
 use Rattle.atomic_table.specs.Table.{State, step, keeps, carried_after, Allows, Splits, Joins}

@@ -1,5 +1,5 @@
 -- What the steps on a table are to the machine of events.
-use Rattle.std.specs.Prelude.{◌≡◌, ◌≢◌, ℕ, suc, ◌+◌, ◌==◌, ◌<◌, [], ◌∷◌, ◌++◌, length, false, slice_index, slice_set, replicate, if◌then◌else◌}
+use Rattle.std.specs.Prelude.{◌≡◌, ◌≢◌, ℕ, suc, ◌+◌, ◌==◌, ◌<◌, [], ◌∷◌, ◌++◌, length, false, slice_index, slice_set, replicate}
 use Rattle.msg_tables.specs.Origin.{class_total}
 use mathlib.Core.Option.{some}
 use lib.ListN.{get_elem?}

@@ -52,12 +52,7 @@ fn passed(cursor: usize, is_out: bool, end: usize) -> usize
 }
 
 // Senders that were seen out pass a queue of this length. Answers how many of its arrays all have passed.
-fn pass(
-    cursors: &mut Vec<usize>,
-    outs: &Vec<bool>,
-    senders: usize,
-    end: usize,
-) -> usize
+fn pass(cursors: &mut Vec<usize>, outs: &Vec<bool>, senders: usize, end: usize) -> usize
     requires senders { (senders ≤ length cursors.old.items) × (senders ≤ length outs.now.items) }
     requires within { (n : ℕ) → n < senders → slice_index cursors.old.items n ≤ end }
     ensures moved { (n : ℕ) → n < senders → slice_index cursors.new.items n ≡ (if slice_index_or outs.now.items n false then end else slice_index cursors.old.items n) }

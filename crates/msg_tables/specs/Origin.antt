@@ -1,5 +1,5 @@
 -- What tables are opened of: classes with their methods, and limits.
-use Rattle.std.specs.Prelude.{◌≡◌, ◌<◌, ◌≤◌, ◌+◌, ◌-◌, ◌==◌, ◌||◌, ◌^◌, ℕ, nat_lt, nat_le, not, Bool, true, false, List, Option, Some, None, length, slice_get, sum_by, All}
+use Rattle.std.specs.Prelude.{◌≡◌, ◌<◌, ◌≤◌, ◌+◌, ◌-◌, ◌==◌, ◌||◌, ℕ, nat_lt, nat_le, not, Bool, true, false, List, Option, Some, None, length, slice_get, sum_by, All}
 use Rattle.std.specs.List.{list_all}
 use Rattle.msg_order.specs.Superclasses.{AreListed, has_cycle}
 use Rattle.msg_tables.specs.declared.limits.Limits.{Limits}

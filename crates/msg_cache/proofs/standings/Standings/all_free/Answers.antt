@@ -1,7 +1,6 @@
 use Rattle.std.proofs.Common.{◌≡◌, ℕ, List, [], Bool, true, length, replicate, ap, ◌∙◌, arith, rules}
 use Rattle.std.specs.Prelude.{slice_index}
 use Rattle.std.proofs.lemmas.List.{length-replicate}
-use Rattle.msg_cache.specs.Notes.{StandingsView}
 use Rattle.msg_cache.specs.Standings.{notes}
 use Rattle.msg_cache.proofs.NoteLemmas.{all_zero, notes_first}
 use Rattle.msg_cache.proofs.standings.Standings.all_free.Goals as goal
