@@ -85,6 +85,9 @@ struct shared {
 // sender meanwhile but by this.
 class locked {
 public:
+    locked(const locked &) = delete;
+    locked &operator=(const locked &) = delete;
+
     std::uint32_t class_count() { return told<std::uint32_t>(msg_class_count); }
     std::uint64_t change_count() { return told<std::uint64_t>(msg_change_count); }
     msg_report_row report()

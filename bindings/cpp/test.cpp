@@ -31,7 +31,7 @@ constexpr auto root = msg::instances_of(ROOT), child = msg::instances_of(CHILD),
 
 static_assert(!std::is_copy_constructible_v<msg::runtime> && std::is_nothrow_move_constructible_v<msg::runtime>);
 static_assert(!std::is_copy_constructible_v<msg::sender> && std::is_nothrow_move_constructible_v<msg::sender>);
-static_assert(!std::is_copy_constructible_v<msg::locked> && std::is_move_constructible_v<msg::locked>);
+static_assert(!std::is_copy_constructible_v<msg::locked> && !std::is_move_constructible_v<msg::locked>);
 
 static msg::runtime opened()
 {

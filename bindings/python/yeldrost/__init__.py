@@ -35,6 +35,7 @@ class Fault(Exception):
 
 _kinds = {number: type(name, (Fault,), {"__doc__": text, "number": number, "__module__": __name__}) for name, (number, text) in _header.FAULTS.items()}
 globals().update({kind.__name__: kind for kind in _kinds.values()})
+_CLOSED = _kinds[_header.FAULTS["Closed"][0]]
 
 
 def _must(answer):
@@ -88,7 +89,7 @@ class Runtime:
         return self
 
     def __exit__(self, *_):
-        with contextlib.suppress(globals()["Closed"]):
+        with contextlib.suppress(_CLOSED):
             self.close()
 
     def close(self):
@@ -227,7 +228,7 @@ class Sender:
     def close(self):
         self._own()
         if not self._finalizer.alive:
-            raise _kinds[_header.FAULTS["Closed"][0]]()
+            raise _CLOSED()
         self._finalizer()
 
     def adopt(self):
