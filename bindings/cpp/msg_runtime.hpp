@@ -110,8 +110,8 @@ public:
     }
     std::optional<class_ref> holder(class_ref of, std::uint32_t selector)
     {
-        msg_class held{};
-        return there(msg_holder(&at->handle, of.number, of.meta, selector, &held), held);
+        msg_class where{};
+        return there(msg_holder(&at->handle, of.number, of.meta, selector, &where), where);
     }
 
     void make_root_class(std::uint32_t number)
