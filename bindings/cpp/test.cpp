@@ -57,7 +57,8 @@ static void questions()
     CHECK(now.lookup(msg::instances_of(OTHER), VALUE) == 0);
     FAULT(MSG_NO_CLASS, now.lookup(msg::instances_of(16384), VALUE));
     FAULT(MSG_NO_SELECTOR, now.lookup(child, 0));
-    (void)now.report();
+    msg_report_row report = now.report();
+    CHECK(report.fills == 0 && report.no_array[8] == 0 && report.refused_senders == 0);
 }
 
 static void changes()
@@ -94,6 +95,7 @@ static void configs()
     CHECK(runtime.lock().class_count() == 10);
     msg::sender one(runtime), two(runtime);
     FAULT(MSG_NO_SENDER, msg::sender three(runtime));
+    CHECK(runtime.lock().report().refused_senders == 1);
     two.close();
     msg::sender three(runtime);
     config.classes = 2000000;

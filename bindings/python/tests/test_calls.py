@@ -32,7 +32,8 @@ class Calls(unittest.TestCase):
             self.assertEqual((ROOTS, None), (runtime.superclass(CHILDREN), runtime.superclass(ROOTS)))
             self.assertEqual(ROOTS, runtime.superclass(class_itself(ROOT)))
             self.assertEqual((ROOTS, None), (runtime.holder(CHILDREN, VALUE), runtime.holder(CHILDREN, TAKE)))
-            self.assertIn("fills", runtime.report())
+            report = runtime.report()
+            self.assertEqual((0, [0] * 9, 0), (report["fills"], report["no_array"], report["refused_senders"]))
             self.assertRaises(yeldrost.NoClass, runtime.lookup, instances_of(16384), VALUE)
             self.assertRaises(yeldrost.NoSelector, runtime.lookup, CHILDREN, 0)
             self.assertRaises(OverflowError, runtime.lookup, CHILDREN, 2**32 + 1)
@@ -69,6 +70,7 @@ class Calls(unittest.TestCase):
             self.assertEqual(10, runtime.class_count)
             with runtime.sender(), runtime.sender():
                 self.assertRaises(yeldrost.NoSender, runtime.sender)
+                self.assertEqual(1, runtime.report()["refused_senders"])
             with runtime.sender():
                 pass
         self.assertRaises(yeldrost.BadConfig, yeldrost.Runtime, classes=2_000_000)

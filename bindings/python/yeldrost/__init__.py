@@ -142,7 +142,9 @@ class Runtime:
 
     def report(self):
         """What was done to caches since it was opened, by name."""
-        row = self._told(_header.msg_report_row, "msg_report")
+        row = _header.msg_report_row()
+        words = ctypes.cast(ctypes.byref(row), ctypes.POINTER(ctypes.c_uint64))
+        self._call("msg_report_words", words, ctypes.sizeof(row) // 8)
         values = ((name, getattr(row, name)) for name, _ in row._fields_)
         return {name: value if isinstance(value, int) else list(value) for name, value in values}
 

@@ -35,6 +35,10 @@ class msg_report_row(c.Structure):
         ("flushes", c.c_uint64),
         ("retired", c.c_uint64),
         ("given_again", c.c_uint64),
+        ("collections", c.c_uint64),
+        ("freed", c.c_uint64),
+        ("no_array", c.c_uint64 * 9),
+        ("refused_senders", c.c_uint64),
     ]
 
 
@@ -72,7 +76,7 @@ CALLS = {
     "msg_close": (_answer, (_runtime,)),
     "msg_class_count": (_answer, (_runtime, _told32)),
     "msg_change_count": (_answer, (_runtime, _told64)),
-    "msg_report": (_answer, (_runtime, c.POINTER(msg_report_row))),
+    "msg_report_words": (_answer, (_runtime, _told64, c.c_size_t)),
     "msg_lookup": (_answer, (_runtime, _number, _meta, _selector, _told32)),
     "msg_superclass": (_answer, (_runtime, _number, _meta, c.POINTER(msg_class))),
     "msg_holder": (_answer, (_runtime, _number, _meta, _selector, c.POINTER(msg_class))),
@@ -96,6 +100,7 @@ CALLS = {
 # What stands for the calls that the header has inline, which a shared library doesn't export.
 INLINE = {
     "msg_open": "Runtime",
+    "msg_report": "Runtime.report",
     "msg_find": "Sender.find_seen",
     "msg_key": "Sender.recall",
     "msg_recall_key": "Sender.recall",

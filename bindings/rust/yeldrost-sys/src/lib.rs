@@ -58,6 +58,10 @@ pub struct msg_report_row {
     pub flushes: u64,
     pub retired: u64,
     pub given_again: u64,
+    pub collections: u64,
+    pub freed: u64,
+    pub no_array: [u64; 9],
+    pub refused_senders: u64,
 }
 
 /// A closed runtime.
@@ -90,7 +94,7 @@ extern "C" {
     pub fn msg_close(runtime: *mut msg_runtime) -> u32;
     pub fn msg_class_count(runtime: *mut msg_runtime, count: *mut u32) -> u32;
     pub fn msg_change_count(runtime: *mut msg_runtime, count: *mut u64) -> u32;
-    pub fn msg_report(runtime: *mut msg_runtime, report: *mut msg_report_row) -> u32;
+    pub fn msg_report_words(runtime: *mut msg_runtime, words: *mut u64, count: usize) -> u32;
     pub fn msg_lookup(
         runtime: *mut msg_runtime,
         number: u32,
@@ -184,6 +188,19 @@ pub unsafe fn msg_open(runtime: *mut msg_runtime, config: *const msg_config) -> 
         runtime,
         config.cast(),
         size_of::<msg_config>() / size_of::<u32>(),
+    )
+}
+
+/// What was done to caches since the runtime was opened.
+///
+/// # Safety
+/// As the header says of each call.
+#[inline]
+pub unsafe fn msg_report(runtime: *mut msg_runtime, report: *mut msg_report_row) -> u32 {
+    msg_report_words(
+        runtime,
+        report.cast(),
+        size_of::<msg_report_row>() / size_of::<u64>(),
     )
 }
 

@@ -76,7 +76,11 @@ fn questions() {
         Err(Fault::NoClass),
         now.lookup(ClassRef::instances_of(16384), s(VALUE))
     );
-    now.report().unwrap();
+    let report = now.report().unwrap();
+    assert_eq!(
+        (0, [0; 9], 0),
+        (report.fills, report.no_array, report.refused_senders)
+    );
 }
 
 #[test]
@@ -125,6 +129,7 @@ fn configs() {
     assert_eq!(Ok(10), runtime.lock().class_count());
     let (_one, two) = (runtime.sender().unwrap(), runtime.sender().unwrap());
     assert_eq!(Some(Fault::NoSender), runtime.sender().err());
+    assert_eq!(1, runtime.lock().report().unwrap().refused_senders);
     drop(two);
     runtime.sender().unwrap();
     assert_eq!(
