@@ -1,0 +1,348 @@
+// C++17 over msg_runtime.h: handles that close themselves and are moved but never copied, a lock that unlocks itself,
+// and faults that are thrown. What is proved, and what a host is trusted with, stands in msg_runtime.h.
+#ifndef MSG_RUNTIME_HPP
+#define MSG_RUNTIME_HPP
+
+#include "msg_runtime.h"
+#include <atomic>
+#include <cstddef>
+#include <cstdint>
+#include <initializer_list>
+#include <iterator>
+#include <memory>
+#include <mutex>
+#include <optional>
+#include <stdexcept>
+#include <utility>
+
+namespace msg {
+
+inline const char *text_of(std::uint32_t fault) noexcept
+{
+    switch (fault) {
+    case MSG_DONE: return "done";
+    case MSG_NO_SUCH_CLASS: return "no such class, or it isn't made";
+    case MSG_NO_SUCH_IMP: return "an implementation's number is 0";
+    case MSG_ARGUMENT_COUNT: return "another count of arguments";
+    case MSG_METHOD_PRESENT: return "the class has the method";
+    case MSG_NO_METHOD: return "no such method";
+    case MSG_LIMIT: return "as many changes or methods as there may be";
+    case MSG_CHANGE_MEMORY: return "no memory for the change";
+    case MSG_DUPLICATE_CLASS: return "the class is made already";
+    case MSG_CLOSED: return "a handle isn't open";
+    case MSG_ALREADY_OPEN: return "the handle is open already";
+    case MSG_NO_CLASS: return "no such class number";
+    case MSG_NO_SELECTOR: return "a selector's number is 0";
+    case MSG_NO_SENDER: return "as many senders are open as the config says";
+    case MSG_NO_MEMORY: return "no memory";
+    case MSG_NONE: return "there is none";
+    case MSG_MISSED: return "not cached";
+    case MSG_BAD_CONFIG: return "the config asks for too much";
+    default: return "unknown fault";
+    }
+}
+
+// What a call answered that isn't MSG_DONE. Nothing has changed by it.
+class fault : public std::runtime_error {
+public:
+    explicit fault(std::uint32_t number) : std::runtime_error(text_of(number)), number_(number) {}
+    std::uint32_t number() const noexcept { return number_; }
+
+private:
+    std::uint32_t number_;
+};
+
+inline void must(std::uint32_t answer)
+{
+    if (answer != MSG_DONE) throw fault(answer);
+}
+
+// A class, as its instances find methods; or its metaclass, as the class itself finds them.
+struct class_ref {
+    std::uint32_t number;
+    bool meta;
+    constexpr std::size_t slot() const noexcept { return 2 * std::size_t(number) + meta; }
+    // Whether the slot has 32 bits, as that of each class that is made.
+    constexpr bool has_slot() const noexcept { return slot() <= UINT32_MAX; }
+};
+constexpr class_ref instances_of(std::uint32_t number) noexcept { return {number, false}; }
+constexpr class_ref class_itself(std::uint32_t number) noexcept { return {number, true}; }
+constexpr bool operator==(class_ref one, class_ref other) noexcept { return one.slot() == other.slot(); }
+constexpr bool operator!=(class_ref one, class_ref other) noexcept { return !(one == other); }
+
+class sender;
+
+namespace inner {
+// What a runtime and its senders share. It is freed with the last of them.
+struct shared {
+    msg_runtime handle = MSG_RUNTIME_INIT;
+    std::mutex lock;
+    std::atomic<std::uint64_t> begun{0}; // how many changes were made or begun
+};
+} // namespace inner
+
+// The runtime lock, held: what may be asked and changed under it. A thread that has it opens, closes and fills no
+// sender meanwhile but by this.
+class locked {
+public:
+    locked(const locked &) = delete;
+    locked &operator=(const locked &) = delete;
+
+    std::uint32_t class_count() { return told<std::uint32_t>(msg_class_count); }
+    std::uint64_t change_count() { return told<std::uint64_t>(msg_change_count); }
+    msg_report_row report()
+    {
+        msg_report_row row{};
+        must(msg_report(&at->handle, &row));
+        return row;
+    }
+    // 0 is forwarding.
+    std::uint32_t lookup(class_ref of, std::uint32_t selector)
+    {
+        std::uint32_t imp = 0;
+        must(msg_lookup(&at->handle, of.number, of.meta, selector, &imp));
+        return imp;
+    }
+    std::optional<class_ref> superclass(class_ref of)
+    {
+        msg_class above{};
+        return there(msg_superclass(&at->handle, of.number, of.meta, &above), above);
+    }
+    std::optional<class_ref> holder(class_ref of, std::uint32_t selector)
+    {
+        msg_class where{};
+        return there(msg_holder(&at->handle, of.number, of.meta, selector, &where), where);
+    }
+
+    void make_root_class(std::uint32_t number)
+    {
+        change([&] { return msg_make_root_class(&at->handle, number); });
+    }
+    void make_class(std::uint32_t number, std::uint32_t superclass)
+    {
+        change([&] { return msg_make_class(&at->handle, number, superclass); });
+    }
+    void add(class_ref to, std::uint32_t selector, std::uint32_t imp)
+    {
+        change([&] { return msg_add(&at->handle, to.number, to.meta, selector, imp); });
+    }
+    void replace(class_ref in, std::uint32_t selector, std::uint32_t imp)
+    {
+        change([&] { return msg_replace(&at->handle, in.number, in.meta, selector, imp); });
+    }
+    void set_imp(class_ref of, std::uint32_t selector, std::uint32_t imp)
+    {
+        change([&] { return msg_set_imp(&at->handle, of.number, of.meta, selector, imp); });
+    }
+    void exchange(class_ref of, std::uint32_t selector, class_ref other, std::uint32_t other_selector)
+    {
+        change([&] {
+            return msg_exchange(&at->handle, of.number, of.meta, selector, other.number, other.meta, other_selector);
+        });
+    }
+    // Lists of msg_method that lie in one piece: an array, a std::vector, an initializer list.
+    template <class Methods, class ClassMethods>
+    void attach(std::uint32_t number, const Methods &methods, const ClassMethods &class_methods)
+    {
+        change([&] {
+            return msg_attach(&at->handle, number, pointer(methods), std::size(methods), pointer(class_methods),
+                              std::size(class_methods));
+        });
+    }
+    template <class Methods> void attach(std::uint32_t number, const Methods &methods)
+    {
+        attach(number, methods, std::initializer_list<msg_method>());
+    }
+    void attach(std::uint32_t number, std::initializer_list<msg_method> methods,
+                std::initializer_list<msg_method> class_methods = {})
+    {
+        attach<std::initializer_list<msg_method>, std::initializer_list<msg_method>>(number, methods, class_methods);
+    }
+
+    // The lookup after all changes, which the sender has then seen, and notes. The sender is of this runtime.
+    std::uint32_t fill(sender &of, class_ref receiver, std::uint32_t selector);
+    // The sender has then seen all changes.
+    void meet(sender &of);
+
+private:
+    friend class runtime;
+    friend class sender;
+    explicit locked(std::shared_ptr<inner::shared> of) : at(std::move(of)), held(at->lock) {}
+
+    template <class Number> Number told(std::uint32_t (*call)(msg_runtime *, Number *))
+    {
+        Number number = 0;
+        must(call(&at->handle, &number));
+        return number;
+    }
+    static std::optional<class_ref> there(std::uint32_t answer, msg_class found)
+    {
+        if (answer == MSG_NONE) return std::nullopt;
+        must(answer);
+        return class_ref{found.number, found.meta};
+    }
+    // Never NULL, also of an empty list.
+    template <class Methods> static const msg_method *pointer(const Methods &methods)
+    {
+        static const msg_method none{};
+        return std::size(methods) ? std::data(methods) : &none;
+    }
+    // No sender goes by a note from before, once the change has begun.
+    template <class Change> void change(Change made)
+    {
+        std::uint64_t before = at->begun.load(std::memory_order_relaxed);
+        at->begun.store(before + 1, std::memory_order_release);
+        std::uint32_t answer = made();
+        if (answer != MSG_DONE) at->begun.store(before, std::memory_order_release);
+        must(answer);
+    }
+
+    std::shared_ptr<inner::shared> at;
+    std::unique_lock<std::mutex> held;
+};
+
+// A runtime. `runtime.lock()` gives what may be asked and changed; it may be called by any thread.
+class runtime {
+public:
+    explicit runtime(const msg_config &config = {}) : at(std::make_shared<inner::shared>())
+    {
+        must(msg_open(&at->handle, &config));
+    }
+    ~runtime() { close(); }
+    runtime(runtime &&) noexcept = default;
+    runtime &operator=(runtime &&other) noexcept
+    {
+        if (this != &other) close();
+        at = std::move(other.at);
+        return *this;
+    }
+
+    locked lock() { return locked(mine()); }
+    // What is found after all changes; notes nothing. 0 is forwarding.
+    std::uint32_t lookup(class_ref of, std::uint32_t selector) { return lock().lookup(of, selector); }
+    // Closed: its memory goes with its last sender. Its senders find what they have noted, and else throw.
+    void close() noexcept
+    {
+        if (!at) return;
+        std::lock_guard<std::mutex> held(at->lock);
+        msg_close(&at->handle);
+    }
+
+private:
+    friend class sender;
+    const std::shared_ptr<inner::shared> &mine() const
+    {
+        if (!at) throw fault(MSG_CLOSED); // moved from
+        return at;
+    }
+    std::shared_ptr<inner::shared> at;
+};
+
+// What one thread looks methods up by. It may be moved to another thread; two threads are never in one at a time.
+class sender {
+public:
+    explicit sender(const runtime &of) : at(of.mine()), own(new msg_sender())
+    {
+        std::lock_guard<std::mutex> held(at->lock);
+        must(msg_sender_open(&at->handle, own.get()));
+    }
+    ~sender() { close(); }
+    sender(sender &&) noexcept = default;
+    sender &operator=(sender &&other) noexcept
+    {
+        if (this != &other) close();
+        at = std::move(other.at);
+        own = std::move(other.own);
+        return *this;
+    }
+
+    // The implementation by all changes that returned before; 0 is forwarding.
+    std::uint32_t find(class_ref of, std::uint32_t selector)
+    {
+        std::uint64_t begun = shared().begun.load(std::memory_order_acquire);
+        std::uint32_t noted = msg_recall_inline(own.get(), static_cast<std::uint32_t>(of.slot()), selector, begun);
+        if (noted && of.has_slot()) return noted;
+        refresh();
+        return find_seen(of, selector);
+    }
+    // The same, at what the sender has then seen: no older than what it found before, and maybe no newer. This is
+    // msg_find: a probe, and after a miss a fill under the lock.
+    std::uint32_t find_seen(class_ref of, std::uint32_t selector)
+    {
+        std::uint32_t imp = 0;
+        shared();
+        std::uint32_t answer = msg_probe(own.get(), of.number, of.meta, selector, &imp);
+        if (answer == MSG_MISSED) {
+            std::lock_guard<std::mutex> held(at->lock);
+            answer = msg_fill(&at->handle, own.get(), of.number, of.meta, selector, &imp);
+        }
+        must(answer);
+        return imp;
+    }
+    // Noted or cached, at what the sender has then seen; or nothing, and then ask locked::fill.
+    std::optional<std::uint32_t> probe(class_ref of, std::uint32_t selector)
+    {
+        std::uint32_t imp = 0;
+        shared();
+        std::uint32_t answer = msg_probe(own.get(), of.number, of.meta, selector, &imp);
+        if (answer == MSG_MISSED) return std::nullopt;
+        must(answer);
+        return imp;
+    }
+    // What is noted after so many changes; 0 where nothing is, or forwarding.
+    std::uint32_t recall(class_ref of, std::uint32_t selector, std::uint64_t count) const
+    {
+        return own ? static_cast<std::uint32_t>(msg_recall(own.get(), of.slot(), selector, count)) : 0;
+    }
+    // The same by a key of key_of, without a call.
+    std::uint32_t recall_key(std::uint64_t key, std::uint64_t count) const
+    {
+        return own ? msg_recall_key(own.get(), key, count) : 0;
+    }
+    static std::uint64_t key_of(class_ref of, std::uint32_t selector)
+    {
+        return msg_key(static_cast<std::uint32_t>(of.slot()), selector);
+    }
+    // How many changes there are, which the sender has then seen.
+    std::uint64_t refresh()
+    {
+        std::uint64_t count = 0;
+        shared();
+        must(msg_refresh(own.get(), &count));
+        return count;
+    }
+    void close() noexcept
+    {
+        if (!own) return;
+        std::lock_guard<std::mutex> held(at->lock);
+        msg_sender_close(&at->handle, own.get());
+    }
+
+private:
+    friend class locked;
+    inner::shared &shared() const
+    {
+        if (!own) throw fault(MSG_CLOSED); // moved from
+        return *at;
+    }
+    std::shared_ptr<inner::shared> at;
+    std::unique_ptr<msg_sender> own;
+};
+
+inline std::uint32_t locked::fill(sender &of, class_ref receiver, std::uint32_t selector)
+{
+    if (of.at != at) throw std::invalid_argument("the sender is of another runtime");
+    std::uint32_t imp = 0;
+    must(msg_fill(&at->handle, of.own.get(), receiver.number, receiver.meta, selector, &imp));
+    return imp;
+}
+
+inline void locked::meet(sender &of)
+{
+    if (of.at != at) throw std::invalid_argument("the sender is of another runtime");
+    must(msg_meet(&at->handle, of.own.get()));
+}
+
+} // namespace msg
+
+#endif

@@ -1,0 +1,162 @@
+"""Each call of the header through the package, each kind of fault, and threads beside changes, with and without the interpreter's lock held in calls."""
+import gc
+import threading
+import unittest
+
+import yeldrost
+from yeldrost import class_itself, instances_of
+
+ROOT, CHILD, OTHER, LATER = range(4)
+VALUE, NAME, NEW, TAKE = range(1, 5)
+ROOTS, CHILDREN, CHILD_ITSELF = instances_of(ROOT), instances_of(CHILD), class_itself(CHILD)
+
+
+class Calls(unittest.TestCase):
+    holds_gil = True
+
+    def opened(self, **config):
+        runtime = yeldrost.Runtime(holds_gil=self.holds_gil, **config)
+        runtime.make_root_class(ROOT)
+        runtime.make_class(CHILD, ROOT)
+        runtime.attach(ROOT, [(VALUE, 1), (NAME, 2)], [(NEW, 4)])
+        runtime.add(CHILDREN, NAME, 3)
+        return runtime
+
+    def test_questions(self):
+        with self.opened() as runtime:
+            self.assertEqual((16384, 4), (runtime.class_count, runtime.change_count))
+            found = [(CHILDREN, VALUE, 1), (CHILDREN, NAME, 3), (ROOTS, NAME, 2), (CHILD_ITSELF, NEW, 4)]
+            found += [(CHILD_ITSELF, VALUE, 1), (CHILDREN, TAKE, None), (instances_of(OTHER), VALUE, None)]
+            for of, selector, imp in found:
+                self.assertEqual(imp, runtime.lookup(of, selector))
+            self.assertEqual((ROOTS, None), (runtime.superclass(CHILDREN), runtime.superclass(ROOTS)))
+            self.assertEqual(ROOTS, runtime.superclass(class_itself(ROOT)))
+            self.assertEqual((ROOTS, None), (runtime.holder(CHILDREN, VALUE), runtime.holder(CHILDREN, TAKE)))
+            report = runtime.report()
+            self.assertEqual((0, [0] * 9, 0), (report["fills"], report["no_array"], report["refused_senders"]))
+            self.assertRaises(yeldrost.NoClass, runtime.lookup, instances_of(16384), VALUE)
+            self.assertRaises(yeldrost.NoSelector, runtime.lookup, CHILDREN, 0)
+            self.assertRaises(OverflowError, runtime.lookup, CHILDREN, 2**32 + 1)
+            self.assertRaises(OverflowError, runtime.add, instances_of(-1), VALUE, 1)
+
+    def test_changes(self):
+        with self.opened() as runtime:
+            runtime.replace(CHILDREN, VALUE, 5)
+            runtime.set_imp(CHILDREN, NAME, 6)
+            runtime.exchange(CHILDREN, VALUE, ROOTS, NAME)
+            self.assertEqual((2, 5), (runtime.lookup(CHILDREN, VALUE), runtime.lookup(ROOTS, NAME)))
+            runtime.attach(CHILD)
+            runtime.attach(CHILD, class_methods=[(TAKE, 7)])
+            self.assertEqual(7, runtime.lookup(CHILD_ITSELF, TAKE))
+            with runtime.held():
+                count = runtime.change_count
+                self.assertRaises(yeldrost.NoSuchClass, runtime.add, instances_of(OTHER), VALUE, 1)
+                self.assertRaises(yeldrost.NoSuchClass, runtime.make_class, OTHER, LATER)
+                self.assertRaises(yeldrost.NoSuchImp, runtime.replace, CHILDREN, VALUE, 0)
+                self.assertRaises(yeldrost.NoSuchImp, runtime.attach, CHILD, [(VALUE, 0)])
+                self.assertRaises(yeldrost.MethodPresent, runtime.add, CHILDREN, NAME, 1)
+                self.assertRaises(yeldrost.NoMethod, runtime.set_imp, CHILDREN, 99, 1)
+                self.assertRaises(yeldrost.DuplicateClass, runtime.make_root_class, ROOT)
+                self.assertEqual(count, runtime.change_count)
+
+    def test_faults(self):
+        with self.opened() as runtime:
+            with self.assertRaises(yeldrost.Fault) as caught:
+                runtime.make_root_class(ROOT)
+        self.assertEqual((8, "the class is made already"), (caught.exception.number, str(caught.exception)))
+
+    def test_configs(self):
+        with self.opened(classes=10, senders=2) as runtime:
+            self.assertEqual(10, runtime.class_count)
+            with runtime.sender(), runtime.sender():
+                self.assertRaises(yeldrost.NoSender, runtime.sender)
+                self.assertEqual(1, runtime.report()["refused_senders"])
+            with runtime.sender():
+                pass
+        self.assertRaises(yeldrost.BadConfig, yeldrost.Runtime, classes=2_000_000)
+
+    def test_senders(self):
+        with self.opened() as runtime, runtime.sender() as sender:
+            self.assertEqual((None, None), (sender.probe(ROOTS, VALUE), sender.recall(CHILDREN, VALUE, 4)))
+            self.assertEqual(1, sender.fill(CHILDREN, VALUE))
+            self.assertEqual((1, 1), (sender.probe(CHILDREN, VALUE), sender.recall(CHILDREN, VALUE, 4)))
+            self.assertEqual((4, None), (sender.find(CHILD_ITSELF, NEW), sender.find(CHILDREN, TAKE)))
+            runtime.replace(CHILDREN, VALUE, 5)
+            self.assertEqual(1, sender.find_seen(CHILDREN, VALUE))
+            self.assertEqual(5, sender.find(CHILDREN, VALUE))
+            runtime.replace(CHILDREN, VALUE, 6)
+            self.assertEqual((6, 6), (sender.refresh(), sender.find_seen(CHILDREN, VALUE)))
+            sender.meet()
+            self.assertRaises(yeldrost.NoClass, sender.find, instances_of(2**32 - 1), VALUE)
+            self.assertRaises(yeldrost.NoSelector, sender.find, CHILDREN, 0)
+            self.assertRaises(yeldrost.DuplicateClass, runtime.make_root_class, ROOT)
+            self.assertEqual(6, sender.recall(CHILDREN, VALUE, 6), "a refused change is no change")
+
+    def test_closing(self):
+        runtime = self.opened()
+        sender = runtime.sender()
+        sender.find(CHILDREN, VALUE)
+        runtime.close()
+        self.assertRaises(yeldrost.Closed, runtime.close)
+        self.assertRaises(yeldrost.Closed, runtime.lookup, CHILDREN, VALUE)
+        self.assertRaises(yeldrost.Closed, runtime.sender)
+        self.assertEqual(1, sender.find(CHILDREN, VALUE))
+        self.assertRaises(yeldrost.Closed, sender.find, CHILDREN, TAKE)
+        sender.close()
+        self.assertRaises(yeldrost.Closed, sender.close)
+        self.assertRaises(yeldrost.Closed, sender.refresh)
+
+    def test_senders_that_are_dropped_give_their_number_back(self):
+        with self.opened(senders=1) as runtime:
+            for _ in range(3):
+                sender = runtime.sender()
+                sender.find(CHILDREN, VALUE)
+                del sender
+                gc.collect()
+
+    def test_another_thread(self):
+        with self.opened() as runtime:
+            sender, found = runtime.sender(), []
+
+            def other():
+                try:
+                    sender.find(CHILDREN, VALUE)
+                except RuntimeError:
+                    sender.adopt()
+                    found.append(sender.find(CHILDREN, VALUE))
+
+            thread = threading.Thread(target=other)
+            thread.start()
+            thread.join()
+            self.assertEqual([1], found)
+            self.assertRaises(RuntimeError, sender.find, CHILDREN, VALUE)
+
+    def test_threads_beside_changes(self):
+        over, wrong = threading.Event(), []
+
+        def work():
+            with runtime.sender() as sender:
+                while not over.is_set():
+                    if sender.find(CHILDREN, NAME) not in (3, 8):
+                        wrong.append("between")
+                if sender.find(CHILDREN, NAME) != 8:
+                    wrong.append("after")
+
+        with self.opened() as runtime:
+            threads = [threading.Thread(target=work) for _ in range(3)]
+            for it in threads:
+                it.start()
+            for at in range(1001):
+                runtime.replace(CHILDREN, NAME, 3 if at % 2 else 8)
+            over.set()
+            for it in threads:
+                it.join()
+        self.assertEqual([], wrong)
+
+
+class WithoutTheLock(Calls):
+    holds_gil = False
+
+
+if __name__ == "__main__":
+    unittest.main()

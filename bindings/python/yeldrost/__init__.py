@@ -1,0 +1,300 @@
+"""Message dispatch in the manner of Objective-C's runtime, whose answers are proved: classes, methods, lookups, and changes beside them.
+
+    import yeldrost
+
+    with yeldrost.Runtime() as runtime:
+        runtime.make_root_class(SHAPE)
+        runtime.add(yeldrost.instances_of(SHAPE), SIDES, 1)
+        with runtime.sender() as sender:                            # one for each thread
+            sender.find(yeldrost.instances_of(SHAPE), SIDES)        # 1; None is forwarding
+
+Numbers of classes (from 0), selectors and implementations (from 1) are yours; an implementation's is mostly a place in a list of functions.
+"""
+import contextlib
+import ctypes
+import threading
+import typing
+import weakref
+
+from . import _header, _library
+
+__all__ = ["Runtime", "Sender", "ClassRef", "Fault", "instances_of", "class_itself", *_header.FAULTS]
+_NONE, _MISSED = _header.FAULTS["None_"][0], _header.FAULTS["Missed"][0]
+_MOST = 2**32 - 1
+
+
+class Fault(Exception):
+    """Why a call was refused: nothing has changed by it. Each kind is a class of its own below this one, as `yeldrost.NoSender`; `number` is the header's."""
+
+    number = 0
+
+    def __init__(self, number=None):
+        self.number = self.number if number is None else number
+        super().__init__(self.__doc__ if type(self) is not Fault else f"unknown fault {self.number}")
+
+
+_kinds = {number: type(name, (Fault,), {"__doc__": text, "number": number, "__module__": __name__}) for name, (number, text) in _header.FAULTS.items()}
+globals().update({kind.__name__: kind for kind in _kinds.values()})
+_CLOSED = _kinds[_header.FAULTS["Closed"][0]]
+
+
+def _must(answer):
+    if answer:
+        raise _kinds[answer]() if answer in _kinds else Fault(answer)
+
+
+def _checked(*numbers):
+    """ctypes would cut them off."""
+    for it in numbers:
+        if not 0 <= it <= _MOST:
+            raise OverflowError(f"not a number of 32 bits: {it}")
+
+
+class ClassRef(typing.NamedTuple):
+    """A class, as its instances find methods; or its metaclass, as the class itself finds them."""
+
+    number: int
+    meta: bool = False
+
+
+def instances_of(number):
+    return ClassRef(number, False)
+
+
+def class_itself(number):
+    return ClassRef(number, True)
+
+
+class _Shared:
+    """What a runtime and its senders share. It is freed with the last of them."""
+
+    def __init__(self, holds_gil, config):
+        self.library = _library.load(holds_gil)
+        self.handle = _header.msg_runtime()
+        self.lock = threading.RLock()
+        self.begun = 0  # how many changes were made or begun
+        words = ctypes.cast(ctypes.byref(config), ctypes.POINTER(ctypes.c_uint32))
+        _must(self.library.msg_open_words(self.handle, words, ctypes.sizeof(config) // 4))
+        weakref.finalize(self, self.library.msg_close, self.handle)
+
+
+class Runtime:
+    """A runtime without classes, which any thread may use. `with` closes it at its end. Where `holds_gil` is false, calls let the interpreter's lock go."""
+
+    def __init__(self, classes=0, senders=0, arrays=(0,) * 9, holds_gil=True):
+        _checked(classes, senders, *arrays)
+        self._shared = _Shared(holds_gil, _header.msg_config(classes, senders, (ctypes.c_uint32 * 9)(*arrays)))
+
+    def __enter__(self):
+        return self
+
+    def __exit__(self, *_):
+        with contextlib.suppress(_CLOSED):
+            self.close()
+
+    def close(self):
+        """Its senders find what they have noted or cached, and else raise Closed."""
+        self._call("msg_close")
+
+    @contextlib.contextmanager
+    def held(self):
+        """The runtime's lock: what is asked and changed inside, no other thread's changes come between."""
+        with self._shared.lock:
+            yield self
+
+    def sender(self):
+        """A sender of the calling thread, which has seen all changes."""
+        return Sender(self._shared)
+
+    def _call(self, name, *words):
+        shared = self._shared
+        with shared.lock:
+            _must(getattr(shared.library, name)(shared.handle, *words))
+
+    def _told(self, kind, name, *words):
+        """What the call writes, or nothing where there is none."""
+        shared, told = self._shared, kind()
+        with shared.lock:
+            answer = getattr(shared.library, name)(shared.handle, *words, ctypes.byref(told))
+        if answer == _NONE:
+            return None
+        _must(answer)
+        return told
+
+    def _change(self, name, *words):
+        """No sender goes by a note from before, once the change has begun."""
+        shared = self._shared
+        with shared.lock:
+            shared.begun += 1
+            answer = getattr(shared.library, name)(shared.handle, *words)
+            if answer:
+                shared.begun -= 1
+        _must(answer)
+
+    @property
+    def class_count(self):
+        """How many class numbers are reserved."""
+        return self._told(ctypes.c_uint32, "msg_class_count").value
+
+    @property
+    def change_count(self):
+        return self._told(ctypes.c_uint64, "msg_change_count").value
+
+    def report(self):
+        """What was done to caches since it was opened, by name."""
+        row = _header.msg_report_row()
+        words = ctypes.cast(ctypes.byref(row), ctypes.POINTER(ctypes.c_uint64))
+        self._call("msg_report_words", words, ctypes.sizeof(row) // 8)
+        values = ((name, getattr(row, name)) for name, _ in row._fields_)
+        return {name: value if isinstance(value, int) else list(value) for name, value in values}
+
+    def lookup(self, of, selector):
+        """What is found after all changes, or None. It notes nothing."""
+        _checked(of[0], selector)
+        return self._told(ctypes.c_uint32, "msg_lookup", *of, selector).value or None
+
+    def superclass(self, of):
+        _checked(of[0])
+        above = self._told(_header.msg_class, "msg_superclass", *of)
+        return above and ClassRef(above.number, above.meta)
+
+    def holder(self, of, selector):
+        """Where the method stands that a lookup finds."""
+        _checked(of[0], selector)
+        at = self._told(_header.msg_class, "msg_holder", *of, selector)
+        return at and ClassRef(at.number, at.meta)
+
+    def make_root_class(self, number):
+        _checked(number)
+        self._change("msg_make_root_class", number)
+
+    def make_class(self, number, superclass):
+        _checked(number, superclass)
+        self._change("msg_make_class", number, superclass)
+
+    def add(self, to, selector, imp):
+        """Adds a method that the class doesn't have of its own."""
+        _checked(to[0], selector, imp)
+        self._change("msg_add", *to, selector, imp)
+
+    def replace(self, of, selector, imp):
+        """Replaces the class's own method, or adds it."""
+        _checked(of[0], selector, imp)
+        self._change("msg_replace", *of, selector, imp)
+
+    def set_imp(self, of, selector, imp):
+        """Sets the implementation of the method that a lookup finds, wherever it stands."""
+        _checked(of[0], selector, imp)
+        self._change("msg_set_imp", *of, selector, imp)
+
+    def exchange(self, of, selector, other, other_selector):
+        """Exchanges the implementations of the methods that two lookups find, in one step."""
+        _checked(of[0], selector, other[0], other_selector)
+        self._change("msg_exchange", *of, selector, *other, other_selector)
+
+    def attach(self, number, methods=(), class_methods=()):
+        """Attaches pairs of a selector and an implementation, as a category does: before those that are there."""
+        _checked(number)
+        self._change("msg_attach", number, *_methods(methods), *_methods(class_methods))
+
+
+def _methods(pairs):
+    """A list of the header's methods, never without a place, and how many there are."""
+    pairs = list(pairs)
+    for it in pairs:
+        _checked(*it)
+    return (_header.msg_method * max(1, len(pairs)))(*pairs), len(pairs)
+
+
+def _close_sender(shared, raw):
+    with shared.lock:
+        return shared.library.msg_sender_close(shared.handle, raw)
+
+
+class Sender:
+    """What one thread looks methods up by: that which opened it, or that which `adopt`s it. It may outlive its runtime."""
+
+    def __init__(self, shared):
+        self._shared, self._raw, self._thread = shared, _header.msg_sender(), threading.get_ident()
+        self._imp, self._at = ctypes.c_uint32(), ctypes.pointer(self._raw)
+        with shared.lock:
+            _must(shared.library.msg_sender_open(shared.handle, self._at))
+        self._finalizer = weakref.finalize(self, _close_sender, shared, self._raw)
+
+    def __enter__(self):
+        return self
+
+    def __exit__(self, *_):
+        self._finalizer()
+
+    def close(self):
+        self._own()
+        if not self._finalizer.alive:
+            raise _CLOSED()
+        self._finalizer()
+
+    def adopt(self):
+        """The calling thread is the sender's from now on. The one that had it uses it no more."""
+        self._thread = threading.get_ident()
+
+    def _own(self):
+        if self._thread != threading.get_ident():
+            raise RuntimeError("a sender of another thread: open one for each, or let this one adopt it")
+
+    def find(self, of, selector):
+        """The implementation by all changes that returned before; None is forwarding."""
+        return self.recall(of, selector, self._shared.begun) or self._find_now(of, selector)
+
+    def _find_now(self, of, selector):
+        self.refresh()
+        return self.find_seen(of, selector)
+
+    def find_seen(self, of, selector):
+        """The same, at what the sender has then seen: no older than what it found before, and maybe no newer. A probe, and after a miss a fill under the lock."""
+        found = self._probe(of, selector)
+        if found == _MISSED:
+            return self.fill(of, selector)
+        _must(found)
+        return self._imp.value or None
+
+    def _probe(self, of, selector):
+        self._own()
+        _checked(of[0], selector)
+        return self._shared.library.msg_probe(self._at, *of, selector, ctypes.byref(self._imp))
+
+    def probe(self, of, selector):
+        """Noted or cached, at what the sender has then seen: an implementation, or 0 for none. None where it is neither; then `fill`."""
+        answer = self._probe(of, selector)
+        if answer == _MISSED:
+            return None
+        _must(answer)
+        return self._imp.value
+
+    def fill(self, of, selector):
+        """The lookup after all changes, which the sender has then seen, and notes."""
+        self._own()
+        _checked(of[0], selector)
+        shared = self._shared
+        with shared.lock:
+            _must(shared.library.msg_fill(shared.handle, self._at, *of, selector, ctypes.byref(self._imp)))
+        return self._imp.value or None
+
+    def meet(self):
+        """The sender has then seen all changes."""
+        self._own()
+        shared = self._shared
+        with shared.lock:
+            _must(shared.library.msg_meet(shared.handle, self._at))
+
+    def refresh(self):
+        """How many changes there are, which the sender has then seen."""
+        self._own()
+        count = ctypes.c_uint64()
+        _must(self._shared.library.msg_refresh(self._at, ctypes.byref(count)))
+        return count.value
+
+    def recall(self, of, selector, count):
+        """What is noted after so many changes; None where nothing is, or where no method is found."""
+        self._own()
+        _checked(of[0], selector)
+        return self._shared.library.msg_recall(self._at, 2 * of[0] + of[1], selector, count) or None

@@ -1,0 +1,240 @@
+//! `msg_runtime.h` as it is. What each call answers, and what its caller is trusted with, stands in that header:
+//! no call here is safe. The crate `yeldrost` has safe ones.
+#![no_std]
+#![allow(non_camel_case_types)]
+use core::ffi::c_void;
+
+pub const MSG_NOTES: usize = 2048;
+
+#[repr(C)]
+#[derive(Clone, Copy)]
+pub struct msg_note {
+    pub sel: u32,
+    pub slot: u32,
+    pub count: u64,
+    pub imp: u32,
+}
+
+#[repr(C)]
+pub struct msg_runtime {
+    pub at: *mut c_void,
+    pub open: bool,
+}
+
+#[repr(C)]
+pub struct msg_sender {
+    pub at: *mut c_void,
+    pub open: bool,
+    pub notes: [msg_note; MSG_NOTES],
+}
+
+#[repr(C)]
+#[derive(Clone, Copy, Default)]
+pub struct msg_class {
+    pub number: u32,
+    pub meta: bool,
+}
+
+#[repr(C)]
+#[derive(Clone, Copy, Debug, PartialEq, Eq)]
+pub struct msg_method {
+    pub sel: u32,
+    pub imp: u32,
+}
+
+#[repr(C)]
+#[derive(Clone, Copy, Debug, Default, PartialEq, Eq)]
+pub struct msg_config {
+    pub classes: u32,
+    pub senders: u32,
+    pub arrays: [u32; 9],
+}
+
+#[repr(C)]
+#[derive(Clone, Copy, Debug, Default, PartialEq, Eq)]
+pub struct msg_report_row {
+    pub fills: u64,
+    pub growths: u64,
+    pub flushes: u64,
+    pub retired: u64,
+    pub given_again: u64,
+    pub collections: u64,
+    pub freed: u64,
+    pub no_array: [u64; 9],
+    pub refused_senders: u64,
+}
+
+/// A closed runtime.
+pub const MSG_RUNTIME_INIT: msg_runtime = msg_runtime {
+    at: core::ptr::null_mut(),
+    open: false,
+};
+
+pub const MSG_DONE: u32 = 0;
+pub const MSG_NO_SUCH_CLASS: u32 = 1;
+pub const MSG_NO_SUCH_IMP: u32 = 2;
+pub const MSG_ARGUMENT_COUNT: u32 = 3;
+pub const MSG_METHOD_PRESENT: u32 = 4;
+pub const MSG_NO_METHOD: u32 = 5;
+pub const MSG_LIMIT: u32 = 6;
+pub const MSG_CHANGE_MEMORY: u32 = 7;
+pub const MSG_DUPLICATE_CLASS: u32 = 8;
+pub const MSG_CLOSED: u32 = 64;
+pub const MSG_ALREADY_OPEN: u32 = 65;
+pub const MSG_NO_CLASS: u32 = 66;
+pub const MSG_NO_SELECTOR: u32 = 67;
+pub const MSG_NO_SENDER: u32 = 68;
+pub const MSG_NO_MEMORY: u32 = 69;
+pub const MSG_NONE: u32 = 70;
+pub const MSG_MISSED: u32 = 71;
+pub const MSG_BAD_CONFIG: u32 = 73;
+
+extern "C" {
+    pub fn msg_open_words(runtime: *mut msg_runtime, config: *const u32, words: usize) -> u32;
+    pub fn msg_close(runtime: *mut msg_runtime) -> u32;
+    pub fn msg_class_count(runtime: *mut msg_runtime, count: *mut u32) -> u32;
+    pub fn msg_change_count(runtime: *mut msg_runtime, count: *mut u64) -> u32;
+    pub fn msg_report_words(runtime: *mut msg_runtime, words: *mut u64, count: usize) -> u32;
+    pub fn msg_lookup(
+        runtime: *mut msg_runtime,
+        number: u32,
+        meta: bool,
+        sel: u32,
+        imp: *mut u32,
+    ) -> u32;
+    pub fn msg_superclass(
+        runtime: *mut msg_runtime,
+        number: u32,
+        meta: bool,
+        above: *mut msg_class,
+    ) -> u32;
+    pub fn msg_holder(
+        runtime: *mut msg_runtime,
+        number: u32,
+        meta: bool,
+        sel: u32,
+        at: *mut msg_class,
+    ) -> u32;
+    pub fn msg_add(runtime: *mut msg_runtime, number: u32, meta: bool, sel: u32, imp: u32) -> u32;
+    pub fn msg_replace(
+        runtime: *mut msg_runtime,
+        number: u32,
+        meta: bool,
+        sel: u32,
+        imp: u32,
+    ) -> u32;
+    pub fn msg_set_imp(
+        runtime: *mut msg_runtime,
+        number: u32,
+        meta: bool,
+        sel: u32,
+        imp: u32,
+    ) -> u32;
+    pub fn msg_exchange(
+        runtime: *mut msg_runtime,
+        number: u32,
+        meta: bool,
+        sel: u32,
+        other: u32,
+        other_meta: bool,
+        other_sel: u32,
+    ) -> u32;
+    pub fn msg_attach(
+        runtime: *mut msg_runtime,
+        number: u32,
+        methods: *const msg_method,
+        count: usize,
+        class_methods: *const msg_method,
+        class_count: usize,
+    ) -> u32;
+    pub fn msg_make_class(runtime: *mut msg_runtime, number: u32, superclass: u32) -> u32;
+    pub fn msg_make_root_class(runtime: *mut msg_runtime, number: u32) -> u32;
+    pub fn msg_sender_open(runtime: *mut msg_runtime, sender: *mut msg_sender) -> u32;
+    pub fn msg_sender_close(runtime: *mut msg_runtime, sender: *mut msg_sender) -> u32;
+    pub fn msg_fill(
+        runtime: *mut msg_runtime,
+        sender: *mut msg_sender,
+        number: u32,
+        meta: bool,
+        sel: u32,
+        imp: *mut u32,
+    ) -> u32;
+    pub fn msg_meet(runtime: *mut msg_runtime, sender: *mut msg_sender) -> u32;
+    pub fn msg_sender_size() -> usize;
+    pub fn msg_recall(sender: *const msg_sender, slot: usize, sel: u32, count: u64) -> usize;
+    pub fn msg_probe(
+        sender: *mut msg_sender,
+        number: u32,
+        meta: bool,
+        sel: u32,
+        imp: *mut u32,
+    ) -> u32;
+    pub fn msg_refresh(sender: *mut msg_sender, count: *mut u64) -> u32;
+}
+
+/// Opens a runtime by a config.
+///
+/// # Safety
+/// As the header says of each call.
+#[inline]
+pub unsafe fn msg_open(runtime: *mut msg_runtime, config: *const msg_config) -> u32 {
+    let by_default = msg_config::default();
+    let config = if config.is_null() {
+        &by_default
+    } else {
+        config
+    };
+    msg_open_words(
+        runtime,
+        config.cast(),
+        size_of::<msg_config>() / size_of::<u32>(),
+    )
+}
+
+/// What was done to caches since the runtime was opened.
+///
+/// # Safety
+/// As the header says of each call.
+#[inline]
+pub unsafe fn msg_report(runtime: *mut msg_runtime, report: *mut msg_report_row) -> u32 {
+    msg_report_words(
+        runtime,
+        report.cast(),
+        size_of::<msg_report_row>() / size_of::<u64>(),
+    )
+}
+
+/// The slot and the selector of a lookup as one word.
+#[inline]
+pub const fn msg_key(slot: u32, sel: u32) -> u64 {
+    (slot as u64) << 32 | sel as u64
+}
+
+/// What is noted of a key after so many changes, without a call; 0 where nothing is, or forwarding.
+///
+/// # Safety
+/// The sender is one, and in no call.
+#[inline]
+pub unsafe fn msg_recall_key(sender: *const msg_sender, key: u64, count: u64) -> u32 {
+    let (slot, sel) = ((key >> 32) as u32, key as u32);
+    let place = slot.wrapping_mul(32).wrapping_add(sel) as usize % MSG_NOTES;
+    let note = &(*sender).notes[place];
+    if note.sel == sel && note.slot == slot && note.count == count {
+        note.imp
+    } else {
+        0
+    }
+}
+
+/// The same, of a slot and a selector.
+///
+/// # Safety
+/// The sender is one, and in no call.
+#[inline]
+pub unsafe fn msg_recall_inline(sender: *const msg_sender, slot: u32, sel: u32, count: u64) -> u32 {
+    msg_recall_key(sender, msg_key(slot, sel), count)
+}
+
+use core::mem::size_of;
+const _: () =
+    assert!(size_of::<msg_note>() == 24 && size_of::<msg_sender>() == 16 + 24 * MSG_NOTES);

@@ -1,0 +1,166 @@
+//! Safe calls of Yeldrost, message dispatch in the manner of Objective-C's runtime, whose answers are proved.
+//!
+//! A [`Runtime`] is shared by its clones and its senders. A [`Sender`] is what one thread looks methods up by: it is
+//! `Send` and not `Sync`. [`Runtime::lock`] gives what may be asked and changed under the runtime's lock. Numbers of
+//! classes, selectors and implementations are the caller's; an implementation's is mostly a place in an array of
+//! functions.
+//!
+//! ```
+//! use yeldrost::{ClassRef, Config, Fault, Imp, Runtime, Selector};
+//!
+//! # fn main() -> Result<(), Fault> {
+//! const SHAPE: u32 = 0;
+//! const SIDES: Selector = Selector::new(1).unwrap();
+//! let four = Imp::new(1).unwrap();
+//! let runtime = Runtime::open(Config::default())?;
+//! runtime.lock().make_root_class(SHAPE)?.add(ClassRef::instances_of(SHAPE), SIDES, four)?;
+//! let mut sender = runtime.sender()?;
+//! assert_eq!(Some(four), sender.find(ClassRef::instances_of(SHAPE), SIDES)?);
+//! # Ok(())
+//! # }
+//! ```
+mod fault;
+mod locked;
+mod sender;
+
+pub use fault::Fault;
+pub use locked::Locked;
+pub use sender::Sender;
+use std::num::NonZeroU32;
+use std::sync::atomic::AtomicU64;
+use std::sync::{Arc, Mutex, MutexGuard, PoisonError};
+pub use sys::{msg_config as Config, msg_report_row as Report};
+use yeldrost_sys as sys;
+
+/// A selector's number, from 1, which the caller gives.
+pub type Selector = NonZeroU32;
+
+/// An implementation's number, from 1, which the caller gives. That there is none is forwarding.
+pub type Imp = NonZeroU32;
+
+/// A class, as its instances find methods; or its metaclass, as the class itself finds them.
+#[derive(Clone, Copy, Debug, PartialEq, Eq, Hash)]
+pub struct ClassRef {
+    pub number: u32,
+    pub meta: bool,
+}
+
+impl ClassRef {
+    pub const fn instances_of(number: u32) -> ClassRef {
+        ClassRef {
+            number,
+            meta: false,
+        }
+    }
+
+    pub const fn class_itself(number: u32) -> ClassRef {
+        ClassRef { number, meta: true }
+    }
+
+    /// The number of class and metaclass in one: twice the class's, and one more for the metaclass. No class that a
+    /// runtime knows has a number whose slot isn't one of 32 bits.
+    const fn slot(self) -> u32 {
+        self.number.wrapping_mul(2).wrapping_add(self.meta as u32)
+    }
+
+    /// Whether the slot is this one's alone.
+    const fn has_slot(self) -> bool {
+        self.number < 1 << 31
+    }
+}
+
+impl From<sys::msg_class> for ClassRef {
+    fn from(it: sys::msg_class) -> ClassRef {
+        ClassRef {
+            number: it.number,
+            meta: it.meta,
+        }
+    }
+}
+
+/// A method of a list that is attached to a class.
+#[derive(Clone, Copy, Debug, PartialEq, Eq)]
+pub struct Method {
+    pub selector: Selector,
+    pub imp: Imp,
+}
+
+/// What a runtime and its senders share. It is freed with the last of them.
+#[derive(Debug)]
+struct Shared {
+    handle: Mutex<Handle>,
+    /// How many changes were made or begun.
+    begun: AtomicU64,
+}
+
+struct Handle(sys::msg_runtime);
+
+// SAFETY: the header lets a handle go to another thread by something that orders memory, which the mutex around it is.
+unsafe impl Send for Handle {}
+
+impl std::fmt::Debug for Handle {
+    fn fmt(&self, f: &mut std::fmt::Formatter<'_>) -> std::fmt::Result {
+        f.debug_struct("Handle")
+            .field("open", &self.0.open)
+            .finish()
+    }
+}
+
+impl Shared {
+    /// A panic under the lock leaves the runtime as its last call did.
+    fn held(&self) -> MutexGuard<'_, Handle> {
+        self.handle.lock().unwrap_or_else(PoisonError::into_inner)
+    }
+}
+
+impl Drop for Shared {
+    fn drop(&mut self) {
+        let handle = self
+            .handle
+            .get_mut()
+            .unwrap_or_else(PoisonError::into_inner);
+        // SAFETY: a handle of msg_open. That it may be closed already is no harm.
+        unsafe { sys::msg_close(&mut handle.0) };
+    }
+}
+
+/// A runtime: classes, their methods, and the caches of its senders. Its clones are the same one. It is closed with
+/// the last of its clones and senders, or by [`Runtime::close`].
+#[derive(Clone, Debug)]
+pub struct Runtime(Arc<Shared>);
+
+impl Runtime {
+    /// A runtime without classes.
+    pub fn open(config: Config) -> Result<Runtime, Fault> {
+        let mut handle = sys::MSG_RUNTIME_INIT;
+        // SAFETY: a closed handle and a config.
+        Fault::of(unsafe { sys::msg_open(&mut handle, &config) })?;
+        Ok(Runtime(Arc::new(Shared {
+            handle: Mutex::new(Handle(handle)),
+            begun: AtomicU64::new(0),
+        })))
+    }
+
+    /// The runtime's lock, held until what is given is dropped. A thread that holds it opens, drops and asks no
+    /// sender meanwhile, but by [`Locked::fill`] and [`Locked::meet`]: it would wait for itself.
+    pub fn lock(&self) -> Locked<'_> {
+        Locked::of(&self.0)
+    }
+
+    /// A sender that has seen all changes.
+    pub fn sender(&self) -> Result<Sender, Fault> {
+        Sender::of(&self.0)
+    }
+
+    /// What is found after all changes. It notes nothing.
+    pub fn lookup(&self, of: ClassRef, selector: Selector) -> Result<Option<Imp>, Fault> {
+        self.lock().lookup(of, selector)
+    }
+
+    /// Closes it for all its clones. Its senders find what they have noted or cached, and else answer
+    /// [`Fault::Closed`].
+    pub fn close(&self) -> Result<(), Fault> {
+        // SAFETY: a handle of msg_open, under its lock.
+        Fault::of(unsafe { sys::msg_close(&mut self.0.held().0) })
+    }
+}

@@ -1,0 +1,211 @@
+use crate::{ClassRef, Fault, Handle, Imp, Method, Report, Selector, Sender, Shared};
+use std::sync::atomic::Ordering;
+use std::sync::{Arc, MutexGuard};
+use yeldrost_sys as sys;
+
+/// The runtime's lock, held: what may be asked and changed under it. A change that is made has flushed each cache
+/// that it affects before it returns; one that is refused has changed nothing. Changes can be chained.
+#[derive(Debug)]
+pub struct Locked<'r> {
+    shared: &'r Arc<Shared>,
+    handle: MutexGuard<'r, Handle>,
+}
+
+// SAFETY of the calls below: the handle is of msg_open and under its lock; pointers are of values that live, and
+// slices' are never null, also where they are empty.
+impl<'r> Locked<'r> {
+    pub(crate) fn of(shared: &'r Arc<Shared>) -> Locked<'r> {
+        Locked {
+            shared,
+            handle: shared.held(),
+        }
+    }
+
+    /// How many class numbers are reserved.
+    pub fn class_count(&mut self) -> Result<u32, Fault> {
+        let mut count = 0;
+        Fault::of(unsafe { sys::msg_class_count(&mut self.handle.0, &mut count) })?;
+        Ok(count)
+    }
+
+    pub fn change_count(&mut self) -> Result<u64, Fault> {
+        let mut count = 0;
+        Fault::of(unsafe { sys::msg_change_count(&mut self.handle.0, &mut count) })?;
+        Ok(count)
+    }
+
+    /// What was done to caches since the runtime was opened.
+    pub fn report(&mut self) -> Result<Report, Fault> {
+        let mut report = Report::default();
+        Fault::of(unsafe { sys::msg_report(&mut self.handle.0, &mut report) })?;
+        Ok(report)
+    }
+
+    /// What is found after all changes. It notes nothing.
+    pub fn lookup(&mut self, of: ClassRef, selector: Selector) -> Result<Option<Imp>, Fault> {
+        let mut imp = 0;
+        Fault::of(unsafe {
+            sys::msg_lookup(
+                &mut self.handle.0,
+                of.number,
+                of.meta,
+                selector.get(),
+                &mut imp,
+            )
+        })?;
+        Ok(Imp::new(imp))
+    }
+
+    pub fn superclass(&mut self, of: ClassRef) -> Result<Option<ClassRef>, Fault> {
+        let mut above = sys::msg_class::default();
+        let answer =
+            unsafe { sys::msg_superclass(&mut self.handle.0, of.number, of.meta, &mut above) };
+        Fault::or_none(answer, above.into())
+    }
+
+    /// Where the method stands that a lookup finds.
+    pub fn holder(&mut self, of: ClassRef, selector: Selector) -> Result<Option<ClassRef>, Fault> {
+        let mut at = sys::msg_class::default();
+        let answer = unsafe {
+            sys::msg_holder(
+                &mut self.handle.0,
+                of.number,
+                of.meta,
+                selector.get(),
+                &mut at,
+            )
+        };
+        Fault::or_none(answer, at.into())
+    }
+
+    pub fn make_root_class(&mut self, number: u32) -> Result<&mut Self, Fault> {
+        self.change(|runtime| unsafe { sys::msg_make_root_class(runtime, number) })
+    }
+
+    pub fn make_class(&mut self, number: u32, superclass: u32) -> Result<&mut Self, Fault> {
+        self.change(|runtime| unsafe { sys::msg_make_class(runtime, number, superclass) })
+    }
+
+    /// Adds a method that the class doesn't have of its own.
+    pub fn add(&mut self, to: ClassRef, selector: Selector, imp: Imp) -> Result<&mut Self, Fault> {
+        self.change(|runtime| unsafe {
+            sys::msg_add(runtime, to.number, to.meta, selector.get(), imp.get())
+        })
+    }
+
+    /// Replaces the class's own method, or adds it.
+    pub fn replace(
+        &mut self,
+        of: ClassRef,
+        selector: Selector,
+        imp: Imp,
+    ) -> Result<&mut Self, Fault> {
+        self.change(|runtime| unsafe {
+            sys::msg_replace(runtime, of.number, of.meta, selector.get(), imp.get())
+        })
+    }
+
+    /// Sets the implementation of the method that a lookup finds, wherever it stands.
+    pub fn set_imp(
+        &mut self,
+        of: ClassRef,
+        selector: Selector,
+        imp: Imp,
+    ) -> Result<&mut Self, Fault> {
+        self.change(|runtime| unsafe {
+            sys::msg_set_imp(runtime, of.number, of.meta, selector.get(), imp.get())
+        })
+    }
+
+    /// Exchanges the implementations of the methods that two lookups find, in one step.
+    pub fn exchange(
+        &mut self,
+        of: ClassRef,
+        selector: Selector,
+        other: ClassRef,
+        other_selector: Selector,
+    ) -> Result<&mut Self, Fault> {
+        let (one, two) = (selector.get(), other_selector.get());
+        self.change(|runtime| unsafe {
+            sys::msg_exchange(
+                runtime,
+                of.number,
+                of.meta,
+                one,
+                other.number,
+                other.meta,
+                two,
+            )
+        })
+    }
+
+    /// Attaches methods to the class and to its metaclass, as a category does: before those that are there.
+    pub fn attach(
+        &mut self,
+        to: u32,
+        methods: &[Method],
+        class_methods: &[Method],
+    ) -> Result<&mut Self, Fault> {
+        let raw = |list: &[Method]| -> Vec<sys::msg_method> {
+            list.iter()
+                .map(|it| sys::msg_method {
+                    sel: it.selector.get(),
+                    imp: it.imp.get(),
+                })
+                .collect()
+        };
+        let (own, of_class) = (raw(methods), raw(class_methods));
+        self.change(|runtime| unsafe {
+            sys::msg_attach(
+                runtime,
+                to,
+                own.as_ptr(),
+                own.len(),
+                of_class.as_ptr(),
+                of_class.len(),
+            )
+        })
+    }
+
+    /// The lookup after all changes, which the sender has then seen, and notes.
+    pub fn fill(
+        &mut self,
+        sender: &mut Sender,
+        of: ClassRef,
+        selector: Selector,
+    ) -> Result<Option<Imp>, Fault> {
+        let raw = sender.raw_of(self.shared)?;
+        let mut imp = 0;
+        Fault::of(unsafe {
+            sys::msg_fill(
+                &mut self.handle.0,
+                raw,
+                of.number,
+                of.meta,
+                selector.get(),
+                &mut imp,
+            )
+        })?;
+        Ok(Imp::new(imp))
+    }
+
+    /// The sender has then seen all changes.
+    pub fn meet(&mut self, sender: &mut Sender) -> Result<(), Fault> {
+        let raw = sender.raw_of(self.shared)?;
+        Fault::of(unsafe { sys::msg_meet(&mut self.handle.0, raw) })
+    }
+
+    /// No sender goes by a note from before, once the change has begun.
+    fn change(
+        &mut self,
+        made: impl FnOnce(*mut sys::msg_runtime) -> u32,
+    ) -> Result<&mut Self, Fault> {
+        let before = self.shared.begun.load(Ordering::Relaxed);
+        self.shared.begun.store(before + 1, Ordering::Release);
+        let answer = Fault::of(made(&mut self.handle.0));
+        if answer.is_err() {
+            self.shared.begun.store(before, Ordering::Release);
+        }
+        answer.map(|()| self)
+    }
+}

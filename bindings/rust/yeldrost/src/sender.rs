@@ -1,0 +1,140 @@
+use crate::{ClassRef, Fault, Imp, Selector, Shared};
+use std::alloc::{alloc_zeroed, handle_alloc_error, Layout};
+use std::sync::atomic::Ordering;
+use std::sync::Arc;
+use yeldrost_sys as sys;
+
+/// What one thread looks methods up by. It may go to another thread (`Send`), and isn't shared by two (not `Sync`):
+///
+/// ```compile_fail
+/// fn is_sync<T: Sync>() {}
+/// is_sync::<yeldrost::Sender>();
+/// ```
+///
+/// It may outlive its runtime's close.
+pub struct Sender {
+    raw: Box<sys::msg_sender>,
+    shared: Arc<Shared>,
+}
+
+// SAFETY: the header lets a handle go to another thread by something that orders memory, as each way to send a value
+// does. The pointer in it keeps it from being Sync.
+unsafe impl Send for Sender {}
+
+// SAFETY of the calls below: the handle is of msg_sender_open, in no other call (`&mut`), of the runtime that it is
+// given with, and the runtime's handle is under its lock.
+impl Sender {
+    pub(crate) fn of(shared: &Arc<Shared>) -> Result<Sender, Fault> {
+        let mut raw = closed();
+        Fault::of(unsafe { sys::msg_sender_open(&mut shared.held().0, &mut *raw) })?;
+        Ok(Sender {
+            raw,
+            shared: shared.clone(),
+        })
+    }
+
+    /// The implementation by all changes that returned before; none is forwarding.
+    #[inline]
+    pub fn find(&mut self, of: ClassRef, selector: Selector) -> Result<Option<Imp>, Fault> {
+        let begun = self.shared.begun.load(Ordering::Acquire);
+        match self.recall(of, selector, begun) {
+            None => self.find_slowly(of, selector),
+            noted => Ok(noted),
+        }
+    }
+
+    #[cold]
+    fn find_slowly(&mut self, of: ClassRef, selector: Selector) -> Result<Option<Imp>, Fault> {
+        self.refresh()?;
+        self.find_seen(of, selector)
+    }
+
+    /// The same, at what the sender has then seen: no older than what it found before, and maybe no newer. A probe,
+    /// and after a miss a fill under the lock.
+    pub fn find_seen(&mut self, of: ClassRef, selector: Selector) -> Result<Option<Imp>, Fault> {
+        let mut imp = 0;
+        let (number, meta, sel) = (of.number, of.meta, selector.get());
+        let mut answer = unsafe { sys::msg_probe(&mut *self.raw, number, meta, sel, &mut imp) };
+        if answer == sys::MSG_MISSED {
+            let mut runtime = self.shared.held();
+            answer = unsafe {
+                sys::msg_fill(&mut runtime.0, &mut *self.raw, number, meta, sel, &mut imp)
+            };
+        }
+        Fault::of(answer)?;
+        Ok(Imp::new(imp))
+    }
+
+    /// Noted or cached, at what the sender has then seen: an implementation, or inside there is none. Nothing where
+    /// it isn't; then ask [`crate::Locked::fill`].
+    pub fn probe(
+        &mut self,
+        of: ClassRef,
+        selector: Selector,
+    ) -> Result<Option<Option<Imp>>, Fault> {
+        let mut imp = 0;
+        let answer =
+            unsafe { sys::msg_probe(&mut *self.raw, of.number, of.meta, selector.get(), &mut imp) };
+        Ok(Fault::or_none(answer, ())?.map(|()| Imp::new(imp)))
+    }
+
+    /// What is noted after so many changes, without a call. Nothing where none is, or where no method is found.
+    #[inline]
+    pub fn recall(&self, of: ClassRef, selector: Selector, count: u64) -> Option<Imp> {
+        let noted = unsafe { sys::msg_recall_inline(&*self.raw, of.slot(), selector.get(), count) };
+        if of.has_slot() {
+            Imp::new(noted)
+        } else {
+            None
+        }
+    }
+
+    /// The same by the library's own code, which is proved.
+    pub fn recall_proved(&self, of: ClassRef, selector: Selector, count: u64) -> Option<Imp> {
+        let slot = 2 * of.number as usize + of.meta as usize;
+        Imp::new(unsafe { sys::msg_recall(&*self.raw, slot, selector.get(), count) } as u32)
+    }
+
+    /// How many changes there are, which the sender has then seen.
+    pub fn refresh(&mut self) -> Result<u64, Fault> {
+        let mut count = 0;
+        Fault::of(unsafe { sys::msg_refresh(&mut *self.raw, &mut count) })?;
+        Ok(count)
+    }
+
+    /// Its handle, where it is of this runtime.
+    pub(crate) fn raw_of(&mut self, shared: &Arc<Shared>) -> Result<*mut sys::msg_sender, Fault> {
+        if Arc::ptr_eq(shared, &self.shared) {
+            Ok(&mut *self.raw)
+        } else {
+            Err(Fault::OtherRuntime)
+        }
+    }
+}
+
+impl Drop for Sender {
+    fn drop(&mut self) {
+        unsafe { sys::msg_sender_close(&mut self.shared.held().0, &mut *self.raw) };
+    }
+}
+
+impl std::fmt::Debug for Sender {
+    fn fmt(&self, f: &mut std::fmt::Formatter<'_>) -> std::fmt::Result {
+        f.debug_struct("Sender")
+            .field("open", &self.raw.open)
+            .finish_non_exhaustive()
+    }
+}
+
+/// A closed sender, made where it stays: 48 KiB would be much of a small stack.
+fn closed() -> Box<sys::msg_sender> {
+    let layout = Layout::new::<sys::msg_sender>();
+    // SAFETY: zero bytes are a closed sender, and the layout is that of the box.
+    unsafe {
+        let at = alloc_zeroed(layout);
+        if at.is_null() {
+            handle_alloc_error(layout)
+        }
+        Box::from_raw(at.cast())
+    }
+}

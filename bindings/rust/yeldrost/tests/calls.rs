@@ -1,0 +1,239 @@
+//! Each call of the header through the safe crate, each kind of fault, and threads beside changes.
+use std::sync::atomic::{AtomicBool, Ordering};
+use yeldrost::{ClassRef, Config, Fault, Imp, Method, Runtime, Selector, Sender};
+
+const ROOT: u32 = 0;
+const CHILD: u32 = 1;
+const OTHER: u32 = 2;
+const LATER: u32 = 3;
+const ROOTS: ClassRef = ClassRef::instances_of(ROOT);
+const CHILDREN: ClassRef = ClassRef::instances_of(CHILD);
+const CHILD_ITSELF: ClassRef = ClassRef::class_itself(CHILD);
+
+fn s(number: u32) -> Selector {
+    Selector::new(number).unwrap()
+}
+
+fn i(number: u32) -> Imp {
+    Imp::new(number).unwrap()
+}
+
+fn method(selector: u32, imp: u32) -> Method {
+    Method {
+        selector: s(selector),
+        imp: i(imp),
+    }
+}
+
+const VALUE: u32 = 1;
+const NAME: u32 = 2;
+const NEW: u32 = 3;
+const TAKE: u32 = 4;
+
+fn opened() -> Runtime {
+    let runtime = Runtime::open(Config::default()).unwrap();
+    runtime
+        .lock()
+        .make_root_class(ROOT)
+        .and_then(|it| it.make_class(CHILD, ROOT))
+        .and_then(|it| {
+            it.attach(
+                ROOT,
+                &[method(VALUE, 1), method(NAME, 2)],
+                &[method(NEW, 4)],
+            )
+        })
+        .and_then(|it| it.add(CHILDREN, s(NAME), i(3)))
+        .unwrap();
+    runtime
+}
+
+#[test]
+fn questions() {
+    let runtime = opened();
+    let mut now = runtime.lock();
+    assert_eq!((Ok(16384), Ok(4)), (now.class_count(), now.change_count()));
+    for (of, selector, found) in [
+        (CHILDREN, VALUE, 1),
+        (CHILDREN, NAME, 3),
+        (ROOTS, NAME, 2),
+        (CHILD_ITSELF, NEW, 4),
+        (CHILD_ITSELF, VALUE, 1),
+        (CHILDREN, TAKE, 0),
+        (ClassRef::instances_of(OTHER), VALUE, 0),
+    ] {
+        assert_eq!(Ok(Imp::new(found)), now.lookup(of, s(selector)));
+    }
+    assert_eq!(Ok(Some(ROOTS)), now.superclass(CHILDREN));
+    assert_eq!(Ok(None), now.superclass(ROOTS));
+    assert_eq!(
+        Ok(Some(ROOTS)),
+        now.superclass(ClassRef::class_itself(ROOT))
+    );
+    assert_eq!(Ok(Some(ROOTS)), now.holder(CHILDREN, s(VALUE)));
+    assert_eq!(Ok(None), now.holder(CHILDREN, s(TAKE)));
+    assert_eq!(
+        Err(Fault::NoClass),
+        now.lookup(ClassRef::instances_of(16384), s(VALUE))
+    );
+    let report = now.report().unwrap();
+    assert_eq!(
+        (0, [0; 9], 0),
+        (report.fills, report.no_array, report.refused_senders)
+    );
+}
+
+#[test]
+fn changes() {
+    let runtime = opened();
+    let mut now = runtime.lock();
+    now.replace(CHILDREN, s(VALUE), i(5))
+        .unwrap()
+        .set_imp(CHILDREN, s(NAME), i(6))
+        .unwrap();
+    now.exchange(CHILDREN, s(VALUE), ROOTS, s(NAME)).unwrap();
+    assert_eq!(Ok(Some(i(2))), now.lookup(CHILDREN, s(VALUE)));
+    assert_eq!(Ok(Some(i(5))), now.lookup(ROOTS, s(NAME)));
+    now.attach(CHILD, &[], &[])
+        .unwrap()
+        .attach(CHILD, &[], &[method(TAKE, 7)])
+        .unwrap();
+    assert_eq!(Ok(Some(i(7))), now.lookup(CHILD_ITSELF, s(TAKE)));
+    let count = now.change_count().unwrap();
+    let refused = [
+        now.add(ClassRef::instances_of(OTHER), s(VALUE), i(1)).err(),
+        now.make_class(OTHER, LATER).err(),
+        now.add(CHILDREN, s(NAME), i(1)).err(),
+        now.set_imp(CHILDREN, s(99), i(1)).err(),
+        now.make_root_class(ROOT).err(),
+    ];
+    let faults = [
+        Fault::NoSuchClass,
+        Fault::NoSuchClass,
+        Fault::MethodPresent,
+        Fault::NoMethod,
+        Fault::DuplicateClass,
+    ];
+    assert_eq!(faults.map(Some), refused);
+    assert_eq!(Ok(count), now.change_count());
+}
+
+#[test]
+fn configs() {
+    let config = Config {
+        classes: 10,
+        senders: 2,
+        ..Config::default()
+    };
+    let runtime = Runtime::open(config).unwrap();
+    assert_eq!(Ok(10), runtime.lock().class_count());
+    let (_one, two) = (runtime.sender().unwrap(), runtime.sender().unwrap());
+    assert_eq!(Some(Fault::NoSender), runtime.sender().err());
+    assert_eq!(1, runtime.lock().report().unwrap().refused_senders);
+    drop(two);
+    runtime.sender().unwrap();
+    assert_eq!(
+        Some(Fault::BadConfig),
+        Runtime::open(Config {
+            classes: 2_000_000,
+            ..config
+        })
+        .err()
+    );
+}
+
+#[test]
+fn senders() {
+    let (runtime, other) = (opened(), opened());
+    let mut sender = runtime.sender().unwrap();
+    assert_eq!(size_of::<yeldrost_sys::msg_sender>(), unsafe {
+        yeldrost_sys::msg_sender_size()
+    });
+    assert_eq!(
+        (Ok(None), None),
+        (
+            sender.probe(ROOTS, s(VALUE)),
+            sender.recall(CHILDREN, s(VALUE), 4)
+        )
+    );
+    assert_eq!(
+        Ok(Some(i(1))),
+        runtime.lock().fill(&mut sender, CHILDREN, s(VALUE))
+    );
+    assert_eq!(Ok(Some(Some(i(1)))), sender.probe(CHILDREN, s(VALUE)));
+    assert_eq!(Some(i(1)), sender.recall(CHILDREN, s(VALUE), 4));
+    assert_eq!(Some(i(1)), sender.recall_proved(CHILDREN, s(VALUE), 4));
+    assert_eq!(Ok(Some(i(4))), sender.find(CHILD_ITSELF, s(NEW)));
+    assert_eq!(Ok(None), sender.find(CHILDREN, s(TAKE)));
+    runtime.lock().replace(CHILDREN, s(VALUE), i(5)).unwrap();
+    assert_eq!(Ok(Some(i(1))), sender.find_seen(CHILDREN, s(VALUE)));
+    assert_eq!(Ok(Some(i(5))), sender.find(CHILDREN, s(VALUE)));
+    runtime.lock().replace(CHILDREN, s(VALUE), i(6)).unwrap();
+    assert_eq!(Ok(6), sender.refresh());
+    assert_eq!(Ok(Some(i(6))), sender.find_seen(CHILDREN, s(VALUE)));
+    runtime.lock().meet(&mut sender).unwrap();
+    assert_eq!(
+        Err(Fault::NoClass),
+        sender.find(ClassRef::instances_of(u32::MAX), s(VALUE))
+    );
+    assert_eq!(
+        None,
+        sender.recall(ClassRef::instances_of(1 << 31 | CHILD), s(VALUE), 6)
+    );
+    assert_eq!(
+        Err(Fault::OtherRuntime),
+        other.lock().fill(&mut sender, CHILDREN, s(VALUE))
+    );
+    assert_eq!(Err(Fault::OtherRuntime), other.lock().meet(&mut sender));
+}
+
+#[test]
+fn a_refused_change_is_no_change() {
+    let runtime = opened();
+    let mut sender = runtime.sender().unwrap();
+    sender.find(CHILDREN, s(VALUE)).unwrap();
+    runtime.lock().make_root_class(ROOT).unwrap_err();
+    assert_eq!(Some(i(1)), sender.recall(CHILDREN, s(VALUE), 4));
+    assert_eq!(Ok(Some(i(1))), sender.find(CHILDREN, s(VALUE)));
+}
+
+#[test]
+fn a_closed_runtime() {
+    let runtime = opened();
+    let mut sender = runtime.sender().unwrap();
+    sender.find(CHILDREN, s(VALUE)).unwrap();
+    runtime.clone().close().unwrap();
+    assert_eq!(Err(Fault::Closed), runtime.close());
+    assert_eq!(Err(Fault::Closed), runtime.lookup(CHILDREN, s(VALUE)));
+    assert_eq!(Some(Fault::Closed), runtime.sender().err());
+    assert_eq!(Ok(Some(i(1))), sender.find(CHILDREN, s(VALUE)));
+    assert_eq!(Err(Fault::Closed), sender.find(CHILDREN, s(TAKE)));
+}
+
+#[test]
+fn threads_beside_changes() {
+    fn is_send<T: Send>(_: &T) {}
+    let runtime = opened();
+    let over = AtomicBool::new(false);
+    std::thread::scope(|threads| {
+        for _ in 0..3 {
+            let mut sender: Sender = runtime.sender().unwrap();
+            is_send(&sender);
+            let over = &over;
+            threads.spawn(move || {
+                while !over.load(Ordering::SeqCst) {
+                    let found = sender.find(CHILDREN, s(NAME)).unwrap().unwrap().get();
+                    assert!([3, 8].contains(&found));
+                }
+                assert_eq!(Ok(Some(i(8))), sender.find(CHILDREN, s(NAME)));
+            });
+        }
+        for at in 0..1001 {
+            runtime
+                .lock()
+                .replace(CHILDREN, s(NAME), i(if at % 2 == 0 { 8 } else { 3 }))
+                .unwrap();
+        }
+        over.store(true, Ordering::SeqCst);
+    });
+}
