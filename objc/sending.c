@@ -103,11 +103,10 @@ static __attribute__((noinline)) IMP find_nothing(id receiver, SEL sel)
 /* At the begin of a line of the cache, as it is wherever the linker puts it. */
 __attribute__((aligned(LINE))) IMP objc_msg_lookup(id receiver, SEL sel)
 {
-    struct life *life;
     uint32_t number;
     if (__builtin_expect(!receiver, 0)) return nil_method;
-    if (__builtin_expect(!shim_note(receiver->isa, sel, &life, &number), 0)) return find_slowly(receiver, sel);
-    return __builtin_expect(number != 0, 1) ? shim_function(life, number) : find_nothing(receiver, sel);
+    if (__builtin_expect(!shim_note(receiver->isa, sel, &number), 0)) return find_slowly(receiver, sel);
+    return __builtin_expect(number != 0, 1) ? shim_function(number) : find_nothing(receiver, sel);
 }
 
 IMP objc_msg_lookup_super(struct objc_super *super_, SEL sel)
