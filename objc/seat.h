@@ -39,7 +39,7 @@ static inline bool shim_note(Class class_, SEL sel, uint32_t *number)
     atomic_signal_fence(memory_order_seq_cst);
     uint64_t key = __atomic_load_n(&class_->key, __ATOMIC_ACQUIRE) + sel->name.number;
     const msg_note *note = &sender->notes[(uint32_t)((key >> 27) + key) % MSG_NOTES];
-    *number = note->imp;
+    *number = __atomic_load_n(&note->imp, __ATOMIC_RELAXED);
     atomic_signal_fence(memory_order_seq_cst);
     memcpy(&noted, note, sizeof noted);
     bool is_of = noted == key && note->count == count;

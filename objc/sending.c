@@ -126,9 +126,9 @@ IMP class_getMethodImplementation(Class class_, SEL sel)
 
 BOOL class_respondsToSelector(Class class_, SEL sel)
 {
-    IMP imp;
+    uint32_t number;
     if (!class_ || !sel) return false;
-    if (shim_noted(class_, sel, &imp)) return imp || find_resolved(class_, sel);
+    if (shim_note(class_, sel, &number)) return number || find_resolved(class_, sel);
     return class_->record && !shim_in_construction(class_) && find_first(class_, sel);
 }
 
