@@ -145,8 +145,8 @@ static uint32_t find(struct record *record, uint32_t sel)
 
 IMP shim_find(Class class_, uint32_t sel)
 {
-    if (busy) {
-        ahead = true;
+    ahead = ahead || busy;
+    if (busy || shim_in_construction(class_)) {
         Method method = shim_standing(class_, sel);
         return method ? shim_imp(method) : NULL;
     }
@@ -252,12 +252,12 @@ void shim_leave_dead(void)
 void shim_open(void)
 {
     const char *said = getenv("MSG_CLASSES");
-    unsigned long classes = said ? strtoul(said, NULL, 10) : 0;
-    if (!classes || classes > MOST_CLASSES) classes = classes ? MOST_CLASSES : CLASS_NUMBERS;
+    unsigned long number = said ? strtoul(said, NULL, 10) : 0;
+    uint32_t classes = !number ? CLASS_NUMBERS : number > MOST_CLASSES ? MOST_CLASSES + 1 : (uint32_t)number;
     if (msg_sender_size() != sizeof(msg_sender)) shim_stop("the library is of another header", "msg_sender");
-    must(msg_open(&runtime, &(msg_config){.classes = (uint32_t)classes, .senders = SENDERS}), "runtime");
+    must(msg_open(&runtime, &(msg_config){.classes = classes, .senders = SENDERS}), "runtime");
     if (pthread_key_create(&key, at_thread_end)) shim_stop("no key", "pthread");
-    shim_class_room = (uint32_t)classes - 1;
+    shim_class_room = classes - 1;
 }
 
 /* Here, since this file is linked into every program. */

@@ -68,10 +68,7 @@ static inline IMP find_resolved(Class class_, SEL sel) { return resolve(class_, 
 static __attribute__((noinline, cold)) IMP find_first(Class class_, SEL sel)
 {
     if (!class_->record) shim_stop("a class is used before its superclass is there", class_->name);
-    if (shim_in_construction(class_)) {
-        Method method = shim_standing(class_, (uint32_t)sel->name.number);
-        return method ? shim_imp(method) : NULL;
-    }
+    if (shim_in_construction(class_)) return shim_look(class_, sel);
     ensure_initialized(class_);
     IMP imp = shim_look(class_, sel);
     return imp ? imp : find_resolved(class_, sel);
