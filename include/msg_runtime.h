@@ -3,7 +3,7 @@
  * What a call answers is proved of the Rattle code in crates/msg_c, clause by clause. Nothing checks a C program, so a host is TRUSTED with this:
  *
  *   - this header says what crates/msg_c exports;
- *   - pointers are not NULL, also of a slice of length 0 (but see msg_open_arrays), and point to as much as is said; a bool is 0 or 1;
+ *   - pointers are not NULL, also of a slice of length 0 (but see msg_open), and point to as much as is said; a bool is 0 or 1;
  *   - a handle starts as MSG_RUNTIME_INIT or MSG_SENDER_INIT (zero bytes), its bytes are then left alone, and it is not copied: it is moved at most;
  *   - a handle is in one call at a time. Calls that take a msg_runtime are made under one lock of the host's, its runtime lock (a pthread mutex, a GIL).
  *     Calls that take a msg_sender alone want no lock: any number of senders may be in them at once, beside one that has the lock;
@@ -15,9 +15,11 @@
  * Not trusted, since it is refused by a number: a handle that is closed, or opened twice; numbers of classes, selectors and implementations that are nobody's.
  *
  * Every call answers MSG_DONE or the number of a fault. After a fault nothing has changed and nothing was written to what a pointer points to.
- * No call blocks, panics or aborts. Classes are numbered from 0, selectors and implementations from 1, all as the document or the rows list them.
- * An implementation's number is at most the document's or the rows' count of implementations, so a host's array of so many pointers and one needs no test:
- * number 0 is _objc_msgForward, which is the host's to write.
+ * No call blocks, panics or aborts.
+ *
+ * A runtime opens without classes. All numbers are the host's to give: classes from 0, below the count of class numbers that the config reserves, selectors and implementations
+ * from 1, any of 32 bits. A class is made by msg_make_class or msg_make_root_class, and gets its methods by msg_attach, msg_add and msg_replace. What a lookup answers is a
+ * number that the host gave with a method, or 0, which is _objc_msgForward, the host's to write. Which name a number has, and how many arguments it takes, the host knows alone.
  */
 #ifndef MSG_RUNTIME_H
 #define MSG_RUNTIME_H
@@ -46,17 +48,12 @@ typedef struct { uint32_t number; bool meta; } msg_class;
 /* A method of a category. */
 typedef struct { uint32_t sel; uint32_t imp; } msg_method;
 
-/* Classes in arrays, for msg_open_rows. A name is `length` bytes from the byte `at` of one text of all names, of which names may share bytes. */
-typedef struct { uint32_t at, length; } msg_name;
-/* The class's number is its place, from 0. superclass is a class's number, before it or after it, or MSG_ROOT. The class has the next `methods` rows of methods as its
- * methods, and the next `class_methods` after those as its class methods. */
-typedef struct { msg_name name; uint32_t superclass, methods, class_methods; } msg_class_row;
-/* imp is an implementation's number. Selectors are numbered by where they first stand among the rows: 1 is forwardingTargetForSelector:, 2 the first other. */
-typedef struct { msg_name selector; uint32_t imp; } msg_method_row;
-/* The implementation's number is its place, from 1. home is the class in whose source it stands, or with meta that of the metaclass; args is the count of colons of the
- * selectors that it is listed for. */
-typedef struct { msg_name name; uint32_t home; bool meta; uint8_t args; } msg_imp_row;
-#define MSG_ROOT UINT32_MAX
+/* How much a runtime has room for. Fields of 32 bits; 0 is the default. Later fields come at the end. */
+typedef struct {
+    uint32_t classes;   /* class numbers are below this: 16,384 by default, at most 1,048,576 */
+    uint32_t senders;   /* how many may be open at once: 1,024 by default, at most 16,384 */
+    uint32_t arrays[9]; /* how many arrays of 4, 8, .., 1,024 entries there are for caches, at most 65,535 of each; all 0: 4,096 2,048 512 256 128 64 32 16 8 */
+} msg_config;
 
 /* What was done to caches since the runtime was opened. A count stays at its greatest value once it is there. */
 struct msg_report_row {
@@ -69,15 +66,13 @@ struct msg_report_row {
 
 enum {
     MSG_DONE = 0,
-    /* msg_open answers 1 to 18, the least fault of the text by docs/FORMAT.md; 17 is want of memory. msg_open_rows answers MSG_BAD_ROW or 4 to 18, the least of the
-     * form that the rows stand for. */
     /* Changes answer these; the first that holds. */
     MSG_NO_SUCH_CLASS = 1,      /* no class of the number, or it isn't made */
-    MSG_NO_SUCH_IMP = 2,        /* forwarding, or no implementation of the number */
-    MSG_ARGUMENT_COUNT = 3,     /* no selector of the number, or of another number of arguments than the implementation */
+    MSG_NO_SUCH_IMP = 2,        /* the implementation's number is 0 */
+    MSG_ARGUMENT_COUNT = 3,     /* never of a host's runtime: each implementation fits each selector */
     MSG_METHOD_PRESENT = 4,
     MSG_NO_METHOD = 5,
-    MSG_LIMIT = 6,              /* 65,536 changes were made, or more than 16,384 methods would stand */
+    MSG_LIMIT = 6,              /* 2^48 changes were made, or more than 2^32 - 1 methods would stand */
     MSG_CHANGE_MEMORY = 7,
     MSG_DUPLICATE_CLASS = 8,
     /* Any call answers these. */
@@ -85,32 +80,26 @@ enum {
     MSG_ALREADY_OPEN = 65,
     MSG_NO_CLASS = 66,          /* a class number of a question isn't below the count */
     MSG_NO_SELECTOR = 67,       /* a selector's number is 0 */
-    MSG_NO_SENDER = 68,         /* 64 senders are out */
+    MSG_NO_SENDER = 68,         /* as many senders as the config says are out */
     MSG_NO_MEMORY = 69,
-    MSG_NONE = 70,              /* there is none: no such name, no superclass, no method */
+    MSG_NONE = 70,              /* there is none: no superclass, no method */
     MSG_MISSED = 71,            /* of msg_probe: not cached. Ask msg_fill under the lock */
-    MSG_BAD_ROW = 72            /* of msg_open_rows: the rows stand for no form */
+    MSG_BAD_CONFIG = 73         /* of msg_open: beyond the most that is said beside a field, or a field that the library doesn't know */
 };
 
 /* ---- under the host's lock ---- */
 
-/* map_images: opens the image that the document's text spells, version 1 or 2. Its sends and changes are left aside. */
-uint32_t msg_open(msg_runtime *runtime, const uint8_t *text, size_t length);
-/* map_images, of classes in arrays: the image of the document of version 2 that the rows stand for. Nothing of the arrays is kept. `made` has the names of the classes that
- * may be made later, which are numbered after the rows'. MSG_BAD_ROW where a name lies outside the text of names, has more than 64 bytes or isn't UTF-8; where a class's or an
- * implementation's isn't letters, digits and _ with no digit first; where a number is no row's (a superclass, a home, an implementation from 1); where an implementation has
- * more than 4 arguments; and where the classes' counts together aren't the count of rows of methods. */
-uint32_t msg_open_rows(msg_runtime *runtime, const uint8_t *names, size_t length, const msg_class_row *classes, size_t class_count, const msg_method_row *methods,
-                       size_t method_count, const msg_imp_row *imps, size_t imp_count, const msg_name *made, size_t made_count);
+/* Opens a runtime without classes, with no change made. `words` fields of a msg_config are read: those beyond are the default, and where there are more than the library
+ * knows these have to be 0. So a host of an older or a newer header is understood, or refused by MSG_BAD_CONFIG. Then MSG_ALREADY_OPEN and MSG_NO_MEMORY are left. A host in C
+ * calls msg_open. */
+uint32_t msg_open_words(msg_runtime *runtime, const uint32_t *config, size_t words);
 uint32_t msg_close(msg_runtime *runtime);
 
+/* How many class numbers are reserved, as the config says. */
 uint32_t msg_class_count(msg_runtime *runtime, uint32_t *count);
 uint32_t msg_change_count(msg_runtime *runtime, uint64_t *count);
 uint32_t msg_report(msg_runtime *runtime, struct msg_report_row *report);
-/* objc_lookUpClass, sel_getUid: UTF-8, of the image's names alone. MSG_NONE where there is no such name. */
-uint32_t msg_find_class(msg_runtime *runtime, const uint8_t *name, size_t length, uint32_t *number);
-uint32_t msg_find_selector(msg_runtime *runtime, const uint8_t *name, size_t length, uint32_t *sel);
-/* class_getMethodImplementation: the lookup along the chain at the changes made so far; 0 is forwarding. It fills no cache. */
+/* class_getMethodImplementation: the lookup along the chain at the changes made so far; 0 is forwarding, as in a class that isn't made. It fills no cache. */
 uint32_t msg_lookup(msg_runtime *runtime, uint32_t number, bool meta, uint32_t sel, uint32_t *imp);
 /* class_getSuperclass. MSG_NONE for a root class, and for a class that isn't made. */
 uint32_t msg_superclass(msg_runtime *runtime, uint32_t number, bool meta, msg_class *above);
@@ -154,25 +143,13 @@ uint32_t msg_refresh(msg_sender *sender, uint64_t *count);
 }
 #endif
 
-/* ---- inline: opening arrays that are named one by one ---- */
+/* ---- inline: opening ---- */
 
-/* The arrays of msg_open_rows, each with its count. A pointer may be NULL where its count is 0. */
-typedef struct {
-    const uint8_t *names; size_t length;
-    const msg_class_row *classes; size_t class_count;
-    const msg_method_row *methods; size_t method_count;
-    const msg_imp_row *imps; size_t imp_count;
-    const msg_name *made; size_t made_count;
-} msg_arrays;
-
-static inline const void *msg_not_null(const void *at, const void *instead) { return at ? at : instead; }
-
-/* msg_open_rows. Trusted: this code, which gives each NULL's place to some pointer that isn't. */
-static inline uint32_t msg_open_arrays(msg_runtime *runtime, const msg_arrays *a)
+/* Opens a runtime; of a NULL all is by default. Trusted: this code, which gives the config's words. */
+static inline uint32_t msg_open(msg_runtime *runtime, const msg_config *config)
 {
-    return msg_open_rows(runtime, (const uint8_t *)msg_not_null(a->names, a), a->length, (const msg_class_row *)msg_not_null(a->classes, a), a->class_count,
-                         (const msg_method_row *)msg_not_null(a->methods, a), a->method_count, (const msg_imp_row *)msg_not_null(a->imps, a), a->imp_count,
-                         (const msg_name *)msg_not_null(a->made, a), a->made_count);
+    const msg_config by_default = {0, 0, {0}};
+    return msg_open_words(runtime, (const uint32_t *)(config ? config : &by_default), sizeof by_default / sizeof(uint32_t));
 }
 
 /* ---- inline: recalling, and finding: a probe, and after a miss a fill under the lock ----
@@ -196,15 +173,16 @@ static inline uint32_t msg_open_arrays(msg_runtime *runtime, const msg_arrays *a
 /* The slot and the selector of a lookup as one word, as they lie in a note on a little-endian machine, which the library is for. A host may keep msg_key(slot, 0) with each class, and add a selector's number to it. */
 static inline uint64_t msg_key(uint32_t slot, uint32_t sel) { return (uint64_t)slot << 32 | sel; }
 
-/* msg_recall without a call, for where each instruction counts: what the note at the one place of slot and selector says. Trusted: this code. With MSG_CHECK
- * each answer is compared with the proved one. */
+/* msg_recall without a call, for where each instruction counts: what the note at the one place of slot and selector says. The place is slot * 32 + sel, and a selector of
+ * more than 27 bits is looked for at another place, where it never stands: of it 0 is answered, so that msg_find is asked. Trusted: this code. With MSG_CHECK each answer for
+ * a selector of at most 27 bits is compared with the proved one. */
 static inline uint32_t msg_recall_key(const msg_sender *sender, uint64_t key, uint64_t count)
 {
-    const msg_note *note = &sender->notes[(uint32_t)((key >> 27) + key) % MSG_NOTES]; /* slot * 32 + sel: no selector's number has more than 27 bits */
+    const msg_note *note = &sender->notes[(uint32_t)((key >> 27) + key) % MSG_NOTES]; /* slot * 32 + sel, where sel has at most 27 bits */
     uint64_t noted;
     memcpy(&noted, note, sizeof noted);
     bool is_of = noted == key && note->count == count;
-    MSG_TEST((is_of ? note->imp : 0) == msg_recall(sender, key >> 32, (uint32_t)key, count));
+    MSG_TEST((uint32_t)key >> 27 || (is_of ? note->imp : 0) == msg_recall(sender, key >> 32, (uint32_t)key, count));
     return is_of ? note->imp : 0;
 }
 

@@ -62,7 +62,8 @@ bool shim_resolve(Class class_, SEL sel)
 }
 
 /* Where it is noted that nothing is found, or was found to be so: NULL is forwarding. */
-static inline IMP find_resolved(Class class_, SEL sel) { return resolve(class_, sel) ? shim_look(class_, sel) : NULL; }
+static inline IMP resolved(Class class_, SEL sel) { return resolve(class_, sel) ? shim_look(class_, sel) : NULL; }
+static __attribute__((noinline)) IMP find_resolved(Class class_, SEL sel) { return resolved(class_, sel); }
 
 /* Where nothing is noted, as before a class's first message. */
 static __attribute__((noinline, cold)) IMP find_first(Class class_, SEL sel)
@@ -93,7 +94,7 @@ static __attribute__((noinline, cold)) IMP find_slowly(id receiver, SEL sel) { r
 
 static __attribute__((noinline)) IMP find_nothing(id receiver, SEL sel)
 {
-    IMP imp = find_resolved(receiver->isa, sel);
+    IMP imp = resolved(receiver->isa, sel);
     return imp ? imp : shim_forward(receiver, sel);
 }
 
