@@ -106,7 +106,7 @@ void shim_leave_dead(void); /* closes the senders of threads that are gone */
 /* forwarding.c: what is called where no method is found. Without the lock. */
 IMP shim_forward(id receiver, SEL sel);
 
-/* life.c */
+/* runtime.c */
 void shim_open(void);
 /* A function's number, or 0 where there are no more. */
 uint32_t shim_number(IMP imp);
