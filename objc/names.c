@@ -15,13 +15,14 @@ struct typed { SEL sel; struct typed *next; };
     list(RESOLVE_CLASS, "resolveClassMethod:") list(FORWARD, "forward::") list(NOT_RECOGNIZED, "doesNotRecognize:") \
     list(RETAIN, "retain") list(RELEASE, "release") list(AUTORELEASE, "autorelease") list(COPY, "copyWithZone:") \
     list(MUTABLE_COPY, "mutableCopyWithZone:")
-#define NAME(number_, text_) [number_] = {text_, NULL, 0},
+#define NAME(number_, text_) [number_] = text_,
 #define SELECTOR(number_, text_) [number_] = {.name.number = number_},
 
 const struct objc_selector shim_own[FIRST_FREE] = {OWN(SELECTOR)};
+static const char *const own_names[FIRST_FREE] = {OWN(NAME)};
 /* By their numbers; `next`: the name that is found after it. */
-static struct { const char *text; struct typed *typed; uint32_t next; } names[MOST_SELECTORS + 1] = {OWN(NAME)};
-static uint32_t name_count = FIRST_FREE - 1, first[PLACES];
+static struct { const char *text; struct typed *typed; uint32_t next; } names[MOST_SELECTORS + 1];
+static uint32_t name_count, first[PLACES];
 
 void shim_stop(const char *why, const char *what)
 {
@@ -68,18 +69,17 @@ static uint32_t place_of(const char *name)
     return mixed % PLACES;
 }
 
-static void list(uint32_t *place, uint32_t number)
+static uint32_t list(const char *name, uint32_t *place)
 {
-    names[number].next = *place;
-    *place = number;
+    names[++name_count].text = name;
+    names[name_count].next = *place;
+    return *place = name_count;
 }
 
 /* The name's number, or 0; and where it would be listed. */
 static uint32_t number_of(const char *name, uint32_t **place)
 {
-    static bool own_are_there;
-    for (uint32_t i = INITIALIZE; !own_are_there && i < FIRST_FREE; i++) list(&first[place_of(names[i].text)], i);
-    own_are_there = true;
+    while (name_count < FIRST_FREE - 1) list(own_names[name_count + 1], &first[place_of(own_names[name_count + 1])]);
     *place = &first[place_of(name)];
     uint32_t number = **place;
     while (number && strcmp(names[number].text, name)) number = names[number].next;
@@ -89,10 +89,7 @@ static uint32_t number_of(const char *name, uint32_t **place)
 uint32_t shim_selector(const char *name)
 {
     uint32_t *place, number = number_of(name, &place);
-    if (number || name_count == MOST_SELECTORS) return number;
-    names[++name_count].text = shim_copy(name);
-    list(place, name_count);
-    return name_count;
+    return number || name_count == MOST_SELECTORS ? number : list(shim_copy(name), place);
 }
 
 static struct typed *typed_of(const char *name)
