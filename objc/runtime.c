@@ -62,7 +62,8 @@ void shim_give(char *unused)
 /* Of want of memory, since nothing else is left that the shim doesn't see to before. */
 static inline void must(uint32_t fault, const char *what)
 {
-    if (__builtin_expect(fault, 0)) shim_stop(fault == MSG_CHANGE_MEMORY || fault == MSG_NO_MEMORY ? "no memory" : "the tables refuse", what);
+    bool memory = fault == MSG_CHANGE_MEMORY || fault == MSG_NO_MEMORY;
+    if (__builtin_expect(fault, 0)) shim_stop(memory ? "no memory" : "the tables refuse", what);
 }
 
 uint32_t shim_number(IMP imp)
@@ -192,10 +193,11 @@ void shim_replace(struct record *record, struct row *row, uint32_t imp)
 void shim_exchange(struct record *one, struct row *row, struct record *other, struct row *other_row)
 {
     IMP imp = row->method->imp;
+    uint32_t number = other->number, sel = other_row->sel;
     shim_begin_change();
     shim_set_imp(row->method, other_row->method->imp);
     shim_set_imp(other_row->method, imp);
-    must(msg_exchange(&runtime, one->number, one->meta, row->sel, other->number, other->meta, other_row->sel), "exchange");
+    must(msg_exchange(&runtime, one->number, one->meta, row->sel, number, other->meta, sel), "exchange");
 }
 
 /* The newest first: of one name the first counts. */
@@ -224,7 +226,8 @@ void shim_make(Class class_)
     uint32_t number = class_->record->number;
     Class above = class_->superclass.class_;
     shim_begin_change();
-    must(above ? msg_make_class(&runtime, number, above->record->number) : msg_make_root_class(&runtime, number), class_->name);
+    if (above) must(msg_make_class(&runtime, number, above->record->number), class_->name);
+    else must(msg_make_root_class(&runtime, number), class_->name);
     shim_begin_change();
     shim_attach(class_, 0, 0);
 }
