@@ -1,13 +1,9 @@
 /* Methods that stand in classes, and changes of them: of the rows, and by the proved calls of the tables, under one
- * lock. Trusted: that rows and tables say the same after each change, and that a change that has no room changes
- * neither. */
+ * lock. Trusted: that rows and tables say the same after each change, and that a change for whose function there is no
+ * number changes neither. */
 #include "shim.h"
 #include <stdlib.h>
 #include <string.h>
-
-uint32_t shim_row_count;
-
-bool shim_room_for_rows(uint32_t more) { return shim_selector_count + shim_row_count + more <= MOST_ROWS; }
 
 /* The count is read first: so many rows any array has that is there then. */
 struct row *shim_row(struct record *record, uint32_t sel)
@@ -31,11 +27,7 @@ static void make_room(struct record *record)
 
 static void list(struct record *record, Method method)
 {
-    if (record->method_count == record->method_room) {
-        record->method_room = record->method_room * 2 + 8;
-        record->methods = realloc(record->methods, record->method_room * sizeof *record->methods);
-        if (!record->methods) shim_stop("no memory", "methods");
-    }
+    record->methods = shim_more(record->methods, record->method_count, &record->method_room, sizeof method);
     record->methods[record->method_count++] = method;
 }
 
@@ -50,7 +42,6 @@ void shim_put_row(struct record *record, Method method, uint32_t sel)
     if (record->count == record->room) make_room(record);
     record->rows->at[record->count] = (struct row){sel, method};
     record->count++;
-    shim_row_count++;
 }
 
 /* Goes through a class in construction, which has no place in the tables, to its superclass. */
@@ -63,28 +54,24 @@ Method shim_standing(Class class_, uint32_t sel)
     return NULL;
 }
 
-/* Whether a method can stand there too; of a class in construction its registration asks for the implementations. */
-static inline bool has_room(struct record *record, bool new, IMP imp)
-{
-    return (!new || shim_room_for_rows(1)) && (!record->number || shim_room_for(NULL, imp));
-}
-
 static bool put_new(struct record *record, SEL sel, IMP imp, const char *types)
 {
-    if (!has_room(record, true, imp)) return false;
+    uint32_t number = shim_number(imp);
+    if (!number) return false;
     Method method = shim_memory(sizeof *method);
     method->name.sel = shim_typed_selector(sel_getName(sel), types);
     method->types = shim_copy(types);
     method->imp = imp;
-    shim_add(record, method, (uint32_t)sel->name.number);
+    shim_add(record, method, (uint32_t)sel->name.number, number);
     return true;
 }
 
 static inline IMP set(struct record *record, struct row *row, IMP imp)
 {
     IMP before = row->method->imp;
-    if (!has_room(record, false, imp)) return NULL;
-    shim_replace(record, row, imp);
+    uint32_t number = shim_number(imp);
+    if (!number) return NULL;
+    shim_replace(record, row, number);
     return before;
 }
 
@@ -118,16 +105,23 @@ static struct row *home_of(Method method, struct record **record)
     return NULL;
 }
 
+/* Also of a method that stands nowhere, or in a class in construction. */
+static IMP set_any(struct record *record, struct row *row, Method method, IMP imp)
+{
+    if (row) return set(record, row, imp);
+    IMP before = method->imp;
+    if (!shim_number(imp)) return NULL;
+    shim_set_imp(method, imp);
+    return before;
+}
+
 IMP method_setImplementation(Method method, IMP imp)
 {
     if (!method || !imp) return NULL;
     struct record *record;
     LOCKED;
     struct row *row = home_of(method, &record);
-    if (row) return set(record, row, imp);
-    IMP before = method->imp;
-    shim_set_imp(method, imp);
-    return before;
+    return set_any(record, row, method, imp);
 }
 
 void method_exchangeImplementations(Method one, Method other)
@@ -140,10 +134,8 @@ void method_exchangeImplementations(Method one, Method other)
         shim_exchange(here, row, there, other_row);
         return;
     }
-    IMP imp = one->imp;
-    if (row || other_row) shim_outdate();
-    shim_set_imp(one, other->imp);
-    shim_set_imp(other, imp);
+    IMP imp = set_any(here, row, one, other->imp);
+    if (imp) set_any(there, other_row, other, imp);
 }
 
 static Method instance_method(Class class_, uint32_t sel)

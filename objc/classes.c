@@ -4,12 +4,12 @@
 #include <stdlib.h>
 #include <string.h>
 
-enum { PLACES = 4096 };
+enum { PLACES = 16384 };
 
 Class shim_classes[MOST_CLASSES + 1];
-uint32_t shim_class_count;
+uint32_t shim_class_count, shim_class_room;
 static uint32_t in_construction; /* for which a number is kept */
-static _Atomic(Class) by_name[PLACES];
+static _Atomic(Class) by_name[PLACES]; /* the last that came of each place, and before it its record's next */
 static objc_get_unknown_class_handler unknown_class;
 
 static uint32_t place_of(const char *name)
@@ -22,10 +22,9 @@ static uint32_t place_of(const char *name)
 /* No class leaves the table, so it is read without the lock. */
 Class shim_class_named(const char *name)
 {
-    for (uint32_t at = place_of(name);; at = (at + 1) % PLACES) {
-        Class class_ = atomic_load_explicit(&by_name[at], memory_order_acquire);
-        if (!class_ || !strcmp(class_->name, name)) return class_;
-    }
+    Class class_ = atomic_load_explicit(&by_name[place_of(name)], memory_order_acquire);
+    while (class_ && strcmp(class_->name, name)) class_ = class_->record->next;
+    return class_;
 }
 
 struct record *shim_new_record(Class class_, bool meta)
@@ -36,10 +35,11 @@ struct record *shim_new_record(Class class_, bool meta)
     return class_->record = record;
 }
 
-/* The class and its metaclass have records; the tables have them when they are opened next. */
+bool shim_has_class_number(void) { return shim_class_count + in_construction < shim_class_room; }
+
+/* The class and its metaclass have records. */
 void shim_number_class(Class class_)
 {
-    if (shim_class_count == MOST_CLASSES) shim_stop("too many classes", class_->name);
     shim_classes[++shim_class_count] = class_;
     class_->record->number = shim_class_count;
     class_->isa->record->number = shim_class_count;
@@ -48,9 +48,9 @@ void shim_number_class(Class class_)
 
 void shim_publish(Class class_)
 {
-    uint32_t at = place_of(class_->name);
-    while (atomic_load(&by_name[at])) at = (at + 1) % PLACES;
-    atomic_store(&by_name[at], class_);
+    _Atomic(Class) *place = &by_name[place_of(class_->name)];
+    class_->record->next = atomic_load(place);
+    atomic_store(place, class_);
 }
 
 Class objc_lookUpClass(const char *name) { return name ? shim_class_named(name) : NULL; }
@@ -126,7 +126,7 @@ Class objc_allocateClassPair(Class superclass, const char *name, size_t extra)
 {
     if (!name || objc_lookUpClass(name) || (superclass && (!superclass->record || shim_in_construction(superclass)))) return NULL;
     LOCKED;
-    if (shim_class_count + in_construction >= MOST_CLASSES) return NULL;
+    if (!shim_has_class_number()) return NULL;
     Class class_ = new_class(superclass, name, extra, CLASS_PLAIN);
     Class meta = class_ ? new_class(superclass ? superclass->isa : class_, name, extra, CLASS_META) : NULL;
     if (!meta) {
@@ -147,7 +147,6 @@ void objc_registerClassPair(Class class_)
     if (!class_ || class_isMetaClass(class_)) return;
     LOCKED;
     if (!shim_in_construction(class_) || shim_class_named(class_->name)) return;
-    if (shim_class_count == MOST_CLASSES || !shim_room_for(class_, NULL)) return;
     in_construction--;
     shim_number_class(class_);
     shim_make(class_);
@@ -161,7 +160,6 @@ static void free_methods(struct record *record)
         free((char *)rows->at[i].method->types);
         free(rows->at[i].method);
     }
-    shim_row_count -= record->count;
     for (struct rows *before; rows; rows = before) {
         before = rows->before;
         free(rows);

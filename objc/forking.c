@@ -10,10 +10,12 @@ static void before_fork(void)
     pthread_mutex_lock(&shim_initializing);
     shim_hold_places(true);
     shim_take();
+    shim_hold_senders(true);
 }
 
 static void give_all(void)
 {
+    shim_hold_senders(false);
     shim_give(NULL);
     shim_hold_places(false);
     pthread_mutex_unlock(&shim_initializing);

@@ -2,22 +2,21 @@
  * +load is sent once, a superclass's first. Trusted: that what a module says is taken once, in the order of classes
  * above others, and found by its name only with its methods. */
 #include "shim.h"
+#include <stdio.h>
 #include <string.h>
-
-enum { MOST_WAITING = 4096 };
 
 void (*_objc_load_callback)(Class, struct objc_category *);
 
-static struct { void *rows[MOST_WAITING]; uint32_t count; } classes, categories, constants;
+static struct waiting { void **rows; uint32_t count, room; } classes, categories, constants;
 
 /* What is to be done without the lock, in order: a +load that is sent, or, without an implementation, the callback of a class or category. */
 struct load { Class class_; struct objc_category *category; IMP imp; SEL sel; };
-static struct load loads[2 * MOST_WAITING];
-static uint32_t load_count, loaded_count;
+static struct load *loads;
+static uint32_t load_count, load_room, loaded_count;
 
 static void note_load(Class class_, struct objc_category *category, IMP imp, SEL sel)
 {
-    if (load_count == 2 * MOST_WAITING) shim_stop("too many +load", class_->name);
+    loads = shim_more(loads, load_count, &load_room, sizeof *loads);
     loads[load_count++] = (struct load){class_, category, imp, sel};
 }
 
@@ -26,7 +25,7 @@ static void take_method(Class class_, struct record *record, Method method)
 {
     const char *name = method->name.text;
     method->name.sel = shim_needed_selector(name, method->types);
-    if (!shim_room_for_rows(1)) shim_stop("too many methods", class_->name);
+    if (!shim_number(method->imp)) shim_stop("too many implementations", class_->name);
     if (record->meta && !strcmp(name, "load")) note_load(class_, NULL, method->imp, method->name.sel);
     shim_put_row(record, method, (uint32_t)method->name.sel->name.number);
 }
@@ -51,7 +50,18 @@ static void take_class(Class class_, Class above)
     take_lists(class_, class_->record, class_->methods);
     take_lists(class_, meta->record, meta->methods);
     shim_take_protocols(class_->protocols, shim_class_named("Protocol"));
+    shim_make(class_);
     shim_publish(class_);
+}
+
+/* A class for which there is no number waits, as one without its superclass. */
+static bool has_number(Class class_)
+{
+    static bool told;
+    bool has = shim_has_class_number();
+    if (!has && !told) fprintf(stderr, "objc: no class number is left for %s (MSG_CLASSES)\n", class_->name);
+    told = told || !has;
+    return has;
 }
 
 /* Whether the class no longer waits: a second class of a name is left aside. */
@@ -60,7 +70,7 @@ static bool try_class(void *row)
     Class class_ = row;
     if (shim_class_named(class_->name)) return true;
     Class above = class_->superclass.text ? shim_class_named(class_->superclass.text) : NULL;
-    if (class_->superclass.text && !above) return false;
+    if ((class_->superclass.text && !above) || !has_number(class_)) return false;
     take_class(class_, above);
     return true;
 }
@@ -80,9 +90,12 @@ static bool try_category(void *row)
     struct objc_category *category = row;
     Class class_ = shim_class_named(category->class_name);
     if (!class_) return false;
+    uint32_t from = class_->record->method_count, class_from = class_->isa->record->method_count;
     note_load(class_, category, NULL, NULL);
+    shim_begin_change();
     take_lists(class_, class_->record, category->methods);
     take_lists(class_, class_->isa->record, category->class_methods);
+    shim_attach(class_, from, class_from);
     adopt(class_, category->protocols);
     return true;
 }
@@ -100,36 +113,35 @@ static bool try_constants(void *row)
 }
 
 /* Those that no longer wait leave; the others keep their order. */
-static bool try_all(void **rows, uint32_t *count, bool (*try_one)(void *))
+static bool try_all(struct waiting *all, bool (*try_one)(void *))
 {
-    uint32_t left = 0;
-    for (uint32_t i = 0; i < *count; i++)
-        if (!try_one(rows[i])) rows[left++] = rows[i];
-    bool some = left < *count;
-    *count = left;
-    return some;
+    uint32_t left = 0, count = all->count;
+    for (uint32_t i = 0; i < count; i++)
+        if (!try_one(all->rows[i])) all->rows[left++] = all->rows[i];
+    all->count = left;
+    return left < count;
 }
 
-static void wait_row(void **rows, uint32_t *count, void *row)
+static void wait_row(struct waiting *all, void *row)
 {
-    if (*count == MOST_WAITING) shim_stop("too much waits", "module");
-    rows[(*count)++] = row;
+    all->rows = shim_more(all->rows, all->count, &all->room, sizeof row);
+    all->rows[all->count++] = row;
 }
 
 static void take_symbols(struct symbols *symbols)
 {
     for (struct objc_selector *sel = symbols->refs; sel && sel->name.text; sel++) shim_take_selector(sel);
     void **at = symbols->defs;
-    for (uint32_t i = 0; i < symbols->class_count; i++) wait_row(classes.rows, &classes.count, *at++);
-    for (uint32_t i = 0; i < symbols->category_count; i++) wait_row(categories.rows, &categories.count, *at++);
-    for (struct constants **list = *at; list && *list; list++) wait_row(constants.rows, &constants.count, *list);
+    for (uint32_t i = 0; i < symbols->class_count; i++) wait_row(&classes, *at++);
+    for (uint32_t i = 0; i < symbols->category_count; i++) wait_row(&categories, *at++);
+    for (struct constants **list = *at; list && *list; list++) wait_row(&constants, *list);
 }
 
 static void take_what_waits(void)
 {
-    while (try_all(classes.rows, &classes.count, try_class)) {}
-    try_all(categories.rows, &categories.count, try_category);
-    try_all(constants.rows, &constants.count, try_constants);
+    while (try_all(&classes, try_class)) {}
+    try_all(&categories, try_category);
+    try_all(&constants, try_constants);
 }
 
 static bool next_load(struct load *load)
@@ -150,14 +162,15 @@ static void send_loads(void)
     }
 }
 
-/* The tables are closed first: who finds a new class by its name before the next are there waits for the lock. */
 static void take_module(struct module *module)
 {
     static bool begun;
     LOCKED;
     if (begun && module == &shim_roots) return;
-    shim_outdate();
-    if (!begun) take_symbols(shim_roots.symbols);
+    if (!begun) {
+        shim_open();
+        take_symbols(shim_roots.symbols);
+    }
     begun = true;
     if (module != &shim_roots) take_symbols(module->symbols);
     take_what_waits();

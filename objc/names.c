@@ -1,11 +1,11 @@
-/* Numbers of selectors: equal names, equal numbers. They outlast every life of the runtime. Trusted: that equal names
- * have one number and others another, and that the numbers of the selectors that the shim sends are right. */
+/* Numbers of selectors: equal names, equal numbers. Trusted: that equal names have one number and others another, and
+ * that the numbers of the selectors that the shim sends are right. */
 #include "shim.h"
 #include <stdio.h>
 #include <stdlib.h>
 #include <string.h>
 
-enum { PLACES = 16384 };
+enum { PLACES = 65536 };
 
 /* The selectors of one name that differ in their types. */
 struct typed { SEL sel; struct typed *next; };
@@ -19,10 +19,10 @@ struct typed { SEL sel; struct typed *next; };
 #define SELECTOR(number_, text_) [number_] = {.name.number = number_},
 
 const struct objc_selector shim_own[FIRST_FREE] = {OWN(SELECTOR)};
-uint32_t shim_selector_count = FIRST_FREE - 1;
-static const char *names[MOST_SELECTORS + 1] = {OWN(NAME)};
-static struct typed *typed[MOST_SELECTORS + 1];
-static uint16_t name_at[PLACES];
+static const char *const own_names[FIRST_FREE] = {OWN(NAME)};
+/* By their numbers; `next`: the name that is found after it. */
+static struct { const char *text; struct typed *typed; uint32_t next; } names[MOST_SELECTORS + 1];
+static uint32_t name_count, first[PLACES];
 
 void shim_stop(const char *why, const char *what)
 {
@@ -51,6 +51,15 @@ char *shim_copy(const char *text)
     return copy;
 }
 
+void *shim_more(void *rows, uint32_t count, uint32_t *room, size_t size)
+{
+    if (count < *room) return rows;
+    *room = *room * 2 + 8;
+    rows = realloc(rows, *room * size);
+    if (!rows) shim_stop("no memory", "runtime");
+    return rows;
+}
+
 void shim_unlock(pthread_mutex_t **lock) { pthread_mutex_unlock(*lock); }
 
 static uint32_t place_of(const char *name)
@@ -60,28 +69,33 @@ static uint32_t place_of(const char *name)
     return mixed % PLACES;
 }
 
-static uint16_t *place_from(uint32_t at, const char *name)
+static uint32_t list(const char *name, uint32_t *place)
 {
-    while (name_at[at] && strcmp(names[name_at[at]], name)) at = (at + 1) % PLACES;
-    return &name_at[at];
+    names[++name_count].text = name;
+    names[name_count].next = *place;
+    return *place = name_count;
 }
 
-/* Where a name's number stands, or would. */
-static uint16_t *name_place(const char *name)
+/* The name's number, or 0; and where it would be listed. */
+static uint32_t number_of(const char *name, uint32_t **place)
 {
-    static bool own_are_there;
-    for (uint16_t i = INITIALIZE; !own_are_there && i < FIRST_FREE; i++) *place_from(place_of(names[i]), names[i]) = i;
-    own_are_there = true;
-    return place_from(place_of(name), name);
+    while (name_count < FIRST_FREE - 1) list(own_names[name_count + 1], &first[place_of(own_names[name_count + 1])]);
+    *place = &first[place_of(name)];
+    uint32_t number = **place;
+    while (number && strcmp(names[number].text, name)) number = names[number].next;
+    return number;
 }
 
 uint32_t shim_selector(const char *name)
 {
-    uint16_t *place = name_place(name);
-    if (*place) return *place;
-    if (shim_selector_count == MOST_SELECTORS || !shim_room_for_rows(1)) return 0;
-    names[++shim_selector_count] = shim_copy(name);
-    return *place = (uint16_t)shim_selector_count;
+    uint32_t *place, number = number_of(name, &place);
+    return number || name_count == MOST_SELECTORS ? number : list(shim_copy(name), place);
+}
+
+static struct typed *typed_of(const char *name)
+{
+    uint32_t *place;
+    return names[number_of(name, &place)].typed;
 }
 
 /* The same but for the places of the arguments, which programs write by hand without knowing them. */
@@ -99,16 +113,16 @@ static bool same_types(const char *one, const char *other)
 
 static SEL selector_of(uint32_t number, const char *types)
 {
-    for (struct typed *at = typed[number]; at; at = at->next)
+    for (struct typed *at = names[number].typed; at; at = at->next)
         if (same_types(at->sel->types, types)) return at->sel;
     return NULL;
 }
 
 static void note_selector(SEL sel)
 {
-    struct typed *node = shim_memory(sizeof *node);
-    *node = (struct typed){sel, typed[sel->name.number]};
-    typed[sel->name.number] = node;
+    struct typed *node = shim_memory(sizeof *node), **last = &names[sel->name.number].typed;
+    *node = (struct typed){sel, *last};
+    *last = node;
 }
 
 SEL shim_typed_selector(const char *name, const char *types)
@@ -154,7 +168,7 @@ SEL sel_getTypedSelector(const char *name)
     if (!name) return NULL;
     LOCKED;
     SEL found = NULL;
-    for (struct typed *at = typed[*name_place(name)]; at; at = at->next) {
+    for (struct typed *at = typed_of(name); at; at = at->next) {
         if (!at->sel->types) continue;
         if (found && !same_types(found->types, at->sel->types)) return NULL;
         found = at->sel;
@@ -167,7 +181,7 @@ SEL *sel_copyTypedSelectorList(const char *name, unsigned int *count)
     unsigned int many = 0;
     SEL *list = NULL;
     LOCKED;
-    struct typed *first = name ? typed[*name_place(name)] : NULL;
+    struct typed *first = name ? typed_of(name) : NULL;
     for (struct typed *at = first; at; at = at->next) many++;
     if (many) list = shim_memory((many + 1) * sizeof *list);
     many = 0;
@@ -176,6 +190,6 @@ SEL *sel_copyTypedSelectorList(const char *name, unsigned int *count)
     return list;
 }
 
-const char *sel_getName(SEL sel) { return sel ? names[sel->name.number] : "<null selector>"; }
+const char *sel_getName(SEL sel) { return sel ? names[sel->name.number].text : "<null selector>"; }
 const char *sel_getTypeEncoding(SEL sel) { return sel ? sel->types : NULL; }
 BOOL sel_isEqual(SEL one, SEL other) { return one && other ? one->name.number == other->name.number : one == other; }

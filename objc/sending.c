@@ -62,16 +62,14 @@ bool shim_resolve(Class class_, SEL sel)
 }
 
 /* Where it is noted that nothing is found, or was found to be so: NULL is forwarding. */
-static inline IMP find_resolved(Class class_, SEL sel) { return resolve(class_, sel) ? shim_look(class_, sel) : NULL; }
+static inline IMP resolved(Class class_, SEL sel) { return resolve(class_, sel) ? shim_look(class_, sel) : NULL; }
+static __attribute__((noinline)) IMP find_resolved(Class class_, SEL sel) { return resolved(class_, sel); }
 
 /* Where nothing is noted, as before a class's first message. */
 static __attribute__((noinline, cold)) IMP find_first(Class class_, SEL sel)
 {
     if (!class_->record) shim_stop("a class is used before its superclass is there", class_->name);
-    if (shim_in_construction(class_)) {
-        Method method = shim_standing(class_, (uint32_t)sel->name.number);
-        return method ? shim_imp(method) : NULL;
-    }
+    if (shim_in_construction(class_)) return shim_look(class_, sel);
     ensure_initialized(class_);
     IMP imp = shim_look(class_, sel);
     return imp ? imp : find_resolved(class_, sel);
@@ -96,18 +94,17 @@ static __attribute__((noinline, cold)) IMP find_slowly(id receiver, SEL sel) { r
 
 static __attribute__((noinline)) IMP find_nothing(id receiver, SEL sel)
 {
-    IMP imp = find_resolved(receiver->isa, sel);
+    IMP imp = resolved(receiver->isa, sel);
     return imp ? imp : shim_forward(receiver, sel);
 }
 
 /* At the begin of a line of the cache, as it is wherever the linker puts it. */
 __attribute__((aligned(LINE))) IMP objc_msg_lookup(id receiver, SEL sel)
 {
-    struct life *life;
     uint32_t number;
     if (__builtin_expect(!receiver, 0)) return nil_method;
-    if (__builtin_expect(!shim_note(receiver->isa, sel, &life, &number), 0)) return find_slowly(receiver, sel);
-    return __builtin_expect(number != 0, 1) ? shim_function(life, number) : find_nothing(receiver, sel);
+    if (__builtin_expect(!shim_note(receiver->isa, sel, &number), 0)) return find_slowly(receiver, sel);
+    return __builtin_expect(number != 0, 1) ? shim_function(number) : find_nothing(receiver, sel);
 }
 
 IMP objc_msg_lookup_super(struct objc_super *super_, SEL sel)
@@ -127,9 +124,9 @@ IMP class_getMethodImplementation(Class class_, SEL sel)
 
 BOOL class_respondsToSelector(Class class_, SEL sel)
 {
-    IMP imp;
+    uint32_t number;
     if (!class_ || !sel) return false;
-    if (shim_noted(class_, sel, &imp)) return imp || find_resolved(class_, sel);
+    if (shim_note(class_, sel, &number)) return number || find_resolved(class_, sel);
     return class_->record && !shim_in_construction(class_) && find_first(class_, sel);
 }
 

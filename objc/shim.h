@@ -11,10 +11,10 @@
 _Static_assert(sizeof(void *) == 8 && __BYTE_ORDER__ == __ORDER_LITTLE_ENDIAN__,
                "notes, keys and exception tables are read as on such a machine");
 
-/* A name takes a row of the tables, as a method does. */
-enum { MOST_SELECTORS = 4095, MOST_CLASSES = 1023, MOST_IMPS = 4095, MOST_ROWS = 16384, LINE = 64 };
+/* Of class numbers the tables reserve as many as shim_open says; the others are address space until they are used. */
+enum { MOST_SELECTORS = (1 << 20) - 1, MOST_CLASSES = (1 << 20) - 1, MOST_IMPS = (1 << 20) - 1, LINE = 64 };
 
-/* A method that stands in a class: what the proved tables hold, kept beside them, so that they can be opened anew. */
+/* A method that stands in a class: what the proved tables hold, kept beside them, since they know numbers alone. */
 struct row { uint32_t sel; Method method; };
 
 /* Handlers of signals read rows without the lock: what a larger array took the place of stays, behind it. */
@@ -22,12 +22,13 @@ struct rows { struct rows *before; struct row at[]; };
 
 enum { NOT_YET, RUNNING, DONE };
 
-/* `number` is 0 for a class in construction, which no tables hold. `plain`: of a metaclass's record, its class's;
- * else itself.
+/* `number` is 0 for a class in construction, which the tables don't hold. `plain`: of a metaclass's record, its
+ * class's; else itself. `next`: the class that is found after it by its name.
  * `methods`: all, in the order in which they came; a row has the last of a name. */
 struct record {
     bool meta;
     uint32_t number;
+    Class next;
     atomic_int initialized;
     struct record *plain;
     _Atomic(struct rows *) rows;
@@ -37,14 +38,16 @@ struct record {
 };
 
 extern pthread_mutex_t shim_lock;
-extern Class shim_classes[MOST_CLASSES + 1]; /* by number, from 1; class 0 of the tables lists the selectors */
-extern uint32_t shim_class_count, shim_selector_count, shim_row_count;
+extern Class shim_classes[MOST_CLASSES + 1]; /* by number, from 1; class 0 of the tables is never made */
+extern uint32_t shim_class_count, shim_class_room;
 
 /* Without the lock. */
 _Noreturn void shim_stop(const char *why, const char *what);
 void *shim_memory(size_t size);
 void *shim_lines(size_t size); /* zeros that begin with a cache line, of so many whole ones */
 char *shim_copy(const char *text);
+/* The same rows, with room for one more. */
+void *shim_more(void *rows, uint32_t count, uint32_t *room, size_t size);
 void shim_unlock(pthread_mutex_t **lock);
 /* Held to the end of the block, also where an exception leaves it. */
 #define HOLDING(lock) pthread_mutex_t *held __attribute__((cleanup(shim_unlock), unused)) = (pthread_mutex_lock(lock), (lock))
@@ -54,9 +57,8 @@ void shim_take(void);
 void shim_give(char *unused);
 #define LOCKED shim_take(); char locked __attribute__((cleanup(shim_give), unused))
 
-/* Selectors that the shim sends itself, by fixed numbers. 1 is every image's forwardingTargetForSelector:, to which
- * no class of a program's answers. */
-enum { INITIALIZE = 2, RESOLVE_INSTANCE, RESOLVE_CLASS, FORWARD, NOT_RECOGNIZED };
+/* Selectors that the shim sends itself, by fixed numbers. */
+enum { INITIALIZE = 1, RESOLVE_INSTANCE, RESOLVE_CLASS, FORWARD, NOT_RECOGNIZED };
 enum { RETAIN = NOT_RECOGNIZED + 1, RELEASE, AUTORELEASE, COPY, MUTABLE_COPY, FIRST_FREE };
 extern const struct objc_selector shim_own[FIRST_FREE];
 
@@ -69,8 +71,9 @@ void shim_take_selector(struct objc_selector *sel);
 /* classes.c */
 Class shim_class_named(const char *name); /* without the lock */
 struct record *shim_new_record(Class class_, bool meta);
+bool shim_has_class_number(void);
 void shim_number_class(Class class_);
-void shim_publish(Class class_); /* found by its name from now on: the tables have it, or there are none */
+void shim_publish(Class class_); /* found by its name from now on: the tables have it */
 static inline bool shim_in_construction(Class class_) { return class_->record && !class_->record->number; }
 
 /* roots.c: the module of Object, Protocol and NXConstantString; loading.c takes it. */
@@ -82,7 +85,6 @@ void shim_take_protocol(struct protocol *protocol, Class class_);
 void shim_take_protocols(struct protocol_list *list, Class class_);
 
 /* changing.c */
-bool shim_room_for_rows(uint32_t more);
 struct row *shim_row(struct record *record, uint32_t sel);
 void shim_put_row(struct record *record, Method method, uint32_t sel);
 Method shim_standing(Class class_, uint32_t sel); /* what the rows say; also without the lock */
@@ -98,26 +100,25 @@ void shim_care_for_forks(void);
 extern pthread_mutex_t shim_initializing;
 void shim_hold_places(bool hold);
 void shim_renew_property_locks(void);
-void shim_leave_dead(void);
+void shim_hold_senders(bool hold);
+void shim_leave_dead(void); /* closes the senders of threads that are gone */
 
 /* forwarding.c: what is called where no method is found. Without the lock. */
 IMP shim_forward(id receiver, SEL sel);
 
-/* life.c */
-/* The tables no longer hold what the rows say: the next look opens them anew. */
-void shim_outdate(void);
-/* Whether the tables can hold one more implementation, or the class's methods, beside all that stand: then they have
- * numbers. */
-bool shim_room_in_tables(Class class_, IMP imp);
-static inline bool shim_room_for(Class class_, IMP imp)
-{
-    return shim_row_count < MOST_IMPS || shim_room_in_tables(class_, imp);
-}
-/* A change of the rows, and of the tables that hold the class. */
-void shim_add(struct record *record, Method method, uint32_t sel);
-void shim_replace(struct record *record, struct row *row, IMP imp);
+/* runtime.c */
+void shim_open(void);
+/* A function's number, or 0 where there are no more. */
+uint32_t shim_number(IMP imp);
+/* A change of the rows, and of the tables where they hold the class: by the number of a function. */
+void shim_add(struct record *record, Method method, uint32_t sel, uint32_t imp);
+void shim_replace(struct record *record, struct row *row, uint32_t imp);
 void shim_exchange(struct record *one, struct row *row, struct record *other, struct row *other_row);
+/* The tables make the class, with the methods that it has; or attach those that came since it had so many, in a change
+ * that was begun before they came. */
 void shim_make(Class class_);
+void shim_begin_change(void);
+void shim_attach(Class class_, uint32_t from, uint32_t class_from);
 /* Where the method stands that the tables find, or NULL. */
 struct record *shim_holder(struct record *record, uint32_t sel);
 

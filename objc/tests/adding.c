@@ -1,4 +1,4 @@
-/* 1,000 methods are added beside senders: more names than one life reserves, so it is opened anew meanwhile. No send finds anything wrong. */
+/* 5,000 methods of new names are added beside senders. No send finds anything wrong. */
 #include "modules.h"
 #include <pthread.h>
 #include <stdatomic.h>
@@ -22,7 +22,7 @@ int main(void)
     pthread_t threads[2];
     size_t wrong = 0, missing = 0;
     for (int i = 0; i < 2; i++) pthread_create(&threads[i], NULL, work, object);
-    for (int i = 0; i < 1000; i++) {
+    for (int i = 0; i < 5000; i++) {
         char name[16];
         snprintf(name, sizeof name, "added%d", i);
         SEL sel = sel_registerName(name);

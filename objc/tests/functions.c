@@ -1,4 +1,4 @@
-/* 20,000 functions are an implementation one after the other, more than a life of the runtime has numbers for; two selectors have them in turn. */
+/* 20,000 functions are an implementation one after the other; two selectors have them in turn. */
 #include "modules.h"
 #include <stdlib.h>
 #include <sys/mman.h>

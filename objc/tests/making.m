@@ -1,4 +1,5 @@
-/* Classes made at run time: under a class, as a root, given up, of a name that is taken; and made while another thread sends. */
+/* Classes made at run time: under a class, as a root, given up, of a name that is taken; and 2,000 of them while
+ * another thread sends. */
 #include "../roots.h"
 #include <pthread.h>
 #include <stdio.h>
@@ -12,6 +13,8 @@
 - (long)number { return 1; }
 + (const char *)kind { return "maker"; }
 @end
+
+enum { MADE = 2000 };
 
 static int stop;
 static long two(id self, SEL sel) { return 2; }
@@ -28,7 +31,7 @@ static void *work(void *object)
 static int make_many(Class maker)
 {
     int wrong = 0;
-    for (int i = 0; i < 50; i++) {
+    for (int i = 0; i < MADE; i++) {
         char name[16];
         snprintf(name, sizeof name, "Made%d", i);
         Class made = objc_allocateClassPair(maker, name, 0);

@@ -1,4 +1,4 @@
-/* 70,000 changes, more than one life of the runtime takes: each is seen by the next send. */
+/* 70,000 changes: each is seen by the next send. */
 #include "modules.h"
 
 int main(void)

@@ -10,14 +10,6 @@
 
 enum { KINDS = 64, SECONDS = 2, PATIENCE = 30, ENOUGH = 10, EVERY = 150 };
 
-/* The first send after the tables were opened anew takes memory, of which ThreadSanitizer tells where a handler does
- * it; after 65,536 changes they are. */
-#ifdef SANITIZED
-enum { MOST_CHANGES = 60000 };
-#else
-enum { MOST_CHANGES = 100000000 };
-#endif
-
 __attribute__((objc_root_class)) @interface Base { Class isa; }
 + (int)value;
 + (int)other;
@@ -97,7 +89,7 @@ int main(void)
     setitimer(ITIMER_REAL, &(struct itimerval){{0, EVERY}, {0, EVERY}}, NULL);
     time_t end = time(NULL) + SECONDS + 1;
     for (long step = 1; time(NULL) < end || (few_handled() && time(NULL) < end + PATIENCE); step++) {
-        if (step < MOST_CHANGES) change(base->isa, step);
+        change(base->isa, step);
         look();
         if (step % 50 == 0) pthread_kill(beside, SIGUSR1);
     }

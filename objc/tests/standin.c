@@ -2,89 +2,90 @@
  * own logic where the archive isn't built, and under sanitizers: what is seen with it says nothing of the proved
  * dispatcher.
  * It goes the ways that the library goes: notes are written, so that a send hits; a shared cache is probed without a
- * lock; 64 senders are given out; closed tables are kept for their senders; the faults are the header's. What would
- * break the one `requires` that the header leaves ends the program. */
+ * lock; as many senders are given out as the config says; the faults are the header's. What would break the one
+ * `requires` that the header leaves ends the program. */
 #include "msg_runtime.h"
 #include <stdatomic.h>
 #include <stdlib.h>
 
-enum { CLASSES = 1024, SELECTORS = 4096, IMPS = 4096, CHANGES = 65536, ROWS = 16384, SENDERS = 64 };
-enum { PLACES = 8192, REFUSED = 18 };
+enum { CLASSES = 1 << 20, SENDERS = 1 << 14, ARRAYS = 65535, PLACES = 8192 };
+#define CHANGES (UINT64_C(1) << 48)
 
-/* A place of the cache: what was found for a slot and a selector at a version, as one word. */
-enum { VERSION_BITS = 21, IMP_BITS = 16, SEL_BITS = 14 };
+/* A method of a class, or an empty place. */
+struct cell { uint64_t key; uint32_t imp; };
+
+/* A place of the cache: what was found for a slot and a selector at a version, and their key mixed with it, so that
+ * who reads both words without a lock sees whether they are of one entry. */
+struct entry { _Atomic(uint64_t) mixed, found; };
+
+struct class { bool made; int64_t above; };
 
 struct tables {
-    uint16_t imps[CLASSES][2][SELECTORS];
-    int above[CLASSES];
-    bool made[CLASSES];
-    uint32_t last, classes, imp_count, rows;
-    _Atomic(uint64_t) version, cache[PLACES];
-    uint64_t out;
-    atomic_int users;
+    struct class *of;
+    struct cell *cells;
+    size_t cell_room, cell_count;
+    uint32_t classes, senders, out;
+    _Atomic(uint64_t) version;
+    struct entry cache[PLACES];
 };
 
 /* What a sender's handle points to. */
-struct asker { struct tables *tables; int number; uint64_t seen; };
-
-static void drop(struct tables *tables) { if (atomic_fetch_sub(&tables->users, 1) == 1) free(tables); }
+struct asker { struct tables *tables; uint64_t seen; };
 
 static void must(bool holds) { if (!holds) abort(); }
 
-/* The shim's own rows alone, whose selectors and implementations are named by their numbers. */
-static uint32_t number_in(const uint8_t *names, msg_name name)
+static void *zeros(size_t count, size_t size)
 {
-    return (uint32_t)strtoul((const char *)names + name.at + 1, NULL, 10);
+    void *memory = calloc(count, size);
+    must(memory);
+    return memory;
 }
 
-static const msg_method_row *put_rows(struct tables *tables, const uint8_t *names, uint16_t *imps,
-                                      const msg_method_row *row, uint32_t count)
+static uint64_t mix(uint64_t word) { return (word ^ word >> 29) * 0x9e3779b97f4a7c15; }
+
+/* Where the method of a key stands, or would. */
+static struct cell *cell(const struct tables *tables, uint64_t key)
 {
-    for (; count; count--, row++) {
-        uint32_t sel = number_in(names, row->selector);
-        must(sel && sel < SELECTORS && row->imp && row->imp <= tables->imp_count && !imps[sel]);
-        imps[sel] = (uint16_t)row->imp;
-        if (sel > tables->last) tables->last = sel;
-        tables->rows++;
+    size_t at = mix(key) >> 20 & (tables->cell_room - 1);
+    while (tables->cells[at].key && tables->cells[at].key != key) at = (at + 1) & (tables->cell_room - 1);
+    return &tables->cells[at];
+}
+
+static void put(struct tables *tables, uint64_t key, uint32_t imp)
+{
+    if (2 * (tables->cell_count + 1) > tables->cell_room) {
+        struct tables before = {.cells = tables->cells, .cell_room = tables->cell_room};
+        tables->cell_room *= 2;
+        tables->cells = zeros(tables->cell_room, sizeof(struct cell));
+        for (size_t i = 0; i < before.cell_room; i++)
+            if (before.cells[i].key) *cell(tables, before.cells[i].key) = before.cells[i];
+        free(before.cells);
     }
-    return row;
+    struct cell *at = cell(tables, key);
+    tables->cell_count += !at->key;
+    *at = (struct cell){key, imp};
 }
 
-uint32_t msg_open_rows(msg_runtime *runtime, const uint8_t *names, size_t length, const msg_class_row *classes,
-                       size_t class_count, const msg_method_row *methods, size_t method_count, const msg_imp_row *imps,
-                       size_t imp_count, const msg_name *made, size_t made_count)
+static bool is_config(const uint32_t *config, size_t words)
 {
-    (void)length, (void)imps, (void)made;
+    static const uint32_t most[] = {CLASSES, SENDERS, ARRAYS, ARRAYS, ARRAYS, ARRAYS, ARRAYS, ARRAYS, ARRAYS, ARRAYS, ARRAYS};
+    for (size_t i = 0; i < words; i++)
+        if (config[i] > (i < sizeof most / sizeof *most ? most[i] : 0)) return false;
+    return true;
+}
+
+uint32_t msg_open_words(msg_runtime *runtime, const uint32_t *config, size_t words)
+{
     if (runtime->open) return MSG_ALREADY_OPEN;
-    if (class_count + made_count > CLASSES || method_count > ROWS || imp_count > IMPS) return REFUSED;
-    struct tables *tables = calloc(1, sizeof *tables);
-    must(tables);
-    tables->classes = (uint32_t)(class_count + made_count);
-    tables->imp_count = (uint32_t)imp_count;
-    atomic_init(&tables->users, 1);
-    for (size_t i = 0; i < class_count; i++) {
-        tables->made[i] = true;
-        tables->above[i] = classes[i].superclass == MSG_ROOT ? -1 : (int)classes[i].superclass;
-        methods = put_rows(tables, names, tables->imps[i][0], methods, classes[i].methods);
-        methods = put_rows(tables, names, tables->imps[i][1], methods, classes[i].class_methods);
-    }
+    if (!is_config(config, words)) return MSG_BAD_CONFIG;
+    struct tables *tables = zeros(1, sizeof *tables);
+    tables->classes = words > 0 && config[0] ? config[0] : 16384;
+    tables->senders = words > 1 && config[1] ? config[1] : 1024;
+    tables->of = zeros(tables->classes, sizeof *tables->of);
+    tables->cell_room = 1024;
+    tables->cells = zeros(tables->cell_room, sizeof *tables->cells);
     *runtime = (msg_runtime){tables, true};
     return MSG_DONE;
-}
-
-uint32_t msg_close(msg_runtime *runtime)
-{
-    if (!runtime->open) return MSG_CLOSED;
-    drop(runtime->at);
-    *runtime = (msg_runtime){NULL, false};
-    return MSG_DONE;
-}
-
-uint32_t msg_find_selector(msg_runtime *runtime, const uint8_t *name, size_t length, uint32_t *sel)
-{
-    if (!runtime->open) return MSG_CLOSED;
-    *sel = (uint32_t)atoi((const char *)name + 1);
-    return length && *sel <= ((struct tables *)runtime->at)->last ? MSG_DONE : MSG_NONE;
 }
 
 static uint32_t fault_of(const struct tables *tables, uint32_t number, uint32_t sel)
@@ -94,12 +95,12 @@ static uint32_t fault_of(const struct tables *tables, uint32_t number, uint32_t 
 }
 
 /* Where the method stands, or a number below 0. A root's metaclass stands under the root. */
-static int holder(const struct tables *tables, uint32_t number, bool *meta, uint32_t sel)
+static int64_t holder(const struct tables *tables, uint32_t number, bool *meta, uint32_t sel)
 {
-    int at = tables->made[number] && sel < SELECTORS ? (int)number : -1;
-    while (at >= 0 && !tables->imps[at][*meta][sel]) {
-        if (tables->above[at] < 0 && *meta) *meta = false;
-        else at = tables->above[at];
+    int64_t at = tables->of[number].made ? (int64_t)number : -1;
+    while (at >= 0 && !cell(tables, msg_key(2 * (uint32_t)at + *meta, sel))->imp) {
+        if (tables->of[at].above < 0 && *meta) *meta = false;
+        else at = tables->of[at].above;
     }
     return at;
 }
@@ -110,8 +111,8 @@ uint32_t msg_lookup(msg_runtime *runtime, uint32_t number, bool meta, uint32_t s
     struct tables *tables = runtime->at;
     uint32_t fault = fault_of(tables, number, sel);
     if (fault) return fault;
-    int at = holder(tables, number, &meta, sel);
-    *imp = at < 0 ? 0 : tables->imps[at][meta][sel];
+    int64_t at = holder(tables, number, &meta, sel);
+    *imp = at < 0 ? 0 : cell(tables, msg_key(2 * (uint32_t)at + meta, sel))->imp;
     return MSG_DONE;
 }
 
@@ -120,23 +121,29 @@ uint32_t msg_holder(msg_runtime *runtime, uint32_t number, bool meta, uint32_t s
     if (!runtime->open) return MSG_CLOSED;
     uint32_t fault = fault_of(runtime->at, number, sel);
     if (fault) return fault;
-    int found = holder(runtime->at, number, &meta, sel);
+    int64_t found = holder(runtime->at, number, &meta, sel);
     if (found < 0) return MSG_NONE;
     *at = (msg_class){(uint32_t)found, meta};
     return MSG_DONE;
+}
+
+/* Of a change of a class, which comes by one more version. */
+static uint32_t refusal(const struct tables *tables, uint32_t number)
+{
+    if (number >= tables->classes || !tables->of[number].made) return MSG_NO_SUCH_CLASS;
+    return tables->version == CHANGES ? MSG_LIMIT : MSG_DONE;
 }
 
 uint32_t msg_replace(msg_runtime *runtime, uint32_t number, bool meta, uint32_t sel, uint32_t imp)
 {
     if (!runtime->open) return MSG_CLOSED;
     struct tables *tables = runtime->at;
-    if (number >= tables->classes || !tables->made[number]) return MSG_NO_SUCH_CLASS;
-    if (!imp || imp > tables->imp_count) return MSG_NO_SUCH_IMP;
-    if (!sel || sel > tables->last) return MSG_ARGUMENT_COUNT;
-    bool added = !tables->imps[number][meta][sel];
-    if (tables->version == CHANGES || (added && tables->rows == ROWS)) return MSG_LIMIT;
-    tables->rows += added;
-    tables->imps[number][meta][sel] = (uint16_t)imp;
+    uint32_t fault = refusal(tables, number);
+    if (fault == MSG_NO_SUCH_CLASS) return fault;
+    if (!sel) return MSG_NO_SELECTOR;
+    if (!imp) return MSG_NO_SUCH_IMP;
+    if (fault) return fault;
+    put(tables, msg_key(2 * number + meta, sel), imp);
     atomic_fetch_add(&tables->version, 1);
     return MSG_DONE;
 }
@@ -146,31 +153,63 @@ uint32_t msg_exchange(msg_runtime *runtime, uint32_t number, bool meta, uint32_t
 {
     if (!runtime->open) return MSG_CLOSED;
     struct tables *tables = runtime->at;
-    uint16_t *one = &tables->imps[number][meta][sel], *two = &tables->imps[other][other_meta][other_sel], kept = *one;
-    if (!*one || !*two) return MSG_NO_METHOD;
-    if (tables->version == CHANGES) return MSG_LIMIT;
-    *one = *two;
-    *two = kept;
+    uint32_t fault = refusal(tables, number), other_fault = refusal(tables, other);
+    if (fault || other_fault) return fault ? fault : other_fault;
+    int64_t at = holder(tables, number, &meta, sel), other_at = holder(tables, other, &other_meta, other_sel);
+    if (at < 0 || other_at < 0) return MSG_NO_METHOD;
+    struct cell *one = cell(tables, msg_key(2 * (uint32_t)at + meta, sel));
+    struct cell *two = cell(tables, msg_key(2 * (uint32_t)other_at + other_meta, other_sel));
+    uint32_t kept = one->imp;
+    one->imp = two->imp;
+    two->imp = kept;
     atomic_fetch_add(&tables->version, 1);
     return MSG_DONE;
 }
 
-static uint32_t make(msg_runtime *runtime, uint32_t number, int above)
+static uint32_t fault_in(const msg_method *methods, size_t count)
+{
+    for (size_t i = 0; i < count; i++) {
+        if (!methods[i].sel) return MSG_NO_SELECTOR;
+        if (!methods[i].imp) return MSG_NO_SUCH_IMP;
+    }
+    return MSG_DONE;
+}
+
+/* From the last, so that the earlier of a name counts. */
+static void put_all(struct tables *tables, uint32_t slot, const msg_method *methods, size_t count)
+{
+    while (count--) put(tables, msg_key(slot, methods[count].sel), methods[count].imp);
+}
+
+uint32_t msg_attach(msg_runtime *runtime, uint32_t number, const msg_method *methods, size_t count, const msg_method *class_methods, size_t class_count)
 {
     if (!runtime->open) return MSG_CLOSED;
     struct tables *tables = runtime->at;
-    if (number >= tables->classes || (above >= 0 && !tables->made[above])) return MSG_NO_SUCH_CLASS;
+    uint32_t fault = refusal(tables, number);
+    if (!fault) fault = fault_in(methods, count);
+    if (!fault) fault = fault_in(class_methods, class_count);
+    if (fault) return fault;
+    put_all(tables, 2 * number, methods, count);
+    put_all(tables, 2 * number + 1, class_methods, class_count);
+    atomic_fetch_add(&tables->version, 1);
+    return MSG_DONE;
+}
+
+static uint32_t make(msg_runtime *runtime, uint32_t number, int64_t above)
+{
+    if (!runtime->open) return MSG_CLOSED;
+    struct tables *tables = runtime->at;
+    if (number >= tables->classes || (above >= 0 && refusal(tables, (uint32_t)above) == MSG_NO_SUCH_CLASS)) return MSG_NO_SUCH_CLASS;
     if (tables->version == CHANGES) return MSG_LIMIT;
-    if (tables->made[number]) return MSG_DUPLICATE_CLASS;
-    tables->made[number] = true;
-    tables->above[number] = above;
+    if (tables->of[number].made) return MSG_DUPLICATE_CLASS;
+    tables->of[number] = (struct class){true, above};
     atomic_fetch_add(&tables->version, 1);
     return MSG_DONE;
 }
 
 uint32_t msg_make_class(msg_runtime *runtime, uint32_t number, uint32_t superclass)
 {
-    return make(runtime, number, (int)superclass);
+    return make(runtime, number, superclass);
 }
 
 uint32_t msg_make_root_class(msg_runtime *runtime, uint32_t number) { return make(runtime, number, -1); }
@@ -180,14 +219,11 @@ uint32_t msg_sender_open(msg_runtime *runtime, msg_sender *sender)
     if (!runtime->open) return MSG_CLOSED;
     if (sender->open) return MSG_ALREADY_OPEN;
     struct tables *tables = runtime->at;
-    int number = 0;
-    while (number < SENDERS && tables->out >> number & 1) number++;
-    if (number == SENDERS) return MSG_NO_SENDER;
+    if (tables->out == tables->senders) return MSG_NO_SENDER;
     struct asker *asker = malloc(sizeof *asker);
     if (!asker) return MSG_NO_MEMORY;
-    *asker = (struct asker){tables, number, atomic_load(&tables->version)};
-    tables->out |= (uint64_t)1 << number;
-    atomic_fetch_add(&tables->users, 1);
+    *asker = (struct asker){tables, atomic_load(&tables->version)};
+    tables->out++;
     sender->at = asker;
     sender->open = true;
     return MSG_DONE;
@@ -197,9 +233,8 @@ uint32_t msg_sender_close(msg_runtime *runtime, msg_sender *sender)
 {
     if (!sender->open) return MSG_CLOSED;
     struct asker *asker = sender->at;
-    must(!runtime->open || runtime->at == asker->tables);
-    if (runtime->open) asker->tables->out &= ~((uint64_t)1 << asker->number);
-    drop(asker->tables);
+    must(asker && runtime->at == asker->tables); /* in no other call */
+    asker->tables->out--;
     free(asker);
     memset(sender, 0, sizeof *sender);
     return MSG_DONE;
@@ -228,39 +263,38 @@ size_t msg_recall(const msg_sender *sender, size_t slot, uint32_t sel, uint64_t 
     return is_noted(sender, (uint32_t)slot, sel, count) ? note_at(sender, msg_key((uint32_t)slot, sel))->imp : 0;
 }
 
-static _Atomic(uint64_t) *place(struct tables *tables, uint32_t slot, uint32_t sel)
-{
-    return &tables->cache[(slot * 31 + sel * 7) % PLACES];
-}
+static struct entry *place(struct tables *tables, uint64_t key) { return &tables->cache[mix(key) >> 40 & (PLACES - 1)]; }
 
-/* One more than the version, since 0 is an empty place. */
-static uint64_t word(uint32_t slot, uint32_t sel, uint32_t imp, uint64_t version)
-{
-    return (((uint64_t)slot << SEL_BITS | sel) << IMP_BITS | imp) << VERSION_BITS | (version + 1);
-}
+/* One more than the version, since an empty place is of none. */
+static uint64_t found_at(uint32_t imp, uint64_t version) { return (uint64_t)imp << 32 | (uint32_t)(version + 1); }
 
 uint32_t msg_fill(msg_runtime *runtime, msg_sender *sender, uint32_t number, bool meta, uint32_t sel, uint32_t *imp)
 {
     if (!runtime->open || !sender->open) return MSG_CLOSED;
     struct asker *asker = sender->at;
-    must(runtime->at == asker->tables);
+    must(asker && runtime->at == asker->tables);
     uint32_t slot = 2 * number + meta, fault = msg_lookup(runtime, number, meta, sel, imp);
     if (fault) return fault;
     asker->seen = atomic_load(&asker->tables->version);
     note(sender, slot, sel, asker->seen, *imp);
-    atomic_store(place(asker->tables, slot, sel), word(slot, sel, *imp, asker->seen));
+    uint64_t key = msg_key(slot, sel), found = found_at(*imp, asker->seen);
+    struct entry *entry = place(asker->tables, key);
+    atomic_store(&entry->found, found);
+    atomic_store(&entry->mixed, key ^ mix(found));
     return MSG_DONE;
 }
 
 /* From the shared cache: of a version that the sender has seen, or sees by this. */
 static uint32_t probe(struct asker *asker, msg_sender *sender, uint32_t slot, uint32_t sel, uint32_t *imp)
 {
-    uint64_t cached = atomic_load(place(asker->tables, slot, sel));
+    uint64_t key = msg_key(slot, sel);
+    struct entry *entry = place(asker->tables, key);
+    uint64_t mixed = atomic_load(&entry->mixed), found = atomic_load(&entry->found);
     asker->seen = atomic_load(&asker->tables->version);
-    uint32_t found = (uint32_t)(cached >> VERSION_BITS & ((1u << IMP_BITS) - 1));
-    if (cached != word(slot, sel, found, asker->seen)) return MSG_MISSED;
-    *imp = found;
-    note(sender, slot, sel, asker->seen, found);
+    uint32_t is_imp = (uint32_t)(found >> 32);
+    if (mixed != (key ^ mix(found)) || found != found_at(is_imp, asker->seen)) return MSG_MISSED;
+    *imp = is_imp;
+    note(sender, slot, sel, asker->seen, is_imp);
     return MSG_DONE;
 }
 
