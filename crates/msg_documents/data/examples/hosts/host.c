@@ -97,14 +97,15 @@ static void *work(void *taken)
     return (void *)odd;
 }
 
-/* Zero bytes are closed handles. */
-static _Alignas(64) msg_sender senders[THREADS + 1];
+/* A sender's handle is written by each find of its thread, so each begins a line of the processor's cache. Zero bytes are a closed one. */
+typedef struct { _Alignas(64) msg_sender sender; } seat;
+static seat seats[THREADS + 1];
 
 static size_t exchange_beside_sends(void)
 {
     pthread_t threads[THREADS];
     size_t odd = 0;
-    for (int i = 0; i < THREADS; i++) pthread_create(&threads[i], NULL, work, &senders[i]);
+    for (int i = 0; i < THREADS; i++) pthread_create(&threads[i], NULL, work, &seats[i].sender);
     for (int i = 0; i < EXCHANGES; i++) want(CHANGE(msg_exchange(&runtime, SQUARE, false, AREA, SHAPE, false, SIDES)));
     for (int i = 0; i < THREADS; i++) {
         void *answer;
@@ -123,8 +124,8 @@ int main(void)
     want(msg_open(&runtime, &(msg_config){.classes = UNKNOWN, .senders = THREADS + 1}));
     make_classes();
 
-    for (int i = 0; i <= THREADS; i++) want(msg_sender_open(&runtime, &senders[i]));
-    msg_sender *own = &senders[THREADS], another = MSG_SENDER_INIT;
+    for (int i = 0; i <= THREADS; i++) want(msg_sender_open(&runtime, &seats[i].sender));
+    msg_sender *own = &seats[THREADS].sender, another = MSG_SENDER_INIT;
     printf("a sender too many: %u\n", msg_sender_open(&runtime, &another));
     object square = {SQUARE, 3}, tile = {TILE, 5};
     printf("area %u, sides %u\n", send(own, &square, AREA), send(own, &square, SIDES));
@@ -140,7 +141,7 @@ int main(void)
     printf("a method that is there: %u\n", CHANGE(msg_add(&runtime, SQUARE, false, AREA, SHAPE_AREA)));
     printf("a class that isn't there: %u\n", CHANGE(msg_make_class(&runtime, UNKNOWN, SQUARE)));
     printf("still recalled: sides %u\n", send_recalled(own, &tile, SIDES));
-    for (int i = 0; i <= THREADS; i++) want(msg_sender_close(&runtime, &senders[i]));
+    for (int i = 0; i <= THREADS; i++) want(msg_sender_close(&runtime, &seats[i].sender));
     want(msg_close(&runtime));
     printf("closed: %u\n", msg_close(&runtime));
     return 0;
