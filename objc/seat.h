@@ -29,23 +29,24 @@ static inline IMP shim_function(uint32_t imp) { return atomic_load_explicit(&shi
 
 /* What the note at the one place of a class and a selector says by all changes that were begun before, or false where
  * it is another's, or older. No sender notes anything for key 0, which all classes have until they were initialized.
- * As msg_recall_key, but in an order in which a handler of a signal may come between any two loads, and send: the
- * count comes first, then the number, and then it is seen that both are of one note. With MSG_CHECK it is compared
- * with the proved msg_recall. */
+ * As msg_recall_key, but in an order in which a handler of a signal may come between any two loads, and send: first it
+ * is seen that the note isn't older, then the number is loaded, then it is seen that it is the key's. So it is wrong
+ * only where the place had another key's, and the handler sends the same as what it interrupts between the last two.
+ * With MSG_CHECK it is compared with the proved msg_recall. */
 static inline bool shim_note(Class class_, SEL sel, uint32_t *number)
 {
     const msg_sender *sender = &shim_seat->sender;
     uint64_t count = atomic_load_explicit(&shim_tables.begun, memory_order_acquire), noted;
-    atomic_signal_fence(memory_order_seq_cst);
     uint64_t key = __atomic_load_n(&class_->key, __ATOMIC_ACQUIRE) + sel->name.number;
-    const msg_note *note = &sender->notes[(uint32_t)((key >> 27) + key) % MSG_NOTES];
+    const msg_note *note = sender->notes + (uint32_t)((key >> 27) + key) % MSG_NOTES;
+    if (__builtin_expect(note->count != count, 0)) return false;
+    atomic_signal_fence(memory_order_seq_cst);
     *number = __atomic_load_n(&note->imp, __ATOMIC_RELAXED);
     atomic_signal_fence(memory_order_seq_cst);
     memcpy(&noted, note, sizeof noted);
-    bool is_of = noted == key && note->count == count;
-    MSG_TEST(!is_of || msg_recall(sender, key >> 32, (uint32_t)key, count) == *number ||
+    MSG_TEST(noted != key || msg_recall(sender, key >> 32, (uint32_t)key, count) == *number ||
              msg_key(note->slot, note->sel) != key || note->count != count);
-    return is_of;
+    return noted == key;
 }
 
 /* The function that is noted, or NULL, which is number 0's, where it is noted that the lookup finds nothing. */

@@ -1,0 +1,123 @@
+/* A handler of a signal comes before each single instruction of a send, and of a change, and sends: what it finds, and
+ * what it came between, is by the changes that there are. */
+#define _GNU_SOURCE /* for the names of registers */
+#include "modules.h"
+#include <pthread.h>
+#include <signal.h>
+#include <ucontext.h>
+
+enum { ENDLESS = 100000 };
+
+static SEL first, second;
+static id object;
+static long wrong, handled;
+
+#if defined(__x86_64__) && !defined(SANITIZED)
+enum { TRAP = 1 << 8 };
+
+static volatile long step, at;
+
+static void on_step(int number, siginfo_t *info, void *context)
+{
+    (void)number, (void)info;
+    if (step++ < at) return;
+    handled = send(object, first);
+    ((ucontext_t *)context)->uc_mcontext.gregs[REG_EFL] &= ~TRAP;
+}
+
+static inline __attribute__((always_inline)) void trap(int on)
+{
+    unsigned long flags = __builtin_ia32_readeflags_u64();
+    __builtin_ia32_writeeflags_u64(on ? flags | TRAP : flags & ~(unsigned long)TRAP);
+}
+
+static void set_handler(void)
+{
+    struct sigaction action = {.sa_sigaction = on_step, .sa_flags = SA_SIGINFO};
+    sigaction(SIGTRAP, &action, NULL);
+}
+
+static IMP lookup(SEL sel)
+{
+    trap(1);
+    IMP imp = objc_msg_lookup(object, sel);
+    trap(0);
+    return imp;
+}
+
+static void replace(SEL sel, IMP imp)
+{
+    trap(1);
+    class_replaceMethod(&root, sel, imp, "@16@0:8");
+    trap(0);
+}
+
+/* Whether the handler came so late that there was no such step. */
+static int begin(long next)
+{
+    int over = next && step < at + 1;
+    at = next;
+    step = handled = 0;
+    return over;
+}
+#else
+static void set_handler(void) {}
+static IMP lookup(SEL sel) { return objc_msg_lookup(object, sel); }
+static void replace(SEL sel, IMP imp) { class_replaceMethod(&root, sel, imp, "@16@0:8"); }
+static int begin(long next) { return next > 1; }
+#endif
+
+static IMP other_of(long next) { return next & 1 ? one : two; }
+static long answer_of(long next) { return next & 1 ? 11 : 12; }
+
+/* In another thread, so that what this thread has noted is older. */
+static void *change(void *imp)
+{
+    class_replaceMethod(&root, first, (IMP)imp, "@16@0:8");
+    return NULL;
+}
+
+static int is_or(long answer, long before, long after) { return !answer || answer == before || answer == after; }
+
+static long send_each(SEL sel, int older)
+{
+    long next = 0;
+    for (; next < ENDLESS && !begin(next); next++) {
+        pthread_t thread;
+        long expected = answer_of(next);
+        if (older) pthread_create(&thread, NULL, change, (void *)other_of(next)), pthread_join(thread, NULL);
+        else change((void *)other_of(next));
+        long found = (long)lookup(sel)(object, sel);
+        if (sel == first && found != expected) wrong++;
+        if (!is_or(handled, expected, expected) || send(object, first) != expected) wrong++;
+    }
+    return next;
+}
+
+static long change_each(void)
+{
+    long next = 0;
+    change((void *)other_of(1));
+    for (; next < ENDLESS && !begin(next); next++) {
+        replace(first, other_of(next));
+        if (!is_or(handled, answer_of(next + 1), answer_of(next)) || send(object, first) != answer_of(next)) wrong++;
+    }
+    return next;
+}
+
+int main(void)
+{
+    take();
+    first = sel_registerName("one");
+    second = sel_registerName("two");
+    object = class_createInstance(&child, 0);
+    send(object, first);
+    send(object, second);
+    set_handler();
+    long ended = send_each(first, 1) < ENDLESS && send_each(second, 1) < ENDLESS;
+    ended += send_each(first, 0) < ENDLESS && send_each(second, 0) < ENDLESS;
+    ended += change_each() < ENDLESS;
+    printf("tried %ld, wrong %ld\n", ended, wrong);
+    object_dispose(object);
+    return 0;
+}
