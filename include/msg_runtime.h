@@ -55,13 +55,17 @@ typedef struct {
     uint32_t arrays[9]; /* how many arrays of 4, 8, .., 1,024 entries there are for caches, at most 65,535 of each; all 0: 4,096 2,048 512 256 128 64 32 16 8 */
 } msg_config;
 
-/* What was done to caches since the runtime was opened. A count stays at its greatest value once it is there. */
+/* What was done to caches since the runtime was opened. A count stays at its greatest value once it is there. Fields of 64 bits; later ones come at the end. */
 struct msg_report_row {
     uint64_t fills;       /* entries that were stored in caches */
     uint64_t growths;     /* arrays that were installed for an entry */
     uint64_t flushes;     /* class references whose live array a change took away */
     uint64_t retired;     /* arrays that were taken away, by a change or by a growth */
     uint64_t given_again; /* installs of an array that was installed before */
+    uint64_t collections; /* looks at all senders, for arrays that nobody holds any more */
+    uint64_t freed;       /* arrays that became free by them: as many as were taken away and aren't among these wait for a sender */
+    uint64_t no_array[9]; /* entries that weren't cached, since no array of 4, 8, .., 1,024 entries was free */
+    uint64_t refused_senders; /* senders that were asked for while all were out */
 };
 
 enum {
@@ -98,7 +102,8 @@ uint32_t msg_close(msg_runtime *runtime);
 /* How many class numbers are reserved, as the config says. */
 uint32_t msg_class_count(msg_runtime *runtime, uint32_t *count);
 uint32_t msg_change_count(msg_runtime *runtime, uint64_t *count);
-uint32_t msg_report(msg_runtime *runtime, struct msg_report_row *report);
+/* As many fields of a msg_report_row as there is room for; words beyond the fields that the library knows are then 0. A host in C calls msg_report. */
+uint32_t msg_report_words(msg_runtime *runtime, uint64_t *words, size_t count);
 /* class_getMethodImplementation: the lookup along the chain at the changes made so far; 0 is forwarding, as in a class that isn't made. It fills no cache. */
 uint32_t msg_lookup(msg_runtime *runtime, uint32_t number, bool meta, uint32_t sel, uint32_t *imp);
 /* class_getSuperclass. MSG_NONE for a root class, and for a class that isn't made. */
@@ -150,6 +155,14 @@ static inline uint32_t msg_open(msg_runtime *runtime, const msg_config *config)
 {
     const msg_config by_default = {0, 0, {0}};
     return msg_open_words(runtime, (const uint32_t *)(config ? config : &by_default), sizeof by_default / sizeof(uint32_t));
+}
+
+/* ---- inline: reporting ---- */
+
+/* Trusted: this code, which gives the row's words. */
+static inline uint32_t msg_report(msg_runtime *runtime, struct msg_report_row *report)
+{
+    return msg_report_words(runtime, (uint64_t *)report, sizeof *report / sizeof(uint64_t));
 }
 
 /* ---- inline: recalling, and finding: a probe, and after a miss a fill under the lock ----
