@@ -22,7 +22,9 @@ static IMP hook(id self, SEL sel) { return (IMP)by_hook; }
 + (int)value { return 1; }
 + (BOOL)resolveClassMethod:(SEL)sel
 {
-    return sel_isEqual(sel, @selector(late)) && class_addMethod(objc_getMetaClass("Base"), sel, (IMP)late, "i16@0:8");
+    if (!sel_isEqual(sel, @selector(late))) return 0;
+    class_addMethod(objc_getMetaClass("Base"), sel, (IMP)late, "i16@0:8"); /* unless another thread was here before */
+    return 1;
 }
 @end
 

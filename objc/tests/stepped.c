@@ -2,7 +2,6 @@
  * what it came between, is by the changes that there are. */
 #define _GNU_SOURCE /* for the names of registers */
 #include "modules.h"
-#include <pthread.h>
 #include <signal.h>
 #include <ucontext.h>
 
@@ -70,11 +69,12 @@ static int begin(long next) { return next > 1; }
 static IMP other_of(long next) { return next & 1 ? one : two; }
 static long answer_of(long next) { return next & 1 ? 11 : 12; }
 
-/* In another thread, so that what this thread has noted is older. */
-static void *change(void *imp)
+/* What this thread has noted is then older, since an exchange notes nothing, or of the change. */
+static long change(int older, long next)
 {
-    class_replaceMethod(&root, first, (IMP)imp, "@16@0:8");
-    return NULL;
+    if (older) method_exchangeImplementations(class_getInstanceMethod(&root, first), class_getInstanceMethod(&root, second));
+    else class_replaceMethod(&root, first, other_of(next), "@16@0:8");
+    return older ? (long)method_getImplementation(class_getInstanceMethod(&root, first))(object, first) : answer_of(next);
 }
 
 static int is_or(long answer, long before, long after) { return !answer || answer == before || answer == after; }
@@ -83,11 +83,7 @@ static long send_each(SEL sel, int older)
 {
     long next = 0;
     for (; next < ENDLESS && !begin(next); next++) {
-        pthread_t thread;
-        long expected = answer_of(next);
-        if (older) pthread_create(&thread, NULL, change, (void *)other_of(next)), pthread_join(thread, NULL);
-        else change((void *)other_of(next));
-        long found = (long)lookup(sel)(object, sel);
+        long expected = change(older, next), found = (long)lookup(sel)(object, sel);
         if (sel == first && found != expected) wrong++;
         if (!is_or(handled, expected, expected) || send(object, first) != expected) wrong++;
     }
@@ -97,7 +93,7 @@ static long send_each(SEL sel, int older)
 static long change_each(void)
 {
     long next = 0;
-    change((void *)other_of(1));
+    change(0, 1);
     for (; next < ENDLESS && !begin(next); next++) {
         replace(first, other_of(next));
         if (!is_or(handled, answer_of(next + 1), answer_of(next)) || send(object, first) != answer_of(next)) wrong++;
