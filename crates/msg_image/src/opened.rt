@@ -17,7 +17,7 @@ use std::alloc::{AllocError, Global};
 pub const MAX_ROWS: u32 = MAX_ENTRIES as u32;
 
 /// How many changes of a document's tables are accepted.
-pub const MAX_CHANGES: u32 = 65_536;
+pub const MAX_CHANGES: u64 = 65_536;
 
 /// How many senders there may be beside a document's changes.
 pub const MAX_SENDERS: u32 = 64;
@@ -173,7 +173,7 @@ impl Base {
         let counts = self.counts(alloc)?;
         let limits = Limits {
             rows: MAX_ROWS,
-            changes: u64::from(MAX_CHANGES),
+            changes: MAX_CHANGES,
             senders: MAX_SENDERS,
             words: MAX_WORDS,
         };
