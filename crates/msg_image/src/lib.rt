@@ -17,5 +17,5 @@ pub use expr::Expr;
 pub use image::{Category, Imp};
 pub use msg_form::{DocumentFault, MAX_CLASSES, MAX_ENTRIES, MAX_ITEMS};
 pub use msg_tables::{Change, MethodList};
-pub use opened::{MAX_CHANGES, MAX_ROWS};
+pub use opened::{MAX_CHANGES, MAX_ROWS, MAX_SENDERS, MAX_WORDS};
 pub use whole::Image;
