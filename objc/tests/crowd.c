@@ -5,7 +5,12 @@
 #include <stdatomic.h>
 #include <unistd.h>
 
-enum { THREADS = 1100, AFTER = 300, TURNS = 100, CHANGES = 2000, STACK = 1 << 18 };
+#ifdef SANITIZED /* under which a thread takes some fifty times as long */
+enum { AFTER = 30, TURNS = 5, CHANGES = 100 };
+#else
+enum { AFTER = 300, TURNS = 100, CHANGES = 2000 };
+#endif
+enum { THREADS = 1100, STACK = 1 << 18 };
 
 static SEL first;
 static atomic_int begun, over;
