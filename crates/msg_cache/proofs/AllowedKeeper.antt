@@ -1,5 +1,5 @@
 -- The keeper's steps are allowed by the rule, in the form that the table asks for.
-use Rattle.std.proofs.Common.{◌≡◌, ◌≢◌, ℕ, suc, ◌+◌, ◌<◌, List, [], ◌∷◌, ◌++◌, length, false, None, sym, ap, ◌∙◌, subst}
+use Rattle.std.proofs.Common.{◌≡◌, ◌≢◌, ℕ, suc, ◌+◌, ◌-◌, ◌<◌, ◌≤◌, List, [], ◌∷◌, ◌++◌, length, false, None, sym, ap, ◌∙◌, subst, arith}
 use Rattle.std.specs.Prelude.{slice_index, slice_set, ◌==◌}
 use mathlib.Core.Option.{some, none}
 use lib.ListN.{get_elem?}
@@ -23,10 +23,11 @@ use Rattle.msg_cache.specs.declared.view.View.{View}
 use Rattle.msg_cache.specs.declared.view.View.TheVariants.{Sender, Keeper, Turn, Spent}
 use Rattle.msg_cache.specs.Layout.{SettingView, layout_of, header_at, base, probe_at}
 use Rattle.msg_cache.specs.Rule.{live_in, word_in, Ruled, RuledBy, IsTidy, TidyBy, holds, shown_by}
-use Rattle.msg_cache.specs.Plays.{Sat, keeper_of, stored, flushed, installed, committed, looked, given_out, taken_in, newcomer, lent, at_home, kept, Recalls, Stores, Flushes, Installs, Commits, Looks, Witnesses}
+use Rattle.msg_cache.specs.Plays.{Sat, keeper_of, stored, flushed, installed, committed, looked, rest_looked, given_out, taken_in, newcomer, lent, at_home, kept, Recalls, Stores, Flushes, Installs, Commits, Looks, RestLooks, Witnesses}
 use Rattle.msg_cache.proofs.LayoutLemmas.{header_same}
 use Rattle.msg_core.proofs.LegalSteps.{may_commit}
 use Rattle.msg_cache.proofs.KeeperLemmas.{fill_step, clear_step, commit_step, flush_step, install_step, look_step, idle_step}
+use Rattle.msg_cache.proofs.NobodyLemmas.{rest_step}
 use Rattle.msg_cache.proofs.SeatLemmas.{at_below}
 use Rattle.msg_cache.proofs.TokenLemmas.{give_step, take_step, lend_step, home_step}
 
@@ -135,6 +136,18 @@ module _ (look : History → ClassRef → ℕ → ℕ) (key : SettingView) (slot
         tt,
         subst (λ (x : KeeperView). RuledBy look key (slice_set st.words i f) (slice_set st.views id (Keeper (looked n (f == 0) x)))) e (look_step look (layout_of key) key.origin st.words st.views r id (at_own st r at) n lt).1.0,
         sat_is (looked n (f == 0) (keeper_of m.0)),
+      )
+
+  pub rest_allowed : (n : ℕ) → n ≤ key.senders → ((i : ℕ) → n ≤ i → awaits (keeper_of m.0).given i ≡ false) → Allows (holds look key) slots id m 0 (λ x. x) (RestLooks n key.senders (step slots 0 0 0 none) m)
+  rest_allowed n le nobody st r homes at bound =
+      let e : r.keeper ≡ keeper_of m.0 = own st r at in
+      let d : ℕ = key.senders - n in (
+        Keeper (rest_looked n d (keeper_of m.0)),
+        keeps,
+        tt,
+        subst (λ (x : KeeperView). RuledBy look key (slice_set st.words 0 (slice_index st.words 0)) (slice_set st.views id (Keeper (rest_looked n d x)))) e
+            (rest_step look (layout_of key) key.origin st.words st.views r id (at_own st r at) n d (omega arith) (λ i il. ap (λ (x : KeeperView). awaits x.given i) e ∙ nobody i il)).ruled,
+        sat_is (rest_looked n d (keeper_of m.0)),
       )
 
   pub witness_allowed : Allows (holds look key) slots id m 0 (λ x. x) (Witnesses (step slots 0 0 0 none) m)

@@ -16,7 +16,7 @@ use Rattle.msg_core.specs.declared.state.Standing.{Standing}
 use Rattle.msg_core.specs.declared.state.Standing.TheVariants.{Free, Live, Retired}
 use Rattle.msg_core.specs.declared.state.Whereabouts.{Whereabouts}
 use Rattle.msg_core.specs.declared.state.Whereabouts.TheVariants.{Out, In, Holding}
-use Rattle.msg_core.specs.State.{Layout, State, capacity, size, state_from, Sound}
+use Rattle.msg_core.specs.State.{Layout, State, capacity, size, awaits, state_from, Sound}
 use Rattle.msg_core.specs.Steps.{at, stored as stored_at, retired, everyone, seen_out, is_out, after, Legal}
 use Rattle.msg_core.specs.View.{standing_at}
 use Rattle.msg_core.proofs.KeepLemmas.{looked_retired}
@@ -279,6 +279,20 @@ module _ (look : History → ClassRef → ℕ → ℕ) (z : Layout) (origin : Or
           (λ d b m aw h. let t = looked_retired n d m aw (standing_at r.keeper.standings b) (sym (ap (λ f. f b) (standings_looked n r.keeper.standings)) ∙ h) in inl (t.0, t.1)) (inl (refl, refl)))
       by_place In e = inside_it In e refl (λ h. cc)
       by_place (Holding c a) e = inside_it (Holding c a) e refl (λ h. cc)
+
+  -- nobody has a sender number: it is out, and awaited no more
+  pub out_step : (n : ℕ) → n < z.senders → awaits r.keeper.given n ≡ false → GoesBy look z origin r (Look n) words (slice_set views id (Keeper (looked n true r.keeper)))
+  out_step n lt nobody =
+      let k = r.keeper in
+      let gone : r.whereabouts n ≡ Out = r.outside n nobody in
+      let seen : standing_at (map (seen_out n) k.standings) ≡ (if is_out (r.whereabouts n) then (λ a. seen_out n (standing_at k.standings a)) else standing_at k.standings) =
+      standings_looked n k.standings ∙ sym (ap (λ p. if is_out p then (λ a. seen_out n (standing_at k.standings a)) else standing_at k.standings) gone) in
+      by_event words (looked n true k) (Look n) (kept_looked z origin k n true r.kept)
+      (record { copied = r.copies.copied; probed = r.copies.probed; count = r.copies.count })
+      (may_look look z (shown_by look z origin r) n lt)
+      (λ j. state_from k.history (live_in z k.words) (word_in z k.words) (seen j) r.whereabouts)
+      refl (begins_refl k.history)
+      (λ d b m aw h. let t = looked_retired n d m aw (standing_at k.standings b) (sym (ap (λ f. f b) (standings_looked n k.standings)) ∙ h) in inl (t.0, t.1)) (inl (refl, refl))
 
   -- a load that changes no view
   pub idle_step : (i : ℕ) → Stays look z origin r (slice_set words i (slice_index words i)) (slice_set views id (Keeper r.keeper))

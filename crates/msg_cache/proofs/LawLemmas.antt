@@ -1,5 +1,5 @@
 -- One state is shown, and each step is its event.
-use Rattle.std.proofs.Common.{◌≡◌, ℕ, suc, ◌+◌, ◌<◌, List, Bool, true, false, refl, sym, ap, ◌∙◌, subst}
+use Rattle.std.proofs.Common.{◌≡◌, ℕ, suc, ◌+◌, ◌-◌, ◌<◌, List, Bool, true, false, refl, sym, ap, ◌∙◌, subst, arith}
 use Rattle.std.specs.Prelude.{◌==◌, slice_index}
 use mathlib.Core.Option.{some}
 use lib.ListN.{get_elem?}
@@ -17,10 +17,11 @@ use Rattle.msg_core.specs.State.{Layout, awaits, size}
 use Rattle.msg_cache.specs.declared.view.KeeperView.{KeeperView}
 use Rattle.msg_cache.specs.declared.view.View.{View}
 use Rattle.msg_cache.specs.declared.view.View.TheVariants.{Sender, Keeper}
-use Rattle.msg_cache.specs.Laws.{Fills, Installs, Flushes, Looks, Clears, Commits, Recalls, Splits, Joins, SplitsTurn, JoinsTurn, IsEvent, IsNone, seen_in, shown_at, OneIsShown, ShownIsLawful, ShownIsSound, OpeningIsShown, EnterIsEnter, LeaveIsLeave, HeaderIsHeader, BucketIsRead, VersionIsNone, StoreIsFill, StoreIsInstall, StoreIsFlush, LoadIsLook, StoreIsClear, StoreIsCommit, RecallIsNone, SplitIsNone, JoinIsNone, SplitTurnIsNone, JoinTurnIsNone}
+use Rattle.msg_cache.specs.Laws.{Fills, Installs, Flushes, Looks, RestLooks, Clears, Commits, Recalls, Splits, Joins, SplitsTurn, JoinsTurn, IsEvent, IsNone, seen_in, shown_at, OneIsShown, ShownIsLawful, ShownIsSound, OpeningIsShown, EnterIsEnter, LeaveIsLeave, HeaderIsHeader, BucketIsRead, VersionIsNone, StoreIsFill, StoreIsInstall, StoreIsFlush, LoadIsLook, LoadIsRest, StoreIsClear, StoreIsCommit, RecallIsNone, SplitIsNone, JoinIsNone, SplitTurnIsNone, JoinTurnIsNone}
 use Rattle.msg_cache.specs.Layout.{SettingView, layout_of, header_at, base, probe_at, word_count}
 use Rattle.msg_cache.specs.Rule.{in_word, shown, Ruled, shown_by, holds, GoesBy, Stays}
 use Rattle.msg_cache.proofs.KeeperLemmas.{fill_step, clear_step, commit_step, flush_step, install_step, look_step, idle_step}
+use Rattle.msg_cache.proofs.NobodyLemmas.{rest_step}
 use Rattle.msg_cache.proofs.OpeningLemmas.{opens}
 use Rattle.msg_cache.proofs.SenderLemmas.{header_seen, header_step, bucket_seen, bucket_step, version_step, enter_step, leave_step}
 use Rattle.msg_cache.proofs.TokenLemmas.{give_step, take_step, lend_step, home_step}
@@ -109,6 +110,16 @@ look_seen key s r n lt = ap (λ w. SeenOut (w == 0)) (r.copies.probed n lt) ∙ 
 
 pub load_is_look : LoadIsLook
 load_is_look key s r id k at = of_keeper key s r id (Looks key s r id) (λ own n lt. event key s _ r (Look n) (slice_index s.words (probe_at (layout_of key) n)) (look_seen key s r n lt) (look_step lookup (layout_of key) key.origin s.words s.views r id own n lt)) k at
+
+pub load_is_rest : LoadIsRest
+load_is_rest key s r id k at = of_keeper key s r id (RestLooks key s r id) (λ own n le nobody.
+    let z = layout_of key in
+    let t = rest_step lookup z key.origin s.words s.views r id own n (key.senders - n) (omega arith) nobody in record {
+      legal = t.legal;
+      sees = t.sees;
+      keeps_rule = t.ruled;
+      shows = λ r'. one_shown lookup z key.origin _ _ r' t.ruled ∙ t.shows;
+    }) k at
 
 pub store_is_clear : StoreIsClear
 store_is_clear key s r id k at = of_keeper key s r id (Clears key s r id) (λ own a p free lt. event key s _ r _ 0 refl (clear_step lookup (layout_of key) key.origin s.words s.views r id own a p free lt)) k at

@@ -6,12 +6,14 @@ pub mod ClearingLemmas
 pub mod ConfigLemmas
 pub mod CrossingLemmas
 pub mod CursorLemmas
+pub mod EveryCursor
 pub mod FillLemmas
 pub mod GroupLemmas
 pub mod KeeperLemmas
 pub mod LawLemmas
 pub mod LayeredLemmas
 pub mod LayoutLemmas
+pub mod NobodyLemmas
 pub mod NoteLemmas
 pub mod OpeningLemmas
 pub mod OrderLemmas

@@ -1,5 +1,5 @@
 -- What the steps on a table are to the machine of events.
-use Rattle.std.specs.Prelude.{◌≡◌, ◌≢◌, ℕ, suc, ◌+◌, ◌==◌, ◌<◌, [], ◌∷◌, ◌++◌, length, false, slice_index, slice_set, replicate}
+use Rattle.std.specs.Prelude.{◌≡◌, ◌≢◌, ℕ, zero, suc, ◌+◌, ◌-◌, ◌==◌, ◌<◌, ◌≤◌, [], ◌∷◌, ◌++◌, length, true, false, slice_index, slice_set, replicate}
 use Rattle.msg_tables.specs.Origin.{class_total}
 use mathlib.Core.Option.{some}
 use lib.ListN.{get_elem?}
@@ -16,7 +16,7 @@ use Rattle.msg_core.specs.declared.event.Seen.TheVariants.{Nothing, Array, Word,
 use Rattle.msg_core.specs.declared.state.Standing.TheVariants.{Free, Live}
 use Rattle.msg_core.specs.declared.state.Whereabouts.TheVariants.{Out, In, Holding}
 use Rattle.msg_core.specs.Runs.{opening}
-use Rattle.msg_core.specs.State.{State, capacity, size, awaits, Lawful, Sound}
+use Rattle.msg_core.specs.State.{Layout, State, capacity, size, awaits, Lawful, Sound}
 use Rattle.msg_core.specs.Steps.{after, shows as shown_to, Legal}
 use Rattle.msg_core.specs.View.{standing_at}
 use Rattle.msg_cache.specs.declared.view.SenderView.{SenderView}
@@ -25,7 +25,7 @@ use Rattle.msg_cache.specs.declared.view.KeeperView.{KeeperView}
 use Rattle.msg_cache.specs.declared.view.View.{View}
 use Rattle.msg_cache.specs.declared.view.View.TheVariants.{Sender, Keeper, Turn, Spent}
 use Rattle.msg_cache.specs.Layout.{SettingView, layout_of, header_at, base, probe_at, word_count}
-use Rattle.msg_cache.specs.Plays.{headed, read_on, gone_to, newcomer, stored, flushed, installed, committed, looked, given_out, taken_in, at_home, lent}
+use Rattle.msg_cache.specs.Plays.{headed, read_on, gone_to, newcomer, stored, flushed, installed, committed, looked, rest_looked, given_out, taken_in, at_home, lent}
 use Rattle.msg_cache.specs.Rule.{holds, named, shown_by, first_keeper}
 
 -- the state that a table shows, while the rule holds of it
@@ -52,6 +52,19 @@ pub record IsEvent (key : SettingView) (s : Table ℕ View) (r : holds lookup ke
   pub sees : seen_in e word ≡ shown_to (shown_at key s r) e
   pub keeps_rule : holds lookup key s'
   pub shows : (r' : holds lookup key s') → shown_at key s' r' ≡ after (layout_of key) (shown_at key s r) e
+
+-- the state after a Look at each of so many sender numbers, from one on
+abbrev pub after_looks : Layout → ℕ → ℕ → State → State
+after_looks z n zero m = m
+after_looks z n (suc d) m = after z (after_looks z n d m) (Look (n + d))
+
+-- From one state of the table to the next is a Look at each of so many sender numbers, from one on, one after another: none is refused, each sees its sender out, the rule holds of the next state, and that shows the state
+-- after the last of them.
+pub record AreLooks (key : SettingView) (s : Table ℕ View) (r : holds lookup key s) (n d : ℕ) (s' : Table ℕ View) : Type 0 where
+  pub legal : (e : ℕ) → e < d → Legal lookup (layout_of key) (after_looks (layout_of key) n e (shown_at key s r)) (Look (n + e))
+  pub sees : (e : ℕ) → e < d → SeenOut true ≡ shown_to (after_looks (layout_of key) n e (shown_at key s r)) (Look (n + e))
+  pub keeps_rule : holds lookup key s'
+  pub shows : (r' : holds lookup key s') → shown_at key s' r' ≡ after_looks (layout_of key) n d (shown_at key s r)
 
 -- From one state of the table to the next is no event: the rule holds of the next one, and that shows the same.
 pub record IsNone (key : SettingView) (s : Table ℕ View) (r : holds lookup key s) (s' : Table ℕ View) : Type 0 where
@@ -150,6 +163,14 @@ Looks key s r id k = (n : ℕ) → n < key.senders
 -- the keeper's load of a probe word is Look
 abbrev pub LoadIsLook : Type 0
 LoadIsLook = OfKeeper Looks
+
+abbrev pub RestLooks : OfAKeeper
+RestLooks key s r id k = (n : ℕ) → n ≤ key.senders → ((m : ℕ) → n ≤ m → awaits k.given m ≡ false)
+    → AreLooks key s r n (key.senders - n) (stepped s 0 (slice_index s.words 0) id [] (Keeper (rest_looked n (key.senders - n) k)) keeps)
+
+-- the keeper's load of the count of changes, by which it sees out all sender numbers from one on, of which nobody has any, is a Look at each of them
+abbrev pub LoadIsRest : Type 0
+LoadIsRest = OfKeeper RestLooks
 
 abbrev pub Clears : OfAKeeper
 Clears key s r id k = (a p : ℕ) → standing_at k.standings a ≡ Free → p < capacity (layout_of key) a

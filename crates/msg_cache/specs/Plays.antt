@@ -1,5 +1,5 @@
 -- What each step tells the seat that makes it.
-use Rattle.std.specs.Prelude.{◌≡◌, ◌≢◌, ℕ, suc, ◌+◌, ◌==◌, ◌≤◌, List, [], ◌∷◌, ◌++◌, length, map, Bool, true, false, Option, Some, None, slice_set, slice_index, if◌then◌else◌}
+use Rattle.std.specs.Prelude.{◌≡◌, ◌≢◌, ℕ, zero, suc, ◌+◌, ◌-◌, ◌==◌, ◌≤◌, List, [], ◌∷◌, ◌++◌, length, map, Bool, true, false, Option, Some, None, slice_set, slice_index, if◌then◌else◌}
 use Rattle.atomic_table.specs.Table.{Me, Step}
 use Rattle.msg_names.specs.declared.value.ClassRef.{ClassRef}
 use Rattle.msg_tables.specs.declared.change.Change.{Change}
@@ -158,6 +158,11 @@ committed x k = record k { history = and_then k.history x; words = slice_set k.w
 abbrev pub looked : ℕ → Bool → KeeperView → KeeperView
 looked n out k = record k { standings = if out then map (seen_out n) k.standings else k.standings; looked_at = k.looked_at ++ n ∷ [] }
 
+-- the same of so many sender numbers, from one on, which are all out
+abbrev pub rest_looked : ℕ → ℕ → KeeperView → KeeperView
+rest_looked n zero k = k
+rest_looked n (suc d) k = looked (n + d) true (rest_looked n d k)
+
 -- a sender number is out
 abbrev pub given_out : ℕ → KeeperView → KeeperView
 given_out n k = record k { given = slice_set k.given n true }
@@ -202,6 +207,10 @@ Commits x st m n m' = (m' ≡ kept (committed x (keeper_of m.0))) × Recalls (ke
 -- the sender number was looked at, and is awaited no more if its probe word was 0
 abbrev pub Looks : ℕ → Telling
 Looks i st m n m' = m' ≡ kept (looked i (n == 0) (keeper_of m.0))
+
+-- all sender numbers from one on, below so many, are seen out
+abbrev pub RestLooks : ℕ → ℕ → Telling
+RestLooks i senders st m n m' = m' ≡ kept (rest_looked i (senders - i) (keeper_of m.0))
 
 -- the keeper's load of the version word changes nothing
 abbrev pub Witnesses : Telling

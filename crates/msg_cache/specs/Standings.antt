@@ -33,7 +33,7 @@ notes marks queue ready senders cursors = map (note_for marks queue ready sender
 abbrev pub standings_view : Inside → StandingsView
 standings_view s = record {
   senders = s.senders;
-  notes = notes s.free s.queue.items s.ready s.senders s.cursors.items;
+  notes = notes s.free s.queue.items s.ready s.senders s.cursors;
   ready = take s.ready s.queue.items;
 }
 
@@ -41,11 +41,11 @@ standings_view s = record {
 pub record IsStandings (s : Inside) : Type 0 where
   pub few_arrays : length s.free < 2 ^ 32
   pub few_senders : s.senders ≤ MOST_SENDERS
-  pub cursors : length s.cursors.items ≡ s.senders
+  pub cursors : length s.cursors ≡ s.senders
   -- the queue has room for all arrays, each once, and has none that is marked as free
   pub room : length s.free ≤ deque_capacity s.queue
   pub unmarked : (p : ℕ) → p < length s.queue.items → slice_index_or s.free (slice_index s.queue.items p) true ≡ false
   pub distinct : (p q : ℕ) → p < q → q < length s.queue.items → slice_index s.queue.items p ≢ slice_index s.queue.items q
   -- nobody has passed more than there is
   pub ends : s.ready ≤ length s.queue.items
-  pub within : (n : ℕ) → n < s.senders → s.ready + slice_index s.cursors.items n ≤ length s.queue.items
+  pub within : (n : ℕ) → n < s.senders → s.ready + slice_index s.cursors n ≤ length s.queue.items

@@ -1,9 +1,9 @@
 //! A collection: who is out, which arrays nobody holds any more, and their words cleared.
 
-ghost use Rattle.std.specs.Prelude.{◌≡◌, ℕ, ◌+◌, ◌^◌, ◌<◌, length};
+ghost use Rattle.std.specs.Prelude.{◌≡◌, ℕ, ◌+◌, ◌^◌, ◌<◌, ◌≤◌, length, true, false, IfOk};
 ghost use Rattle.msg_tables.specs.History.{lookup};
 ghost use Rattle.msg_core.specs.declared.state.Standing.TheVariants.{Free};
-ghost use Rattle.msg_core.specs.State.{capacity};
+ghost use Rattle.msg_core.specs.State.{capacity, awaits};
 ghost use Rattle.msg_cache.specs.Layout.{layout_of, base as base_of};
 ghost use Rattle.msg_cache.specs.Rule.{TidyBy};
 ghost use Rattle.msg_cache.specs.Plays.{keeper_of, kept};
@@ -12,24 +12,77 @@ ghost use Rattle.msg_cache.specs.Keeping.{standing_of, looks, cleared, emptied, 
 
 use crate::arena::Arena;
 use crate::standings::Standings;
-use crate::steps::{Seat, Words, clear_word, load_probe};
+use crate::steps::{Seat, Words, clear_word, load_probe, look_at_rest};
+use std::alloc::{AllocError, Global};
 
-// One look at each sender number. Says who was out.
-fn look_at_senders(arena: &Arena, seat: &mut Seat, outs: &mut Vec<bool>)
+/// Who was out when senders were looked at last.
+#[derive(Drop)]
+pub(crate) struct Outs {
+    were: Vec<bool>,
+    // no sender number from this one on was ever given out
+    known: u32,
+    pub ghost few: { length were.items < 2 ^ 32 },
+    pub ghost within: { known ≤ length were.items },
+    pub ghost others: { (n : ℕ) → known ≤ n → n < length were.items → awaits were.items n ≡ true },
+}
+
+impl Outs {
+    // Of so many sender numbers, of which none was given out.
+    pub(crate) fn all(alloc: Global, senders: usize) -> Result<Outs, AllocError>
+        requires senders { senders < 2 ^ 32 }
+        ensures senders { IfOk result (λ o. length o.were.items ≡ senders) }
+        ensures known { IfOk result (λ o. o.known ≡ 0) }
+    {
+        let were = vec![in alloc; true; senders]?;
+        Ok(Outs { were, known: 0 })
+    }
+
+    // A sender number is given out.
+    pub(crate) fn know(&mut self, number: u32)
+        requires number { number < length self.old.were.items }
+        ensures outs { self.new.were.items ≡ self.old.were.items }
+        ensures number { number < self.new.known }
+        ensures known { self.old.known ≤ self.new.known }
+    {
+        self.known = self.known.max(number + 1);
+    }
+}
+
+// One look at each of the first sender numbers. Says who was out.
+fn look_at_first(arena: &Arena, seat: &mut Seat, were: &mut Vec<bool>, known: u32)
     requires table { seat.old.table_id ≡ arena.now.table }
     requires keeper { seat.old.me ≡ kept (keeper_of seat.old.me.0) }
     requires tidy { TidyBy lookup arena.now.key (keeper_of seat.old.me.0) }
-    requires outs { length outs.old.items ≡ arena.now.key.senders }
+    requires were { length were.old.items ≡ arena.now.key.senders }
+    requires known { known ≤ arena.now.key.senders }
     ensures seat { (seat.new.table_id ≡ seat.old.table_id) × (seat.new.id ≡ seat.old.id) }
-    ensures told { seat.new.me ≡ kept (looks arena.now.key.senders outs.new.items (keeper_of seat.old.me.0)) }
-    ensures outs { length outs.new.items ≡ length outs.old.items }
+    ensures told { seat.new.me ≡ kept (looks known were.new.items (keeper_of seat.old.me.0)) }
+    ensures were { length were.new.items ≡ length were.old.items }
+    ensures others { (n : ℕ) → known ≤ n → awaits were.new.items n ≡ awaits were.old.items n }
     ensures tidy { TidyBy lookup arena.now.key (keeper_of seat.new.me.0) }
 {
     let shared = arena.shared();
-    for number in 0..arena.senders() {
+    for number in 0..known {
         let word = arena.probe_at(number);
-        outs[number as usize] = load_probe(shared, seat, word, number);
+        were[number as usize] = load_probe(shared, seat, word, number);
     }
+}
+
+// One look at each sender number. Says who was out.
+fn look_at_senders(arena: &Arena, seat: &mut Seat, outs: &mut Outs)
+    requires table { seat.old.table_id ≡ arena.now.table }
+    requires keeper { seat.old.me ≡ kept (keeper_of seat.old.me.0) }
+    requires tidy { TidyBy lookup arena.now.key (keeper_of seat.old.me.0) }
+    requires outs { length outs.old.were.items ≡ arena.now.key.senders }
+    requires nobody { (n : ℕ) → outs.old.known ≤ n → awaits (keeper_of seat.old.me.0).given n ≡ false }
+    ensures seat { (seat.new.table_id ≡ seat.old.table_id) × (seat.new.id ≡ seat.old.id) }
+    ensures told { seat.new.me ≡ kept (looks arena.now.key.senders outs.new.were.items (keeper_of seat.old.me.0)) }
+    ensures outs { length outs.new.were.items ≡ length outs.old.were.items }
+    ensures known { outs.new.known ≡ outs.old.known }
+    ensures tidy { TidyBy lookup arena.now.key (keeper_of seat.new.me.0) }
+{
+    look_at_first(arena, seat, &mut outs.were, outs.known);
+    look_at_rest(arena.shared(), seat, outs.known);
 }
 
 // Clears a word of a free array, where it isn't 0.
@@ -89,24 +142,26 @@ pub(crate) fn collect_into(
     standings: &mut Standings,
     occupied: &mut Vec<u32>,
     remembered: &Vec<u32>,
-    outs: &mut Vec<bool>,
+    outs: &mut Outs,
 ) -> u32
     requires table { seat.old.table_id ≡ arena.now.table }
     requires keeper { seat.old.me ≡ kept (keeper_of seat.old.me.0) }
     requires in_order { InOrder lookup arena.now.key (keeper_of seat.old.me.0) remembered.now.items occupied.old.items }
     requires words { words.old.items ≡ (keeper_of seat.old.me.0).words }
     requires standings { standings.old ≡ settled arena.now.key.senders (keeper_of seat.old.me.0).standings }
-    requires outs { length outs.old.items ≡ arena.now.key.senders }
+    requires outs { length outs.old.were.items ≡ arena.now.key.senders }
+    requires nobody { (n : ℕ) → outs.old.known ≤ n → awaits (keeper_of seat.old.me.0).given n ≡ false }
     ensures seat { (seat.new.table_id ≡ seat.old.table_id) × (seat.new.id ≡ seat.old.id) }
     ensures keeper { seat.new.me ≡ kept (keeper_of seat.new.me.0) }
     ensures collects { Collects (layout_of arena.now.key) (keeper_of seat.old.me.0) (keeper_of seat.new.me.0) result }
     ensures in_order { InOrder lookup arena.now.key (keeper_of seat.new.me.0) remembered.now.items occupied.new.items }
     ensures words { words.new.items ≡ (keeper_of seat.new.me.0).words }
     ensures standings { standings.new ≡ settled arena.now.key.senders (keeper_of seat.new.me.0).standings }
-    ensures outs { length outs.new.items ≡ length outs.old.items }
+    ensures outs { length outs.new.were.items ≡ length outs.old.were.items }
+    ensures known { outs.new.known ≡ outs.old.known }
 {
     look_at_senders(arena, seat, outs);
-    let freed = standings.see_out(outs);
+    let freed = standings.see_out(&outs.were, outs.known as usize);
     for _turn in 0..freed {
         let array = standings.take_ready();
         clear_array(arena, seat, words, array);

@@ -25,7 +25,7 @@ ghost use Rattle.msg_tables.specs.Origin.{class_total};
 
 use crate::answer::{Filled, Report, Way};
 use crate::arena::Arena;
-use crate::collecting::collect_into;
+use crate::collecting::{Outs, collect_into};
 use crate::filling::{count_want, retire_in, way_in_array};
 use crate::prober::Prober;
 use crate::standings::Standings;
@@ -53,8 +53,7 @@ pub struct Keeper {
     // the capacity that the next array of each class reference without one has, or 0 for the least
     pub(crate) remembered: Vec<u32>,
     given: Vec<bool>,
-    // who was out when senders were looked at last
-    outs: Vec<bool>,
+    outs: Outs,
     count: u64,
     lent: bool,
     // the arrays that were installed before
@@ -65,7 +64,8 @@ pub struct Keeper {
     pub ghost standings_are: { standings ≡ settled standings.senders (keeper_of seat.me.0).standings },
     pub ghost senders_are: { standings.senders ≡ length (keeper_of seat.me.0).given },
     pub ghost given_are: { given.items ≡ (keeper_of seat.me.0).given },
-    pub ghost outs_are: { length outs.items ≡ standings.senders },
+    pub ghost outs_are: { length outs.were.items ≡ standings.senders },
+    pub ghost nobody: { (n : ℕ) → outs.known ≤ n → awaits given.items n ≡ false },
     pub ghost count_is: { count ≡ size (keeper_of seat.me.0).history },
     pub ghost lent_is: { lent ≡ is_lent (keeper_of seat.me.0).turn },
     pub ghost counts: { AreCounts report },
@@ -105,7 +105,7 @@ struct Copies {
     words: Vec<u64>,
     remembered: Vec<u32>,
     given: Vec<bool>,
-    outs: Vec<bool>,
+    outs: Outs,
 }
 
 impl Copies {
@@ -116,16 +116,17 @@ impl Copies {
         classes: usize,
         senders: usize,
     ) -> Result<Copies, AllocError>
-        requires { classes < 2 ^ 32 }
+        requires classes { classes < 2 ^ 32 }
+        requires senders { senders < 2 ^ 32 }
         ensures words { IfOk result (λ c. c.words.items ≡ replicate words 0) }
         ensures remembered { IfOk result (λ c. c.remembered.items ≡ replicate (2 * classes) 0) }
         ensures given { IfOk result (λ c. c.given.items ≡ replicate senders false) }
-        ensures outs { IfOk result (λ c. length c.outs.items ≡ senders) }
+        ensures outs { IfOk result (λ c. (length c.outs.were.items ≡ senders) × (c.outs.known ≡ 0)) }
     {
         let words = vec![in alloc; 0; words]?;
         let remembered = vec![in alloc; 0; 2 * classes]?;
         let given = vec![in alloc; false; senders]?;
-        let outs = vec![in alloc; false; senders]?;
+        let outs = Outs::all(alloc, senders)?;
         Ok(Copies {
             words,
             remembered,
@@ -314,7 +315,7 @@ impl Keeper {
         self.put(arena, class, array, place, selector, implementation);
     }
 
-    /// Looks at each sender, and makes the arrays free that nobody holds any more. Answers how many.
+    /// Looks at each sender, and makes the arrays free that nobody holds any more. Answers how many. It loads as many words as there are numbers up to the highest that was ever given out.
     pub fn collect(&mut self, arena: &Arena) -> u32
         requires arena { IsOf arena.now self.old }
         ensures arena { IsOf arena.now self.new }
@@ -502,6 +503,7 @@ impl Keeper {
         let shared = arena.shared();
         let seat = split_sender(shared, &mut self.seat, number);
         self.given[place] = true;
+        self.outs.know(number);
         Some(Prober::of(seat, number, arena.probe_at(number)))
     }
 
@@ -547,6 +549,8 @@ impl Keeper {
         ensures begins { BeginsWith (view self.old).history prober.old.sender.front }
     {
         prober.renew(arena.shared(), &mut self.seat);
-        self.given[prober.number() as usize] = true;
+        let number = prober.number();
+        self.given[number as usize] = true;
+        self.outs.know(number);
     }
 }

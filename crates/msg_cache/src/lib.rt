@@ -6,6 +6,7 @@ mod arena;
 mod bit_set;
 mod collecting;
 mod config;
+mod cursors;
 mod filling;
 mod keeper;
 mod law;

@@ -3,7 +3,7 @@
 ghost use Rattle.std.specs.Prelude.{ℕ};
 ghost use Rattle.msg_tables.specs.History.{lookup};
 ghost use Rattle.msg_core.specs.declared.state.Whereabouts.TheVariants.{In, Out};
-ghost use Rattle.msg_cache.specs.Plays.{keeper_of, Headed, Reads, Published, Goes, Stores, Flushes, Installs, Commits, Looks, Witnesses, joined, split_left, split_right, lent_left, lent_right};
+ghost use Rattle.msg_cache.specs.Plays.{keeper_of, Headed, Reads, Published, Goes, Stores, Flushes, Installs, Commits, Looks, RestLooks, Witnesses, joined, split_left, split_right, lent_left, lent_right};
 ghost use Rattle.msg_cache.specs.Rule.{TidyBy};
 
 use crate::view::View;
@@ -130,6 +130,15 @@ pub(crate) struct Look<Q> {
 
 impl<Q: About> Play<u8, View> for Look<Q> {
     ghost then = { Looks Q.number };
+}
+
+/// No sender has a number from this one on, so all these are seen out.
+pub(crate) struct LookAtRest<Q> {
+    of: PhantomData<Q>,
+}
+
+impl<Q: About> Play<u8, View> for LookAtRest<Q> {
+    ghost then = { RestLooks Q.number Q.key.senders };
 }
 
 pub(crate) struct Witness;

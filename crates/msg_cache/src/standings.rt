@@ -9,6 +9,7 @@ ghost use Rattle.msg_core.specs.Steps.{everyone};
 ghost use Rattle.msg_cache.specs.Keeping.{looked_by};
 ghost use Rattle.msg_cache.specs.Notes.{StandingsView, free, live, waiting, note_of, note_at, is_free_note, newly_freed};
 
+use crate::cursors::Cursors;
 use crate::layered_set::LayeredSet;
 use msg_tables::MOST_SENDERS;
 use std::alloc::{AllocError, Global};
@@ -28,7 +29,7 @@ pub(crate) struct Standings {
     // how many of them, from the oldest on, are free and are to be taken out
     ready: usize,
     // how many of the others, from the oldest on, each sender has passed
-    cursors: Vec<usize>,
+    cursors: Cursors,
     senders: usize,
 }
 
@@ -42,44 +43,6 @@ impl Model for Standings {
     ghost view = { standings_view };
 
     ghost invariant = { IsStandings };
-}
-
-// Where a cursor stands after a look, in a queue of this length.
-fn passed(cursor: usize, is_out: bool, end: usize) -> usize
-    ensures { result ≡ (if is_out then end else cursor) }
-{
-    if is_out { end } else { cursor }
-}
-
-// Senders that were seen out pass a queue of this length. Answers how many of its arrays all have passed.
-fn pass(cursors: &mut Vec<usize>, outs: &Vec<bool>, senders: usize, end: usize) -> usize
-    requires senders { (senders ≤ length cursors.old.items) × (senders ≤ length outs.now.items) }
-    requires within { (n : ℕ) → n < senders → slice_index cursors.old.items n ≤ end }
-    ensures moved { (n : ℕ) → n < senders → slice_index cursors.new.items n ≡ (if slice_index_or outs.now.items n false then end else slice_index cursors.old.items n) }
-    ensures all { (n : ℕ) → n < senders → result ≤ slice_index cursors.new.items n }
-    ensures some { 0 < senders → (n : ℕ) × (n < senders) × (slice_index cursors.new.items n ≡ result) }
-    ensures end { result ≤ end }
-    ensures length { length cursors.new.items ≡ length cursors.old.items }
-{
-    let mut least = end;
-    for sender in 0..senders {
-        let cursor = passed(cursors[sender], outs[sender], end);
-        cursors[sender] = cursor;
-        least = least.min(cursor);
-    }
-    least
-}
-
-// The queue's front, which all have passed, counts no more.
-fn cut(cursors: &mut Vec<usize>, senders: usize, by: usize)
-    requires senders { senders ≤ length cursors.old.items }
-    requires all { (n : ℕ) → n < senders → by ≤ slice_index cursors.old.items n }
-    ensures moved { (n : ℕ) → n < senders → slice_index cursors.new.items n + by ≡ slice_index cursors.old.items n }
-    ensures length { length cursors.new.items ≡ length cursors.old.items }
-{
-    for sender in 0..senders {
-        cursors[sender] -= by;
-    }
 }
 
 impl Standings {
@@ -97,7 +60,7 @@ impl Standings {
             free: LayeredSet::all(alloc, arrays)?,
             queue: VecDeque::with_capacity(alloc, arrays)?,
             ready: 0,
-            cursors: vec![in alloc; 0; senders]?,
+            cursors: Cursors::all_first(alloc, senders)?,
             senders,
         })
     }
@@ -122,10 +85,12 @@ impl Standings {
         self.queue.push_back_reserved(array);
     }
 
-    // These senders were seen out. What awaits nobody then is free, and ready to be taken out. Answers how many.
-    pub(crate) fn see_out(&mut self, outs: &Vec<bool>) -> u32
+    // These senders were seen out, all those from the number `known` on among them. What awaits nobody then is free, and ready to be taken out. Answers how many.
+    pub(crate) fn see_out(&mut self, outs: &Vec<bool>, known: usize) -> u32
         requires senders { 0 < self.old.senders }
         requires outs { length outs.now.items ≡ self.old.senders }
+        requires known { known ≤ self.old.senders }
+        requires others { (n : ℕ) → known ≤ n → n < self.old.senders → awaits outs.now.items n ≡ true }
         requires awaits_some { (a : ℕ) (aw : List Bool) → note_at self.old.notes a ≡ waiting aw → (n : ℕ) × (awaits aw n ≡ true) }
         requires ready { self.old.ready ≡ [] }
         ensures senders { self.new.senders ≡ self.old.senders }
@@ -134,8 +99,8 @@ impl Standings {
         ensures count { result ≡ length self.new.ready }
     {
         let end = self.queue.len();
-        let passed = pass(&mut self.cursors, outs, self.senders, end);
-        cut(&mut self.cursors, self.senders, passed);
+        let passed = self.cursors.pass(outs, known, end);
+        self.cursors.cut(passed);
         self.ready = passed;
         passed as u32
     }

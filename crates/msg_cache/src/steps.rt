@@ -1,6 +1,6 @@
 //! Every step that is made on the table: each is one call of it. Beside each stands the event that it is, if it is one.
 
-ghost use Rattle.std.specs.Prelude.{◌≡◌, ◌≢◌, ℕ, suc, ◌+◌, ◌^◌, ◌<◌, ◌≤◌, [], None, length, slice_index, false};
+ghost use Rattle.std.specs.Prelude.{◌≡◌, ◌≢◌, ℕ, suc, ◌+◌, ◌-◌, ◌^◌, ◌<◌, ◌≤◌, [], None, length, slice_index, false};
 ghost use mathlib.Core.Option.{none};
 ghost use Rattle.atomic_table.specs.Table.{step};
 ghost use Rattle.msg_names.specs.Number.{selector_number};
@@ -16,13 +16,13 @@ ghost use Rattle.msg_core.specs.State.{capacity, size, awaits, Agrees};
 ghost use Rattle.msg_core.specs.View.{standing_at};
 ghost use Rattle.msg_cache.specs.declared.view.TurnAt.TheVariants.{Away, Home};
 ghost use Rattle.msg_cache.specs.Layout.{SettingView, layout_of, header_at, base as base_of, probe_at};
-ghost use Rattle.msg_cache.specs.Plays.{seated, kept, sender_of, keeper_of, turn_of, stored, flushed, installed, committed, looked, given_out, taken_in, newcomer, lent, at_home, turn_view, Headed, Reads, Published, Goes, Recalls};
+ghost use Rattle.msg_cache.specs.Plays.{seated, kept, sender_of, keeper_of, turn_of, stored, flushed, installed, committed, looked, rest_looked, given_out, taken_in, newcomer, lent, at_home, turn_view, Headed, Reads, Published, Goes, Recalls};
 ghost use Rattle.msg_cache.specs.Rule.{TidyBy, word_in};
 
 use crate::law::Law;
 use crate::plays::{
     About, Asks, Bucket, Commit, Enter, Flush, Gather, Give, Header, Install, Leave, Lend, Look,
-    Store, Tidied, Version, Witness,
+    LookAtRest, Store, Tidied, Version, Witness,
 };
 use crate::setting::Setting;
 use crate::view::View;
@@ -297,6 +297,32 @@ pub(crate) fn load_probe(words: &Words, seat: &mut Seat, word: usize, number: u3
     ensures tidy { TidyBy lookup words.now.key (keeper_of seat.new.me.0) }
 {
     look_as::<Brand>(words, seat, word, number)
+}
+
+fn look_at_rest_as<Q: About>(words: &Words, seat: &mut Seat, _number: u32)
+    requires table { (seat.old.table_id ≡ words.now.table_id) × (0 < words.now.table_id.words) }
+    requires about { (Q.key ≡ words.now.key) × (Q.number ≡ _number) }
+    requires keeper { seat.old.me ≡ kept (keeper_of seat.old.me.0) }
+    requires number { _number ≤ words.now.key.senders }
+    requires nobody { (n : ℕ) → _number ≤ n → awaits (keeper_of seat.old.me.0).given n ≡ false }
+    ensures seat { (seat.new.table_id ≡ seat.old.table_id) × (seat.new.id ≡ seat.old.id) }
+    ensures told { seat.new.me ≡ kept (rest_looked _number (words.now.key.senders - _number) (keeper_of seat.old.me.0)) }
+    ensures tidy { TidyBy lookup words.now.key (keeper_of seat.new.me.0) }
+{
+    words.load::<Tidied<LookAtRest<Q>, Q>>(seat, 0);
+}
+
+// Look, once for each sender number from one on, none of which is given out: that its sender is out needs no load of its probe word. They are one step, by a load of the count of changes.
+pub(crate) fn look_at_rest(words: &Words, seat: &mut Seat, number: u32)
+    requires table { (seat.old.table_id ≡ words.now.table_id) × (0 < words.now.table_id.words) }
+    requires keeper { seat.old.me ≡ kept (keeper_of seat.old.me.0) }
+    requires number { number ≤ words.now.key.senders }
+    requires nobody { (n : ℕ) → number ≤ n → awaits (keeper_of seat.old.me.0).given n ≡ false }
+    ensures seat { (seat.new.table_id ≡ seat.old.table_id) × (seat.new.id ≡ seat.old.id) }
+    ensures told { seat.new.me ≡ kept (rest_looked number (words.now.key.senders - number) (keeper_of seat.old.me.0)) }
+    ensures tidy { TidyBy lookup words.now.key (keeper_of seat.new.me.0) }
+{
+    look_at_rest_as::<Brand>(words, seat, number);
 }
 
 fn recall_as<Q: About>(words: &Words, seat: &mut Seat)

@@ -1,26 +1,31 @@
-use Rattle.std.proofs.Common.{◌≡◌, ℕ, suc, ◌+◌, ◌<◌, length, set, sym, ap, ◌∙◌, subst, arith}
-use Rattle.std.proofs.Math.ListN.{length-set}
-use Rattle.msg_cache.specs.Plays.{looked, Sat, kept, keeper_of}
-use Rattle.msg_cache.specs.Keeping.{looks}
-use Rattle.msg_cache.proofs.ClearingLemmas.{looks_more}
-use Rattle.msg_cache.specs.Layout.{SettingView}
-use Rattle.msg_cache.specs.Rule.{TidyBy}
+use Rattle.std.proofs.Common.{◌≡◌, ℕ, ◌+◌, ◌-◌, List, Bool, sym, ap, ◌∙◌, subst, arith}
+use Rattle.msg_core.specs.State.{awaits}
 use Rattle.msg_tables.specs.History.{lookup}
+use Rattle.msg_cache.specs.declared.view.KeeperView.{KeeperView}
+use Rattle.msg_cache.specs.Keeping.{looks}
+use Rattle.msg_cache.specs.Layout.{SettingView}
+use Rattle.msg_cache.specs.Plays.{Sat, kept, keeper_of, rest_looked}
+use Rattle.msg_cache.specs.Rule.{TidyBy}
+use Rattle.msg_cache.proofs.NobodyLemmas.{looks_all, looks_given}
 use Rattle.msg_cache.proofs.collecting.look_at_senders.Goals as goal
 
-pub loop-number-preserved : goal.loop-number-preserved
-loop-number-preserved c =
-    let i = c.loop-number.invariant in
-    let n = c.loop-number.number in
-    let outs = c.loop-number.outs.items in
-    let r = c.load_probe.result in
+pub look_at_rest-requires-clause-nobody : goal.look_at_rest-requires-clause-nobody
+look_at_rest-requires-clause-nobody c = λ n le.
     let k0 = keeper_of c.args.seat.now.me.0 in
-    let next : suc n ≡ n + 1 = omega arith in
-    let lt : n < length outs = let s = c.senders-number-end.ensures in let o = c.requires.outs in let t = c.loop-number-test.true in omega (arith, i.long) in record {
-      table = c.load_probe.ensures.seat.0 ∙ i.table;
-      id = c.load_probe.ensures.seat.1 ∙ i.id;
-      told = c.load_probe.ensures.told ∙ ap (λ (x : Sat). kept (looked n r (keeper_of x.0))) i.told
-          ∙ ap kept (sym (looks_more n outs r k0 lt)) ∙ ap (λ (m : ℕ). kept (looks m (set outs n r) k0)) next;
-      long = length-set outs n r ∙ i.long;
-      tidy = subst (λ (x : SettingView). TidyBy lookup x (keeper_of c.load_probe.new.seat.me.0)) c.shared-shared.ensures.key c.load_probe.ensures.tidy;
-    }
+    ap (λ (x : Sat). awaits (keeper_of x.0).given n) c.look_at_first.ensures.told
+    ∙ ap (λ (g : List Bool). awaits g n) (looks_given c.args.outs.now.known c.look_at_first.new.were.items k0)
+    ∙ c.requires.nobody n le
+
+pub returns-clause-told : goal.returns-clause-told
+returns-clause-told c =
+    let k0 = keeper_of c.args.seat.now.me.0 in
+    let n = c.args.outs.now.known in
+    let were = c.look_at_first.new.were.items in
+    let senders = c.args.arena.now.key.senders in
+    let d : ℕ = senders - n in
+    let all : n + d ≡ senders = omega (arith, c.args.outs.now.within, c.requires.outs) in
+    c.look_at_rest.ensures.told
+    ∙ ap (λ (x : SettingView). kept (rest_looked n (x.senders - n) (keeper_of c.look_at_first.new.seat.me.0))) c.shared.ensures.key
+    ∙ ap (λ (x : Sat). kept (rest_looked n d (keeper_of x.0))) c.look_at_first.ensures.told
+    ∙ ap kept (sym (looks_all n d were k0 (λ m le lt. c.look_at_first.ensures.others m le ∙ c.args.outs.now.others m le (omega (arith, c.requires.outs)))))
+    ∙ ap (λ (m : ℕ). kept (looks m were k0)) all

@@ -3,6 +3,8 @@ use Rattle.std.proofs.lemmas.List.{length-replicate}
 use Rattle.std.specs.Prelude.{false}
 use Rattle.msg_core.specs.declared.state.Standing.{Standing}
 use Rattle.msg_cache.specs.Notes.{StandingsView, note_of}
+use Rattle.msg_core.specs.State.{awaits}
+use Rattle.msg_cache.proofs.AwaitedLemmas.{nobody}
 use Rattle.msg_cache.proofs.SettledLemmas.{all_noted}
 use Rattle.msg_cache.proofs.keeper.Keeper.first.Goals as goal
 
@@ -15,3 +17,6 @@ invariant_of-result-clause-standings_are c =
 
 pub invariant_of-result-clause-senders_are : goal.invariant_of-result-clause-senders_are
 invariant_of-result-clause-senders_are c = ap (λ (v : StandingsView). v.senders) c.in_ok-arrays.ensures.standings ∙ sym (ap (λ (l : List Bool). length l) c.requires.senders ∙ length-replicate c.args.senders false)
+
+pub invariant_of-result-clause-nobody : goal.invariant_of-result-clause-nobody
+invariant_of-result-clause-nobody c = λ n le. ap (λ (g : List Bool). awaits g n) c.in_ok-copies.ensures.given ∙ nobody c.args.senders n

@@ -1,6 +1,6 @@
-use Rattle.std.proofs.Common.{◌≡◌, ℕ, List, Bool, true, false, ap, sym, ◌∙◌, subst, rules}
+use Rattle.std.proofs.Common.{◌≡◌, ℕ, List, Bool, true, false, ap, sym, ◌∙◌, subst, arith, rules}
 use Rattle.std.specs.Prelude.{slice_set}
-use Rattle.std.proofs.lemmas.List.{set-set}
+use Rattle.std.proofs.lemmas.List.{get_or-set_other, set-set}
 use Rattle.msg_cache.specs.declared.view.SenderView.{SenderView}
 use Rattle.msg_tables.specs.History.{lookup}
 use Rattle.msg_cache.specs.declared.view.KeeperView.{KeeperView}
@@ -34,7 +34,7 @@ invariant_of-self-clause-given_are c =
     let k = keeper_of s.seat.me.0 in
     let v = c.args.prober.now.sender in
     let two : keeper_of c.renew.new.keeper.me.0 ≡ given_out v.number (taken_in v k) = search rules in
-    let number : c.number.result ≡ v.number = c.number.ensures ∙ ap (λ (w : SenderView). w.number) c.renew.ensures.sender in
+    let number : c.number-number.result ≡ v.number = c.number-number.ensures ∙ ap (λ (w : SenderView). w.number) c.renew.ensures.sender in
     ap (λ (n : ℕ). slice_set s.given.items n true) number
     ∙ ap (λ (g : List Bool). slice_set g v.number true) s.given_are
     ∙ sym (set-set k.given v.number false true)
@@ -46,3 +46,9 @@ invariant_of-self-clause-standings_are c =
     let v = c.args.prober.now.sender in
     let two : keeper_of c.renew.new.keeper.me.0 ≡ given_out v.number (taken_in v (keeper_of s.seat.me.0)) = search rules in
     s.standings_are ∙ ap (λ (j : KeeperView). settled s.standings.senders j.standings) (sym two)
+
+pub invariant_of-self-clause-nobody : goal.invariant_of-self-clause-nobody
+invariant_of-self-clause-nobody c = λ n le.
+    let s = c.args.self.now in
+    let known = c.know.ensures in
+    get_or-set_other s.given.items c.number-number.result n true false (λ e. omega (arith, known.number)) ∙ s.nobody n (omega (arith, known.known))

@@ -1,4 +1,4 @@
-use Rattle.std.proofs.Common.{◌≡◌, ℕ, List, [], Bool, true, length, replicate, ap, ◌∙◌, arith, rules}
+use Rattle.std.proofs.Common.{◌≡◌, ℕ, List, [], Bool, true, length, replicate, ap, ◌∙◌, arith}
 use Rattle.std.specs.Prelude.{slice_index}
 use Rattle.std.proofs.lemmas.List.{length-replicate}
 use Rattle.msg_cache.specs.Standings.{notes}
@@ -8,7 +8,7 @@ use Rattle.msg_cache.proofs.standings.Standings.all_free.Goals as goal
 pub invariant_of-result : goal.invariant_of-result
 invariant_of-result c =
     let marks : c.in_ok-all.field-0 ≡ replicate c.args.arrays true = c.in_ok-all.ensures in
-    let zeros : c.in_ok-vec.field-0.items ≡ replicate c.args.senders 0 = search rules in
+    let zeros : c.in_ok-all_first.field-0 ≡ replicate c.args.senders 0 = c.in_ok-all_first.ensures in
     let none : length c.in_ok-with_capacity.field-0.items ≡ 0 = ap (λ (l : List ℕ). length l) c.in_ok-with_capacity.ensures.items in record {
       few_arrays = omega (arith, c.requires.arrays, ap (λ (l : List Bool). length l) marks, length-replicate c.args.arrays true);
       few_senders = c.requires.senders;
@@ -23,6 +23,6 @@ invariant_of-result c =
 pub returns : goal.returns
 returns c =
     let marks : c.in_ok-all.field-0 ≡ replicate c.args.arrays true = c.in_ok-all.ensures in
-    let zeros : c.in_ok-vec.field-0.items ≡ replicate c.args.senders 0 = search rules in
+    let zeros : c.in_ok-all_first.field-0 ≡ replicate c.args.senders 0 = c.in_ok-all_first.ensures in
     (λ i. record { senders = c.args.senders; notes = notes (marks i) (c.in_ok-with_capacity.ensures.items i) 0 c.args.senders (zeros i); ready = [] })
     ∙ (λ i. record { senders = c.args.senders; notes = notes_first c.args.arrays c.args.senders (replicate c.args.senders 0) i; ready = [] })

@@ -8,19 +8,19 @@ use Rattle.msg_cache.proofs.standings.Standings.install.Goals as goal
 pub remove-requires : goal.remove-requires
 remove-requires c =
     let s = c.self.inside in
-    omega (arith, c.requires.array, notes_length s.free s.queue.items s.ready s.senders s.cursors.items, ap (λ (v : StandingsView). length v.notes) c.self.view_is)
+    omega (arith, c.requires.array, notes_length s.free s.queue.items s.ready s.senders s.cursors, ap (λ (v : StandingsView). length v.notes) c.self.view_is)
 
 pub invariant_of-self : goal.invariant_of-self
 invariant_of-self c =
     let s = c.self.inside in
     let v = c.self.invariant in
-    let lt : c.args.array < length s.free = omega (arith, c.requires.array, notes_length s.free s.queue.items s.ready s.senders s.cursors.items, ap (λ (v : StandingsView). length v.notes) c.self.view_is) in
+    let lt : c.args.array < length s.free = omega (arith, c.requires.array, notes_length s.free s.queue.items s.ready s.senders s.cursors, ap (λ (v : StandingsView). length v.notes) c.self.view_is) in
     let size : length c.remove.new.self ≡ length s.free = ap (λ (l : List Bool). length l) c.remove.ensures ∙ length-set s.free c.args.array false in record {
       few_arrays = omega (arith, v.few_arrays, size);
       few_senders = v.few_senders;
       cursors = v.cursors;
       room = omega (arith, v.room, size);
-      unmarked = subst (λ (x : List Bool). Unmarked x s.queue.items) (sym c.remove.ensures) (unmarked_installed s.free s.queue.items s.senders s.cursors.items v.unmarked c.args.array lt);
+      unmarked = subst (λ (x : List Bool). Unmarked x s.queue.items) (sym c.remove.ensures) (unmarked_installed s.free s.queue.items s.senders s.cursors v.unmarked c.args.array lt);
       distinct = v.distinct;
       ends = v.ends;
       within = v.within;
@@ -30,12 +30,12 @@ pub returns : goal.returns
 returns c =
     let s = c.self.inside in
     let v = c.self.invariant in
-    let lt : c.args.array < length s.free = omega (arith, c.requires.array, notes_length s.free s.queue.items s.ready s.senders s.cursors.items, ap (λ (v : StandingsView). length v.notes) c.self.view_is) in
+    let lt : c.args.array < length s.free = omega (arith, c.requires.array, notes_length s.free s.queue.items s.ready s.senders s.cursors, ap (λ (v : StandingsView). length v.notes) c.self.view_is) in
     let none : s.ready ≡ 0 = none_ready s.ready s.queue.items (ap (λ (v : StandingsView). v.ready) c.self.view_is ∙ c.requires.ready) v.ends in
-    let is : note_for s.free s.queue.items 0 s.senders s.cursors.items c.args.array ≡ free =
-    ap (λ (p : ℕ). note_for s.free s.queue.items p s.senders s.cursors.items c.args.array) (sym none) ∙ sym (notes_at s.free s.queue.items s.ready s.senders s.cursors.items c.args.array) ∙ ap (λ (v : StandingsView). note_at v.notes c.args.array) c.self.view_is ∙ c.requires.free in
-    let done = (λ i. notes (c.remove.ensures i) s.queue.items (none i) s.senders s.cursors.items)
-    ∙ notes_installed s.free s.queue.items s.senders s.cursors.items v.unmarked c.args.array lt is
-    ∙ ap (λ (p : ℕ). set (notes s.free s.queue.items p s.senders s.cursors.items) c.args.array live) (sym none) in
+    let is : note_for s.free s.queue.items 0 s.senders s.cursors c.args.array ≡ free =
+    ap (λ (p : ℕ). note_for s.free s.queue.items p s.senders s.cursors c.args.array) (sym none) ∙ sym (notes_at s.free s.queue.items s.ready s.senders s.cursors c.args.array) ∙ ap (λ (v : StandingsView). note_at v.notes c.args.array) c.self.view_is ∙ c.requires.free in
+    let done = (λ i. notes (c.remove.ensures i) s.queue.items (none i) s.senders s.cursors)
+    ∙ notes_installed s.free s.queue.items s.senders s.cursors v.unmarked c.args.array lt is
+    ∙ ap (λ (p : ℕ). set (notes s.free s.queue.items p s.senders s.cursors) c.args.array live) (sym none) in
     (λ i. record { senders = s.senders; notes = done i; ready = take s.ready s.queue.items })
     ∙ ap (λ (v : StandingsView). record v { notes = set v.notes c.args.array live }) c.self.view_is

@@ -13,7 +13,7 @@ insert-requires c =
     let s = c.self.inside in
     let v = c.self.invariant in
     let items : s.queue.items ≡ c.unwrap-array.result ∷ c.pop_front.new.self.items = c.pop_front.ensures.items ∙ ap (λ o. option_to_list o ++ c.pop_front.new.self.items) c.unwrap-array.ensures in
-    omega (arith, first_inside s.free c.unwrap-array.result c.pop_front.new.self.items s.ready s.senders s.cursors.items (subst (Unmarked s.free) items v.unmarked) (subst Differ items v.distinct))
+    omega (arith, first_inside s.free c.unwrap-array.result c.pop_front.new.self.items s.ready s.senders s.cursors (subst (Unmarked s.free) items v.unmarked) (subst Differ items v.distinct))
 
 pub invariant_of-self : goal.invariant_of-self
 invariant_of-self c =
@@ -30,8 +30,8 @@ invariant_of-self c =
       few_senders = v.few_senders;
       cursors = v.cursors;
       room = omega (arith, v.room, size, c.pop_front.ensures.capacity);
-      unmarked = subst (λ (x : List Bool). Unmarked x rest) (sym c.insert.ensures) (unmarked_taken s.free a rest s.ready s.senders s.cursors.items apart differ);
-      distinct = differ_taken s.free a rest s.ready s.senders s.cursors.items apart differ;
+      unmarked = subst (λ (x : List Bool). Unmarked x rest) (sym c.insert.ensures) (unmarked_taken s.free a rest s.ready s.senders s.cursors apart differ);
+      distinct = differ_taken s.free a rest s.ready s.senders s.cursors apart differ;
       ends = omega (arith, v.ends, ap (λ (l : List ℕ). length l) items);
       within = λ n l. omega (arith, v.within n l, ap (λ (l : List ℕ). length l) items);
     }
@@ -47,13 +47,13 @@ returns c =
     let differ = subst Differ items v.distinct in
     let some : 0 < s.ready = omega (arith, c.requires, ap (λ (v : StandingsView). length v.ready) c.self.view_is, length-take-le s.ready s.queue.items v.ends) in
     let next : s.ready ≡ suc (s.ready - 1) = omega arith in
-    let inside = first_inside s.free a rest s.ready s.senders s.cursors.items apart differ in
-    let same : notes s.free (a ∷ rest) (suc (s.ready - 1)) s.senders s.cursors.items ≡ c.args.self.now.notes =
-    (λ i. notes s.free (sym items i) (sym next i) s.senders s.cursors.items) ∙ ap (λ (v : StandingsView). v.notes) c.self.view_is in record {
+    let inside = first_inside s.free a rest s.ready s.senders s.cursors apart differ in
+    let same : notes s.free (a ∷ rest) (suc (s.ready - 1)) s.senders s.cursors ≡ c.args.self.now.notes =
+    (λ i. notes s.free (sym items i) (sym next i) s.senders s.cursors) ∙ ap (λ (v : StandingsView). v.notes) c.self.view_is in record {
       taken = ap (λ (v : StandingsView). v.ready) (sym c.self.view_is) ∙ (λ i. take (next i) (items i));
-      same = (ap (λ (v : StandingsView). v.senders) c.self.view_is, ap (λ (l : List Bool). notes l rest (s.ready - 1) s.senders s.cursors.items) c.insert.ensures ∙ notes_taken s.free a rest (s.ready - 1) s.senders s.cursors.items apart differ ∙ same);
+      same = (ap (λ (v : StandingsView). v.senders) c.self.view_is, ap (λ (l : List Bool). notes l rest (s.ready - 1) s.senders s.cursors) c.insert.ensures ∙ notes_taken s.free a rest (s.ready - 1) s.senders s.cursors apart differ ∙ same);
       free = (
-        omega (arith, inside, notes_length s.free s.queue.items s.ready s.senders s.cursors.items, ap (λ (v : StandingsView). length v.notes) c.self.view_is),
-        ap (λ l. note_at l a) (sym same) ∙ notes_at s.free (a ∷ rest) (suc (s.ready - 1)) s.senders s.cursors.items a ∙ first_free_note s.free a rest (s.ready - 1) s.senders s.cursors.items apart differ,
+        omega (arith, inside, notes_length s.free s.queue.items s.ready s.senders s.cursors, ap (λ (v : StandingsView). length v.notes) c.self.view_is),
+        ap (λ l. note_at l a) (sym same) ∙ notes_at s.free (a ∷ rest) (suc (s.ready - 1)) s.senders s.cursors a ∙ first_free_note s.free a rest (s.ready - 1) s.senders s.cursors apart differ,
       );
     }

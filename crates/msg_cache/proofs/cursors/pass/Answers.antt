@@ -1,7 +1,7 @@
 use Rattle.std.proofs.Common.{◌≡◌, ℕ, ◌+◌, ◌<◌, ◌⊎◌, length, arith, subst, sym}
 use Rattle.std.specs.Prelude.{slice_index, slice_set}
 use Rattle.msg_cache.proofs.CursorLemmas.{some_more}
-use Rattle.msg_cache.proofs.standings.pass.Goals as goal
+use Rattle.msg_cache.proofs.cursors.pass.Goals as goal
 use Rattle.std.proofs.lemmas.Grind.{common_steps}
 
 pub loop-sender-preserved : goal.loop-sender-preserved

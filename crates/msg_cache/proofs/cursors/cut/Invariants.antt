@@ -1,6 +1,6 @@
 use Rattle.std.proofs.Common.{◌≡◌, ℕ, ◌+◌, ◌<◌, ◌≤◌, length}
 use Rattle.std.specs.Prelude.{slice_index}
-use Rattle.msg_cache.proofs.standings.cut.Given as goal
+use Rattle.msg_cache.proofs.cursors.cut.Given as goal
 
 abbrev pub invariant-loop-sender : goal.invariant-loop-sender
 invariant-loop-sender l = record {
