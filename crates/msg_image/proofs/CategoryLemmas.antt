@@ -8,14 +8,15 @@ use Rattle.msg_tables.specs.History.{empty, lookup}
 use Rattle.msg_tables.specs.Opening as opening
 use Rattle.msg_tables.specs.Rows.{own, or_else}
 use Rattle.msg_tables.specs.RowList.{own_in}
-use Rattle.msg_tables.specs.declared.origin.MethodsOf.{MethodsOf}
+use Rattle.msg_tables.specs.Methods.{MethodsOf}
 use Rattle.msg_tables.proofs.HoldsLemmas.{meta-apart}
 use Rattle.msg_tables.proofs.LawLemmas.{found-list}
 use Rattle.msg_tables.proofs.OwnLemmas.{own-append, own-rows_other}
-use Rattle.msg_image.specs.Opened.{Lacks, two_lists, class_lists, category_lists, origin_of}
+use Rattle.msg_tables.specs.Attached.{two_lists, category_lists}
+use Rattle.msg_image.specs.Opened.{Lacks, class_lists, origin_of}
 use Rattle.msg_image.specs.Parts.{ImageParts}
 use Rattle.msg_image.specs.Sound.{IsSound}
-use Rattle.msg_image.specs.declared.image.Category.{Category}
+use Rattle.msg_tables.specs.declared.origin.Category.{Category}
 use Rattle.msg_image.proofs.OpenedLemmas.{origin-sound}
 
 category_lists-append : (xs ys : List Category) → category_lists (xs ++ ys) ≡ category_lists xs ++ category_lists ys

@@ -1,4 +1,5 @@
 pub mod NumberingLemmas
+pub mod KeptLemmas
 pub mod PartLemmas
 pub mod NoneLemmas
 pub mod KnownLemmas

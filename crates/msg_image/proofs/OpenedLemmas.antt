@@ -8,27 +8,14 @@ use Rattle.std.proofs.lemmas.List.Elements.{All-head, All-tail, All-nil, All-con
 use Rattle.msg_tables.specs.After.{of_class, of_meta}
 use Rattle.msg_tables.specs.Origin as origin
 use Rattle.msg_tables.specs.Origin.{OriginView, IsSoundList, are_listed, last_imp}
-use Rattle.msg_tables.specs.declared.origin.MethodsOf.{MethodsOf}
+use Rattle.msg_tables.specs.Methods.{MethodsOf}
 use Rattle.msg_tables.proofs.ListedLemmas.{and_both}
-use Rattle.msg_image.specs.Opened.{two_lists, class_lists, category_lists, origin_of}
+use Rattle.msg_tables.specs.Attached.{two_lists, category_lists}
+use Rattle.msg_image.specs.Opened.{class_lists, origin_of}
 use Rattle.msg_image.specs.Parts.{ImageParts, ClassParts}
 use Rattle.msg_image.specs.Sound.{IsSound, IsSoundClass, IsSoundCategory, IsMethodOf, AreListed}
-use Rattle.msg_image.specs.declared.image.Category.{Category}
+use Rattle.msg_tables.specs.declared.origin.Category.{Category}
 use Rattle.msg_image.proofs.PartLemmas.{All-at, classes-listed}
-
--- one class more
-pub class_lists-next : (j : ℕ) (xs : List ClassParts) (c : ClassParts) → class_lists j (xs ++ c ∷ []) ≡ class_lists j xs ++ two_lists (j + length xs) c.methods c.class_methods
-class_lists-next j [] c =
-    let same : j ≡ j + 0 = omega arith in
-    ap (λ k. two_lists k c.methods c.class_methods) same
-class_lists-next j (x ∷ xs) c =
-    let same : j + 1 + length xs ≡ j + length (x ∷ xs) = omega arith in
-    ap (λ ls. two_lists j x.methods x.class_methods ++ ls) (class_lists-next (j + 1) xs c ∙ ap (λ k. class_lists (j + 1) xs ++ two_lists k c.methods c.class_methods) same)
-
--- one category more
-pub category_lists-next : (xs : List Category) (c : Category) → category_lists (xs ++ c ∷ []) ≡ category_lists xs ++ two_lists c.class c.methods c.class_methods
-category_lists-next [] c = refl
-category_lists-next (x ∷ xs) c = ap (λ ls. two_lists x.class x.methods x.class_methods ++ ls) (category_lists-next xs c)
 
 -- listed implementations, as a test
 listed-test : (image : ImageParts) (ms : List (ℕ × ℕ)) → AreListed image ms → are_listed (length image.imps) ms ≡ true

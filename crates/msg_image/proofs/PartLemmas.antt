@@ -1,11 +1,10 @@
 -- Parts of an image that were read.
-use Rattle.std.proofs.Common.{vec_len, ◌≡◌, ◌<◌, ◌≤◌, ◌-◌, ◌++◌, ◌∷◌, [], zero, suc, String, Global, ℕ, false, List, length, map, get_or, Option, Some, None, option_map, slice_get, refl, sym, ap, ◌∙◌, subst, arith}
+use Rattle.std.proofs.Common.{vec_len, ◌≡◌, ◌<◌, ◌≤◌, ◌+◌, ◌-◌, ◌*◌, ◌++◌, ◌∷◌, [], zero, suc, String, Global, ℕ, Bool, true, false, cond, List, length, map, get_or, Option, Some, None, option_map, slice_get, refl, sym, ap, ◌∙◌, subst, arith}
 use Rattle.std.specs.Prelude.{All, IfSome, string_bytes}
 use Rattle.std.proofs.lemmas.List.{length-map}
 use Rattle.std.proofs.lemmas.Option.{slice_get-map, slice_get_read, slice_get_within, get_or_from_slice_get, same_Some}
 use Rattle.msg_names.specs.declared.value.ClassRef.{ClassRef}
-use Rattle.msg_image.specs.declared.image.Base.TheInside.{Inside}
-use Rattle.msg_image.specs.declared.image.Class.{Class}
+use Rattle.msg_image.specs.declared.image.Image.TheInside.{Inside}
 use Rattle.msg_image.specs.declared.image.Object.{Object}
 use Rattle.msg_image.specs.declared.image.Imp.{Imp}
 use Rattle.msg_names.specs.ClassRef.{above}
@@ -13,9 +12,16 @@ use Rattle.std.specs.Option.{option_map_or}
 use Rattle.std.proofs.lemmas.Simd.{map-map}
 use Rattle.msg_order.specs.Superclasses.{super_of, AreListed, depth_of, has_cycle}
 use Rattle.msg_order.proofs.DepthLemmas.{depth-root, depth-step, depth-fewer}
-use Rattle.msg_image.specs.Parts.{class_total, class_names, ImageParts, ClassParts, ObjectParts, superclass_in, superclasses, depth_in}
-use Rattle.msg_image.specs.Plain.{class_parts, object_parts, imp_parts, image_parts}
-use Rattle.msg_image.specs.Sound.{IsSound, IsSoundClass, IsSoundImp}
+use Rattle.msg_image.specs.Parts.{class_total, class_names, ImageParts, ClassParts, ObjectParts, superclass_in, superclasses, depth_in, methods_in, methods_of}
+use Rattle.msg_image.specs.Plain.{object_parts, imp_parts, image_parts}
+use Rattle.msg_image.specs.Inside.{IsKept}
+use Rattle.msg_image.specs.Opened.{origin_of}
+use Rattle.msg_image.specs.Sound.{IsSound, IsSoundClass, IsSoundImp, AreListed as Listed}
+use Rattle.msg_tables.specs.Attached.{category_lists}
+use Rattle.msg_tables.specs.Methods.{MethodsOf}
+use Rattle.msg_tables.specs.Origin.{OriginView}
+use Rattle.msg_tables.proofs.TakeLemmas.{element}
+use Rattle.msg_image.proofs.KeptLemmas.{list-at, length-lists}
 
 -- what was read is what is seen at that place
 pub seen : {A B : Type 0} (view : A → B) (xs : List A) (parts : List B) (i : ℕ) (x : A) → map view xs ≡ parts → i < length parts → x ≡ get_or xs i x → slice_get parts i ≡ Some (view x)
@@ -44,31 +50,26 @@ names-made (d ∷ cs) made (suc k) name past at =
     names-made cs made k name (omega (arith, past)) (subst (λ j. slice_get made j ≡ Some name) same at)
 
 -- the superclass of a class that was read
-pub super_at : (cs : List Class) (k : ℕ) (x : Class) → k < length cs → super_of (map (λ (c : Class). c.superclass) cs) k ≡ (get_or cs k x).superclass
-super_at [] k x inside = absurd (omega (arith, inside))
-super_at (c ∷ cs) zero x inside = refl
-super_at (c ∷ cs) (suc k) x inside = super_at cs k x (omega (arith, inside))
+pub super_at : (supers : List (Option ℕ)) (k : ℕ) (d : Option ℕ) → slice_get supers k ≡ Some d → super_of supers k ≡ d
+super_at [] k d at = cc
+super_at (o ∷ os) zero d at = same_Some o d at
+super_at (o ∷ os) (suc k) d at = super_at os k d at
 
 -- going up to it: it is listed, one less deep, and the class isn't so deep that a number of 32 bits is too small
-pub record GoesUp (cs : List Class) (k d : ℕ) : Type 0 where
-  pub listed : d < length cs
-  pub deeper : depth_of (map (λ (c : Class). c.superclass) cs) k ≡ suc (depth_of (map (λ (c : Class). c.superclass) cs) d)
+pub record GoesUp (supers : List (Option ℕ)) (k d : ℕ) : Type 0 where
+  pub listed : d < length supers
+  pub deeper : depth_of supers k ≡ suc (depth_of supers d)
 
-pub goes_up : (cs : List Class) (k d : ℕ) (x : Class) → AreListed (map (λ (c : Class). c.superclass) cs) → has_cycle (map (λ (c : Class). c.superclass) cs) ≡ false → k < length cs → (get_or cs k x).superclass ≡ Some d → GoesUp cs k d
-goes_up cs k d x listed chains inside e =
-    let n = length-map cs (λ (c : Class). c.superclass) in
-    let up = super_at cs k x inside ∙ e in
-    let within = listed.above k d up in
-    record { listed = omega (arith, n, within); deeper = depth-step (map (λ (c : Class). c.superclass) cs) k d chains (omega (arith, n, inside)) up }
+pub goes_up : (supers : List (Option ℕ)) (k d : ℕ) (x : Option ℕ) → AreListed supers → has_cycle supers ≡ false → k < length supers → slice_get supers k ≡ Some x → x ≡ Some d → GoesUp supers k d
+goes_up supers k d x listed chains inside at e =
+    let up = super_at supers k x at ∙ e in
+    record { listed = listed.above k d up; deeper = depth-step supers k d chains inside up }
 
-pub stays_below : (cs : List Class) (k : ℕ) → has_cycle (map (λ (c : Class). c.superclass) cs) ≡ false → k < length cs → depth_of (map (λ (c : Class). c.superclass) cs) k < length cs
-stays_below cs k chains inside =
-    let n = length-map cs (λ (c : Class). c.superclass) in
-    let few = depth-fewer (map (λ (c : Class). c.superclass) cs) k chains (omega (arith, n, inside)) in
-    omega (arith, n, few)
+pub stays_below : (supers : List (Option ℕ)) (k : ℕ) → has_cycle supers ≡ false → k < length supers → depth_of supers k < length supers
+stays_below supers k chains inside = depth-fewer supers k chains inside
 
-pub at_root : (cs : List Class) (k : ℕ) (x : Class) → k < length cs → (get_or cs k x).superclass ≡ None → depth_of (map (λ (c : Class). c.superclass) cs) k ≡ 0
-at_root cs k x inside e = depth-root (map (λ (c : Class). c.superclass) cs) k (super_at cs k x inside ∙ e)
+pub at_root : (supers : List (Option ℕ)) (k : ℕ) (x : Option ℕ) → slice_get supers k ≡ Some x → x ≡ None → depth_of supers k ≡ 0
+at_root supers k x at e = depth-root supers k (super_at supers k x at ∙ e)
 
 -- superclasses that are listed, as numbers among as many
 supers-listed : (cs : List ClassParts) (n : ℕ) → All (λ (c : ClassParts). IfSome c.superclass (λ d. d < n)) cs → (k d : ℕ) → super_of (map (λ (c : ClassParts). c.superclass) cs) k ≡ Some d → d < n
@@ -93,41 +94,78 @@ depth-above image k sound inside = at (super_of (superclasses image) k) refl
     at None e = depth-root (superclasses image) k e
     at (Some d) e = let n = length-map image.classes (λ (c : ClassParts). c.superclass) in depth-step (superclasses image) k d sound.chains (omega (arith, inside, n)) e
 
-module _ (i : Inside) (image : ImageParts) (view_is : image_parts i ≡ image) where
-  -- the superclasses that are kept are the image's
-  pub supers_seen : map (λ (c : Class). c.superclass) i.classes.items ≡ superclasses image
-  supers_seen = sym (map-map (λ (c : ClassParts). c.superclass) class_parts i.classes.items) ∙ ap superclasses view_is
+-- the superclass of a listed class
+pub superclass_seen : (image : ImageParts) (c : ClassRef) (d : Option ℕ) → slice_get (superclasses image) c.class ≡ Some d → superclass_in image c ≡ above c d
+superclass_seen image c d at =
+    let inside : c.class < length image.classes = let n = length-map image.classes (λ (k : ClassParts). k.superclass) in let m = slice_get_within (superclasses image) c.class d at in omega (arith, n, m) in
+    let (k, here) = element image.classes c.class inside in
+    superclass_in-at image c k d here (same_Some k.superclass d (sym (slice_get-map (λ (e : ClassParts). e.superclass) image.classes c.class ∙ ap (option_map (λ (e : ClassParts). e.superclass)) here) ∙ at))
 
-  -- a class that is kept is listed
-  pub inside_listed : (k n : ℕ) → n ≡ vec_len i.classes → k < n → k < length image.classes
-  inside_listed k n is inside =
-      let seen' = ap (λ (p : ImageParts). length p.classes) view_is in
-      let mapped = length-map i.classes.items class_parts in
-      omega (arith, inside, is, i.classes.ok.0, seen', mapped)
+module _ (i : Inside) (image : ImageParts) (view_is : image_parts i ≡ image) (kept : IsKept i) where
+  pub sound : IsSound image
+  sound = subst IsSound view_is kept.sound
 
-  pub name_listed : (k : ℕ) (x : Class) → k < length image.classes → x ≡ get_or i.classes.items k x → slice_get (class_names image) k ≡ Some (string_bytes x.name)
-  name_listed k x in_range read = names-listed image.classes image.made k (class_parts x) (seen class_parts i.classes.items image.classes k x (ap (λ p. p.classes) view_is) in_range read)
+  -- the names that are kept are the listed classes'
+  pub names_seen : map string_bytes i.listed.items ≡ map (λ (c : ClassParts). c.name) image.classes
+  names_seen = kept.listed ∙ ap (λ (p : ImageParts). map (λ (c : ClassParts). c.name) p.classes) view_is
+
+  -- how many are listed, and how many may be made
+  pub count_seen : vec_len i.listed ≡ length image.classes
+  count_seen = omega (arith, i.listed.ok.0, length-map i.listed.items string_bytes, ap length names_seen, length-map image.classes (λ (c : ClassParts). c.name))
+
+  pub made_seen : vec_len i.made ≡ length image.made
+  made_seen = omega (arith, i.made.ok.0, length-map i.made.items string_bytes, ap (λ (p : ImageParts). length p.made) view_is)
+
+  -- what tables are opened of
+  pub origin_seen : i.origin ≡ origin_of image
+  origin_seen = kept.origin ∙ ap origin_of view_is
+
+  pub name_listed : (k : ℕ) (x : String Global) → k < length image.classes → x ≡ get_or i.listed.items k x → slice_get (class_names image) k ≡ Some (string_bytes x)
+  name_listed k x in_range read =
+      let (c, at) = element image.classes k in_range in
+      let names = map (λ (d : ClassParts). d.name) image.classes in
+      let count = length-map image.classes (λ (d : ClassParts). d.name) in
+      let here = seen string_bytes i.listed.items names k x names_seen (omega (arith, count, in_range)) read in
+      names-listed image.classes image.made k c at ∙ sym (slice_get-map (λ (d : ClassParts). d.name) image.classes k ∙ ap (option_map (λ (d : ClassParts). d.name)) at) ∙ here
 
   pub name_made : (k : ℕ) (x : String Global) → length image.classes ≤ k → k < class_total image → x ≡ get_or i.made.items (k - length image.classes) x → slice_get (class_names image) k ≡ Some (string_bytes x)
   name_made k x past in_range read =
       names-made image.classes image.made k (string_bytes x) past
       (seen string_bytes i.made.items image.made (k - length image.classes) x (ap (λ p. p.made) view_is) (omega (arith, past, in_range)) read)
 
-  -- a class that was read
-  pub class_seen : (k : ℕ) (x : Class) → k < length image.classes → x ≡ get_or i.classes.items k x → slice_get image.classes k ≡ Some (class_parts x)
-  class_seen k x in_range read = seen class_parts i.classes.items image.classes k x (ap (λ p. p.classes) view_is) in_range read
+  -- a superclass is listed
+  pub superclass_listed : (k : ℕ) (d : Option ℕ) → k < length image.classes → slice_get i.origin.superclasses k ≡ Some d → IfSome d (λ e. e < length image.classes)
+  superclass_listed k d inside at =
+      let (c, here) = element image.classes k inside in
+      let is : c.superclass ≡ d =
+      same_Some c.superclass d (sym (slice_get-map (λ (e : ClassParts). e.superclass) image.classes k ∙ ap (option_map (λ (e : ClassParts). e.superclass)) here) ∙ ap (λ (o : OriginView). slice_get o.superclasses k) (sym origin_seen) ∙ at) in
+      subst (λ o. IfSome o (λ e. e < length image.classes)) is (All-at (IsSoundClass image) image.classes k c sound.classes here).superclass
 
-  pub class_sound : (k : ℕ) (x : Class) → IsSound (image_parts i) → k < length image.classes → x ≡ get_or i.classes.items k x → IsSoundClass image (class_parts x)
-  class_sound k x sound in_range read =
-      let all : IsSound image = subst IsSound view_is sound in
-      All-at (IsSoundClass image) image.classes k (class_parts x) all.classes (class_seen k x in_range read)
+  -- a listed class has its lists
+  pub lists_enough : (k : ℕ) → k < length image.classes → 2 * k < length i.origin.lists
+  lists_enough k inside =
+      let many = length-lists 0 image.classes (category_lists image.categories) in
+      omega (arith, many, inside, ap (λ (o : OriginView). length o.lists) origin_seen)
 
-  pub object_sound : (k : ℕ) (x : Object) → IsSound (image_parts i) → k < length image.objects → x ≡ get_or i.objects.items k x → x.class < class_total image
-  object_sound k x sound in_range read =
-      let all : IsSound image = subst IsSound view_is sound in
-      All-at (λ (o : ObjectParts). o.class < class_total image) image.objects k (object_parts x) all.objects (seen object_parts i.objects.items image.objects k x (ap (λ p. p.objects) view_is) in_range read)
+  -- the methods of a class reference that is listed
+  pub methods_seen : (c : ClassRef) (l : MethodsOf) → c.class < length image.classes → slice_get i.origin.lists (2 * c.class + cond c.meta 1 0) ≡ Some l → (l.methods ≡ methods_in image c) × Listed image l.methods
+  methods_seen c l inside at =
+      let (k, here) = element image.classes c.class inside in
+      let lists = ap (λ (o : OriginView). o.lists) origin_seen in
+      let read = list-at 0 image.classes (category_lists image.categories) c.class c.meta k here in
+      let is : cond c.meta k.class_methods k.methods ≡ l.methods =
+      ap (λ (m : MethodsOf). m.methods) (same_Some _ l (sym read ∙ ap (λ ls. slice_get ls (2 * c.class + cond c.meta 1 0)) (sym lists) ∙ at)) in
+      let whole = All-at (IsSoundClass image) image.classes c.class k sound.classes here in
+      (sym is ∙ sym (ap (λ o. option_map_or (methods_of c) o []) here), subst (Listed image) is (either c.meta k.class_methods k.methods whole.class_methods whole.methods))
+    where
+      either : (m : Bool) (a b : List (ℕ × ℕ)) → Listed image a → Listed image b → Listed image (cond m a b)
+      either true a b ha hb = ha
+      either false a b ha hb = hb
 
-  pub imp_sound : (k : ℕ) (x : Imp) → IsSound (image_parts i) → k < length image.imps → x ≡ get_or i.imps.items k x → IsSoundImp image (imp_parts x)
-  imp_sound k x sound in_range read =
-      let all : IsSound image = subst IsSound view_is sound in
-      All-at (IsSoundImp image) image.imps k (imp_parts x) all.imps (seen imp_parts i.imps.items image.imps k x (ap (λ p. p.imps) view_is) in_range read)
+  pub object_sound : (k : ℕ) (x : Object) → k < length image.objects → x ≡ get_or i.objects.items k x → x.class < class_total image
+  object_sound k x in_range read =
+      All-at (λ (o : ObjectParts). o.class < class_total image) image.objects k (object_parts x) sound.objects (seen object_parts i.objects.items image.objects k x (ap (λ p. p.objects) view_is) in_range read)
+
+  pub imp_sound : (k : ℕ) (x : Imp) → k < length image.imps → x ≡ get_or i.imps.items k x → IsSoundImp image (imp_parts x)
+  imp_sound k x in_range read =
+      All-at (IsSoundImp image) image.imps k (imp_parts x) sound.imps (seen imp_parts i.imps.items image.imps k x (ap (λ p. p.imps) view_is) in_range read)

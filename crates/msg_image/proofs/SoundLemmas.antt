@@ -27,7 +27,7 @@ use Rattle.msg_form.proofs.AnyLemmas.{list_any-map, list_any-flat_map}
 use Rattle.msg_image.specs.Contents.{selectors_in, arguments_in, has_super_send}
 use Rattle.msg_image.specs.Document as spec
 use Rattle.msg_image.specs.Document.{expression}
-use Rattle.msg_image.specs.declared.image.Category.{Category}
+use Rattle.msg_tables.specs.declared.origin.Category.{Category}
 use Rattle.msg_image.specs.Numbers.{Numbers, numbers_of, selector_named, class_named, object_named, imp_named}
 use Rattle.msg_image.specs.Parts.{class_total, ImageParts, ClassParts, ObjectParts, superclass_in, superclasses}
 use Rattle.msg_image.specs.Sound.{IsSound, IsSoundClass, IsSoundCategory, IsSoundImp, IsMethodOf, AreListed, HasSelector, row_count}

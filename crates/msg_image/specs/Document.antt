@@ -10,7 +10,8 @@ use Rattle.msg_form.specs.Expression as form
 use Rattle.msg_form.specs.Form.{PairForm, ClassForm, CategoryForm, ObjectForm, ImpForm, MethodForm, ChangeForm, add, replace, set_imp, exchange, attach, make, ItemForm, send_item, change_item, Form}
 use Rattle.msg_tables.specs.declared.change.Change.{Change}
 use Rattle.msg_tables.specs.declared.change.Change.TheVariants as changes
-use Rattle.msg_image.specs.declared.image.Category.{Category}
+use Rattle.msg_tables.specs.declared.origin.Category.{Category}
+use Rattle.msg_tables.specs.declared.origin.ListedClass.{ListedClass}
 use Rattle.msg_image.specs.Items.{ItemParts, SendItem, ChangeItem, DocumentParts}
 use Rattle.msg_image.specs.Numbers.{Numbers, numbers_of, selector_named, class_named, object_named, imp_named}
 use Rattle.msg_image.specs.Parts.{Op, Add, Sub, Mul, Eq, Lt, Expression, Expressions, Const, Me, Arg, Two, If, Send, Super, NoMore, More, ClassParts, ObjectParts, ImpParts, ImageParts}
@@ -56,6 +57,10 @@ methods n ps = map (method n) ps
 -- a class with numbers for names
 abbrev pub class : Numbers → ClassForm → ClassParts
 class n c = record { name = c.name; superclass = option_map (class_named n) c.superclass; methods = methods n c.methods; class_methods = methods n c.class_methods }
+
+-- what tables are opened of, of a class
+abbrev pub listed : Numbers → ClassForm → ListedClass
+listed n c = record { superclass = option_map (class_named n) c.superclass; methods = methods n c.methods; class_methods = methods n c.class_methods }
 
 -- a category with numbers for names
 abbrev pub category : Numbers → CategoryForm → Category

@@ -1,6 +1,7 @@
 pub mod Coding
 pub mod Contents
 pub mod Document
+pub mod Inside
 pub mod Items
 pub mod Numbers
 pub mod Opened

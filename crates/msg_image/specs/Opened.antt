@@ -5,24 +5,16 @@ use Rattle.msg_names.specs.declared.value.ClassRef.{ClassRef}
 use Rattle.msg_tables.specs.After.{of_class, of_meta, rows_at}
 use Rattle.msg_tables.specs.Rows.{own}
 use Rattle.msg_tables.specs.Origin.{OriginView, CountsView}
-use Rattle.msg_tables.specs.declared.origin.MethodsOf.{MethodsOf}
+use Rattle.msg_tables.specs.Attached.{two_lists, category_lists}
+use Rattle.msg_tables.specs.Methods.{MethodsOf}
 use Rattle.msg_image.specs.Parts.{ImageParts, ClassParts, ImpParts, superclasses}
-use Rattle.msg_image.specs.declared.image.Category.{Category}
+use Rattle.msg_tables.specs.declared.origin.Category.{Category}
 use Rattle.msg_image.specs.declared.opened.TheConstants.{MAX_ROWS, MAX_CHANGES, MAX_SENDERS, MAX_WORDS}
-
--- the method list of a class, and that of its metaclass
-abbrev pub two_lists : ℕ → List (ℕ × ℕ) → List (ℕ × ℕ) → List MethodsOf
-two_lists k methods class_methods = record { class = of_class k; methods = methods } ∷ record { class = of_meta k; methods = class_methods } ∷ []
 
 -- the method lists of listed classes, numbered from k
 abbrev pub class_lists : ℕ → List ClassParts → List MethodsOf
 class_lists k [] = []
 class_lists k (c ∷ cs) = two_lists k c.methods c.class_methods ++ class_lists (k + 1) cs
-
--- those of categories, which are attached one after another
-abbrev pub category_lists : List Category → List MethodsOf
-category_lists [] = []
-category_lists (c ∷ cs) = two_lists c.class c.methods c.class_methods ++ category_lists cs
 
 -- how many arguments the selectors and implementations take
 abbrev pub counts_of : ImageParts → CountsView

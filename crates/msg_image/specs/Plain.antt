@@ -1,5 +1,7 @@
 -- The parts of an image of the program.
-use Rattle.std.specs.Prelude.{List, map, string_bytes}
+use Rattle.std.specs.Prelude.{ℕ, ◌*◌, List, [], ◌∷◌, Option, drop, length, map, string_bytes}
+use Rattle.msg_tables.specs.Attached.{categories_in}
+use Rattle.msg_tables.specs.Methods.{MethodsOf}
 use Rattle.msg_image.specs.Items.{ItemParts, SendItem, ChangeItem}
 use Rattle.msg_image.specs.Parts.{Add, Sub, Mul, Eq, Lt, Expression, Expressions, Const, Me, Arg, Two, If, Send, Super, in_row, ClassParts, ObjectParts, ImpParts, ImageParts}
 use Rattle.msg_image.specs.declared.expr.Expr.{Expr, fold-Expr}
@@ -7,9 +9,8 @@ use Rattle.msg_image.specs.declared.expr.Expr.TheOpen.{Expr-F}
 use Rattle.msg_image.specs.declared.image.Imp.{Imp}
 use Rattle.msg_image.specs.declared.change.Item.{Item}
 use Rattle.msg_image.specs.declared.change.Item.TheVariants as items
-use Rattle.msg_image.specs.declared.image.Class.{Class}
 use Rattle.msg_image.specs.declared.image.Object.{Object}
-use Rattle.msg_image.specs.declared.image.Base.TheInside.{Inside}
+use Rattle.msg_image.specs.declared.image.Image.TheInside.{Inside}
 
 -- one level of an expression, with each expression inside already seen
 abbrev pub expr_step : Expr-F Expression → Expression
@@ -33,9 +34,10 @@ plain = fold-Expr Expression expr_step
 abbrev pub plain_all : List Expr → Expressions
 plain_all es = in_row (map plain es)
 
--- a class without its pointers
-abbrev pub class_parts : Class → ClassParts
-class_parts c = record { name = string_bytes c.name; superclass = c.superclass; methods = c.methods; class_methods = c.class_methods }
+-- listed classes, by their names and what tables are opened of
+abbrev pub named_classes : List (List ℕ) → List (Option ℕ) → List MethodsOf → List ClassParts
+named_classes (name ∷ names) (d ∷ ds) (own ∷ meta ∷ ls) = record { name = name; superclass = d; methods = own.methods; class_methods = meta.methods } ∷ named_classes names ds ls
+named_classes _ _ _ = []
 
 -- an object without its pointers
 abbrev pub object_parts : Object → ObjectParts
@@ -49,9 +51,9 @@ imp_parts i = record { home = i.home; args = i.args; body = plain i.body }
 abbrev pub image_parts : Inside → ImageParts
 image_parts i = record {
   names = i.names;
-  classes = map class_parts i.classes.items;
+  classes = named_classes (map string_bytes i.listed.items) i.origin.superclasses i.origin.lists;
   made = map string_bytes i.made.items;
-  categories = i.categories.items;
+  categories = categories_in (drop (2 * length i.origin.superclasses) i.origin.lists);
   objects = map object_parts i.objects.items;
   imps = map imp_parts i.imps.items;
 }

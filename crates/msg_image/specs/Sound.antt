@@ -12,7 +12,7 @@ use Rattle.msg_names.specs.Numbering.{name_at}
 use Rattle.msg_names.specs.declared.value.Selector.{Selector}
 use Rattle.msg_names.specs.declared.value.Value.{Value}
 use Rattle.msg_names.specs.declared.value.Value.TheVariants.{Number, Object, Class, Sel, Nil}
-use Rattle.msg_image.specs.declared.image.Category.{Category}
+use Rattle.msg_tables.specs.declared.origin.Category.{Category}
 use Rattle.msg_image.specs.Items.{ItemParts, SendItem, ChangeItem}
 use Rattle.msg_image.specs.Parts.{ImageParts, class_total, ClassParts, ObjectParts, ImpParts, Expression, Expressions, Const, Me, Arg, Two, If, Send, Super, NoMore, More, superclass_in, superclasses}
 use Rattle.msg_image.specs.Contents.{own_selector, selectors_in, arguments_in, has_super_send}

@@ -15,8 +15,8 @@ ghost use Rattle.msg_image.specs.Plain.{item_parts};
 ghost use Rattle.msg_image.specs.Sound.{IsSoundItem};
 
 use crate::change::Item;
+use crate::image::Image;
 use crate::resolve::each;
-use crate::whole::Image;
 use msg_form::{DocumentFault, Form, FormNames, MAX_ITEMS};
 use msg_json::{Bump, JsonFault, Scratch, Tree};
 use std::alloc::{AllocError, Global};

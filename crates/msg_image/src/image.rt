@@ -10,15 +10,16 @@ ghost use Rattle.msg_form.specs.Views.{category_view, class_view, form_view, imp
 ghost use Rattle.msg_image.specs.Document as spec;
 ghost use Rattle.msg_image.specs.Document.{image_of};
 ghost use Rattle.msg_image.specs.Numbers.{numbers_by};
-ghost use Rattle.msg_image.specs.Plain.{class_parts, imp_parts, object_parts};
+ghost use Rattle.msg_image.specs.Plain.{imp_parts, object_parts};
 ghost use Rattle.msg_names.specs.Number.{selector_number, imp_number};
 
 use crate::expr::Expr;
 use crate::numbers::{forwarding_selector, selector_names};
+use crate::opened::{counts, limits};
 use crate::resolve::{both, each};
 use msg_form::{Form, FormNames, MAX_CLASSES};
 use msg_names::{ClassRef, ImpRef, Names, ObjectRef, Selector};
-use msg_tables::MethodList;
+use msg_tables::{Category, HasOrigin, ListedClass, Origin};
 use std::alloc::{AllocError, Global};
 use std::marker::Model;
 
@@ -32,41 +33,29 @@ pub struct Imp {
     pub body: Expr,
 }
 
-/// A category as it is listed.
-#[derive(Drop)]
-pub struct Category {
-    pub class: u32,
-    pub methods: MethodList,
-    pub class_methods: MethodList,
-}
-
-#[derive(Drop)]
-pub(crate) struct Class {
-    pub(crate) name: String,
-    pub(crate) superclass: Option<u32>,
-    pub(crate) methods: MethodList,
-    pub(crate) class_methods: MethodList,
-}
-
 #[derive(Drop)]
 pub(crate) struct Object {
     pub(crate) name: String,
     pub(crate) class: u32,
 }
 
-// What a document says of classes, categories, objects and implementations.
+/// What a document says of classes, categories, objects and implementations.
+///
+/// Contracts see the parts without their pointers. The reading calls take no memory, and each indexes once.
 #[derive(Drop)]
-pub(crate) struct Base {
+pub struct Image {
     names: Names,
-    classes: Vec<Class>,
+    // The names of the listed classes.
+    listed: Vec<String>,
     // The names of the classes that may be made at run time.
     made: Vec<String>,
-    categories: Vec<Category>,
     objects: Vec<Object>,
     imps: Vec<Imp>,
+    // What tables are opened of. The superclasses, method lists and categories stand here alone.
+    origin: Origin,
 }
 
-impl Model for Base {
+impl Model for Image {
     ghost use Rattle.msg_image.specs.Parts.{ImageParts};
 
     ghost Value = { ImageParts };
@@ -77,22 +66,32 @@ impl Model for Base {
     ghost coded = { Prim.hlevel (codes, coded_expression) };
 
     ghost use Rattle.msg_image.specs.Plain.{image_parts};
-    ghost use Rattle.msg_image.specs.Sound.{IsSound};
+    ghost use Rattle.msg_image.specs.Inside.{IsKept};
 
     ghost view = { image_parts };
 
-    ghost invariant = { λ i. IsSound (image_parts i) };
+    ghost invariant = { IsKept };
 }
 
-fn superclass_count(classes: &[Class], class: u32) -> u32
-    requires class { class < length classes.now }
-    requires few { length classes.now ≤ MAX_CLASSES }
-    requires listed { AreClasses (map (λ c. c.superclass) classes.now) }
-    requires chains { has_cycle (map (λ c. c.superclass) classes.now) ≡ false }
-    ensures { result ≡ depth_of (map (λ c. c.superclass) classes.now) class }
+impl HasOrigin for Image {
+    ghost use Rattle.msg_image.specs.Opened.{origin_of};
+
+    ghost given = { origin_of };
+
+    fn origin(&self) -> &Origin {
+        &self.origin
+    }
+}
+
+fn superclass_count(origin: &Origin, class: u32) -> u32
+    requires class { class < length origin.now.superclasses }
+    requires few { length origin.now.superclasses ≤ MAX_CLASSES }
+    requires listed { AreClasses origin.now.superclasses }
+    requires chains { has_cycle origin.now.superclasses ≡ false }
+    ensures { result ≡ depth_of origin.now.superclasses class }
 {
     let (mut depth, mut at) = (0, class);
-    while let Some(above) = classes[at as usize].superclass {
+    while let Some(above) = origin.superclass(at) {
         depth += 1;
         at = above;
     }
@@ -102,17 +101,25 @@ fn superclass_count(classes: &[Class], class: u32) -> u32
 // The classes of an image: a part of it that is made by itself, as is what stands for the rest, since where memory is wanted each function gives back what it has made.
 #[derive(Drop)]
 struct Classes {
-    listed: Vec<Class>,
+    names: Vec<String>,
+    listed: Vec<ListedClass>,
     made: Vec<String>,
 }
 
 fn classes_of(alloc: Global, form: &Form, names: &FormNames) -> Result<Classes, AllocError>
-    ensures listed { IfOk result (λ c. map class_parts c.listed.items ≡ map (λ c. spec.class (numbers_by names.now) (class_view c)) form.now.classes.items) }
+    ensures names { IfOk result (λ c. map string_bytes c.names.items ≡ map (λ c. (class_view c).name) form.now.classes.items) }
+    ensures listed { IfOk result (λ c. c.listed.items ≡ map (λ c. spec.listed (numbers_by names.now) (class_view c)) form.now.classes.items) }
     ensures made { IfOk result (λ c. map string_bytes c.made.items ≡ texts_view form.now.made.items) }
 {
+    let texts = each(alloc, names, &form.classes);
     let listed = each(alloc, names, &form.classes);
-    let (listed, made) = both(listed, each(alloc, names, &form.made))?;
-    Ok(Classes { listed, made })
+    let made = each(alloc, names, &form.made);
+    let (texts, (listed, made)) = both(texts, both(listed, made))?;
+    Ok(Classes {
+        names: texts,
+        listed,
+        made,
+    })
 }
 
 #[derive(Drop)]
@@ -138,9 +145,9 @@ fn members_of(alloc: Global, form: &Form, names: &FormNames) -> Result<Members, 
     })
 }
 
-impl Base {
+impl Image {
     // The image of a form without fault.
-    pub(crate) fn of(alloc: Global, form: &Form, names: &FormNames) -> Result<Base, AllocError>
+    pub(crate) fn of(alloc: Global, form: &Form, names: &FormNames) -> Result<Image, AllocError>
         requires fault { fault_of (form_view form.now) ≡ None }
         requires names { AreNamesOf names.now (form_view form.now) }
         ensures { IfOk result (λ i. i ≡ image_of (form_view form.now)) }
@@ -148,13 +155,17 @@ impl Base {
         let classes = classes_of(alloc, form, names)?;
         let members = members_of(alloc, form, names)?;
         let selectors = selector_names(alloc, names.selectors.as_slice())?;
-        Ok(Base {
+        let counts = counts(alloc, &selectors, &members.imps)?;
+        let made = classes.made.len() as u32;
+        let (listed, categories) = (classes.listed, members.categories);
+        let origin = Origin::new(listed, made, categories, Some(counts), limits());
+        Ok(Image {
             names: selectors,
-            classes: classes.listed,
+            listed: classes.names,
             made: classes.made,
-            categories: members.categories,
             objects: members.objects,
             imps: members.imps,
+            origin,
         })
     }
 
@@ -165,98 +176,102 @@ impl Base {
     ghost use Rattle.msg_image.specs.Plain.{plain, imp_parts};
     ghost use Rattle.msg_image.specs.Sound.{IsSound, IsSoundCategory, IsSoundImp, AreListed};
 
-    pub(crate) fn names(&self) -> &Names
+    /// The selectors' names. The first is `forwardingTargetForSelector:`.
+    pub fn names(&self) -> &Names
         ensures names { result.now ≡ self.now.names }
         ensures forwarding { name_at self.now.names (selector_number forwarding_selector) ≡ Some forwarding_text }
     {
         &self.names
     }
 
-    pub(crate) fn class_count(&self) -> u32
+    /// How many classes have numbers: the listed ones, and after them those that may be made.
+    pub fn class_count(&self) -> u32
         ensures count { result ≡ class_total self.now }
         ensures sound { IsSound self.now }
     {
-        (self.classes.len() + self.made.len()) as u32
+        (self.listed.len() + self.made.len()) as u32
     }
 
-    pub(crate) fn listed_count(&self) -> u32
+    /// How many classes are listed.
+    pub fn listed_count(&self) -> u32
         ensures count { result ≡ length self.now.classes }
         ensures sound { IsSound self.now }
     {
-        self.classes.len() as u32
+        self.listed.len() as u32
     }
 
-    pub(crate) fn object_count(&self) -> u32
+    pub fn object_count(&self) -> u32
         ensures { result ≡ length self.now.objects }
     {
         self.objects.len() as u32
     }
 
-    pub(crate) fn imp_count(&self) -> u32
+    pub fn imp_count(&self) -> u32
         ensures { result ≡ length self.now.imps }
     {
         self.imps.len() as u32
     }
 
-    pub(crate) fn class_name(&self, class: u32) -> &str
+    pub fn class_name(&self, class: u32) -> &str
         requires { class < class_total self.now }
         ensures { slice_get (class_names self.now) class ≡ Some result.now }
     {
-        let (class, listed) = (class as usize, self.classes.len());
+        let (class, listed) = (class as usize, self.listed.len());
         if class < listed {
-            self.classes[class].name.as_str()
+            self.listed[class].as_str()
         } else {
             self.made[class - listed].as_str()
         }
     }
 
-    pub(crate) fn superclass(&self, class: ClassRef) -> Option<ClassRef>
+    /// The superclass, or for a metaclass the superclass's metaclass, and for a root metaclass the root class itself.
+    pub fn superclass(&self, class: ClassRef) -> Option<ClassRef>
         requires { class.class < length self.now.classes }
         ensures value { result ≡ superclass_in self.now class }
         ensures listed { IfSome result (λ above. above.class < length self.now.classes) }
     {
-        class.above(self.classes[class.class as usize].superclass)
+        class.above(self.origin.superclass(class.class))
     }
 
-    pub(crate) fn depth(&self, class: u32) -> u32
+    /// How many superclasses stand above a listed class: none above a root class, and else one more than above its superclass.
+    ///
+    /// Takes time in the order of what it answers.
+    pub fn depth(&self, class: u32) -> u32
         requires { class < length self.now.classes }
         ensures depth { result ≡ depth_in self.now class }
         ensures above { result ≡ option_map_or (λ d. suc (depth_in self.now d)) (slice_index_or (superclasses self.now) class None) 0 }
     {
-        superclass_count(&self.classes, class)
+        superclass_count(&self.origin, class)
     }
 
-    pub(crate) fn methods(&self, class: ClassRef) -> &[(Selector, ImpRef)]
+    /// The methods that the class itself lists, without those of categories. A class that may be made lists none.
+    pub fn methods(&self, class: ClassRef) -> &[(Selector, ImpRef)]
         requires { class.class < class_total self.now }
         ensures methods { method_numbers result.now ≡ methods_in self.now class }
         ensures listed { AreListed self.now (method_numbers result.now) }
     {
-        if class.class as usize >= self.classes.len() {
+        if class.class as usize >= self.listed.len() {
             return &[];
         }
-        let listed = &self.classes[class.class as usize];
-        if class.meta {
-            listed.class_methods.as_slice()
-        } else {
-            listed.methods.as_slice()
-        }
+        let (_class, methods) = self.origin.list(class.class as usize, class.meta);
+        methods.as_slice()
     }
 
-    pub(crate) fn categories(&self) -> &[Category]
+    pub fn categories(&self) -> &[Category]
         ensures categories { result.now ≡ self.now.categories }
         ensures sound { All (IsSoundCategory self.now) result.now }
     {
-        self.categories.as_slice()
+        self.origin.categories()
     }
 
-    pub(crate) fn object_name(&self, object: ObjectRef) -> &str
+    pub fn object_name(&self, object: ObjectRef) -> &str
         requires { object.object < length self.now.objects }
         ensures { option_map (λ o. o.name) (slice_get self.now.objects object.object) ≡ Some result.now }
     {
         self.objects[object.object as usize].name.as_str()
     }
 
-    pub(crate) fn object_class(&self, object: ObjectRef) -> u32
+    pub fn object_class(&self, object: ObjectRef) -> u32
         requires { object.object < length self.now.objects }
         ensures class { option_map (λ o. o.class) (slice_get self.now.objects object.object) ≡ Some result }
         ensures listed { result < class_total self.now }
@@ -264,7 +279,7 @@ impl Base {
         self.objects[object.object as usize].class
     }
 
-    pub(crate) fn imp(&self, imp: ImpRef) -> &Imp
+    pub fn imp(&self, imp: ImpRef) -> &Imp
         requires real { 0 < imp_number imp }
         requires listed { imp_number imp ≤ length self.now.imps }
         ensures imp { slice_get self.now.imps (imp_number imp - 1) ≡ Some (imp_parts result.now) }
@@ -273,7 +288,8 @@ impl Base {
         &self.imps[imp.number() as usize - 1]
     }
 
-    pub(crate) fn forwarding_selector(&self) -> Selector
+    /// The selector `forwardingTargetForSelector:`, which every image has as its first.
+    pub fn forwarding_selector(&self) -> Selector
         ensures { result ≡ forwarding_selector }
     {
         forwarding_selector()

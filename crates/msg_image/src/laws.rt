@@ -8,7 +8,7 @@ ghost use Rattle.msg_image.specs.Numbers.{numbers_of, class_named, object_named,
 ghost use Rattle.msg_image.specs.Opened.{Lacks, origin_of};
 ghost use Rattle.msg_image.specs.Parts.{ImageParts};
 ghost use Rattle.msg_image.specs.Sound.{IsSound};
-ghost use Rattle.msg_image.specs.declared.image.Category.{Category};
+ghost use Rattle.msg_tables.specs.declared.origin.Category.{Category};
 ghost use Rattle.msg_names.specs.Number.{imp_number};
 ghost use Rattle.msg_tables.specs.After.{of_class, of_meta};
 ghost use Rattle.msg_tables.specs.History.{empty, lookup};

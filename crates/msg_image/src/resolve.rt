@@ -8,18 +8,19 @@ ghost use Rattle.msg_image.specs.Document as spec;
 ghost use Rattle.msg_image.specs.Numbers as named;
 ghost use Rattle.msg_image.specs.Numbers.{Numbers, numbers_by};
 ghost use Rattle.msg_image.specs.Items.{ItemParts};
-ghost use Rattle.msg_image.specs.Parts.{Two, ClassParts, ObjectParts, ImpParts};
-ghost use Rattle.msg_image.specs.Plain.{plain, plain_all, class_parts, object_parts, imp_parts, item_parts};
-ghost use Rattle.msg_image.specs.declared.image.Category.{Category};
+ghost use Rattle.msg_image.specs.Parts.{Two, ObjectParts, ImpParts};
+ghost use Rattle.msg_image.specs.Plain.{plain, plain_all, object_parts, imp_parts, item_parts};
+ghost use Rattle.msg_tables.specs.declared.origin.Category.{Category};
+ghost use Rattle.msg_tables.specs.declared.origin.ListedClass.{ListedClass};
 
 use crate::change::Item;
 use crate::expr::Expr;
-use crate::image::{Category, Class, Imp, Object};
+use crate::image::{Imp, Object};
 use crate::numbers::{class_named, imp_named, object_named, selector_named};
 use arrayvec::ArrayVec;
 use msg_form::{self as form, Constant, FormNames, MethodName, Operator, Pair};
 use msg_names::{ClassRef, Value};
-use msg_tables::{Change, MethodList};
+use msg_tables::{Category, Change, ListedClass, MethodList};
 use std::alloc::{AllocError, Global};
 
 /// A part of a document, of which the form has the names.
@@ -165,28 +166,40 @@ impl<'v> Resolve<&'v str> for String {
     }
 }
 
-impl<'v> Resolve<form::Class<'v>> for Class {
-    ghost Plain = { ClassParts };
+// The name of a listed class.
+impl<'v> Resolve<form::Class<'v>> for String {
+    ghost Plain = { List ℕ };
 
-    ghost parts = { class_parts };
+    ghost parts = { string_bytes };
 
-    ghost meaning = { λ numbers class. spec.class numbers (class_view class) };
+    ghost meaning = { λ _ class. (class_view class).name };
+
+    fn resolve(
+        alloc: Global,
+        _names: &FormNames,
+        class: &form::Class<'v>,
+    ) -> Result<String, AllocError> {
+        String::from_str(alloc, class.name)
+    }
+}
+
+impl<'v> Resolve<form::Class<'v>> for ListedClass {
+    ghost Plain = { ListedClass };
+
+    ghost parts = { λ class. class };
+
+    ghost meaning = { λ numbers class. spec.listed numbers (class_view class) };
 
     fn resolve(
         alloc: Global,
         names: &FormNames,
         class: &form::Class<'v>,
-    ) -> Result<Class, AllocError> {
-        let name = String::from_str(alloc, class.name);
-        let (name, (methods, class_methods)) = both(
-            name,
-            both(
-                methods(alloc, names, &class.methods),
-                methods(alloc, names, &class.class_methods),
-            ),
+    ) -> Result<ListedClass, AllocError> {
+        let (methods, class_methods) = both(
+            methods(alloc, names, &class.methods),
+            methods(alloc, names, &class.class_methods),
         )?;
-        Ok(Class {
-            name,
+        Ok(ListedClass {
             superclass: superclass(names, class.superclass),
             methods,
             class_methods,

@@ -14,7 +14,7 @@ use Rattle.msg_names.specs.Number.{selector_number, imp_number}
 use Rattle.msg_tables.specs.declared.change.Change.{Change}
 use Rattle.msg_tables.specs.declared.change.Change.TheVariants.{Add, Replace, SetImp, Exchange, Attach, AddClass}
 use Rattle.msg_tables.specs.Origin.{OriginView, IsSound, IsSoundList, are_listed, last_imp}
-use Rattle.msg_tables.specs.declared.origin.MethodsOf.{MethodsOf}
+use Rattle.msg_tables.specs.Methods.{MethodsOf}
 use Rattle.msg_tables.specs.After.{of_class, of_meta, rows_at, row, list_rows, opening_table, set_own, set_method, rows_after, table_after}
 use Rattle.msg_tables.specs.History.{History, empty, and_then, table, lookup}
 use Rattle.msg_tables.specs.Refusal.{refusal, AreAccepted, IsHistory, conditions, no_imp}

@@ -13,7 +13,7 @@ use Rattle.msg_names.specs.Number.{selector_number, imp_number}
 use Rattle.msg_tables.specs.declared.change.Change.{Change}
 use Rattle.msg_names.specs.ClassRef.{same_class}
 use Rattle.msg_tables.specs.Origin.{OriginView, IsSound, IsSoundList}
-use Rattle.msg_tables.specs.declared.origin.MethodsOf.{MethodsOf}
+use Rattle.msg_tables.specs.Methods.{MethodsOf}
 use Rattle.msg_tables.specs.declared.change.Change.TheVariants.{Add, Replace, SetImp, Exchange, Attach, AddClass}
 use Rattle.msg_tables.specs.Chain.{chain_of, chain_up, is_present, is_member}
 use Rattle.msg_tables.specs.Rows.{Row, own, or_else, chain, lookup_in, holder_at, lookup_at}

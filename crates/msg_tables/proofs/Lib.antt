@@ -18,6 +18,7 @@ pub mod OpeningLemmas
 pub mod MadeLemmas
 pub mod OrElseLemmas
 pub mod OrderLemmas
+pub mod OriginLemmas
 pub mod OwnLemmas
 pub mod PresenceLemmas
 pub mod PutLemmas

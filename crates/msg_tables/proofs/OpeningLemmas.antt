@@ -4,12 +4,12 @@ use Rattle.std.specs.Prelude.{sum_by, slice_index_or}
 use Rattle.std.specs.List.{list_all}
 use Rattle.std.proofs.lemmas.List.Sums.{sum_by-cons, sum_by_push, sum_by-take-le}
 use Rattle.msg_tables.specs.Origin.{OriginView, class_total, are_listed}
-use Rattle.msg_tables.specs.declared.origin.MethodsOf.{MethodsOf}
+use Rattle.msg_tables.specs.Methods.{MethodsOf}
 use Rattle.msg_tables.specs.Rows.{Row}
 use Rattle.msg_tables.specs.After.{rows_at, list_rows, opening_table}
 use Rattle.msg_tables.specs.History.{empty, table}
 use Rattle.msg_tables.specs.Stands.{Holds, StandsAt}
-use Rattle.msg_tables.specs.Opening.{Adds, IsBlank, size_of_list}
+use Rattle.msg_tables.specs.Opening.{Adds, IsBlank, IsFor, size_of_list}
 use Rattle.msg_names.specs.ClassRef.{slot_of}
 use Rattle.msg_tables.specs.View.{TablesView, kept}
 use Rattle.msg_tables.proofs.HistoryLemmas.{history-empty}
@@ -49,6 +49,24 @@ adds-both a b c xs ys first second = record {
   rows = λ rows holds. subst (Holds c.lists) (append_assoc rows xs ys) (second.rows (rows ++ xs) (first.rows rows holds));
   row_count = omega (arith, first.row_count, second.row_count, length-append xs ys);
   rest = second.rest ∙ ap {A = TablesView} (λ t. record t { lists = c.lists; row_count = c.row_count }) first.rest;
+}
+
+-- the rows of one list more
+pub adds-next : (a b c : TablesView) (lists : List MethodsOf) (p q : ℕ) (l : MethodsOf) → q ≡ p + 1 → slice_get lists p ≡ Some l → Adds a b (list_rows (take p lists)) → Adds b c (rows_at l.class l.methods) → Adds a c (list_rows (take q lists))
+adds-next a b c lists p q l e at before after =
+    let more : list_rows (take q lists) ≡ list_rows (take p lists) ++ rows_at l.class l.methods = ap (λ n. list_rows (take n lists)) e ∙ ap list_rows (take-next lists p l at) ∙ list_rows-next (take p lists) l in
+    subst (Adds a c) (sym more) (adds-both a b c (list_rows (take p lists)) (rows_at l.class l.methods) before after)
+
+-- how many rows there are then
+pub adds-count : (a b : TablesView) (lists : List MethodsOf) → a.row_count ≡ 0 → Adds a b (list_rows lists) → b.row_count ≡ sum_by size_of_list lists
+adds-count a b lists none adds = let count = length-list_rows lists in omega (arith, none, adds.row_count, count)
+
+-- the tables are still those of the origin
+pub adds-for : (o : OriginView) (a b : TablesView) (more : List Row) → IsFor o a → Adds a b more → IsFor o b
+adds-for o a b more is adds = record {
+  classes = ap (λ (t : TablesView). length t.supers) adds.rest ∙ is.classes;
+  counts = ap (λ (t : TablesView). t.counts) adds.rest ∙ is.counts;
+  limits = ap (λ (t : TablesView). t.limits) adds.rest ∙ is.limits;
 }
 
 pub adds-none : (t : TablesView) → Adds t t []

@@ -1,5 +1,6 @@
 pub mod Affected
 pub mod After
+pub mod Attached
 pub mod Below
 pub mod Chain
 pub mod Edits

@@ -3,7 +3,7 @@ use Rattle.std.specs.Prelude.{◌≡◌, ◌<◌, ◌≤◌, ◌+◌, ◌-◌, �
 use Rattle.std.specs.List.{list_all}
 use Rattle.msg_order.specs.Superclasses.{AreListed, has_cycle}
 use Rattle.msg_tables.specs.declared.limits.Limits.{Limits}
-use Rattle.msg_tables.specs.declared.origin.MethodsOf.{MethodsOf}
+use Rattle.msg_tables.specs.Methods.{MethodsOf}
 use Rattle.msg_tables.specs.declared.limits.TheConstants.{MAX_CLASSES, MAX_IMP, MOST_SENDERS, MOST_CHANGES, MOST_WORDS}
 
 -- how many arguments each selector and each implementation takes, from number 1

@@ -7,7 +7,7 @@ ghost use Rattle.msg_names.specs.declared.value.ImpRef.{ImpRef};
 ghost use Rattle.msg_names.specs.declared.value.Selector.{Selector};
 ghost use Rattle.msg_order.specs.Superclasses.{depth_of};
 ghost use Rattle.msg_tables.specs.Origin.{OriginView, IsSound, class_total, last_imp};
-ghost use Rattle.msg_tables.specs.declared.origin.MethodsOf.{MethodsOf};
+ghost use Rattle.msg_tables.specs.Methods.{MethodsOf};
 ghost use Rattle.msg_tables.specs.declared.change.Change.{Change};
 ghost use Rattle.msg_tables.specs.Affected.{is_affected};
 ghost use Rattle.msg_tables.specs.After.{of_class, of_meta};

@@ -29,5 +29,5 @@ pub use fault::ChangeFault;
 pub use limits::{Limits, MAX_CLASSES, MOST_CHANGES, MOST_SENDERS, MOST_WORDS};
 pub use marks::Marks;
 pub use methods::MethodList;
-pub use origin::{HasOrigin, MethodsOf, Origin};
+pub use origin::{Category, HasOrigin, ListedClass, Origin};
 pub use tables::Tables;

@@ -1,6 +1,6 @@
 //! Opening tables.
 
-ghost use Rattle.std.specs.Prelude.{◌≡◌, ◌<◌, ◌≤◌, ◌+◌, ◌*◌, [], Some, IfOk, OnOk, length, replicate, slice_get, true};
+ghost use Rattle.std.specs.Prelude.{◌≡◌, ◌<◌, ◌≤◌, ◌+◌, ◌*◌, [], Some, IfOk, OnOk, if◌then◌else◌, length, replicate, slice_get, sum_by, take, true};
 ghost use Rattle.std.specs.Vec.{vec_capacity};
 ghost use Rattle.msg_tables.specs.After.{opened_supers, rows_at, list_rows};
 ghost use Rattle.msg_tables.specs.History.{empty};
@@ -8,7 +8,7 @@ ghost use Rattle.msg_tables.specs.Methods.{method_numbers};
 ghost use Rattle.msg_tables.specs.Opening.{Adds, IsBlank, IsFor, size_of_list};
 ghost use Rattle.msg_tables.specs.Order.{IsOrder};
 ghost use Rattle.msg_tables.specs.Origin.{IsSound, are_listed, class_total, last_imp};
-ghost use Rattle.msg_tables.specs.declared.origin.MethodsOf.{MethodsOf};
+ghost use Rattle.msg_tables.specs.Methods.{MethodsOf};
 ghost use Rattle.msg_tables.specs.RowList.{rows_of};
 ghost use Rattle.msg_tables.specs.Stands.{StandsAt};
 
@@ -28,13 +28,23 @@ fn opened_classes(alloc: Global, origin: &Origin) -> Result<Vec<Option<Presence>
     ensures { IfOk result (λ supers. supers.items ≡ opened_supers origin.now) }
 {
     let mut supers = Vec::with_capacity(alloc, origin.class_count() as usize)?;
-    for superclass in &origin.superclasses {
+    for class in 0..origin.listed_count() {
         supers.push(Some(Presence {
-            superclass: *superclass,
+            superclass: origin.superclass(class),
         }))?;
     }
-    for _made in 0..origin.made {
+    for _made in origin.listed_count()..origin.class_count() {
         supers.push(None)?;
+    }
+    Ok(supers)
+}
+
+fn superclasses(alloc: Global, origin: &Origin) -> Result<Vec<Option<u32>>, AllocError>
+    ensures { IfOk result (λ supers. supers.items ≡ origin.now.superclasses) }
+{
+    let mut supers = Vec::with_capacity(alloc, origin.listed_count() as usize)?;
+    for class in 0..origin.listed_count() {
+        supers.push(origin.superclass(class))?;
     }
     Ok(supers)
 }
@@ -45,7 +55,7 @@ fn listed_order(alloc: Global, origin: &Origin) -> Result<Vec<u32>, AllocError>
     ensures room { IfOk result (λ order. class_total origin.now ≤ vec_capacity order) }
 {
     let mut order = Vec::with_capacity(alloc, origin.class_count() as usize)?;
-    let listed = class_order(alloc, &origin.superclasses)?.unwrap();
+    let listed = class_order(alloc, &superclasses(alloc, origin)?)?.unwrap();
     order.extend_from_slice(&listed)?;
     Ok(order)
 }
@@ -84,7 +94,7 @@ impl Tables {
             preorder,
             lists: empty_lists(alloc, 2 * count as usize)?,
             counts: copied_counts(&origin.counts)?,
-            limits: origin.limits,
+            limits: origin.limits(),
             row_count: 0,
             change_count: 0,
         })
@@ -106,13 +116,26 @@ impl Tables {
         Ok(())
     }
 
+    // The method list of a pair, after those before it.
+    fn open_list(&mut self, origin: &Origin, pair: usize, meta: bool) -> Result<(), AllocError>
+        requires tables { IsFor origin.now self.old }
+        requires sound { IsSound origin.now }
+        requires pair { 2 * pair < length origin.now.lists }
+        requires before { self.old.row_count ≡ sum_by size_of_list (take (2 * pair + (if meta then 1 else 0)) origin.now.lists) }
+        ensures { (list : MethodsOf) → slice_get origin.now.lists (2 * pair + (if meta then 1 else 0)) ≡ Some list → OnOk result (Adds self.old self.new (rows_at list.class list.methods)) }
+    {
+        let (class, methods) = origin.list(pair, meta);
+        self.open_methods(class, methods.as_slice())
+    }
+
     fn open_lists(&mut self, origin: &Origin) -> Result<(), AllocError>
         requires tables { IsFor origin.now self.old }
         requires blank { self.old.row_count ≡ 0 }
         ensures { OnOk result (Adds self.old self.new (list_rows origin.now.lists)) }
     {
-        for list in &origin.lists {
-            self.open_methods(list.class, list.methods.as_slice())?;
+        for pair in 0..origin.pair_count() {
+            self.open_list(origin, pair, false)?;
+            self.open_list(origin, pair, true)?;
         }
         Ok(())
     }

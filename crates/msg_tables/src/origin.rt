@@ -1,7 +1,9 @@
 //! What tables are opened of.
 
-ghost use Rattle.std.specs.Prelude.{◌≡◌, length};
+ghost use Rattle.std.specs.Prelude.{◌≡◌, ◌<◌, ◌+◌, ◌*◌, ◌++◌, Some, drop, if◌then◌else◌, length, map, slice_get};
+ghost use Rattle.msg_tables.specs.Attached.{ListsAt, categories_in, category_lists, listed_lists};
 ghost use Rattle.msg_tables.specs.Origin.{IsSound, class_total};
+ghost use Rattle.msg_tables.specs.declared.origin.ListedClass.{ListedClass};
 
 use crate::counts::Counts;
 use crate::limits::Limits;
@@ -9,24 +11,33 @@ use crate::methods::MethodList;
 use msg_names::ClassRef;
 use std::marker::Model;
 
-/// A method list of a class reference: its own, or one of a category.
+/// A listed class.
 #[derive(Drop)]
-pub struct MethodsOf {
-    pub class: ClassRef,
+pub struct ListedClass {
+    pub superclass: Option<u32>,
     pub methods: MethodList,
+    pub class_methods: MethodList,
+}
+
+/// A category as it is listed.
+#[derive(Drop)]
+pub struct Category {
+    pub class: u32,
+    pub methods: MethodList,
+    pub class_methods: MethodList,
 }
 
 /// Classes with their methods, as a program finds them that was just loaded.
 #[derive(Drop)]
 pub struct Origin {
-    // The superclasses of the listed classes, which are numbered first.
-    pub(crate) superclasses: Vec<Option<u32>>,
+    // The listed classes, which are numbered first.
+    classes: Vec<ListedClass>,
     // How many classes may be made, which are numbered after them.
-    pub(crate) made: u32,
-    // In the order in which they are attached.
-    pub(crate) lists: Vec<MethodsOf>,
+    made: u32,
+    // In the order in which they are attached, after the classes' own lists.
+    categories: Vec<Category>,
     pub(crate) counts: Option<Counts>,
-    pub(crate) limits: Limits,
+    limits: Limits,
 }
 
 impl Model for Origin {
@@ -44,19 +55,19 @@ impl Model for Origin {
 impl Origin {
     /// Classes that are known to be sound.
     pub fn new(
-        superclasses: Vec<Option<u32>>,
+        classes: Vec<ListedClass>,
         made: u32,
-        lists: Vec<MethodsOf>,
+        categories: Vec<Category>,
         counts: Option<Counts>,
         limits: Limits,
     ) -> Origin
-        requires { IsSound (record { superclasses = superclasses.items; made = made; lists = lists.items; counts = counts; limits = limits }) }
-        ensures { result ≡ record { superclasses = superclasses.items; made = made; lists = lists.items; counts = counts; limits = limits } }
+        requires { IsSound (record { superclasses = map (λ (c : ListedClass). c.superclass) classes.items; made = made; lists = listed_lists 0 classes.items ++ category_lists categories.items; counts = counts; limits = limits }) }
+        ensures { result ≡ record { superclasses = map (λ (c : ListedClass). c.superclass) classes.items; made = made; lists = listed_lists 0 classes.items ++ category_lists categories.items; counts = counts; limits = limits } }
     {
         Origin {
-            superclasses,
+            classes,
             made,
-            lists,
+            categories,
             counts,
             limits,
         }
@@ -67,7 +78,7 @@ impl Origin {
         ensures count { result ≡ class_total self.now }
         ensures sound { IsSound self.now }
     {
-        self.superclasses.len() as u32 + self.made
+        self.classes.len() as u32 + self.made
     }
 
     /// How much tables of them may hold, and caches over these.
@@ -81,7 +92,59 @@ impl Origin {
     pub fn listed_count(&self) -> u32
         ensures { result ≡ length self.now.superclasses }
     {
-        self.superclasses.len() as u32
+        self.classes.len() as u32
+    }
+
+    /// The superclass of a listed class.
+    pub fn superclass(&self, class: u32) -> Option<u32>
+        requires { class < length self.now.superclasses }
+        ensures { slice_get self.now.superclasses class ≡ Some result }
+    {
+        self.classes[class as usize].superclass
+    }
+
+    /// How many pairs of method lists there are: one of each class, and one of each category.
+    pub fn pair_count(&self) -> usize
+        ensures pairs { 2 * result ≡ length self.now.lists }
+        ensures sound { IsSound self.now }
+    {
+        self.classes.len() + self.categories.len()
+    }
+
+    // The pair of method lists of a listed class, or of a category.
+    fn pair(&self, pair: usize) -> (u32, &MethodList, &MethodList)
+        requires { 2 * pair < length self.now.lists }
+        ensures { ListsAt self.now.lists pair result.0 result.1.now result.2.now }
+    {
+        let listed = self.classes.len();
+        if pair < listed {
+            let class = &self.classes[pair];
+            (pair as u32, &class.methods, &class.class_methods)
+        } else {
+            let category = &self.categories[pair - listed];
+            (category.class, &category.methods, &category.class_methods)
+        }
+    }
+
+    /// A method list, and whose it is: of a pair the class's, or the metaclass's.
+    pub fn list(&self, pair: usize, meta: bool) -> (ClassRef, &MethodList)
+        requires { 2 * pair < length self.now.lists }
+        ensures { slice_get self.now.lists (2 * pair + (if meta then 1 else 0)) ≡ Some (record { class = result.0; methods = result.1.now }) }
+    {
+        let (class, methods, class_methods) = self.pair(pair);
+        let class = ClassRef { class, meta };
+        if meta {
+            (class, class_methods)
+        } else {
+            (class, methods)
+        }
+    }
+
+    /// The categories, whose lists are attached after those of the classes.
+    pub fn categories(&self) -> &[Category]
+        ensures { result.now ≡ categories_in (drop (2 * length self.now.superclasses) self.now.lists) }
+    {
+        &self.categories
     }
 }
 
