@@ -11,6 +11,7 @@ cursor own known rest n = if nat_lt n known then slice_index own n else rest
 abbrev pub every_cursor : List ℕ → ℕ → ℕ → List ℕ
 every_cursor own known rest = map (cursor own known rest) (range_with_len 0 (length own))
 
+-- what contracts see of cursors: how many places each sender has passed
 abbrev pub cursors_view : Inside → List ℕ
 cursors_view s = every_cursor s.own.items s.known s.rest
 

@@ -1,9 +1,10 @@
 //! The runtime.
 
-ghost use Rattle.std.specs.Prelude.{◌≡◌, ◌≢◌, ◌<◌, ◌≤◌, length, None, Some, IfOk, IfErr, IsErrOf, OnErr, false, true};
+ghost use Rattle.std.specs.Prelude.{◌≡◌, ◌≢◌, ◌<◌, ◌≤◌, ◌*◌, length, replicate, None, Some, IfOk, IfErr, IsErrOf, OnErr, OnOk, false, true};
 ghost use Rattle.msg_names.specs.Number.{selector_number, imp_number};
 ghost use Rattle.msg_tables.specs.Origin.{last_imp};
 ghost use Rattle.msg_tables.specs.History.{BeginsWith, and_then, holder, lookup, superclass};
+ghost use Rattle.msg_tables.specs.Marking.{MarksAffected};
 ghost use Rattle.msg_tables.specs.Refusal.{refusal};
 ghost use Rattle.msg_tables.specs.declared.fault.ChangeFault.{ChangeFault};
 ghost use Rattle.msg_cache.specs.Counts.{AreCounts};
@@ -23,8 +24,8 @@ use msg_memory::Memory;
 use msg_memory::laws::{a_longer_history_has_what_is_remembered, a_slot_of_few_classes_is_short};
 use msg_names::{ClassRef, ImpRef, Selector};
 use msg_runtime::Runtime;
-use msg_tables::{Change, ChangeFault};
-use std::alloc::Global;
+use msg_tables::{Change, ChangeFault, Marks};
+use std::alloc::{AllocError, Global};
 use std::marker::Model;
 use std::sync::Arc;
 
@@ -110,6 +111,26 @@ impl HostedRuntime {
         ensures { result ≡ superclass self.now.history class }
     {
         self.runtime.superclass(class)
+    }
+
+    /// Marks for the class references, none of them marked.
+    pub fn marks(&self, alloc: Global) -> Result<Marks, AllocError>
+        ensures { IfOk result (λ marks. marks ≡ replicate (2 * classes self.now.arena) false) }
+    {
+        self.runtime.marks(alloc)
+    }
+
+    /// Marks the class references whose lookups a change may alter, beside those that are marked, and doesn't make it; or says why it would be refused, and marks none.
+    ///
+    /// It looks at the classes that it marks and at one or two more, and takes no memory. Outside what is marked the change alters no lookup.
+    pub fn reach(&self, change: &Change, marks: &mut Marks) -> Result<(), ChangeFault>
+        requires { length marks.old ≡ 2 * classes self.now.arena }
+        ensures ok { OnOk result ((refusal self.now.history change.now ≡ None) × MarksAffected (classes self.now.arena) self.now.history change.now marks.old marks.new) }
+        ensures err { OnErr result (marks.new ≡ marks.old) }
+        ensures fault { IfErr result (λ f. refusal self.now.history change.now ≡ Some f) }
+        ensures room { length marks.new ≡ length marks.old }
+    {
+        self.runtime.reach(change, marks)
     }
 
     /// Makes a change, flushes the caches that it reaches, and answers how many changes there are. After an error nothing was changed or flushed.

@@ -1,9 +1,10 @@
 //! The runtime behind a lock.
 
-ghost use Rattle.std.specs.Prelude.{◌≡◌, ◌≢◌, ◌<◌, ◌≤◌, length, cond, not, is_some, IfOk, IfErr, IfSome, IsErrOf, IsNone, OnErr, None, Some};
+ghost use Rattle.std.specs.Prelude.{◌≡◌, ◌≢◌, ◌<◌, ◌≤◌, ◌*◌, length, cond, not, is_some, replicate, false, IfOk, IfErr, IfSome, IsErrOf, IsNone, OnErr, OnOk, None, Some};
 ghost use Rattle.msg_names.specs.Number.{selector_number, imp_number};
 ghost use Rattle.msg_tables.specs.Origin.{last_imp};
 ghost use Rattle.msg_tables.specs.History.{BeginsWith, and_then, empty, holder, lookup, superclass};
+ghost use Rattle.msg_tables.specs.Marking.{MarksAffected};
 ghost use Rattle.msg_tables.specs.Refusal.{refusal};
 ghost use Rattle.msg_tables.specs.declared.fault.ChangeFault.{ChangeFault};
 ghost use Rattle.msg_cache.specs.Counts.{AreCounts, after_refusal};
@@ -16,7 +17,7 @@ use crate::flushing::flush_reached;
 use msg_cache::{Arena, Keeper, Prober, Report, Turn};
 use msg_names::{ClassRef, ImpRef, Selector};
 use msg_tables::laws::{an_accepted_change_is_within_the_limit, tables_are_of_their_origin};
-use msg_tables::{Below, Change, ChangeFault, HasOrigin, Origin, Tables};
+use msg_tables::{Below, Change, ChangeFault, HasOrigin, Marks, Origin, Tables};
 use std::alloc::{AllocError, Global};
 use std::marker::Model;
 use std::snapshot::Snapshot;
@@ -148,6 +149,28 @@ impl Runtime {
     {
         tables_are_of_their_origin();
         self.tables.superclass(class)
+    }
+
+    /// Marks for the class references, none of them marked.
+    pub fn marks(&self, alloc: Global) -> Result<Marks, AllocError>
+        ensures { IfOk result (λ marks. marks ≡ replicate (2 * classes self.now.arena) false) }
+    {
+        tables_are_of_their_origin();
+        self.tables.marks(alloc)
+    }
+
+    /// Marks the class references whose lookups a change may alter, beside those that are marked, and doesn't make it; or says why it would be refused, and marks none.
+    ///
+    /// It looks at the classes that it marks and at one or two more, and takes no memory.
+    pub fn reach(&self, change: &Change, marks: &mut Marks) -> Result<(), ChangeFault>
+        requires { length marks.old ≡ 2 * classes self.now.arena }
+        ensures ok { OnOk result ((refusal self.now.keeper.history change.now ≡ None) × MarksAffected (classes self.now.arena) self.now.keeper.history change.now marks.old marks.new) }
+        ensures err { OnErr result (marks.new ≡ marks.old) }
+        ensures fault { IfErr result (λ f. refusal self.now.keeper.history change.now ≡ Some f) }
+        ensures room { length marks.new ≡ length marks.old }
+    {
+        tables_are_of_their_origin();
+        self.tables.reach(change, marks)
     }
 
     /// Makes a change, flushes the caches that it reaches, and answers how many changes there are. After an error nothing was changed or flushed.

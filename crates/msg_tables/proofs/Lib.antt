@@ -29,3 +29,9 @@ pub mod DepthLemmas
 pub mod PreorderLemmas
 pub mod WalkLemmas
 pub mod PlacedLemmas
+pub mod BelowAllLemmas
+pub mod RowSetLemmas
+pub mod SeveralLemmas
+pub mod UndoLemmas
+pub mod ReachLemmas
+pub mod NamedLemmas

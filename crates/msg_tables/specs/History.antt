@@ -20,6 +20,7 @@ empty o = record { origin = o; changes = [] }
 abbrev pub and_then : History → Change → History
 and_then h x = record { origin = h.origin; changes = h.changes ++ x ∷ [] }
 
+-- the tables after changes, one after another
 abbrev pub table_after_all : ClassTable → List Change → ClassTable
 table_after_all t [] = t
 table_after_all t (x ∷ xs) = table_after_all (table_after t x) xs

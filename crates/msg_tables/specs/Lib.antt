@@ -20,6 +20,8 @@ pub mod Presence
 pub mod Refusal
 pub mod RowList
 pub mod Rows
+pub mod Several
 pub mod Stands
+pub mod Undo
 pub mod View
 pub mod Written

@@ -12,6 +12,7 @@ mod indexed_rows;
 mod judge;
 pub mod laws;
 mod limits;
+pub mod list_laws;
 mod lists;
 mod marks;
 mod methods;
@@ -19,6 +20,7 @@ mod opening;
 mod origin;
 mod preorder;
 mod presence;
+mod reach;
 mod rows;
 mod tables;
 

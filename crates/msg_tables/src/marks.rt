@@ -53,6 +53,15 @@ impl Marks {
         self.marked.iter().filter(|mark| **mark).count()
     }
 
+    // Marks a class and its metaclass.
+    pub(crate) fn mark(&mut self, class: u32)
+        requires { 2 * class + 1 < length self.old }
+        ensures marks { (c : ClassRef) → is_marked self.new c ≡ (is_marked self.old c || (c.class == class)) }
+        ensures length { length self.new ≡ length self.old }
+    {
+        mark_class(&mut self.marked, class, true, true);
+    }
+
     /// Takes all marks away.
     pub fn clear(&mut self)
         ensures { self.new ≡ replicate (length self.old) false }

@@ -3,7 +3,7 @@ use Rattle.msg_tables.specs.Origin.{class_total}
 use Rattle.msg_tables.specs.History.{and_then}
 use Rattle.msg_tables.specs.Refusal.{refusal}
 use Rattle.msg_tables.proofs.StandsLemmas.{class_count}
-use Rattle.msg_runtime.proofs.ReachLemmas.{of_origin-add, of_origin-replace, of_origin-attach, of_origin-make, of_origin-set, of_origin-exchange}
+use Rattle.msg_tables.proofs.NamedLemmas.{of_origin-add, of_origin-replace, of_origin-attach, of_origin-make, of_origin-set, of_origin-exchange}
 use Rattle.msg_runtime.proofs.flushing.flush_reached.Goals as goal
 
 pub flush_methods-requires-clause-class : goal.flush_methods-requires-clause-class

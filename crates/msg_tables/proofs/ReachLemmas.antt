@@ -1,0 +1,64 @@
+-- What a change would reach.
+use Rattle.std.proofs.Common.{◌≡◌, ℕ, ◌<◌, List, [], ◌∷◌, ◌++◌, Bool, true, false, Option, None, refl, sym, ap, ◌∙◌}
+use Rattle.std.specs.Prelude.{◌||◌, ◌==◌}
+use Rattle.std.specs.List.{list_any}
+use Rattle.std.proofs.lemmas.List.Folds.{list_any-append}
+use Rattle.msg_names.specs.declared.value.ClassRef.{ClassRef}
+use Rattle.msg_names.specs.declared.value.Selector.{Selector}
+use Rattle.msg_names.specs.declared.value.ImpRef.{ImpRef}
+use Rattle.msg_names.specs.Number.{selector_number}
+use Rattle.msg_tables.specs.After.{of_class, of_meta}
+use Rattle.msg_tables.specs.Affected.{at_most_one, if_any, is_affected, written_refs}
+use Rattle.msg_tables.specs.Chain.{is_member}
+use Rattle.msg_tables.specs.declared.change.Change.{Change}
+use Rattle.msg_tables.specs.declared.change.Change.TheVariants.{Add, Replace, SetImp, Exchange, Attach, AddClass}
+use Rattle.msg_tables.specs.History.{History, chain_at, holder}
+use Rattle.msg_tables.specs.Marking.{is_marked, MarksBelow, MarksAffected}
+use Rattle.msg_tables.specs.Origin.{class_total}
+use Rattle.msg_tables.specs.Refusal.{refusal}
+
+or_none : (a : Bool) → (a || false) ≡ a
+or_none true = refl
+or_none false = refl
+
+or_over : (a b c : Bool) → ((a || b) || c) ≡ (a || (b || c))
+or_over true b c = refl
+or_over false b c = refl
+
+module _ (n : ℕ) (h : History) where
+  pub below_one : (place : ClassRef) (old new : List Bool) → ((c : ClassRef) → c.class < n → is_marked new c ≡ (is_marked old c || is_member place (chain_at h c))) → MarksBelow n h (place ∷ []) old new
+  below_one place old new marks c lt = marks c lt ∙ ap (λ b. is_marked old c || b) (sym (or_none (is_member place (chain_at h c))))
+
+  pub below_none : (old : List Bool) → MarksBelow n h [] old old
+  below_none old c lt = sym (or_none (is_marked old c))
+
+  pub below_both : (first second : List ClassRef) (old mid new : List Bool) → MarksBelow n h first old mid → MarksBelow n h second mid new → MarksBelow n h (first ++ second) old new
+  below_both first second old mid new one two c lt =
+      let test = λ (place : ClassRef). is_member place (chain_at h c) in
+      two c lt ∙ ap (λ b. b || list_any test second) (one c lt) ∙ or_over (is_marked old c) (list_any test first) (list_any test second)
+      ∙ ap (λ b. is_marked old c || b) (sym (list_any-append test first second))
+
+  module _ (old new : List Bool) where
+    pub affected_add : (d : ClassRef) (s : Selector) (i : ImpRef) → MarksBelow n h (d ∷ []) old new → MarksAffected n h (Add d s i) old new
+    unfolding is_affected written_refs
+    affected_add d s i marks = marks
+
+    pub affected_replace : (d : ClassRef) (s : Selector) (i : ImpRef) → MarksBelow n h (d ∷ []) old new → MarksAffected n h (Replace d s i) old new
+    unfolding is_affected written_refs
+    affected_replace d s i marks = marks
+
+    pub affected_set : (d : ClassRef) (s : Selector) (i : ImpRef) → MarksBelow n h (at_most_one (holder h d (selector_number s))) old new → MarksAffected n h (SetImp d s i) old new
+    unfolding is_affected written_refs
+    affected_set d s i marks = marks
+
+    pub affected_exchange : (d e : ClassRef) (s u : Selector) → MarksBelow n h (at_most_one (holder h d (selector_number s)) ++ at_most_one (holder h e (selector_number u))) old new → MarksAffected n h (Exchange d s e u) old new
+    unfolding is_affected written_refs
+    affected_exchange d e s u marks = marks
+
+    pub affected_attach : (k : ℕ) (ms cs : List (ℕ × ℕ)) → MarksBelow n h (if_any ms (of_class k) ++ if_any cs (of_meta k)) old new → MarksAffected n h (Attach k ms cs) old new
+    unfolding is_affected written_refs
+    affected_attach k ms cs marks = marks
+
+    pub affected_make : (k : ℕ) (d : Option ℕ) → ((c : ClassRef) → is_marked new c ≡ (is_marked old c || (c.class == k))) → MarksAffected n h (AddClass k d) old new
+    unfolding is_affected written_refs
+    affected_make k d marks c lt = marks c ∙ ap (λ b. is_marked old c || b) (sym (or_none (c.class == k)))

@@ -1,0 +1,98 @@
+//! What a change would reach.
+
+ghost use Rattle.std.specs.Prelude.{◌≡◌, ◌<◌, ◌*◌, OnOk, OnErr, IfErr, None, Some, length};
+ghost use Rattle.msg_names.specs.Number.{selector_number};
+ghost use Rattle.msg_tables.specs.Affected.{at_most_one, if_any};
+ghost use Rattle.msg_tables.specs.History.{History, holder};
+ghost use Rattle.msg_tables.specs.Marking.{MarksBelow, MarksAffected};
+ghost use Rattle.msg_tables.specs.Refusal.{refusal};
+ghost use Rattle.msg_tables.specs.Stands.{StandsAt};
+
+use crate::change::Change;
+use crate::fault::ChangeFault;
+use crate::marks::Marks;
+use crate::methods::MethodList;
+use crate::tables::Tables;
+use msg_names::{ClassRef, Selector};
+
+impl Tables {
+    // Marks the class reference at which a method is found, and all below it.
+    fn mark_holder(&self, class: ClassRef, sel: Selector, marks: &mut Marks)
+        requires class { class.class < length self.now.supers }
+        requires marks { length marks.old ≡ 2 * length self.now.supers }
+        ensures marks { (h : History) → StandsAt self.now h → MarksBelow (length self.now.supers) h (at_most_one (holder h class (selector_number sel))) marks.old marks.new }
+        ensures room { length marks.new ≡ length marks.old }
+    {
+        if let Some(place) = self.holder(class, sel) {
+            self.descendants(place, marks);
+        }
+    }
+
+    // Marks a class reference and all below it, where it gets methods.
+    fn mark_attached(&self, class: ClassRef, methods: &MethodList, marks: &mut Marks)
+        requires class { class.class < length self.now.supers }
+        requires marks { length marks.old ≡ 2 * length self.now.supers }
+        ensures marks { (h : History) → StandsAt self.now h → MarksBelow (length self.now.supers) h (if_any methods.now class) marks.old marks.new }
+        ensures room { length marks.new ≡ length marks.old }
+    {
+        if !methods.as_slice().is_empty() {
+            self.descendants(class, marks);
+        }
+    }
+
+    // Marks what an accepted change affects, beside what is marked.
+    fn mark_affected(&self, change: &Change, marks: &mut Marks)
+        requires accepted { (h : History) × StandsAt self.now h × (refusal h change.now ≡ None) }
+        requires marks { length marks.old ≡ 2 * length self.now.supers }
+        ensures marks { (h : History) → StandsAt self.now h → MarksAffected (length self.now.supers) h change.now marks.old marks.new }
+        ensures room { length marks.new ≡ length marks.old }
+    {
+        match change {
+            Change::Add { class, .. } => self.descendants(*class, marks),
+            Change::Replace { class, .. } => self.descendants(*class, marks),
+            Change::SetImp { class, sel, .. } => self.mark_holder(*class, *sel, marks),
+            Change::Exchange {
+                class,
+                sel,
+                other,
+                other_sel,
+            } => {
+                self.mark_holder(*class, *sel, marks);
+                self.mark_holder(*other, *other_sel, marks);
+            }
+            Change::Attach {
+                class,
+                methods,
+                class_methods,
+            } => {
+                let own = ClassRef {
+                    class: *class,
+                    meta: false,
+                };
+                let meta = ClassRef {
+                    class: *class,
+                    meta: true,
+                };
+                self.mark_attached(own, methods, marks);
+                self.mark_attached(meta, class_methods, marks);
+            }
+            Change::AddClass { class, .. } => marks.mark(*class),
+        }
+    }
+
+    /// Marks the class references whose lookups a change may alter, beside those that are marked, and doesn't make it; or says why it would be refused, and marks none.
+    ///
+    /// It looks at the classes that it marks and at one or two more, and takes no memory. No lookup of a class reference that it doesn't mark is altered by the change.
+    pub fn reach(&self, change: &Change, marks: &mut Marks) -> Result<(), ChangeFault>
+        requires stands { (h : History) × StandsAt self.now h }
+        requires marks { length marks.old ≡ 2 * length self.now.supers }
+        ensures ok { OnOk result ((h : History) → StandsAt self.now h → (refusal h change.now ≡ None) × MarksAffected (length self.now.supers) h change.now marks.old marks.new) }
+        ensures err { OnErr result (marks.new ≡ marks.old) }
+        ensures fault { IfErr result (λ f. (h : History) → StandsAt self.now h → refusal h change.now ≡ Some f) }
+        ensures room { length marks.new ≡ length marks.old }
+    {
+        self.judge(change)?;
+        self.mark_affected(change, marks);
+        Ok(())
+    }
+}
