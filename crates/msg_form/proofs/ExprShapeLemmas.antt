@@ -11,9 +11,12 @@ use Rattle.msg_json.specs.View.{view, items_data}
 use Rattle.msg_form.specs.Text.{Text}
 use Rattle.msg_form.specs.declared.form.Operator.{Operator}
 use Rattle.msg_form.specs.Expression.{Expression, binary, choice, send, expressions}
-use Rattle.msg_form.specs.ExprShape.{at, two_at, constant_of, listed_constant_of, expression_of, readings_of, listed_of, all_from, binary_of, choice_of, send_expression_of}
+use Rattle.msg_form.specs.ExprShape.{at, two_at, constant_of, listed_constant_of, expression_of, readings_of, listed_of, all_from, binary_of, choice_of, send_expression_of, super_expression_of}
+use Rattle.msg_form.specs.Gives.{Fails}
 use Rattle.msg_form.specs.Json.{◌>>=◌, each, value_of, values_of}
 use Rattle.msg_form.specs.ExprView.{expr_view}
+use Rattle.msg_form.specs.declared.faults.ReadFault.{ReadFault}
+use Rattle.msg_form.specs.declared.faults.ReadFault.TheVariants as faults
 use Rattle.msg_form.specs.declared.form.Expr.{Expr}
 use Rattle.msg_form.proofs.JsonLemmas.{values_of-items_view, value_there, with_front, starts}
 
@@ -68,6 +71,27 @@ pub send_left : {A : Type 0} (vs : List (Value A)) (receiver : Expression) (sele
     → send_expression_of (map view vs) (map expression_of (map view vs)) ≡ (all_from 3 (map expression_of (map view vs)) >>= λ args. Some (send receiver selector (expressions args)))
 unfolding send_expression_of
 send_left vs receiver selector is_selector is = rw (is, is_selector) refl
+
+-- where an expression inside is not read, none is spelled
+pub binary_fails : {A : Type 0} (operator : Operator) (vs : List (Value A)) (e : ReadFault) → length vs ≡ 3 → Fails e (at 1 (map expression_of (map view vs))) → Fails e (binary_of operator (map expression_of (map view vs)))
+unfolding binary_of
+binary_fails operator vs faults.Memory len fails = tt
+binary_fails operator vs faults.Shape len none = rw (so_many vs 3 len, none) refl
+
+pub choice_fails : {A : Type 0} (vs : List (Value A)) (e : ReadFault) → length vs ≡ 4 → Fails e (at 1 (map expression_of (map view vs))) → Fails e (choice_of (map expression_of (map view vs)))
+unfolding choice_of
+choice_fails vs faults.Memory len fails = tt
+choice_fails vs faults.Shape len none = rw (so_many vs 4 len, none) refl
+
+pub send_fails : {A : Type 0} (vs : List (Value A)) (e : ReadFault) → Fails e (at 1 (map expression_of (map view vs))) → Fails e (send_expression_of (map view vs) (map expression_of (map view vs)))
+unfolding send_expression_of
+send_fails vs faults.Memory fails = tt
+send_fails vs faults.Shape none = rw none refl
+
+pub super_fails : {A : Type 0} (vs : List (Value A)) (selector : Text) (e : ReadFault) → Some selector ≡ value_of as_str 1 (map view vs) → Fails e (all_from 2 (map expression_of (map view vs))) → Fails e (super_expression_of (map view vs) (map expression_of (map view vs)))
+unfolding super_expression_of
+super_fails vs selector faults.Memory is fails = tt
+super_fails vs selector faults.Shape is none = rw (← is, none) refl
 
 -- without a selector there is no send
 pub unselected : (ds : List Data) (es : List (Option Expression)) → value_of as_str 2 ds ≡ None → send_expression_of ds es ≡ None

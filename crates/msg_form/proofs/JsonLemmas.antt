@@ -5,7 +5,10 @@ use Rattle.serde_json.specs.Data.{Data}
 use Rattle.json.specs.Value.{items_view}
 use Rattle.json.specs.declared.value.Value.{Value}
 use Rattle.msg_json.specs.View.{view, items_data}
+use Rattle.msg_form.specs.Gives.{Fails}
 use Rattle.msg_form.specs.Json.{each, values_of}
+use Rattle.msg_form.specs.declared.faults.ReadFault.{ReadFault}
+use Rattle.msg_form.specs.declared.faults.ReadFault.TheVariants as faults
 
 pub values_of-items_view : {A : Type 0} (vs : List (Value A)) → values_of (items_data (items_view vs)) ≡ map view vs
 values_of-items_view [] = refl
@@ -41,3 +44,11 @@ each_on g f vs i v old new x whole lt at read pushed so_far =
 -- after the loop all values are read
 pub each_done : {A B L : Type 0} (g : A → B) (f : Data → Option B) (vs : List (Value L)) (i : ℕ) (read : List A) (whole : Option (List B)) → length vs ≤ i → with_front (map g read) (each f (map view (drop i vs))) ≡ whole → whole ≡ Some (map g read)
 each_done g f vs i read whole past so_far = sym so_far ∙ ap (λ ds. with_front (map g read) (each f (map view ds))) (drop_all i vs past) ∙ ap Some (append-nil (map g read))
+
+-- where one of the values is not read, they spell nothing
+pub each_fails : {A B L : Type 0} (g : A → B) (f : Data → Option B) (vs : List (Value L)) (i : ℕ) (v : Value L) (read : List A) (whole : Option (List B)) (e : ReadFault) → i < length vs → v ≡ get_or vs i v → Fails e (f (view v))
+    → with_front (map g read) (each f (map view (drop i vs))) ≡ whole → Fails e whole
+each_fails g f vs i v read whole faults.Memory lt at fails so_far = tt
+each_fails g f vs i v read whole faults.Shape lt at none so_far =
+    let left : drop i vs ≡ v ∷ drop (suc i) vs = drop-cons vs i v lt ∙ ap (λ y. y ∷ drop (suc i) vs) (sym at) in
+    sym so_far ∙ rw (left, none) refl

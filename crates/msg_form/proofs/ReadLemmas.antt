@@ -1,16 +1,25 @@
 -- Readings of values that stand beside others.
-use Rattle.std.proofs.Common.{◌≡◌, List, true, Option, Some, Result, Ok, Err, sym, ap, refl, ◌∙◌, subst, codes, bytes_eq}
+use Rattle.std.proofs.Common.{◌≡◌, ◌-◌, ◌≤◌, List, true, map, take, drop, get_or, length, Option, Some, Result, Ok, Err, sym, ap, refl, ◌∙◌, subst, codes, bytes_eq, arith, length-drop}
 use Rattle.std.specs.Prelude.{IfOk, IfErr}
+use Rattle.std.proofs.lemmas.List.{drop-map, take_all}
 use Rattle.std.proofs.lemmas.Slice.Eq.{bytes_eq-Decides}
 use Rattle.serde_json.specs.Data.{Data}
+use Rattle.serde_json.specs.Find.{as_str}
+use Rattle.json.specs.declared.value.Value.{Value}
+use Rattle.msg_json.specs.View.{view}
+use Rattle.msg_form.specs.Expression.{Constant}
+use Rattle.msg_form.specs.ExprShape.{constant_of}
+use Rattle.msg_form.specs.Form.{send_item}
 use Rattle.msg_form.specs.Gives.{Fails, Gives}
-use Rattle.msg_form.specs.Json.{◌>>=◌}
-use Rattle.msg_form.specs.Shape.{worded_change_of, attach_of}
+use Rattle.msg_form.specs.Json.{◌>>=◌, each, list_at, value_of}
+use Rattle.msg_form.specs.Shape.{worded_change_of, attach_of, send_item_of}
 use Rattle.msg_form.specs.Text.{Text}
 use Rattle.msg_form.specs.declared.faults.ReadFault.{ReadFault}
 use Rattle.msg_form.specs.declared.faults.ReadFault.TheVariants as faults
+use Rattle.msg_form.proofs.JsonLemmas.{value_there}
 
-fails_on : {Y Z : Type 0} (e : ReadFault) (o : Option Y) (f : Y → Option Z) → Fails e o → Fails e (o >>= f)
+-- where a part is not read, nothing is spelled
+pub fails_on : {Y Z : Type 0} (e : ReadFault) (o : Option Y) (f : Y → Option Z) → Fails e o → Fails e (o >>= f)
 fails_on faults.Memory o f fails = tt
 fails_on faults.Shape o f fails = ap (λ q. q >>= f) fails
 
@@ -26,3 +35,11 @@ gives_beside g h a s o (Err e) ok err gives = fails_on e o (λ y. Some (g a, y))
 pub attach_is : (word : Text) (ds : List Data) → bytes_eq word (codes "attach") ≡ true → worded_change_of word ds ≡ attach_of ds
 unfolding worded_change_of
 attach_is word ds e = rw ((bytes_eq-Decides word (codes "attach")).0 e) refl
+
+-- where the receiver and the selector of a send were read, what is left to read decides
+pub send_item_left : {L : Type 0} (d : Data) (vs : List (Value L)) (v : Value L) (receiver : Constant) (selector : Text) → Some (map view vs) ≡ list_at d → 2 ≤ length vs → v ≡ get_or vs 0 v → Some receiver ≡ constant_of (view v) → Some selector ≡ value_of as_str 1 (map view vs)
+    → send_item_of d ≡ (each constant_of (map view (take (length vs - 2) (drop 2 vs))) >>= λ args. Some (send_item receiver selector args))
+unfolding send_item_of
+send_item_left d vs v receiver selector listed two there is selected =
+    let rest : take (length vs - 2) (drop 2 vs) ≡ drop 2 vs = take_all (length vs - 2) (drop 2 vs) (omega (arith, length-drop 2 vs)) in
+    rw (rest, ← listed, value_there vs 0 v (omega arith) there, ← is, ← selected, drop-map view 2 vs) refl

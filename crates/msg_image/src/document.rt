@@ -86,7 +86,9 @@ pub fn judge_form(alloc: Global, form: &Form) -> Result<Document, DocumentFault>
     ensures few { IfOk result (λ d. length d.items.items ≤ MAX_ITEMS) }
 {
     let names = FormNames::of(alloc, form)?;
-    by_names(alloc, form, &names)
+    let document = by_names(alloc, form, &names);
+    drop(names);
+    document
 }
 
 // Room for the tree of most texts, taken at once: then the list that grows last grows in place. Where so much can't be had, the arena begins small.

@@ -145,7 +145,10 @@ fn send_item<'v>(alloc: Global, value: &Tree<'v, '_>) -> Result<Item<'v>, ReadFa
     if values.len() < 2 {
         return Err(ReadFault::Shape);
     }
-    let (Some(receiver), Some(selector)) = (constant(&values[0]), text_in(values, 1)) else {
+    let Some(receiver) = constant(&values[0]) else {
+        return Err(ReadFault::Shape);
+    };
+    let Some(selector) = text_in(values, 1) else {
         return Err(ReadFault::Shape);
     };
     Ok(Item::Send {

@@ -1,11 +1,12 @@
 use Rattle.std.proofs.Common.{◌-◌, map, take, drop, length, arith, sym}
+use Rattle.std.proofs.lemmas.Result.{err_from_is_err_and}
 use Rattle.msg_json.specs.View.{view}
 use Rattle.msg_form.specs.ExprShape.{expression_of, at, two_at, all_from}
 use Rattle.msg_form.specs.ExprView.{expr_view}
 use Rattle.msg_form.specs.Readings.{readings}
-use Rattle.msg_form.proofs.ExprShapeLemmas.{expression_of-array, exprs_start, reading_is, binary_left, choice_left, send_left}
-use Rattle.msg_form.proofs.JsonLemmas.{each_on}
-use Rattle.msg_form.proofs.ReadLemmas.{gives_beside}
+use Rattle.msg_form.proofs.ExprShapeLemmas.{expression_of-array, exprs_start, reading_is, binary_left, choice_left, send_left, binary_fails, choice_fails, send_fails, super_fails}
+use Rattle.msg_form.proofs.JsonLemmas.{each_on, each_fails}
+use Rattle.msg_form.proofs.ReadLemmas.{gives_beside, fails_on}
 use Rattle.msg_form.proofs.read.expr.+expr.Goals as goal
 
 pub expr-returns-in-Array : goal.expr-returns-in-Array
@@ -36,3 +37,44 @@ choice-returns t c =
 pub send-returns : goal.send-returns
 send-returns t c =
     rw (send_left c.args.values.now (expr_view c.in_ok-receiver.receiver) c.in-Some.selector.now (sym c.in-Some.ensures) c.in_ok-receiver.ensures) (c.boxed_send.ensures (all_from 3 (readings c.args.values.now)) c.exprs.ensures)
+
+pub two-returns-in_err-left : goal.two-returns-in_err-left
+two-returns-in_err-left t c =
+    let e = err_from_is_err_and c.from_residual.result c.from_residual.ensures.1 in
+    rw (e.1, e.2) (fails_on c.in_err-left.field-0.0 _ _ c.in_err-left.ensures)
+
+pub binary-returns-in_err-left : goal.binary-returns-in_err-left
+binary-returns-in_err-left t c =
+    let e = err_from_is_err_and c.from_residual.result c.from_residual.ensures.1 in
+    rw (e.1, e.2) (binary_fails c.args.operator c.args.values.now c.in_err-left.field-0.0 (omega (arith, c.if-values-ne3.false)) c.in_err-left.ensures)
+
+pub choice-returns-in_err-condition : goal.choice-returns-in_err-condition
+choice-returns-in_err-condition t c =
+    let e = err_from_is_err_and c.from_residual.result c.from_residual.ensures.1 in
+    rw (e.1, e.2) (choice_fails c.args.values.now c.in_err-condition.field-0.0 (omega (arith, c.if-values-ne4.false)) c.in_err-condition.ensures)
+
+pub send-returns-in_err-receiver : goal.send-returns-in_err-receiver
+send-returns-in_err-receiver t c =
+    let e = err_from_is_err_and c.from_residual.result c.from_residual.ensures.1 in
+    rw (e.1, e.2) (send_fails c.args.values.now c.in_err-receiver.field-0.0 c.in_err-receiver.ensures)
+
+pub super_send-returns-in_err-args : goal.super_send-returns-in_err-args
+super_send-returns-in_err-args t c =
+    let e = err_from_is_err_and c.from_residual.result c.from_residual.ensures.1 in
+    rw (e.1, e.2) (super_fails c.args.values.now c.in-Some.selector.now c.in_err-args.field-0.0 c.in-Some.ensures c.in_err-args.ensures)
+
+pub super_send-returns-in_err-new : goal.super_send-returns-in_err-new
+super_send-returns-in_err-new t c =
+    let e = err_from_is_err_and c.from_residual-in_err-new.result c.from_residual-in_err-new.ensures.1 in
+    rw (e.1, e.2) tt
+
+pub exprs-returns-in_err-expr : goal.exprs-returns-in_err-expr
+exprs-returns-in_err-expr t c =
+    let e = err_from_is_err_and c.from_residual.result c.from_residual.ensures.1 in
+    rw (e.1, e.2)
+    (each_fails expr_view expression_of (take (length c.args.values.now - c.args.from) (drop c.args.from c.args.values.now)) c.loop-value.value-index c.value-item.result c.loop-value.exprs.items (all_from c.args.from (map expression_of (map view c.args.values.now))) c.in_err-expr.field-0.0 c.loop-value-test.true c.value-item.is c.in_err-expr.ensures c.loop-value.invariant)
+
+pub exprs-returns-in_err-push : goal.exprs-returns-in_err-push
+exprs-returns-in_err-push t c =
+    let e = err_from_is_err_and c.from_residual-in_err-push.result c.from_residual-in_err-push.ensures.1 in
+    rw (e.1, e.2) tt
