@@ -148,7 +148,7 @@ def run(words, library, seconds, copied="", place=None, env=None, out=subprocess
     outer = {name: value for name, value in os.environ.items() if name not in ("LD_LIBRARY_PATH", "LD_PRELOAD")}
     outer.update(HOME="/root", LC_ALL="C.UTF-8", COPIED=copied, SECONDS_LEFT=str(seconds))
     rights = [] if os.geteuid() == 0 else ["--map-root-user"]
-    start = ["nice", "-n", "15", "unshare", *rights, "-m", "-p", "-n", "-f", "--kill-child", "--mount-proc", "sh", "-c", INSIDE, "sh", *inner, *words]
+    start = ["nice", "-n", "5", "unshare", *rights, "-m", "-p", "-n", "-f", "--kill-child", "--mount-proc", "sh", "-c", INSIDE, "sh", *inner, *words]
     process = subprocess.Popen(start, cwd=copied or place, env=outer, stdin=subprocess.DEVNULL, stdout=out, stderr=subprocess.STDOUT)
     said = process.stdout.read().decode(errors="replace") if out == subprocess.PIPE else ""
     _, status, used = os.wait4(process.pid, 0)

@@ -18,7 +18,11 @@ import gnustep
 PLUGIN = "/usr/lib/openvpn/openvpn-auth-ldap.so"
 HEADERS = "/usr/include/GNUstep/Foundation"
 BUNDLES = 12
-MOST_TIME, MOST_START = 1.05, 1.1  # the aims; of times, what is below 0.05 is noise
+# The aims are 1.0 of the time, of which a twentieth is noise, and 1.1 of the instructions.
+MOST_TIME, MOST_INSTRUCTIONS = 1.05, 1.1
+LONG = (("NSRegularExpression", "basic"), ("PropertyLists", "test01"), ("NSJSONSerialization", "tests00"), ("NSLock", "tryLock"), ("GSMime", "general"), ("NSURLConnection", "test03"))
+TIMED = 'TIMEFORMAT="processors %U %S"; time "$@" > /dev/null 2>&1'
+AUTOGSDOC = f"autogsdoc -Project Foundation -HeaderDirectory {HEADERS} -DocumentationDirectory doc -GenerateHtml YES NSArray.h NSDictionary.h NSString.h NSObject.h NSDate.h NSBundle.h"
 MEANT = {"name": "plain", "count": 17, "half": 0.5, "on": True, "bytes": b"\0\1\2", "list": ["one", {"two": 2}, ["three"]]}
 
 LDAP = """<LDAP>
@@ -78,6 +82,7 @@ CASES = {
     "pl": "pl < plain.plist; pl -output serialized < plain.plist; pl -input serialized; pl < broken.plist",
     "pl2link": "pl2link desktop.plist out.desktop",
     "plutil": "for f in xml1 binary1 json openstep; do plutil -convert $f -o - plain.plist > out.$f; done; plutil -convert xml1 plain.plist; plutil -lint xml.plist; plutil -p xml.plist",
+    "the page's twenty lines": "./untold",
     "plutil, wrong": "plutil; plutil -lint none; plutil -lint broken.plist; plutil -nothing plain.plist",
     "defaults": "defaults write Domain key value; defaults write Domain list '(1, 2)'; defaults read Domain; defaults read Domain key; defaults delete Domain key; defaults read Domain; defaults domains; defaults find list; defaults read None",
     "sfparse": "sfparse words.strings; sfparse --utf8 words.strings; sfparse --unicode words.strings; sfparse broken.plist",
@@ -87,7 +92,7 @@ CASES = {
     "make_strings": "mkdir English.lproj German.lproj; make_strings -L English Small.m; make_strings --verbose --aggressive-match -L 'English German' Small.m Small.h",
     "autogsdoc": "autogsdoc -Project Small -DocumentationDirectory doc -Standards YES -GenerateHtml YES Small.h Small.m",
     "autogsdoc, broken": "autogsdoc -Project Broken -DocumentationDirectory doc broken.xml broken.plist none.h",
-    "autogsdoc, Foundation": f"autogsdoc -Project Foundation -HeaderDirectory {HEADERS} -DocumentationDirectory doc -GenerateHtml YES NSArray.h NSDictionary.h NSString.h NSObject.h NSDate.h NSBundle.h",
+    "autogsdoc, Foundation": AUTOGSDOC,
     "gdomap": "gdomap -p -f & sleep 1; gdomap -N; gdomap -L none; gdomap -P 1234 -T tcp_gdo -R there; gdomap -N",
     "lsar": "for a in one.*; do lsar $a; lsar -l $a; lsar -j $a; done; lsar broken.zip; lsar none.zip",
     "lsar -t": "for a in one.*; do lsar -t $a; done",
@@ -100,7 +105,8 @@ CASES = {
 }
 # Where libobjc is wrong: what ours must tell.
 UNTOLD = "libobjc never initializes the class that reads property lists, since a +load replaces a method of it before its first message: plutil reads none"
-BETTER = {"plutil": UNTOLD, "plutil, wrong": UNTOLD}
+BETTER = {"plutil": UNTOLD, "plutil, wrong": UNTOLD, "the page's twenty lines": "as plutil's: the class is initialized once"}
+TELLS = {"the page's twenty lines": "read 2, initialized 1 times"}
 TELLING = """{ %s; } 2>&1
 echo "ended with $?"
 find . -type f -newer .begun | sort | while read -r file; do echo "wrote $file"; cat "$file"; echo; done
@@ -174,6 +180,9 @@ def make_inputs(folder):
     make_archives(place)
     shutil.copy(os.path.join(gnustep.OWN, "ldap_server.py"), place)
     subprocess.run(["gcc-12", "-w", os.path.join(gnustep.OWN, "ldap.c"), "-ldl", "-o", os.path.join(place, "ldap")], check=True)
+    with open(os.path.join(gnustep.ROOT, "docs", "OBJECTIVE-C.md"), encoding="utf-8") as page:
+        source = re.search(r"```objc\n(.*?)```", page.read(), re.S)[1]
+    subprocess.run(["gcc-12", "-x", "objective-c", "-w", "-", "-x", "none", "-lobjc", "-o", os.path.join(place, "untold")], input=source, text=True, check=True)
     open(os.path.join(place, ".begun"), "w", encoding="utf-8").close()
     return place
 
@@ -211,7 +220,7 @@ def run_programs(ours, given):
         if theirs == here:
             same += 1
             continue
-        better = name in BETTER and (name != "plutil" or plutil_is_right(kept))
+        better = name in BETTER and TELLS.get(name, "") in here and (name != "plutil" or plutil_is_right(kept))
         right = right and better
         print(f"{name}: differs" + (f", in our favour: {BETTER[name]}" if better else ""))
         lines = list(difflib.unified_diff(theirs.splitlines(), here.splitlines(), "libobjc", "the shim", lineterm="", n=0))
@@ -253,30 +262,39 @@ def run_bundles(ours, given):
     return not wrong.get("the shim", 1) and not ended["the shim"] and here <= theirs
 
 
-def instructions(program, library):
-    words = ["valgrind", "--tool=callgrind", "--callgrind-out-file=/dev/null", program]
-    _, _, text = gnustep.run(words, library, 600, place="/")
+def seconds(words, library, given, copied):
+    """Of processors, without what the namespaces take."""
+    _, _, text = gnustep.run(["bash", "-c", TIMED, "bash", *words], library, given.seconds, copied=copied)
+    return sum(map(float, re.search(r"^processors ([\d.]+) ([\d.]+)$", text, re.M).groups()))
+
+
+def instructions(words, library, copied):
+    words = ["valgrind", "--tool=callgrind", "--callgrind-out-file=/dev/null", *words]
+    _, _, text = gnustep.run(words, library, 600, copied=copied)
     return int(re.search(r"Collected *: (\d+)", text)[1])
 
 
+def long_runs(suite, given):
+    start = gnustep.build(given.folder, "start.m", "-lgnustep-base", "-lobjc")
+    inputs = make_inputs(given.folder)
+    runs = {f"{folder}/{name}": (["./obj/" + name], os.path.join(suite.base, folder)) for folder, name in LONG}
+    runs["autogsdoc of 6 headers"] = (AUTOGSDOC.split(), inputs)
+    runs["a small program"] = ([start], inputs)
+    return {title: run for title, run in runs.items() if not given.names or title in given.names}
+
+
 def run_times(suite, ours, given):
-    """Processors' time of whole programs, in turns over both: whether no median ratio is above the aims."""
+    """Processors' time and instructions of whole programs, in turns over both: whether no median ratio is above the aims."""
     libraries, right = [gnustep.Library("libobjc"), gnustep.Library("the shim", ours)], True
-    place = make_inputs(given.folder)
-    runs = [("autogsdoc, Foundation", ["sh", "-c", CASES["autogsdoc, Foundation"]], place)]
-    runs += [(f"{folder}/{name}", ["./obj/" + name], os.path.join(suite.base, folder)) for folder, name in LONG]
-    print(f"| processors' time, medians of {given.runs} runs in turns | libobjc | the shim | ratio |\n|---|---|---|---|")
-    for title, words, copied in runs:
-        if given.names and title not in given.names:
-            continue
-        pairs = [[gnustep.run(words, library, given.seconds, copied=copied)[1] for library in libraries] for _ in range(given.runs)]
+    print(f"| | seconds of processors, medians of {given.runs} runs: libobjc | the shim | ratio | millions of instructions: libobjc | the shim | ratio |\n|---|---|---|---|---|---|---|")
+    for title, (words, copied) in long_runs(suite, given).items():
+        pairs = [[seconds(words, library, given, copied) for library in libraries] for _ in range(given.runs)]
         theirs, here = (statistics.median(times) for times in zip(*pairs))
-        ratio = statistics.median(mine / other for other, mine in pairs)
-        print(f"| {title} | {theirs:.2f} s | {here:.2f} s | {ratio:.2f} |", flush=True)
-        right = right and ratio <= MOST_TIME
-    counts = [instructions(gnustep.build(given.folder, "start.m", "-lgnustep-base", "-lobjc"), library) for library in libraries]
-    print(f"| a small program's start and end, instructions | {counts[0] / 1e6:.1f} million | {counts[1] / 1e6:.1f} million | {counts[1] / counts[0]:.2f} |")
-    return right and counts[1] <= MOST_START * counts[0]
+        ratio = statistics.median(mine / max(other, 0.001) for other, mine in pairs)
+        counts = [instructions(words, library, copied) for library in libraries]
+        print(f"| {title} | {theirs:.3f} | {here:.3f} | {ratio:.2f} | {counts[0] / 1e6:.1f} | {counts[1] / 1e6:.1f} | {counts[1] / counts[0]:.3f} |", flush=True)
+        right = right and counts[1] <= MOST_INSTRUCTIONS * counts[0] and ratio <= MOST_TIME
+    return right
 
 
 def main(suite, ours, given):
