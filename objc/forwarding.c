@@ -17,10 +17,10 @@ IMP (*__objc_msg_forward2)(id, SEL);
 static void *forward(id self, SEL sel, void *frame)
 {
     SEL name = &shim_own[FORWARD];
-    IMP imp = self ? shim_look(self->isa, name) : NULL;
+    IMP imp = self ? shim_look(shim_class_of(self), name) : NULL;
     if (imp) return ((forwarder)(void (*)(void))imp)(self, name, sel, frame);
     name = &shim_own[NOT_RECOGNIZED];
-    imp = self ? shim_look(self->isa, name) : NULL;
+    imp = self ? shim_look(shim_class_of(self), name) : NULL;
     if (!imp) shim_stop("unrecognized selector", sel_getName(sel));
     ((void (*)(id, SEL, SEL))(void (*)(void))imp)(self, name, sel);
     return NULL;

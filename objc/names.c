@@ -102,7 +102,8 @@ static struct typed *typed_of(const char *name)
 static bool same_types(const char *one, const char *other)
 {
     if (!one || !other) return one == other;
-    while (*one && *other) {
+    if (!strcmp(one, other)) return true;
+    while (*one && *one == *other) {
         size_t length = (size_t)(objc_skip_typespec(one) - one);
         if (strncmp(one, other, length) || objc_skip_typespec(other) != other + length) return false;
         one = objc_skip_argspec(one);

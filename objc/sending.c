@@ -90,11 +90,11 @@ static __attribute__((noinline)) IMP find_from(id receiver, Class class_, SEL se
     return imp ? imp : shim_forward(receiver, sel);
 }
 
-static __attribute__((noinline, cold)) IMP find_slowly(id receiver, SEL sel) { return find_from(receiver, receiver->isa, sel); }
+static __attribute__((noinline, cold)) IMP find_slowly(id receiver, SEL sel) { return find_from(receiver, shim_class_of(receiver), sel); }
 
 static __attribute__((noinline)) IMP find_nothing(id receiver, SEL sel)
 {
-    IMP imp = resolved(receiver->isa, sel);
+    IMP imp = resolved(shim_class_of(receiver), sel);
     return imp ? imp : shim_forward(receiver, sel);
 }
 
@@ -103,7 +103,7 @@ __attribute__((aligned(LINE))) IMP objc_msg_lookup(id receiver, SEL sel)
 {
     uint32_t number;
     if (__builtin_expect(!receiver, 0)) return nil_method;
-    if (__builtin_expect(!shim_note(receiver->isa, sel, &number), 0)) return find_slowly(receiver, sel);
+    if (__builtin_expect(!shim_note(shim_class_of(receiver), sel, &number), 0)) return find_slowly(receiver, sel);
     return __builtin_expect(number != 0, 1) ? shim_function(number) : find_nothing(receiver, sel);
 }
 
@@ -131,4 +131,4 @@ BOOL class_respondsToSelector(Class class_, SEL sel)
 }
 
 /* In no header; programs ask it. */
-BOOL __objc_responds_to(id object, SEL sel) { return object && class_respondsToSelector(object->isa, sel); }
+BOOL __objc_responds_to(id object, SEL sel) { return object && class_respondsToSelector(shim_class_of(object), sel); }

@@ -103,6 +103,9 @@ void shim_renew_property_locks(void);
 void shim_hold_senders(bool hold);
 void shim_leave_dead(void); /* closes the senders of threads that are gone */
 
+/* Another thread may set an object's class meanwhile, as observing a key does. */
+static inline Class shim_class_of(id object) { return __atomic_load_n(&object->isa, __ATOMIC_ACQUIRE); }
+
 /* forwarding.c: what is called where no method is found. Without the lock. */
 IMP shim_forward(id receiver, SEL sel);
 
