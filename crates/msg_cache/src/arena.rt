@@ -13,7 +13,7 @@ ghost use Rattle.msg_cache.specs.Keeping.{IsGroup};
 
 use crate::config::{ArenaFault, Config, capacities_of, firsts_of};
 use crate::keeper::Keeper;
-use crate::law::Law;
+use crate::rule::Rule;
 use crate::setting::Setting;
 use crate::steps::{Seat, Words};
 use crate::view::View;
@@ -33,7 +33,7 @@ struct Span {
 /// The words of the caches of an origin.
 #[derive(Drop)]
 pub struct Arena {
-    table: Table<u8, View, Setting, Law, Global>,
+    table: Table<u8, View, Setting, Rule, Global>,
     spans: Vec<Span>,
     // the number of the first array of each capacity, and how many there are
     firsts: [usize; 10],

@@ -19,11 +19,11 @@ ghost use Rattle.msg_cache.specs.Layout.{SettingView, layout_of, header_at, base
 ghost use Rattle.msg_cache.specs.Plays.{seated, kept, sender_of, keeper_of, turn_of, stored, flushed, installed, committed, looked, rest_looked, given_out, taken_in, newcomer, lent, at_home, turn_view, Headed, Reads, Published, Goes, Recalls};
 ghost use Rattle.msg_cache.specs.Rule.{TidyBy, word_in};
 
-use crate::law::Law;
 use crate::plays::{
     About, Asks, Bucket, Commit, Enter, Flush, Gather, Give, Header, Install, Leave, Lend, Look,
     LookAtRest, Store, Tidied, Version, Witness,
 };
+use crate::rule::Rule;
 use crate::setting::Setting;
 use crate::view::View;
 use atomic_table::Shared;
@@ -31,7 +31,7 @@ use msg_names::{ClassRef, Selector};
 use msg_tables::Change;
 use std::marker::Brand;
 
-pub(crate) type Words = Shared<u8, View, Setting, Law>;
+pub(crate) type Words = Shared<u8, View, Setting, Rule>;
 
 pub(crate) type Seat = atomic_table::Seat<u8, View>;
 

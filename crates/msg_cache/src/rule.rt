@@ -10,9 +10,9 @@ use atomic_table::TableRule;
 
 /// The rule.
 #[derive(Clone, Copy)]
-pub struct Law;
+pub struct Rule;
 
-impl TableRule<u8, View, Setting> for Law {
+impl TableRule<u8, View, Setting> for Rule {
     ghost holds = { holds lookup };
 
     ghost first = { λ key. Keeper (first_keeper key) };
