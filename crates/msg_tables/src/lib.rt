@@ -19,6 +19,7 @@ mod opening;
 mod origin;
 mod preorder;
 mod presence;
+mod row_lists;
 mod rows;
 mod tables;
 
