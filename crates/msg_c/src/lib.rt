@@ -21,6 +21,8 @@ mod runtime_handle;
 #[cfg(test)]
 mod same;
 mod sender_handle;
+#[cfg(test)]
+mod sender_tests;
 mod sending;
 #[cfg(test)]
 mod tests;

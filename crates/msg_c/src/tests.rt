@@ -3,7 +3,7 @@
 ghost use Rattle.std.specs.Prelude.{◌≡◌, Some, None, IfOk, is_some, true};
 ghost use Rattle.msg_c.specs.Answers.{AreOfOneArena};
 
-use crate::answer::{ALREADY_OPEN, BAD_CONFIG, CLOSED, DONE, MISSED, NO_SENDER, NONE, NOT_NOTED};
+use crate::answer::{ALREADY_OPEN, BAD_CONFIG, CLOSED, DONE, NONE};
 use crate::asking::{
     MsgClass, msg_change_count, msg_class_count, msg_holder, msg_lookup, msg_superclass,
 };
@@ -15,10 +15,7 @@ use crate::opening::{msg_close, msg_open_words};
 use crate::runtime_handle::RuntimeHandle;
 use crate::same::{answers, same};
 use crate::sender_handle::SenderHandle;
-use crate::sending::{
-    msg_fill, msg_meet, msg_probe, msg_recall, msg_refresh, msg_sender_close, msg_sender_open,
-    msg_sender_size,
-};
+use crate::sending::msg_sender_open;
 use msg_host::MethodRow;
 use std::alloc::Global;
 use std::process::Abort;
@@ -39,7 +36,7 @@ const ROOT_CLASS_METHODS: &[MethodRow] = &[MethodRow { sel: NEW, imp: 4 }];
 const CHILD_METHODS: &[MethodRow] = &[MethodRow { sel: NAME, imp: 3 }];
 
 // So many changes make these classes.
-const MADE_BY: u64 = 4;
+pub(crate) const MADE_BY: u64 = 4;
 
 pub(crate) const ROOT: u32 = 0;
 
@@ -50,13 +47,13 @@ const MADE: u32 = 2;
 const OTHER: u32 = 3;
 
 // No class number, where four are reserved.
-const BEYOND: u32 = 4;
+pub(crate) const BEYOND: u32 = 4;
 
 pub(crate) const VALUE: u32 = 2;
 
-const NAME: u32 = 3;
+pub(crate) const NAME: u32 = 3;
 
-const NEW: u32 = 4;
+pub(crate) const NEW: u32 = 4;
 
 const TAKE: u32 = 5;
 
@@ -506,361 +503,4 @@ pub(crate) fn sending<R: Abort>(rt: &R, alloc: Global, runtime: &mut RuntimeHand
     let mut sender = SenderHandle::closed(alloc);
     answers(rt, msg_sender_open(alloc, runtime, &mut sender), DONE);
     sender
-}
-
-#[test]
-fn what_is_filled_is_hit(rt: HostRuntime) -> Result<(), Fail> {
-    let alloc = rt.alloc();
-    let mut runtime = opened(&rt, alloc);
-    let mut sender = sending(&rt, alloc, &mut runtime);
-    let mut imp = 99;
-    answers(
-        &rt,
-        msg_probe(alloc, &mut sender, CHILD, true, NEW, &mut imp),
-        MISSED,
-    );
-    answers(&rt, imp, 99);
-    answers(
-        &rt,
-        msg_fill(alloc, &mut runtime, &mut sender, CHILD, true, NEW, &mut imp),
-        DONE,
-    );
-    answers(&rt, imp, 4);
-    imp = 99;
-    answers(
-        &rt,
-        msg_probe(alloc, &mut sender, CHILD, true, NEW, &mut imp),
-        DONE,
-    );
-    answers(&rt, imp, 4);
-    Ok(())
-}
-
-#[test]
-fn a_change_flushes_and_is_seen(rt: HostRuntime) -> Result<(), Fail> {
-    let alloc = rt.alloc();
-    let mut runtime = opened(&rt, alloc);
-    let mut sender = sending(&rt, alloc, &mut runtime);
-    let (mut imp, mut count) = (99, 99);
-    answers(
-        &rt,
-        msg_fill(
-            alloc,
-            &mut runtime,
-            &mut sender,
-            CHILD,
-            false,
-            VALUE,
-            &mut imp,
-        ),
-        DONE,
-    );
-    answers(&rt, imp, 1);
-    answers(
-        &rt,
-        msg_set_imp(alloc, &mut runtime, ROOT, false, VALUE, 2),
-        DONE,
-    );
-    answers(&rt, msg_refresh(alloc, &mut sender, &mut count), DONE);
-    same(&rt, count, MADE_BY + 1);
-    answers(
-        &rt,
-        msg_probe(alloc, &mut sender, CHILD, false, VALUE, &mut imp),
-        MISSED,
-    );
-    answers(
-        &rt,
-        msg_fill(
-            alloc,
-            &mut runtime,
-            &mut sender,
-            CHILD,
-            false,
-            VALUE,
-            &mut imp,
-        ),
-        DONE,
-    );
-    answers(&rt, imp, 2);
-    Ok(())
-}
-
-#[test]
-fn senders_meet_and_close(rt: HostRuntime) -> Result<(), Fail> {
-    let alloc = rt.alloc();
-    let mut runtime = opened(&rt, alloc);
-    let mut sender = sending(&rt, alloc, &mut runtime);
-    answers(
-        &rt,
-        msg_sender_open(alloc, &mut runtime, &mut sender),
-        ALREADY_OPEN,
-    );
-    answers(&rt, msg_meet(alloc, &mut runtime, &mut sender), DONE);
-    answers(
-        &rt,
-        msg_sender_close(alloc, &mut runtime, &mut sender),
-        DONE,
-    );
-    answers(
-        &rt,
-        msg_sender_close(alloc, &mut runtime, &mut sender),
-        CLOSED,
-    );
-    Ok(())
-}
-
-#[test]
-fn a_sender_refuses_what_is_nobodys(rt: HostRuntime) -> Result<(), Fail> {
-    let alloc = rt.alloc();
-    let mut runtime = opened(&rt, alloc);
-    let mut sender = sending(&rt, alloc, &mut runtime);
-    let mut imp = 99;
-    answers(
-        &rt,
-        msg_probe(alloc, &mut sender, BEYOND, false, VALUE, &mut imp),
-        66,
-    );
-    answers(
-        &rt,
-        msg_probe(alloc, &mut sender, CHILD, false, 0, &mut imp),
-        67,
-    );
-    answers(
-        &rt,
-        msg_fill(
-            alloc,
-            &mut runtime,
-            &mut sender,
-            BEYOND,
-            false,
-            VALUE,
-            &mut imp,
-        ),
-        66,
-    );
-    answers(
-        &rt,
-        msg_fill(alloc, &mut runtime, &mut sender, CHILD, false, 0, &mut imp),
-        67,
-    );
-    answers(&rt, imp, 99);
-    Ok(())
-}
-
-#[test]
-fn a_closed_sender_answers_nothing(rt: HostRuntime) -> Result<(), Fail> {
-    let alloc = rt.alloc();
-    let mut runtime = opened(&rt, alloc);
-    let mut sender = SenderHandle::closed(alloc);
-    let (mut imp, mut count) = (99, 99);
-    answers(
-        &rt,
-        msg_probe(alloc, &mut sender, CHILD, false, VALUE, &mut imp),
-        CLOSED,
-    );
-    answers(
-        &rt,
-        msg_fill(
-            alloc,
-            &mut runtime,
-            &mut sender,
-            CHILD,
-            false,
-            VALUE,
-            &mut imp,
-        ),
-        CLOSED,
-    );
-    answers(&rt, msg_meet(alloc, &mut runtime, &mut sender), CLOSED);
-    answers(&rt, msg_refresh(alloc, &mut sender, &mut count), CLOSED);
-    same(&rt, (imp, count), (99, 99));
-    Ok(())
-}
-
-#[test]
-fn as_many_senders_are_out_as_are_asked_for(rt: HostRuntime) -> Result<(), Fail> {
-    let alloc = rt.alloc();
-    let mut runtime = opened(&rt, alloc);
-    let mut first = sending(&rt, alloc, &mut runtime);
-    let _second = sending(&rt, alloc, &mut runtime);
-    let mut third = sending(&rt, alloc, &mut runtime);
-    let mut last = SenderHandle::closed(alloc);
-    answers(
-        &rt,
-        msg_sender_open(alloc, &mut runtime, &mut last),
-        NO_SENDER,
-    );
-    answers(&rt, msg_sender_close(alloc, &mut runtime, &mut third), DONE);
-    answers(&rt, msg_sender_open(alloc, &mut runtime, &mut last), DONE);
-    answers(&rt, msg_close(alloc, &mut runtime), DONE);
-    let mut imp = 99;
-    answers(
-        &rt,
-        msg_probe(alloc, &mut first, CHILD, false, VALUE, &mut imp),
-        MISSED,
-    );
-    Ok(())
-}
-
-#[test]
-fn a_sender_remembers_until_it_sees_a_change(rt: HostRuntime) -> Result<(), Fail> {
-    let alloc = rt.alloc();
-    let mut runtime = opened(&rt, alloc);
-    let mut sender = sending(&rt, alloc, &mut runtime);
-    let (mut imp, mut count) = (99, 99);
-    answers(
-        &rt,
-        msg_fill(
-            alloc,
-            &mut runtime,
-            &mut sender,
-            CHILD,
-            false,
-            VALUE,
-            &mut imp,
-        ),
-        DONE,
-    );
-    answers(
-        &rt,
-        msg_replace(alloc, &mut runtime, CHILD, false, VALUE, 2),
-        DONE,
-    );
-    imp = 99;
-    answers(
-        &rt,
-        msg_probe(alloc, &mut sender, CHILD, false, VALUE, &mut imp),
-        DONE,
-    );
-    answers(&rt, imp, 1);
-    answers(&rt, msg_refresh(alloc, &mut sender, &mut count), DONE);
-    answers(
-        &rt,
-        msg_probe(alloc, &mut sender, CHILD, false, VALUE, &mut imp),
-        MISSED,
-    );
-    Ok(())
-}
-
-#[test]
-fn a_sender_is_closed_after_its_runtime(rt: HostRuntime) -> Result<(), Fail> {
-    let alloc = rt.alloc();
-    let mut runtime = opened(&rt, alloc);
-    let mut sender = sending(&rt, alloc, &mut runtime);
-    answers(&rt, msg_close(alloc, &mut runtime), DONE);
-    answers(
-        &rt,
-        msg_sender_close(alloc, &mut runtime, &mut sender),
-        DONE,
-    );
-    answers(
-        &rt,
-        msg_sender_close(alloc, &mut runtime, &mut sender),
-        CLOSED,
-    );
-    Ok(())
-}
-
-// The slots of Child and of its metaclass.
-const CHILD_SLOT: usize = 2;
-
-const META_SLOT: usize = 3;
-
-#[test]
-fn what_is_noted_is_recalled_at_its_count(rt: HostRuntime) -> Result<(), Fail> {
-    let alloc = rt.alloc();
-    let mut runtime = opened(&rt, alloc);
-    let mut sender = sending(&rt, alloc, &mut runtime);
-    let mut imp = 99;
-    same(
-        &rt,
-        msg_recall(&sender, CHILD_SLOT, VALUE, MADE_BY),
-        NOT_NOTED,
-    );
-    answers(
-        &rt,
-        msg_fill(
-            alloc,
-            &mut runtime,
-            &mut sender,
-            CHILD,
-            false,
-            VALUE,
-            &mut imp,
-        ),
-        DONE,
-    );
-    same(&rt, msg_recall(&sender, CHILD_SLOT, VALUE, MADE_BY), 1);
-    same(
-        &rt,
-        msg_recall(&sender, META_SLOT, VALUE, MADE_BY),
-        NOT_NOTED,
-    );
-    same(
-        &rt,
-        msg_recall(&sender, CHILD_SLOT, NAME, MADE_BY),
-        NOT_NOTED,
-    );
-    same(
-        &rt,
-        msg_recall(&sender, CHILD_SLOT, VALUE, MADE_BY + 1),
-        NOT_NOTED,
-    );
-    answers(
-        &rt,
-        msg_replace(alloc, &mut runtime, CHILD, false, VALUE, 2),
-        DONE,
-    );
-    same(
-        &rt,
-        msg_recall(&sender, CHILD_SLOT, VALUE, MADE_BY + 1),
-        NOT_NOTED,
-    );
-    answers(
-        &rt,
-        msg_fill(
-            alloc,
-            &mut runtime,
-            &mut sender,
-            CHILD,
-            false,
-            VALUE,
-            &mut imp,
-        ),
-        DONE,
-    );
-    same(&rt, msg_recall(&sender, CHILD_SLOT, VALUE, MADE_BY + 1), 2);
-    same(
-        &rt,
-        msg_recall(&sender, CHILD_SLOT, VALUE, MADE_BY),
-        NOT_NOTED,
-    );
-    Ok(())
-}
-
-#[test]
-fn a_closed_handle_recalls_nothing(rt: HostRuntime) -> Result<(), Fail> {
-    let alloc = rt.alloc();
-    let mut runtime = opened(&rt, alloc);
-    let mut sender = SenderHandle::closed(alloc);
-    same(&rt, msg_recall(&sender, 0, 0, 0), NOT_NOTED);
-    answers(&rt, msg_sender_open(alloc, &mut runtime, &mut sender), DONE);
-    same(&rt, msg_recall(&sender, 0, 0, 0), NOT_NOTED);
-    let mut imp = 99;
-    answers(
-        &rt,
-        msg_fill(alloc, &mut runtime, &mut sender, CHILD, true, NEW, &mut imp),
-        DONE,
-    );
-    same(&rt, msg_recall(&sender, META_SLOT, NEW, MADE_BY), 4);
-    answers(
-        &rt,
-        msg_sender_close(alloc, &mut runtime, &mut sender),
-        DONE,
-    );
-    same(&rt, msg_recall(&sender, META_SLOT, NEW, MADE_BY), NOT_NOTED);
-    answers(&rt, msg_sender_open(alloc, &mut runtime, &mut sender), DONE);
-    same(&rt, msg_recall(&sender, META_SLOT, NEW, MADE_BY), NOT_NOTED);
-    same(&rt, msg_sender_size(), 49168);
-    Ok(())
 }

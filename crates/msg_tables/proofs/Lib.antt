@@ -22,6 +22,7 @@ pub mod OriginLemmas
 pub mod OwnLemmas
 pub mod PresenceLemmas
 pub mod PutLemmas
+pub mod ReservedLemmas
 pub mod RowLemmas
 pub mod StandsLemmas
 pub mod TakeLemmas

@@ -15,7 +15,7 @@ abbrev pub view_of : Inside → TablesView
 view_of t = record {
   supers = t.supers.items;
   order = t.order.items;
-  lists = rows_of t.lists.items;
+  lists = rows_of t.lists;
   counts = t.counts;
   limits = t.limits;
   row_count = t.row_count;
@@ -31,8 +31,8 @@ pub record AreSoundTables (t : Inside) : Type 0 where
   -- and in one in which those below a class come right after it
   pub preorder : HavePreorder t.supers.items t.preorder.depths.items t.preorder.nexts.items
   -- there is a list for each class reference
-  pub lists : length t.lists.items ≡ 2 * length t.supers.items
-  pub listed : list_all (are_listed (last_imp t.counts)) (rows_of t.lists.items) ≡ true
+  pub lists : length t.lists ≡ 2 * length t.supers.items
+  pub listed : list_all (are_listed (last_imp t.counts)) (rows_of t.lists) ≡ true
   pub few_classes : length t.supers.items ≤ MAX_CLASSES
   pub few_rows : t.row_count ≤ t.limits.rows
   pub few_changes : t.change_count ≤ t.limits.changes

@@ -18,6 +18,7 @@ pub mod Origin
 pub mod Preorder
 pub mod Presence
 pub mod Refusal
+pub mod Reserved
 pub mod RowList
 pub mod Rows
 pub mod Several

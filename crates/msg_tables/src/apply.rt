@@ -12,7 +12,6 @@ ghost use Rattle.msg_tables.specs.Stands.{StandsAt};
 use crate::change::Change;
 use crate::edit::{Edit, MethodRow};
 use crate::fault::ChangeFault;
-use crate::lists::{append_row, attach_rows, rewrite_row};
 use crate::methods::MethodList;
 use crate::presence::Presence;
 use crate::tables::Tables;
@@ -25,7 +24,7 @@ impl Tables {
         ensures ok { OnOk result (Writes self.old self.new (Edit.Append row)) }
         ensures err { OnErr result (self.new ≡ self.old) }
     {
-        append_row(&mut self.lists, row.class.slot(), row.sel, row.imp)?;
+        self.lists.append_row(row.class.slot(), row.sel, row.imp)?;
         self.row_count += 1;
         Ok(())
     }
@@ -35,7 +34,7 @@ impl Tables {
         ensures writes { Writes self.old self.new (Edit.Rewrite row) }
         ensures own { (other : MethodRow) → IsOwn self.old other → IsOwn self.new other }
     {
-        rewrite_row(&mut self.lists, row.class.slot(), row.sel, row.imp);
+        self.lists.rewrite_row(row.class.slot(), row.sel, row.imp);
     }
 
     fn rewrite_both(&mut self, first: MethodRow, second: MethodRow)
@@ -60,7 +59,7 @@ impl Tables {
         let own = methods.as_slice();
         let meta = class_methods.as_slice();
         let at = ClassRef { class, meta: false }.slot();
-        attach_rows(&mut self.lists, at, own, meta)?;
+        self.lists.attach_rows(at, own, meta)?;
         self.row_count += (own.len() + meta.len()) as u32;
         Ok(())
     }

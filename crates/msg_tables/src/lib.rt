@@ -21,6 +21,7 @@ mod origin;
 mod preorder;
 mod presence;
 mod reach;
+mod row_lists;
 mod rows;
 mod tables;
 

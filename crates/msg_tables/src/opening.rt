@@ -9,15 +9,13 @@ ghost use Rattle.msg_tables.specs.Opening.{Adds, IsBlank, IsFor, size_of_list};
 ghost use Rattle.msg_tables.specs.Order.{IsOrder};
 ghost use Rattle.msg_tables.specs.Origin.{IsSound, are_listed, class_total, last_imp};
 ghost use Rattle.msg_tables.specs.Methods.{MethodsOf};
-ghost use Rattle.msg_tables.specs.RowList.{rows_of};
 ghost use Rattle.msg_tables.specs.Stands.{StandsAt};
 
 use crate::counts::Counts;
-use crate::lists::append_rows;
 use crate::origin::{HasOrigin, Origin};
 use crate::preorder::preorder_of;
 use crate::presence::Presence;
-use crate::rows::MethodRows;
+use crate::row_lists::RowLists;
 use crate::tables::Tables;
 use msg_names::{ClassRef, ImpRef, Selector};
 use msg_order::class_order;
@@ -69,16 +67,6 @@ fn copied_counts(counts: &Option<Counts>) -> Result<Option<Counts>, AllocError>
     }
 }
 
-fn empty_lists(alloc: Global, count: usize) -> Result<Vec<MethodRows>, AllocError>
-    ensures { IfOk result (λ lists. rows_of lists.items ≡ replicate count []) }
-{
-    let mut lists = Vec::with_capacity(alloc, count)?;
-    for _list in 0..count {
-        lists.push(MethodRows::new(alloc))?;
-    }
-    Ok(lists)
-}
-
 impl Tables {
     // Tables of the classes, without rows.
     fn blank(alloc: Global, origin: &Origin) -> Result<Tables, AllocError>
@@ -92,7 +80,7 @@ impl Tables {
             supers,
             order,
             preorder,
-            lists: empty_lists(alloc, 2 * count as usize)?,
+            lists: RowLists::blank(alloc, 2 * count as usize)?,
             counts: copied_counts(&origin.counts)?,
             limits: origin.limits(),
             row_count: 0,
@@ -111,7 +99,7 @@ impl Tables {
         requires room { self.old.row_count + length methods.now ≤ self.old.limits.rows }
         ensures { OnOk result (Adds self.old self.new (rows_at class (method_numbers methods.now))) }
     {
-        append_rows(&mut self.lists, class.slot(), methods)?;
+        self.lists.append_rows(class.slot(), methods)?;
         self.row_count += methods.len() as u32;
         Ok(())
     }

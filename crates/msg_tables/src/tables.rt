@@ -14,6 +14,7 @@ use crate::counts::Counts;
 use crate::limits::Limits;
 use crate::preorder::Preorder;
 use crate::presence::Presence;
+use crate::row_lists::RowLists;
 use crate::rows::MethodRows;
 use msg_names::{ClassRef, ImpRef, Selector};
 use std::marker::Model;
@@ -27,7 +28,7 @@ pub struct Tables {
     // The classes that are present, each after its superclass. There is room for all that may be made.
     pub(crate) order: Vec<u32>,
     pub(crate) preorder: Preorder,
-    pub(crate) lists: Vec<MethodRows>,
+    pub(crate) lists: RowLists,
     pub(crate) counts: Option<Counts>,
     pub(crate) limits: Limits,
     pub(crate) row_count: u32,
@@ -102,7 +103,7 @@ impl Tables {
         ensures rows { result.now.rows ≡ kept self.now.lists class }
         ensures listed { are_listed (last_imp self.now.counts) result.now.rows ≡ true }
     {
-        &self.lists[class.slot()]
+        self.lists.rows(class.slot())
     }
 
     // The method of a class reference and a selector.

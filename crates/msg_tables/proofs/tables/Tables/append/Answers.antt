@@ -23,8 +23,8 @@ invariant_of-self-2 c =
       order = c.self.invariant.order;
       room = c.self.invariant.room;
       preorder = c.self.invariant.preorder;
-      lists = put-length c.self.inside.lists.items c.append_row.new.lists.items c.slot.result _ now ∙ c.self.invariant.lists;
-      listed = put-listed (last_imp c.self.inside.counts) c.self.inside.lists.items c.append_row.new.lists.items c.slot.result (λ ms. ms ++ row) now c.self.invariant.listed
+      lists = put-length c.self.inside.lists c.append_row.new.self c.slot.result _ now ∙ c.self.invariant.lists;
+      listed = put-listed (last_imp c.self.inside.counts) c.self.inside.lists c.append_row.new.self c.slot.result (λ ms. ms ++ row) now c.self.invariant.listed
           (λ ms all. listed-append (last_imp c.self.inside.counts) ms row all (grind (arith, nat_tests, fits.named.1)));
       few_classes = c.self.invariant.few_classes;
       few_rows = fits.rows;
@@ -34,10 +34,10 @@ invariant_of-self-2 c =
 pub returns-clause-ok : goal.returns-clause-ok
 returns-clause-ok c =
     let fits = rw (← c.self.view_is) at c.requires in
-    let was = c.self.inside.lists.items in
+    let was = c.self.inside.lists in
     let class = c.args.row.class in
     let row : List (ℕ × ℕ) = (selector_number c.args.row.sel, imp_number c.args.row.imp) ∷ [] in
-    let is : rows_of c.append_row.new.lists.items ≡ slice_set (rows_of was) (slot_of class) (kept (rows_of was) class ++ row) =
+    let is : rows_of c.append_row.new.self ≡ slice_set (rows_of was) (slot_of class) (kept (rows_of was) class ++ row) =
     c.in_ok-append_row.ensures.ok ∙ ap (λ p. slice_set (rows_of was) p (slice_index_or (rows_of was) p [] ++ row)) c.slot.ensures in
     let inside = slot_of-inside class (length c.self.inside.supers.items) (length was) c.self.invariant.lists fits.named.0 in
     let room : slot_of class < length (rows_of was) = omega (arith, length-rows_of was, inside) in

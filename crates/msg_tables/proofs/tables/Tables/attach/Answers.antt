@@ -15,7 +15,7 @@ pub invariant_of-self-2 : goal.invariant_of-self-2
 invariant_of-self-2 c =
     let fits = rw (← c.self.view_is) at c.requires in
     let n = last_imp c.self.inside.counts in
-    let was = c.self.inside.lists.items in
+    let was = c.self.inside.lists in
     let ms = reverse (method_numbers c.as_slice-own.result.now) in
     let cs = reverse (method_numbers c.as_slice-meta.result.now) in
     let now = c.in_ok-attach_rows.ensures.ok in
@@ -25,8 +25,8 @@ invariant_of-self-2 c =
       order = c.self.invariant.order;
       room = c.self.invariant.room;
       preorder = c.self.invariant.preorder;
-      lists = put_two-length was c.attach_rows.new.lists.items c.slot-at.result _ _ now ∙ c.self.invariant.lists;
-      listed = put_two-listed n was c.attach_rows.new.lists.items c.slot-at.result ms cs now c.self.invariant.listed
+      lists = put_two-length was c.attach_rows.new.self c.slot-at.result _ _ now ∙ c.self.invariant.lists;
+      listed = put_two-listed n was c.attach_rows.new.self c.slot-at.result ms cs now c.self.invariant.listed
           (rw c.as_slice-own.ensures (listed-reverse n c.args.methods.now fits.named.1)) (rw c.as_slice-meta.ensures (listed-reverse n c.args.class_methods.now fits.named.2));
       few_classes = c.self.invariant.few_classes;
       few_rows = rw (own, meta) fits.rows;
@@ -36,12 +36,12 @@ invariant_of-self-2 c =
 pub returns-clause-ok : goal.returns-clause-ok
 returns-clause-ok c =
     let fits = rw (← c.self.view_is) at c.requires in
-    let was = c.self.inside.lists.items in
+    let was = c.self.inside.lists in
     let k = c.args.class in
     let at = c.slot-at.result in
     let ms = reverse (method_numbers c.as_slice-own.result.now) in
     let cs = reverse (method_numbers c.as_slice-meta.result.now) in
-    let is : rows_of c.attach_rows.new.lists.items ≡ slice_set (slice_set (rows_of was) at (slice_index_or (rows_of was) at [] ++ ms)) (at + 1) (slice_index_or (rows_of was) (at + 1) [] ++ cs) = c.in_ok-attach_rows.ensures.ok in
+    let is : rows_of c.attach_rows.new.self ≡ slice_set (slice_set (rows_of was) at (slice_index_or (rows_of was) at [] ++ ms)) (at + 1) (slice_index_or (rows_of was) (at + 1) [] ++ cs) = c.in_ok-attach_rows.ensures.ok in
     let inside = slot_of-inside (of_meta k) (length c.self.inside.supers.items) (length was) c.self.invariant.lists fits.named.0 in
     let room : at + 1 < length (rows_of was) = omega (arith, length-rows_of was, inside, c.slot-at.ensures) in
     let own = ap reverse c.as_slice-own.ensures in

@@ -23,8 +23,8 @@ invariant_of-self-2 c =
       order = c.self.invariant.order;
       room = c.self.invariant.room;
       preorder = c.self.invariant.preorder;
-      lists = put-length c.self.inside.lists.items c.append_rows.new.lists.items c.slot.result _ now ∙ c.self.invariant.lists;
-      listed = put-listed n c.self.inside.lists.items c.append_rows.new.lists.items c.slot.result (λ ms. ms ++ methods) now c.self.invariant.listed
+      lists = put-length c.self.inside.lists c.append_rows.new.self c.slot.result _ now ∙ c.self.invariant.lists;
+      listed = put-listed n c.self.inside.lists c.append_rows.new.self c.slot.result (λ ms. ms ++ methods) now c.self.invariant.listed
           (λ ms all. listed-append n ms methods all given.listed);
       few_classes = c.self.invariant.few_classes;
       few_rows = given.room;
@@ -34,10 +34,10 @@ invariant_of-self-2 c =
 pub returns : goal.returns
 returns c =
     let given = rw (← c.self.view_is) at c.requires in
-    let was = c.self.inside.lists.items in
+    let was = c.self.inside.lists in
     let class = c.args.class in
     let methods = method_numbers c.args.methods.now in
-    let is : rows_of c.append_rows.new.lists.items ≡ slice_set (rows_of was) (slot_of class) (kept (rows_of was) class ++ methods) =
+    let is : rows_of c.append_rows.new.self ≡ slice_set (rows_of was) (slot_of class) (kept (rows_of was) class ++ methods) =
     c.in_ok-append_rows.ensures.ok ∙ ap (λ p. slice_set (rows_of was) p (slice_index_or (rows_of was) p [] ++ methods)) c.slot.ensures in
     let inside = slot_of-inside class (length c.self.inside.supers.items) (length was) c.self.invariant.lists given.class in
     let room : slot_of class < length (rows_of was) = omega (arith, length-rows_of was, inside) in

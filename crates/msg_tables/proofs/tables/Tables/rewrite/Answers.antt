@@ -23,8 +23,8 @@ invariant_of-self c =
       order = c.self.invariant.order;
       room = c.self.invariant.room;
       preorder = c.self.invariant.preorder;
-      lists = put-length c.self.inside.lists.items c.rewrite_row.new.lists.items c.slot.result _ now ∙ c.self.invariant.lists;
-      listed = put-listed n c.self.inside.lists.items c.rewrite_row.new.lists.items c.slot.result write now c.self.invariant.listed
+      lists = put-length c.self.inside.lists c.rewrite_row.new.self c.slot.result _ now ∙ c.self.invariant.lists;
+      listed = put-listed n c.self.inside.lists c.rewrite_row.new.self c.slot.result write now c.self.invariant.listed
           (λ ms all. listed-set_last n (selector_number c.args.row.sel) (imp_number c.args.row.imp) ms own.imp all);
       few_classes = c.self.invariant.few_classes;
       few_rows = c.self.invariant.few_rows;
@@ -34,11 +34,11 @@ invariant_of-self c =
 pub returns-clause-writes : goal.returns-clause-writes
 returns-clause-writes c =
     let own = rw (← c.self.view_is) at c.requires in
-    let was = c.self.inside.lists.items in
+    let was = c.self.inside.lists in
     let class = c.args.row.class in
     let s = selector_number c.args.row.sel in
     let i = imp_number c.args.row.imp in
-    let is : rows_of c.rewrite_row.new.lists.items ≡ slice_set (rows_of was) (slot_of class) (set_last s i (kept (rows_of was) class)) =
+    let is : rows_of c.rewrite_row.new.self ≡ slice_set (rows_of was) (slot_of class) (set_last s i (kept (rows_of was) class)) =
     c.rewrite_row.ensures ∙ ap (λ p. slice_set (rows_of was) p (set_last s i (slice_index_or (rows_of was) p []))) c.slot.ensures in
     let inside = slot_of-inside class (length c.self.inside.supers.items) (length was) c.self.invariant.lists own.class in
     let room : slot_of class < length (rows_of was) = omega (arith, length-rows_of was, inside) in
@@ -50,11 +50,11 @@ returns-clause-writes c =
 
 pub returns-clause-own : goal.returns-clause-own
 returns-clause-own c other known =
-    let was = c.self.inside.lists.items in
+    let was = c.self.inside.lists in
     let class = c.args.row.class in
     let s = selector_number c.args.row.sel in
     let i = imp_number c.args.row.imp in
-    let is : rows_of c.rewrite_row.new.lists.items ≡ slice_set (rows_of was) (slot_of class) (set_last s i (kept (rows_of was) class)) =
+    let is : rows_of c.rewrite_row.new.self ≡ slice_set (rows_of was) (slot_of class) (set_last s i (kept (rows_of was) class)) =
     c.rewrite_row.ensures ∙ ap (λ p. slice_set (rows_of was) p (set_last s i (slice_index_or (rows_of was) p []))) c.slot.ensures in
     let old = rw (← c.self.view_is) at known in
     let own = rw (← c.self.view_is) at c.requires in

@@ -1,0 +1,139 @@
+//! The lists of rows of all class references.
+
+ghost use Rattle.std.specs.Prelude.{◌≡◌, ◌<◌, ◌≤◌, ◌+◌, ◌-◌, [], ◌∷◌, ◌++◌, ℕ, IfOk, IsSome, OnErr, OnOk, length, replicate, reverse, slice_index_or, slice_set};
+ghost use Rattle.msg_names.specs.Number.{selector_number, imp_number};
+ghost use Rattle.msg_tables.specs.Methods.{method_numbers};
+ghost use Rattle.msg_tables.specs.RowList.{rows_of, own_in, set_last};
+
+use crate::lists::{append_row, append_rows, attach_rows, rewrite_row};
+use crate::rows::MethodRows;
+use msg_names::{ImpRef, Selector};
+use std::alloc::{AllocError, Global};
+use std::marker::Model;
+
+// A list for each class reference. Room for all is taken at once, and as far as a list is that ever had a row they are written: so class numbers that are only reserved cost nothing.
+#[derive(Drop)]
+pub(crate) struct RowLists {
+    written: Vec<MethodRows>,
+    count: usize,
+    // What stands in place of those that weren't written.
+    none: MethodRows,
+    alloc: Global,
+}
+
+impl Model for RowLists {
+    ghost use Rattle.std.specs.Prelude.{List};
+    ghost use Rattle.msg_tables.specs.RowList.{RowList};
+
+    ghost Value = { List RowList };
+
+    ghost use Rattle.msg_tables.specs.Reserved.{row_lists, AreRowLists};
+
+    ghost view = { row_lists };
+
+    ghost invariant = { AreRowLists };
+}
+
+// Writes lists without rows, as far as one at a place.
+fn reach(alloc: Global, lists: &mut Vec<MethodRows>, at: usize) -> Result<(), AllocError>
+    ensures rows { rows_of lists.new.items ≡ rows_of lists.old.items ++ replicate (length lists.new.items - length lists.old.items) [] }
+    ensures more { length lists.old.items ≤ length lists.new.items }
+    ensures few { (n : ℕ) → at < n → length lists.old.items ≤ n → length lists.new.items ≤ n }
+    ensures reached { OnOk result (at < length lists.new.items) }
+{
+    while lists.len() <= at {
+        lists.push(MethodRows::new(alloc))?;
+    }
+    Ok(())
+}
+
+impl RowLists {
+    // So many, without rows.
+    pub(crate) fn blank(alloc: Global, count: usize) -> Result<RowLists, AllocError>
+        ensures rows { IfOk result (λ lists. rows_of lists ≡ replicate count []) }
+        ensures count { IfOk result (λ lists. length lists ≡ count) }
+    {
+        Ok(RowLists {
+            written: Vec::with_capacity(alloc, count)?,
+            count,
+            none: MethodRows::new(alloc),
+            alloc,
+        })
+    }
+
+    // How many there are.
+    pub(crate) fn len(&self) -> usize
+        ensures { result ≡ length self.now }
+    {
+        self.count
+    }
+
+    // The rows of one.
+    #[inline(always)]
+    pub(crate) fn rows(&self, at: usize) -> &MethodRows
+        ensures { result.now.rows ≡ slice_index_or (rows_of self.now) at [] }
+    {
+        match self.written.get(at) {
+            Some(rows) => rows,
+            None => &self.none,
+        }
+    }
+
+    // One more row in one of the lists.
+    pub(crate) fn append_row(
+        &mut self,
+        at: usize,
+        sel: Selector,
+        imp: ImpRef,
+    ) -> Result<(), AllocError>
+        requires { at < length self.old }
+        ensures ok { OnOk result (rows_of self.new ≡ slice_set (rows_of self.old) at (slice_index_or (rows_of self.old) at [] ++ (selector_number sel, imp_number imp) ∷ [])) }
+        ensures err { OnErr result (rows_of self.new ≡ rows_of self.old) }
+    {
+        reach(self.alloc, &mut self.written, at)?;
+        append_row(&mut self.written, at, sel, imp)
+    }
+
+    // Another implementation in the last row of a selector in one of the lists.
+    pub(crate) fn rewrite_row(&mut self, at: usize, sel: Selector, imp: ImpRef)
+        requires { IsSome (own_in (selector_number sel) (slice_index_or (rows_of self.old) at [])) }
+        ensures { rows_of self.new ≡ slice_set (rows_of self.old) at (set_last (selector_number sel) (imp_number imp) (slice_index_or (rows_of self.old) at [])) }
+    {
+        rewrite_row(&mut self.written, at, sel, imp);
+    }
+
+    // Methods at the end of one of the lists.
+    pub(crate) fn append_rows(
+        &mut self,
+        at: usize,
+        methods: &[(Selector, ImpRef)],
+    ) -> Result<(), AllocError>
+        requires { at < length self.old }
+        ensures ok { OnOk result (rows_of self.new ≡ slice_set (rows_of self.old) at (slice_index_or (rows_of self.old) at [] ++ method_numbers methods.now)) }
+        ensures err { OnErr result (rows_of self.new ≡ rows_of self.old) }
+    {
+        reach(self.alloc, &mut self.written, at)?;
+        append_rows(&mut self.written, at, methods)
+    }
+
+    // Methods at the end of the lists of a class and of its metaclass, each from its last to its first. Room is made in both before either is written.
+    pub(crate) fn attach_rows(
+        &mut self,
+        at: usize,
+        methods: &[(Selector, ImpRef)],
+        class_methods: &[(Selector, ImpRef)],
+    ) -> Result<(), AllocError>
+        requires { at + 1 < length self.old }
+        ensures ok { OnOk result (rows_of self.new ≡ slice_set
+            (slice_set (rows_of self.old) at (slice_index_or (rows_of self.old) at [] ++ reverse (method_numbers methods.now)))
+            (at + 1) (slice_index_or (rows_of self.old) (at + 1) [] ++ reverse (method_numbers class_methods.now))) }
+        ensures err { OnErr result (rows_of self.new ≡ rows_of self.old) }
+        ensures refused { OnErr result (0 < length methods.now + length class_methods.now) }
+    {
+        if methods.len() + class_methods.len() == 0 {
+            return Ok(());
+        }
+        reach(self.alloc, &mut self.written, at + 1)?;
+        attach_rows(&mut self.written, at, methods, class_methods)
+    }
+}
