@@ -1,0 +1,45 @@
+use Rattle.std.proofs.Common.{◌≡◌, ◌+◌, ◌<◌, ◌≤◌, ◌⊎◌, ℕ, true, ap, sym, ◌∙◌, refl, subst, arith}
+use Rattle.msg_tables.specs.Origin.{class_total}
+use Rattle.msg_tables.specs.History.{History}
+use Rattle.msg_tables.specs.Stands.{StandsAt}
+use Rattle.msg_core.specs.State.{awaits}
+use Rattle.msg_cache.specs.declared.view.KeeperView.{KeeperView}
+use Rattle.msg_runtime.specs.Parts.{AreOut, IsKeeperOf, keeper_view}
+use Rattle.msg_runtime.proofs.runtime.Runtime.sender.Goals as goal
+
+-- a number that is one of those, and isn't given, is out
+is_out : (k : KeeperView) (senders n : ℕ) → n < senders → (senders ≤ n) ⊎ (awaits k.given n ≡ true) → awaits k.given n ≡ true
+is_out k senders n below either = grind arith
+
+out_on : (k : KeeperView) (n : ℕ) → AreOut n k → awaits k.given n ≡ true → AreOut (n + 1) k
+out_on k n out here = λ m below. grind arith
+
+pub loop-number-init : goal.loop-number-init
+loop-number-init c = record {
+  together = c.self.invariant;
+  arena = ap (λ v. v.arena) c.self.view_is;
+  keeper = ap (λ v. v.keeper) c.self.view_is;
+  remembered = ap (λ v. v.remembered) c.self.view_is;
+  report = ap (λ v. v.report) c.self.view_is;
+  out = λ n below. absurd (omega arith);
+}
+
+pub loop-number-preserved : goal.loop-number-preserved
+loop-number-preserved c =
+    let inv = c.loop-number.invariant in
+    let e = c.in_default.ensures in
+    let history = ap (λ (k : KeeperView). k.history) e.view in
+    let here = is_out (keeper_view c.loop-number.self-inside.keeper) c.args.arena.now.key.senders c.loop-number.number (omega (arith, c.loop-number-test.true, c.senders-number-end.ensures.senders)) (e.none.0 refl) in record {
+      together = record {
+        keeper = subst (λ a. IsKeeperOf a c.give_out.new.self) (c.requires.arena ∙ sym inv.arena) e.arena;
+        tables = subst (λ (h : History). StandsAt c.loop-number.self-inside.tables h) (sym history) inv.together.tables;
+        origin = ap (λ (h : History). h.origin) history ∙ inv.together.origin;
+        classes = inv.together.classes ∙ ap (λ (h : History). class_total h.origin) (sym history);
+        room = inv.together.room;
+      };
+      arena = inv.arena;
+      keeper = e.view ∙ inv.keeper;
+      remembered = e.remembered ∙ inv.remembered;
+      report = e.report ∙ inv.report;
+      out = out_on c.args.self.now.keeper c.loop-number.number inv.out (subst (λ (k : KeeperView). awaits k.given c.loop-number.number ≡ true) inv.keeper here);
+    }
