@@ -1,6 +1,6 @@
 -- Going over the values of a list.
-use Rattle.std.proofs.Common.{◌≡◌, ℕ, zero, suc, ◌+◌, ◌<◌, ◌≤◌, List, [], ◌∷◌, ◌++◌, map, drop, get_or, length, slice_get, Option, None, Some, option_map, refl, sym, ap, ◌∙◌, append_assoc, drop-cons, add-one, arith, append-nil}
-use Rattle.std.proofs.lemmas.List.{drop_all, map_push}
+use Rattle.std.proofs.Common.{◌≡◌, ℕ, zero, suc, ◌+◌, ◌<◌, ◌≤◌, ◌==◌, true, eq-eqb, List, [], ◌∷◌, ◌++◌, map, drop, get_or, length, slice_get, Option, None, Some, option_map, refl, sym, ap, ◌∙◌, append_assoc, drop-cons, add-one, arith, append-nil}
+use Rattle.std.proofs.lemmas.List.{drop_all, length-map, map_push}
 use Rattle.serde_json.specs.Data.{Data}
 use Rattle.json.specs.Value.{items_view}
 use Rattle.json.specs.declared.value.Value.{Value}
@@ -52,3 +52,7 @@ each_fails g f vs i v read whole faults.Memory lt at fails so_far = tt
 each_fails g f vs i v read whole faults.Shape lt at none so_far =
     let left : drop i vs ≡ v ∷ drop (suc i) vs = drop-cons vs i v lt ∙ ap (λ y. y ∷ drop (suc i) vs) (sym at) in
     sym so_far ∙ rw (left, none) refl
+
+-- there are so many values
+pub so_long : {A : Type 0} (vs : List (Value A)) (n : ℕ) → length vs ≡ n → (length (map view vs) == n) ≡ true
+so_long vs n e = eq-eqb (length (map view vs)) n (length-map vs view ∙ e)
