@@ -157,7 +157,7 @@ def run(words, library, seconds, copied="", place=None, env=None, out=subprocess
 
 
 CHECK = re.compile(r"^(Passed test|Failed test|Dashed hope|Failed set|Skipped set):[ \t]*(.*)$", re.M)
-CHANGING = ((r"\b\d{4}-\d\d-\d\d \d\d:\d\d:\d\d(\.\d+)? *[+-]\d+", "DATE"), (r"0x[0-9a-f]+", "0x"))
+CHANGING = ((r"\b\d{4}-\d\d-\d\d \d\d:\d\d:\d\d(\.\d+)? *[+-]\d+", "DATE"), (r"\d{4}-\d\d-\d\d \d\d:\d\d:\d\d\.\d+", "DATE"), (r"\[\d+:\d+\]", "[]"), (r"0x[0-9a-f]+", "0x"))
 
 
 class Told:
