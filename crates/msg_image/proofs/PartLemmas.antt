@@ -9,7 +9,6 @@ use Rattle.msg_image.specs.declared.image.Object.{Object}
 use Rattle.msg_image.specs.declared.image.Imp.{Imp}
 use Rattle.msg_names.specs.ClassRef.{above}
 use Rattle.std.specs.Option.{option_map_or}
-use Rattle.std.proofs.lemmas.Simd.{map-map}
 use Rattle.msg_order.specs.Superclasses.{super_of, AreListed, depth_of, has_cycle}
 use Rattle.msg_order.proofs.DepthLemmas.{depth-root, depth-step, depth-fewer}
 use Rattle.msg_image.specs.Parts.{class_total, class_names, ImageParts, ClassParts, ObjectParts, superclass_in, superclasses, depth_in, methods_in, methods_of}

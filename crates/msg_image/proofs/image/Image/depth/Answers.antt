@@ -1,7 +1,6 @@
-use Rattle.std.proofs.Common.{◌≡◌, ap, sym, ◌∙◌, subst}
+use Rattle.std.proofs.Common.{ap, sym, ◌∙◌, subst}
 use Rattle.msg_order.specs.Superclasses.{AreListed, depth_of}
 use Rattle.msg_tables.specs.Origin.{OriginView}
-use Rattle.msg_image.specs.Parts.{superclasses}
 use Rattle.msg_image.proofs.PartLemmas.{origin_seen, sound, classes-listed, depth-above}
 use Rattle.msg_image.proofs.image.Image.depth.Goals as goal
 
