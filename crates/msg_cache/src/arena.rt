@@ -1,6 +1,6 @@
 //! The arena: the words of all caches, which threads share.
 
-ghost use Rattle.std.specs.Prelude.{◌≡◌, ◌≢◌, ℕ, Some, None, IfErr, ◌+◌, ◌*◌, ◌^◌, ◌<◌, ◌≤◌, All, IfOk, length, slice_index};
+ghost use Rattle.std.specs.Prelude.{◌≡◌, ◌≢◌, ℕ, Some, None, IfErr, ◌+◌, ◌*◌, ◌^◌, ◌<◌, ◌≤◌, All, IfOk, length, slice_index, replicate};
 ghost use Rattle.msg_buckets.specs.Capacity.{IsCapacity, capacities as all_capacities};
 ghost use Rattle.msg_core.specs.State.{capacity};
 ghost use Rattle.msg_cache.specs.Layout.{layout_of, total, base as base_of, probes as probes_of, probe_at, word_count};
@@ -86,7 +86,7 @@ impl Arena {
         }
         let classes = origin.class_count() as usize;
         let capacities = capacities_of(alloc, &config.arrays)?;
-        let (arena, seat) = Arena::of(
+        let (arena, seat, words) = Arena::of(
             alloc,
             origin,
             config.senders,
@@ -95,7 +95,7 @@ impl Arena {
         )?;
         let senders = config.senders as usize;
         let arrays = arena.arrays();
-        let keeper = Keeper::first(alloc, seat, arena.probes(), arrays, classes, senders)?;
+        let keeper = Keeper::first(alloc, seat, words, arrays, classes, senders)?;
         Ok((arena, keeper))
     }
 
@@ -109,13 +109,6 @@ impl Arena {
         ensures senders { self.now.key.senders ≤ MOST_SENDERS }
     {
         &self.table.shared
-    }
-
-    // Where the probe words begin, after the header words and the words of the arrays.
-    fn probes(&self) -> usize
-        ensures { result ≡ probes_of (layout_of self.now.key) }
-    {
-        self.probes
     }
 
     // How many arrays there are.
@@ -174,20 +167,21 @@ impl Arena {
         self.probes + 8 * number as usize + 7
     }
 
-    // An arena of these arrays, all empty, and the seat of its keeper.
+    // An arena of these arrays, all empty, the seat of its keeper, and the keeper's copy of all words but the probe words.
     pub(crate) fn of(
         alloc: Global,
         origin: &Origin,
         senders: u32,
         capacities: Vec<u32>,
         firsts: [usize; 10],
-    ) -> Result<(Arena, Seat), AllocError>
+    ) -> Result<(Arena, Seat, Vec<u64>), AllocError>
         requires senders { (0 < senders) × (senders ≤ MOST_SENDERS) }
         requires capacities { All IsCapacity capacities.items }
         requires firsts { (i : ℕ) → i < 9 → IsGroup capacities.items (slice_index all_capacities i) (slice_index firsts i) (slice_index firsts (i + 1)) }
         requires room { total capacities.items < 2 ^ 29 }
         ensures seat { IfOk result (λ r. (r.1.table_id ≡ r.0.table) × (r.1.me ≡ kept (first_keeper r.0.key))) }
         ensures key { IfOk result (λ r. r.0.key ≡ record { origin = origin.now; senders = senders; capacities = capacities.items }) }
+        ensures words { IfOk result (λ r. r.2.items ≡ replicate (probes_of (layout_of r.0.key)) 0) }
     {
         let setting = Setting {
             origin: Snapshot::of(origin),
@@ -204,8 +198,9 @@ impl Arena {
             probes += *capacity as usize;
         }
         let count = probes + 8 * senders as usize;
-        let words = vec![in alloc; 0u64; count]?;
+        let mut words = vec![in alloc; 0u64; count]?;
         let (table, seat) = Table::of_words(alloc, &words, &setting)?;
+        words.truncate(probes);
         let arena = Arena {
             table,
             spans,
@@ -213,6 +208,6 @@ impl Arena {
             senders,
             probes,
         };
-        Ok((arena, seat))
+        Ok((arena, seat, words))
     }
 }

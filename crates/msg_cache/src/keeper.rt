@@ -99,36 +99,27 @@ impl ArrayNotes {
     }
 }
 
-// The words of an arena, the capacity that each class reference comes to, and which senders are out.
+// The capacity that each class reference comes to, and which senders are out.
 #[derive(Drop)]
 struct Copies {
-    words: Vec<u64>,
     remembered: Vec<u32>,
     given: Vec<bool>,
     outs: Outs,
 }
 
 impl Copies {
-    // Of so many words that are 0.
-    fn blank(
-        alloc: Global,
-        words: usize,
-        classes: usize,
-        senders: usize,
-    ) -> Result<Copies, AllocError>
+    // Of so many classes and senders.
+    fn blank(alloc: Global, classes: usize, senders: usize) -> Result<Copies, AllocError>
         requires classes { classes < 2 ^ 32 }
         requires senders { senders < 2 ^ 32 }
-        ensures words { IfOk result (λ c. c.words.items ≡ replicate words 0) }
         ensures remembered { IfOk result (λ c. c.remembered.items ≡ replicate (2 * classes) 0) }
         ensures given { IfOk result (λ c. c.given.items ≡ replicate senders false) }
         ensures outs { IfOk result (λ c. (length c.outs.were.items ≡ senders) × (c.outs.known ≡ 0)) }
     {
-        let words = vec![in alloc; 0; words]?;
         let remembered = vec![in alloc; 0; 2 * classes]?;
         let given = vec![in alloc; false; senders]?;
         let outs = Outs::all(alloc, senders)?;
         Ok(Copies {
-            words,
             remembered,
             given,
             outs,
@@ -162,11 +153,11 @@ impl Model for Turn {
 impl Keeper {
     ghost use Rattle.msg_cache.specs.Ours.{view, IsOf};
 
-    // The keeper of an arena that was just made.
+    // The keeper of an arena that was just made, with these words, which are a copy of the arena's.
     pub(crate) fn first(
         alloc: Global,
         seat: Seat,
-        words: usize,
+        words: Vec<u64>,
         arrays: usize,
         classes: usize,
         senders: usize,
@@ -175,16 +166,16 @@ impl Keeper {
         requires few_arrays { arrays < 2 ^ 32 }
         requires few_senders { senders ≤ MOST_SENDERS }
         requires seat { (seat.me ≡ kept (keeper_of seat.me.0)) × (size (keeper_of seat.me.0).history ≡ 0) × ((keeper_of seat.me.0).turn ≡ Never) }
-        requires words { (keeper_of seat.me.0).words ≡ replicate words 0 }
+        requires words { (keeper_of seat.me.0).words ≡ words.items }
         requires arrays { (keeper_of seat.me.0).standings ≡ replicate arrays Free }
         requires senders { (keeper_of seat.me.0).given ≡ replicate senders false }
         ensures seat { IfOk result (λ keeper. (keeper.seat.table_id ≡ seat.table_id) × (keeper.seat.me ≡ seat.me)) }
         ensures counts { IfOk result (λ keeper. (keeper.occupied.items ≡ replicate arrays 0) × (keeper.remembered.items ≡ replicate (2 * classes) 0) × (length keeper.used.items ≡ arrays)) }
     {
         let arrays = ArrayNotes::blank(alloc, arrays, senders)?;
-        let copies = Copies::blank(alloc, words, classes, senders)?;
+        let copies = Copies::blank(alloc, classes, senders)?;
         Ok(Keeper {
-            words: copies.words,
+            words,
             standings: arrays.standings,
             occupied: arrays.occupied,
             remembered: copies.remembered,

@@ -1,7 +1,7 @@
 use Rattle.std.proofs.Common.{◌≡◌, ℕ, suc, ◌+◌, ◌*◌, ◌<◌, ◌≤◌, List, [], ◌∷◌, length, take, All, sym, ap, ◌∙◌, subst, arith, add-one, rules, take_all}
 use borrow.Author.Count.{below_more}
 use Rattle.std.specs.Prelude.{slice_index, slice_index_or, replicate}
-use Rattle.std.proofs.lemmas.List.{length-replicate, length_push, get_or_append_left, get_or_push}
+use Rattle.std.proofs.lemmas.List.{take-replicate, length-replicate, length_push, get_or_append_left, get_or_push}
 use Rattle.msg_tables.specs.Origin.{class_total}
 use Rattle.msg_buckets.specs.Capacity.{IsCapacity, capacities}
 use Rattle.atomic_table.specs.Table.{opening as opened}
@@ -87,3 +87,17 @@ invariant_of-arena c =
       words = words ∙ ap (λ (x : SettingView). word_count (layout_of x)) (sym key);
       few_words = let r = c.requires.room in let f = c.class_count.ensures.sound.few_classes in let s = c.requires.senders.1 in omega arith;
     }
+
+pub returns-clause-words : goal.returns-clause-words
+returns-clause-words c =
+    let l : List ℕ = c.args.capacities.items in
+    let k : ℕ = c.loop-capacity.capacity-index in
+    let setting : SettingView = record { origin = c.args.origin.now; senders = c.args.senders; capacities = l } in
+    let key : c.in_ok-table.table.shared.key ≡ setting = c.in_ok-table.ensures.5 ∙ (λ j. record { origin = c.of.ensures j; senders = c.args.senders; capacities = (c.of-2.ensures j).items }) in
+    let ends : length l ≤ k = subst (λ (xs : List ℕ). length xs ≤ k) c.deref-capacity-items.ensures.value c.loop-capacity-test.false in
+    let same : total (take k l) ≡ total l = ap total (take_all k l ends) in
+    let n : ℕ = c.loop-capacity.probes in
+    let next : n ≡ probes (layout_of setting) = c.loop-capacity.invariant.next ∙ ap (λ (x : ℕ). 1 + 2 * class_total c.args.origin.now + x) same in
+    let zeros : c.in_ok-words.words.items ≡ replicate (n + 8 * c.args.senders) 0 = search rules in
+    c.truncate.ensures.items ∙ ap (take n) zeros ∙ take-replicate n (n + 8 * c.args.senders) 0 (omega arith)
+    ∙ ap (λ (x : ℕ). replicate x 0) (next ∙ ap (λ (x : SettingView). probes (layout_of x)) (sym key))
