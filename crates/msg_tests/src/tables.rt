@@ -2,9 +2,7 @@
 
 ghost use Rattle.std.specs.Prelude.{◌≡◌, ◌<◌, ◌*◌, length};
 ghost use Rattle.msg_image.specs.Opened.{origin_of};
-ghost use Rattle.msg_tables.specs.History.{History, empty};
 ghost use Rattle.msg_tables.specs.Origin.{class_total};
-ghost use Rattle.msg_tables.specs.Stands.{StandsAt};
 
 use crate::same::{same, same_at};
 use msg_image::{Change, Image, MAX_CHANGES, MethodList, read_document};
@@ -56,8 +54,7 @@ fn image(rt: &impl Abort, alloc: Global) -> Box<Image> {
 }
 
 fn opened(rt: &impl Abort, alloc: Global, image: &Image) -> Box<Tables>
-    ensures classes { length result.value.supers ≡ class_total (origin_of image.now) }
-    ensures stands { StandsAt result.value (empty (origin_of image.now)) }
+    ensures { length result.value.supers ≡ class_total (origin_of image.now) }
 {
     let tables = Tables::open(alloc, image).expect(rt, "memory");
     Box::new(alloc, tables).expect(rt, "memory")
@@ -127,7 +124,6 @@ struct Marked<'t> {
     marks: Marks,
     classes: u32,
     ghost room: { length marks ≡ 2 * length tables.now.supers },
-    ghost stands: { (h : History) × StandsAt tables.now h },
     ghost classes_are: { classes ≡ length tables.now.supers },
 }
 
@@ -146,21 +142,10 @@ impl Marked<'_> {
         self.marks.clear();
         (count, is_below, self.marks.has(other))
     }
-
-    // How many class references a change would reach, and whether this is one.
-    fn reached(&mut self, rt: &impl Abort, change: &Change, other: ClassRef) -> (usize, bool) {
-        assert!(rt; other.class < self.classes);
-        let reached = self.tables.reach(change, &mut self.marks);
-        reached.expect(rt, "a change that is accepted");
-        let found = (self.marks.count(), self.marks.has(other));
-        self.marks.clear();
-        found
-    }
 }
 
 fn with_marks<'t>(rt: &impl Abort, alloc: Global, image: &Image, tables: &'t Tables) -> Marked<'t>
-    requires classes { length tables.now.supers ≡ class_total (origin_of image.now) }
-    requires stands { (h : History) × StandsAt tables.now h }
+    requires { length tables.now.supers ≡ class_total (origin_of image.now) }
 {
     Marked {
         tables,
@@ -185,43 +170,12 @@ fn descendants_are(rt: &impl Abort, marked: &mut Marked<'_>) {
     }
 }
 
-// A method that is set is seen where it stands and below, and a category's by the class and its metaclass, of which SIDE has none below.
-fn changes_reach(rt: &impl Abort, alloc: Global, image: &Image, marked: &mut Marked<'_>) {
-    let sel = selector(rt, image, "value");
-    let name = selector(rt, image, "name");
-    let set = Change::SetImp {
-        class: metaclass(GRAND),
-        sel,
-        imp: ImpRef::of(12),
-    };
-    same(rt, marked.reached(rt, &set, metaclass(SIDE)), (8, true));
-    let exchange = Change::Exchange {
-        class: CHILD,
-        sel: name,
-        other: GRAND,
-        other_sel: name,
-    };
-    same(rt, marked.reached(rt, &exchange, GRAND), (2, true));
-    let attach = category(rt, alloc, selector(rt, image, "tag"), sel);
-    same(rt, marked.reached(rt, &attach, metaclass(SIDE)), (2, true));
-    let made = Change::AddClass {
-        class: 5,
-        superclass: Some(0),
-    };
-    same(
-        rt,
-        marked.tables.reach(&made, &mut marked.marks),
-        Err(ChangeFault::NoClass),
-    );
-}
-
 #[test]
 fn lookups_and_descendants_of_fresh_tables(rt: HostRuntime) {
     let image = image(&rt, rt.alloc());
     same(&rt, image.class_count(), 5);
     let tables = opened(&rt, rt.alloc(), &image);
     let mut marked = with_marks(&rt, rt.alloc(), &image, &tables);
-    changes_reach(&rt, rt.alloc(), &image, &mut marked);
     // the calls take no memory
     let _hog = Hog::new(&rt).expect(&rt, "memory");
     methods_are_found(&rt, &image, &tables);
