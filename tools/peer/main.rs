@@ -6,7 +6,7 @@ mod eval;
 mod image;
 mod json;
 
-use eval::{change, Fault, Finder, Caching, Send, Walking};
+use eval::{change, Caching, Fault, Finder, Send, Walking};
 use image::{Image, Item, QuickMap, Value};
 use std::fmt::Write as _;
 use std::io::{Read, Write};
