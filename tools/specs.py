@@ -55,11 +55,12 @@ def files(crate, part, ending):
 
 
 def names_in(block):
-    """The names that a block of a specification defines: its own, those of a mutual block, and the constructors of data."""
-    found, in_data = [], False
-    for line in block.split("\n"):
+    """The names that a block of a specification defines: its own, those of a mutual block, and the constructors of data; fields of records are none."""
+    lines, found, in_data = block.split("\n"), [], False
+    is_mutual = lines[0].endswith("mutual")
+    for line in lines[1:] if is_mutual else lines:
         head, makers = HEAD.match(line), MAKERS.match(line)
-        if head and (not head[1].endswith("pub ") or "mutual" in block.split("\n")[0] or not line.startswith(" ")):
+        if head and (is_mutual or not line.startswith(" ")):
             found.append(head[2])
             in_data = "data " in head[1]
         elif makers and in_data:

@@ -40,9 +40,9 @@ impl Finder for Walking {
 }
 
 /// Keeps what each class reference has answered in a hash map of its own.
-pub struct Keeping(pub Vec<QuickMap<u32, u32>>);
+pub struct Caching(pub Vec<QuickMap<u32, u32>>);
 
-impl Finder for Keeping {
+impl Finder for Caching {
     #[inline]
     fn find(&mut self, image: &Image, class: u32, selector: u32) -> u32 {
         if let Some(found) = self.0[class as usize].get(&selector) {

@@ -1,12 +1,12 @@
 //! The peer of `tools/bench`: answers documents of version 1 as `msgrun` does, on one thread, and nothing of it is proved. It is for documents without a fault: of
 //! others it says a fault, perhaps not the least, and ends with status 2.
 //!
-//!     peer [walking | keeping] < DOCUMENT      `keeping` keeps what each class has answered, `walking` walks the chain each time
+//!     peer [walking | caching] < DOCUMENT      `caching` keeps what each class has answered, `walking` walks the chain each time
 mod eval;
 mod image;
 mod json;
 
-use eval::{change, Fault, Finder, Keeping, Send, Walking};
+use eval::{change, Caching, Fault, Finder, Send, Walking};
 use image::{Image, Item, QuickMap, Value};
 use std::fmt::Write as _;
 use std::io::{Read, Write};
@@ -61,11 +61,11 @@ fn answer<F: Finder>(image: &mut Image, finder: &mut F) -> String {
 }
 
 fn main() {
-    let is_keeping = match std::env::args().nth(1).as_deref() {
-        None | Some("keeping") => true,
+    let is_caching = match std::env::args().nth(1).as_deref() {
+        None | Some("caching") => true,
         Some("walking") => false,
         _ => {
-            eprintln!("usage: peer [walking | keeping] < DOCUMENT");
+            eprintln!("usage: peer [walking | caching] < DOCUMENT");
             std::process::exit(2)
         }
     };
@@ -78,9 +78,9 @@ fn main() {
     }
     let tree = json::read(&bytes).unwrap_or_else(|fault| refuse(fault));
     let mut image = Image::read(&tree).unwrap_or_else(|fault| refuse(fault));
-    let text = if is_keeping {
+    let text = if is_caching {
         let count = image.rows.len();
-        answer(&mut image, &mut Keeping(vec![QuickMap::default(); count]))
+        answer(&mut image, &mut Caching(vec![QuickMap::default(); count]))
     } else {
         answer(&mut image, &mut Walking)
     };

@@ -1,10 +1,12 @@
 -- Rows whose implementations are listed.
-use Rattle.std.proofs.Common.{◌≡◌, ◌<◌, ◌≤◌, ℕ, zero, suc, List, [], ◌∷◌, ◌++◌, length, get_or, Option, Some, None, Bool, true, false, cond, refl, sym, ◌∙◌, ap, subst, arith}
-use Rattle.std.specs.Prelude.{◌==◌, ◌&&◌, nat_le, slice_index_or, slice_set, reverse, is_some, is_none}
+use Rattle.std.proofs.Common.{◌≡◌, ◌<◌, ◌≤◌, ℕ, zero, suc, List, [], ◌∷◌, ◌++◌, length, get_or, Option, Some, None, option_map, Bool, true, false, cond, refl, sym, ◌∙◌, ap, subst, arith}
+use Rattle.std.specs.Prelude.{◌==◌, ◌&&◌, nat_le, slice_index_or, slice_set, reverse, is_some, is_none, IfSome}
 use Rattle.std.specs.List.{list_all}
 use Rattle.std.proofs.lemmas.Bool.Decides.{nat_tests}
 use Rattle.std.proofs.lemmas.Option.{same_Some}
 use Rattle.std.proofs.lemmas.List.{get_or-map, reverse-append}
+use Rattle.msg_names.specs.declared.value.ImpRef.{ImpRef}
+use Rattle.msg_names.specs.Number.{imp_number}
 use Rattle.msg_names.proofs.TestLemmas.{both}
 use Rattle.msg_tables.specs.Rows.{or_else}
 use Rattle.msg_tables.specs.RowList.{RowList, own_in, set_last, rows_of}
@@ -88,3 +90,8 @@ own_in-set_last q s i (x ∷ xs) = step ((x.0 == s) && is_none (own_in s xs)) re
       where
         same_name : (a b : ℕ) → (a == b) ≡ true → a ≡ b
         same_name a b h = grind (arith, nat_tests)
+
+-- an implementation that is found in a list
+pub found-listed : (n s : ℕ) (o : Option ImpRef) (rows : List (ℕ × ℕ)) → are_listed n rows ≡ true → option_map imp_number o ≡ own_in s rows → IfSome o (λ i. imp_number i ≤ n)
+found-listed n s None rows all e = tt
+found-listed n s (Some i) rows all e = own_in-listed n s (imp_number i) rows all (sym e)

@@ -11,4 +11,3 @@ row_lists l = l.written.items ++ replicate (l.count - length l.written.items) no
 -- no more are written than there are
 pub record AreRowLists (l : Inside) : Type 0 where
   pub few : length l.written.items ≤ l.count
-  pub none : l.none.rows ≡ []

@@ -160,7 +160,7 @@ fn own_after(tables: &Tables, change: &Change, here: ClassRef, sel: Selector) ->
 {
     match written(tables, change, here, sel) {
         Some(imp) => Some(imp),
-        None => tables.rows(here).find(sel),
+        None => tables.own(here, sel),
     }
 }
 

@@ -92,7 +92,7 @@ impl Tables {
         ensures meaning { (h : History) → StandsAt self.now h → result ≡ spec.has_own h class (selector_number sel) }
         ensures own { result ≡ true → IsSome (own_in (selector_number sel) (kept self.now.lists class)) }
     {
-        self.rows(class).find(sel).is_some()
+        self.own(class, sel).is_some()
     }
 
     // Whether there is no room for so many more rows, or for one more change.

@@ -1,6 +1,6 @@
 //! The lists of rows of all class references.
 
-ghost use Rattle.std.specs.Prelude.{◌≡◌, ◌<◌, ◌≤◌, ◌+◌, ◌-◌, [], ◌∷◌, ◌++◌, ℕ, IfOk, IsSome, OnErr, OnOk, length, replicate, reverse, slice_index_or, slice_set};
+ghost use Rattle.std.specs.Prelude.{◌≡◌, ◌<◌, ◌≤◌, ◌+◌, ◌-◌, [], ◌∷◌, ◌++◌, ℕ, IfOk, IsSome, OnErr, OnOk, length, option_map, replicate, reverse, slice_index_or, slice_set};
 ghost use Rattle.msg_names.specs.Number.{selector_number, imp_number};
 ghost use Rattle.msg_tables.specs.Methods.{method_numbers};
 ghost use Rattle.msg_tables.specs.RowList.{rows_of, own_in, set_last};
@@ -16,8 +16,6 @@ use std::marker::Model;
 pub(crate) struct RowLists {
     written: Vec<MethodRows>,
     count: usize,
-    // What stands in place of those that weren't written.
-    none: MethodRows,
     alloc: Global,
 }
 
@@ -56,7 +54,6 @@ impl RowLists {
         Ok(RowLists {
             written: Vec::with_capacity(alloc, count)?,
             count,
-            none: MethodRows::new(alloc),
             alloc,
         })
     }
@@ -68,15 +65,12 @@ impl RowLists {
         self.count
     }
 
-    // The rows of one.
+    // The implementation in the last row of a selector in one of the lists.
     #[inline(always)]
-    pub(crate) fn rows(&self, at: usize) -> &MethodRows
-        ensures { result.now.rows ≡ slice_index_or (rows_of self.now) at [] }
+    pub(crate) fn find(&self, at: usize, sel: Selector) -> Option<ImpRef>
+        ensures { option_map imp_number result ≡ own_in (selector_number sel) (slice_index_or (rows_of self.now) at []) }
     {
-        match self.written.get(at) {
-            Some(rows) => rows,
-            None => &self.none,
-        }
+        self.written.get(at)?.find(sel)
     }
 
     // One more row in one of the lists.

@@ -55,10 +55,7 @@ impl MethodRows {
     pub(crate) fn find(&self, sel: Selector) -> Option<ImpRef>
         ensures { option_map imp_number result ≡ own_in (selector_number sel) self.now.rows }
     {
-        match &self.indexed {
-            Some(rows) => rows.find(sel),
-            None => None,
-        }
+        self.indexed.as_ref()?.find(sel)
     }
 
     // Makes room for so many more rows.

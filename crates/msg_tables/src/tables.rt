@@ -96,14 +96,14 @@ impl Tables {
         class.above(presence.superclass)
     }
 
-    // The rows that are kept for a class reference.
+    // The implementation of the method that the class reference itself has.
     #[inline(always)]
-    pub(crate) fn rows(&self, class: ClassRef) -> &MethodRows
+    pub(crate) fn own(&self, class: ClassRef, sel: Selector) -> Option<ImpRef>
         requires { class.class < length self.now.supers }
-        ensures rows { result.now.rows ≡ kept self.now.lists class }
-        ensures listed { are_listed (last_imp self.now.counts) result.now.rows ≡ true }
+        ensures own { option_map imp_number result ≡ own_in (selector_number sel) (kept self.now.lists class) }
+        ensures listed { IfSome result (λ i. imp_number i ≤ last_imp self.now.counts) }
     {
-        self.lists.rows(class.slot())
+        self.lists.find(class.slot(), sel)
     }
 
     // The method of a class reference and a selector.
@@ -118,7 +118,7 @@ impl Tables {
     {
         let mut at = self.present(class);
         while let Some(here) = at {
-            if let Some(imp) = self.rows(here).find(sel) {
+            if let Some(imp) = self.own(here, sel) {
                 return Some(Method { holder: here, imp });
             }
             at = self.above(here);

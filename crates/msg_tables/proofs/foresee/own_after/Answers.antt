@@ -13,6 +13,6 @@ returns-in-Some c = λ h stands.
 
 pub returns-in-None : goal.returns-in-None
 returns-in-None c = λ h stands.
-    own_kept h c.args.change.now c.args.here (selector_number c.args.sel) c.written.result (option_map imp_number c.find.result)
+    own_kept h c.args.change.now c.args.here (selector_number c.args.sel) c.written.result (option_map imp_number c.own.result)
     (c.written.ensures h stands) c.in-None.is
-    (c.find.ensures ∙ ap (own_in (selector_number c.args.sel)) (c.rows.ensures.rows ∙ stands.rows.at c.args.here) ∙ sym (own-pairs_at c.args.here (selector_number c.args.sel) (table h).rows))
+    (c.own.ensures.own ∙ ap (own_in (selector_number c.args.sel)) (stands.rows.at c.args.here) ∙ sym (own-pairs_at c.args.here (selector_number c.args.sel) (table h).rows))

@@ -22,8 +22,8 @@ invariant_of-self-2 c =
     let reaches : Reaches written c.reach.new.lists.items count =
     record { rows = c.reach.ensures.rows; more = c.reach.ensures.more; few = c.reach.ensures.few count (omega (arith, whole, c.requires)) c.self.invariant.few } in
     by_result c.attach_rows.result c.attach_rows.ensures.ok c.attach_rows.ensures.err
-    (λ e. record { few = put_two-few c.reach.new.lists.items c.attach_rows.new.lists.items count c.args.at _ _ reaches.few e; none = c.self.invariant.none })
-    (λ e. record { few = same-few c.reach.new.lists.items c.attach_rows.new.lists.items count reaches.few e; none = c.self.invariant.none })
+    (λ e. record { few = put_two-few c.reach.new.lists.items c.attach_rows.new.lists.items count c.args.at _ _ reaches.few e })
+    (λ e. record { few = same-few c.reach.new.lists.items c.attach_rows.new.lists.items count reaches.few e })
 
 pub returns-clause-ok : goal.returns-clause-ok
 returns-clause-ok c =

@@ -11,5 +11,5 @@ pub returns-clause-meaning : goal.returns-clause-meaning
 unfolding has_own
 returns-clause-meaning c = λ h stands.
     c.is_some.ensures
-    ∙ sym (is_some-map imp_number c.find.result)
-    ∙ ap is_some (c.find.ensures ∙ ap (own_in (selector_number c.args.sel)) (c.rows.ensures.rows ∙ stands.rows.at c.args.class) ∙ sym (own-pairs_at c.args.class (selector_number c.args.sel) (table h).rows))
+    ∙ sym (is_some-map imp_number c.own.result)
+    ∙ ap is_some (c.own.ensures.own ∙ ap (own_in (selector_number c.args.sel)) (stands.rows.at c.args.class) ∙ sym (own-pairs_at c.args.class (selector_number c.args.sel) (table h).rows))

@@ -26,14 +26,11 @@ loop-at-init c =
       );
     }
 
-pub returns-in-Some-find-clause-method : goal.returns-in-Some-find-clause-method
-returns-in-Some-find-clause-method c =
+pub returns-in-Some-own-clause-method : goal.returns-in-Some-own-clause-method
+returns-in-Some-own-clause-method c =
     let (n, enough, so_far) = c.loop-at.invariant.rest in
-    stops c.args.self.now.lists c.args.self.now.supers c.args.self.now.order (selector_number c.args.sel) n c.loop-at.at c.in-Some.here (kept_method c.args.self.now.lists (chain_of c.args.self.now.supers c.args.class) (selector_number c.args.sel)) c.in-Some.is (imp_number c.in-Some-find.imp)
-    (ap (own_in (selector_number c.args.sel)) (sym c.rows.ensures.rows) ∙ sym c.in-Some-find.ensures) so_far
-
-pub returns-in-Some-find-clause-imp : goal.returns-in-Some-find-clause-imp
-returns-in-Some-find-clause-imp c = own_in-listed (last_imp c.args.self.now.counts) (selector_number c.args.sel) (imp_number c.in-Some-find.imp) c.rows.result.now.rows c.rows.ensures.listed (sym c.in-Some-find.ensures)
+    stops c.args.self.now.lists c.args.self.now.supers c.args.self.now.order (selector_number c.args.sel) n c.loop-at.at c.in-Some.here (kept_method c.args.self.now.lists (chain_of c.args.self.now.supers c.args.class) (selector_number c.args.sel)) c.in-Some.is (imp_number c.in-Some-own.imp)
+    (sym c.in-Some-own.ensures.own) so_far
 
 pub loop-at-preserved : goal.loop-at-preserved
 loop-at-preserved c =
@@ -41,5 +38,5 @@ loop-at-preserved c =
     record {
       listed = c.above-at.ensures.listed;
       rest = goes_on c.args.self.now.lists c.args.self.now.supers c.args.self.now.order (selector_number c.args.sel) n c.loop-at.at c.in-Some.here (kept_method c.args.self.now.lists (chain_of c.args.self.now.supers c.args.class) (selector_number c.args.sel)) c.in-Some.is
-          c.above-at.result enough (ap (own_in (selector_number c.args.sel)) (sym c.rows.ensures.rows) ∙ sym c.in_default-find.ensures) c.above-at.ensures.value (λ d e. rw e at c.above-at.ensures.fewer) so_far;
+          c.above-at.result enough (sym c.in_default-own.ensures.own) c.above-at.ensures.value (λ d e. rw e at c.above-at.ensures.fewer) so_far;
     }
