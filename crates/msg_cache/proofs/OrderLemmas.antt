@@ -313,11 +313,6 @@ way_by z rem k c s a ws h is long =
     ∙ ap (λ (x : List ℕ). way_in a (find_in x s) (plan_of (capacity z a) (occupied_in x))) is
     ∙ ap (way_by_header z rem k c s) (sym h)
 
-pub on_use : (w : Way) (P Q : ℕ → ℕ → Type 0) → ((a p : ℕ) → P a p → Q a p) → OnUse w P → OnUse w Q
-on_use Present P Q f h = tt
-on_use (Use a p) P Q f h = f a p h
-on_use (Take n) P Q f h = tt
-
 -- an array that was installed has no entries
 pub fresh_find : (look : History → ClassRef → ℕ → ℕ) (key : SettingView) (k k' : KeeperView) (rem has : List ℕ) → InOrder look key k rem has → (c : ClassRef) (a s : ℕ) → c.class < class_total key.origin → a < length (layout_of key).capacities → standing_of k a ≡ Free → 0 < capacity (layout_of key) a
     → k' ≡ installed c a k → (find_in (array_words (layout_of key) k' a) s ≡ empty (probe_place s (capacity (layout_of key) a) 0)) × (occupied_in (array_words (layout_of key) k' a) ≡ 0)
