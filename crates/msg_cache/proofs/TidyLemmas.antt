@@ -52,13 +52,6 @@ tidy_given look key k n t = record {
   sound = t.sound;
 }
 
--- a header word names one of the arrays
-pub header_below : (look : History → ClassRef → ℕ → ℕ) (key : SettingView) (k : KeeperView) (c : ClassRef) (n : ℕ) → TidyBy look key k → c.class < class_total key.origin → n ≡ slice_index k.words (header_at c) → n ≢ 0 → n - 1 < length k.standings
-header_below look key k c zero t lt e entry = absurd (entry refl)
-header_below look key k c (suc a) t lt e entry =
-    let live = t.sound.lawful.live_stands c a lt (live_is (layout_of key) k.words c lt ∙ ap named (sym e)) in
-    let l = t.sound.in_range.live_array c a live in let s = t.kept.standings in omega arith
-
 -- Where a change affects no class reference that has a live array, words of live arrays agree after it as before.
 pub agrees_after : (look : History → ClassRef → ℕ → ℕ) (key : SettingView) (k : KeeperView) (x : Change) → ((c : ClassRef) (s : ℕ) → is_affected k.history x c ≡ false → look (and_then k.history x) c s ≡ look k.history c s) → TidyBy look key k
     → ((c : ClassRef) → c.class < class_total key.origin → is_affected k.history x c ≡ true → live_in (layout_of key) k.words c ≡ None)

@@ -152,9 +152,3 @@ if_err (Err e) err f = f err
 pub on_err : {A B P : Type 0} (r : Result A B) → P → OnErr r P
 on_err (Ok a) p = tt
 on_err (Err e) p = p
-
--- nothing put at the end changes nothing
-pub set-same : (xs : List (List (ℕ × ℕ))) (k : ℕ) → slice_set xs k (slice_index_or xs k [] ++ []) ≡ xs
-set-same [] k = refl
-set-same (x ∷ xs) zero = ap (λ y. y ∷ xs) (append-nil x)
-set-same (x ∷ xs) (suc k) = ap (λ rs. x ∷ rs) (set-same xs k)

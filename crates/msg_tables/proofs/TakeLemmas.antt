@@ -16,11 +16,6 @@ element [] k inside = absurd (omega (arith, inside))
 element (x ∷ xs) zero inside = (x, refl)
 element (x ∷ xs) (suc k) inside = element xs k (omega (arith, inside))
 
-pub length-take_inside : {X : Type 0} (xs : List X) (k : ℕ) → k ≤ length xs → length (take k xs) ≡ k
-length-take_inside xs zero inside = refl
-length-take_inside [] (suc k) inside = absurd (omega (arith, inside))
-length-take_inside (x ∷ xs) (suc k) inside = ap suc (length-take_inside xs k (omega (arith, inside)))
-
 -- a list whose elements were all written
 pub whole : {X : Type 0} (xs ys : List X) (n : ℕ) → length xs ≡ length ys → n ≡ length ys → take n (xs ++ drop (length xs) ys) ≡ xs
 whole xs ys n same count =
