@@ -18,7 +18,7 @@ mod opening;
 #[cfg(test)]
 mod owners;
 #[cfg(test)]
-mod remembering;
+mod noting;
 #[cfg(test)]
 mod rows;
 #[cfg(test)]
