@@ -2,6 +2,7 @@
 #![tactic(auto)]
 
 mod alone;
+mod answering;
 mod arrays;
 mod asker;
 mod asking;
@@ -28,6 +29,7 @@ mod to_writer;
 mod work;
 mod writing;
 
+pub use answering::{answer, answer_words};
 pub use command_line::{arguments, words};
 pub use complaint::{Program, complain};
 pub use device::{Failed, Sink, Source};
