@@ -11,6 +11,7 @@ mod beside;
 mod changes;
 mod command_line;
 mod complaint;
+mod context;
 mod crew;
 mod deal;
 mod decimal;
