@@ -1,11 +1,12 @@
 //! Workers in threads, beside the changes.
 
-ghost use Rattle.std.specs.Prelude.{◌≡◌, ◌≤◌, ◌<◌, ◌+◌, ◌^◌, [], ℕ, vec_len, IfOk, OnOk};
+ghost use Rattle.std.specs.Prelude.{◌≡◌, ◌≤◌, ◌<◌, ◌+◌, ◌^◌, [], ℕ, map, vec_len, IfOk, OnOk};
 ghost use Rattle.std.specs.Thread.{IsSync};
 ghost use Rattle.msg_image.specs.Opened.{origin_of};
+ghost use Rattle.msg_image.specs.Plain.{item_parts};
 ghost use Rattle.msg_tables.specs.History.{History};
 ghost use Rattle.msg_runner.specs.Parts.{items_of, history_past, HasAnswered, IsSoundPart, Serves};
-ghost use Rattle.msg_runner.specs.Serving.{refusals_of};
+ghost use Rattle.msg_runner.specs.Serving.{Served, refusals_of, share_of, sends_of, worker_of};
 
 use crate::asker::Asker;
 use crate::asking::Asking;
@@ -38,8 +39,10 @@ pub(crate) struct AnswersShare<'a, 'd, N: ArenaName> {
 }
 
 impl<'a, 'd, N: ArenaName> Promise<Done<'d, N>> for AnswersShare<'a, 'd, N> {
-    ghost kept_by = { λ p d. IfOk d.replies
-        (λ rs. Serves p.share p.was.value.seen.front rs.items d.sender.seen.front) };
+    ghost kept_by = { λ p d. IfOk d.replies (λ rs. Served p.was.value.seen.front
+        (share_of (worker_of p.share.part.deal.cut p.share.part.deal.workers) p.share.worker 0
+        (sends_of p.share.part.image.now (map item_parts p.share.part.items.now)))
+        rs.items d.sender.seen.front) };
 }
 
 // One worker's work, with a sender of its own, and with a memory for this work.
