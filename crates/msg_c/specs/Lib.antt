@@ -1,5 +1,5 @@
 pub mod Answers
-pub mod Book
+pub mod Notes
 pub mod Nothing
 pub mod RuntimeOwned
 pub mod SenderOwned

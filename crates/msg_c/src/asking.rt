@@ -84,7 +84,7 @@ pub extern "C" fn msg_lookup(
     let Some(held) = runtime.take(alloc) else {
         return CLOSED;
     };
-    let found = held.lookup_by(class, meta, sel);
+    let found = held.lookup(class, meta, sel);
     *runtime = RuntimeHandle::of(held);
     match found {
         Ok(found) => {
@@ -132,7 +132,7 @@ pub extern "C" fn msg_superclass(
     let Some(held) = runtime.take(alloc) else {
         return CLOSED;
     };
-    let found = held.superclass_by(class, meta);
+    let found = held.superclass(class, meta);
     *runtime = RuntimeHandle::of(held);
     match found {
         Ok(found) => put(found, above),
@@ -161,7 +161,7 @@ pub extern "C" fn msg_holder(
     let Some(held) = runtime.take(alloc) else {
         return CLOSED;
     };
-    let found = held.holder_by(class, meta, sel);
+    let found = held.holder(class, meta, sel);
     *runtime = RuntimeHandle::of(held);
     match found {
         Ok(found) => put(found, at),

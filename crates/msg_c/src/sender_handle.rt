@@ -2,14 +2,14 @@
 
 ghost use Rattle.std.specs.Prelude.{◌≡◌, Option, Some, None, option_map, is_some, true};
 ghost use Rattle.msg_host.specs.View.{SenderView};
-ghost use Rattle.msg_c.specs.Book.{IsBookOf};
+ghost use Rattle.msg_c.specs.Notes.{AreNotesIn};
 ghost use Rattle.msg_c.specs.SenderOwned.{held_owns, state_coded};
 ghost use Rattle.msg_c.specs.Nothing.{sender_in};
 
 use crate::parts::Parts;
 use msg_host::HostedSender;
-use msg_memory::Memory;
-use msg_memory::laws::a_blank_memory_is_of_each_history;
+use msg_reader::Notes;
+use msg_reader::laws::blank_notes_are_of_each_history;
 use std::alloc::Global;
 use std::marker::Model;
 use std::{mem, ptr};
@@ -100,15 +100,15 @@ impl HeldSender {
 
 /// `msg_sender` of C. Zero bytes are a closed one.
 ///
-/// A sender's memory lies in its handle, so that what it has noted is found without taking the sender out.
+/// A sender's notes lie in its handle, so that what it has noted is found without taking the sender out.
 #[repr(C)]
 #[derive(Drop)]
 pub struct SenderHandle {
     pub(crate) held: HeldSender,
     is_open: bool,
-    pub(crate) book: Memory,
+    pub(crate) notes: Notes,
     pub ghost open_is: { is_open ≡ is_some held.state },
-    pub ghost noted: { IsBookOf held.state book },
+    pub ghost noted: { AreNotesIn held.state notes },
 }
 
 impl SenderHandle {
@@ -118,7 +118,7 @@ impl SenderHandle {
         SenderHandle {
             held: HeldSender::closed(alloc),
             is_open: false,
-            book: Memory::new(),
+            notes: Notes::new(),
         }
     }
 
@@ -134,7 +134,7 @@ impl SenderHandle {
         requires { self.old.held.state ≡ None }
         ensures { self.new.held.state ≡ Some held.value }
     {
-        a_blank_memory_is_of_each_history();
+        blank_notes_are_of_each_history();
         self.held.put(held);
         self.is_open = true;
     }
@@ -147,7 +147,7 @@ impl SenderHandle {
         if !self.is_open {
             return None;
         }
-        self.book.clear();
+        self.notes.clear();
         self.is_open = false;
         Some(self.held.take(alloc))
     }

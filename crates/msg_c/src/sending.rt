@@ -6,14 +6,14 @@ ghost use Rattle.msg_tables.specs.History.{History, lookup};
 ghost use Rattle.msg_cache.specs.Views.{ArenaView, classes};
 ghost use Rattle.msg_host.specs.Asking.{ask_fault};
 ghost use Rattle.msg_names.specs.ClassRef.{slot_of};
-ghost use Rattle.msg_memory.specs.Remembered.{IsRecalled, recalled};
+ghost use Rattle.msg_reader.specs.Notes.{IsRecalled, recalled};
 ghost use Rattle.msg_c.specs.Answers.{AreOfOneArena, SeesOn, number_of_fault, runtime_arena, runtime_history, sender_arena, sender_front};
 
 use crate::answer::{ALREADY_OPEN, CLOSED, DONE, MISSED, NO_MEMORY, NO_SENDER, NOT_NOTED};
 use crate::runtime_handle::RuntimeHandle;
 use crate::sender_handle::SenderHandle;
 use msg_host::SenderFault;
-use msg_memory::laws::a_longer_history_has_what_is_remembered;
+use msg_reader::laws::notes_are_of_longer_histories;
 use std::alloc::Global;
 use std::mem;
 
@@ -95,7 +95,7 @@ pub extern "C" fn msg_sender_close(
     DONE
 }
 
-/// `cache_getImp`: the implementation's number that the sender remembers, or that the class reference's cache has for the selector; or 71 where neither has it. No
+/// `cache_getImp`: the implementation's number that the sender noted, or that the class reference's cache has for the selector; or 71 where neither has it. No
 /// lock is wanted. A hit is the lookup at a point of the history not before the one that the sender had seen.
 #[unsafe(no_mangle)]
 pub extern "C" fn msg_probe(
@@ -114,15 +114,15 @@ pub extern "C" fn msg_probe(
     ensures hit { result ≡ 0 → (h : History) → sender_front sender.new.held.state ≡ Some h → imp.new ≡ lookup h (record { class = class; meta = meta }) sel }
     ensures listed { result ≡ 0 → (a : ArenaView) → sender_arena sender.old.held.state ≡ Some a → imp.new ≤ last_imp a.key.origin.counts }
     ensures fault { (a : ArenaView) → sender_arena sender.old.held.state ≡ Some a → result ≢ 0 → result ≢ MISSED → result ≡ number_of_fault (ask_fault (classes a) class sel) }
-    ensures noted { result ≡ 0 → (h : History) → sender_front sender.new.held.state ≡ Some h → recalled sender.new.book (length h.changes) (slot_of (record { class = class; meta = meta })) sel ≡ imp.new }
+    ensures noted { result ≡ 0 → (h : History) → sender_front sender.new.held.state ≡ Some h → recalled sender.new.notes (length h.changes) (slot_of (record { class = class; meta = meta })) sel ≡ imp.new }
     ensures miss { (a : ArenaView) → sender_arena sender.old.held.state ≡ Some a → result ≡ MISSED → ask_fault (classes a) class sel ≡ None }
-    ensures recalled { result ≡ MISSED → (h : History) → sender_front sender.old.held.state ≡ Some h → sender_front sender.new.held.state ≡ Some h → recalled sender.old.book (length h.changes) (slot_of (record { class = class; meta = meta })) sel ≡ 0 }
+    ensures recalled { result ≡ MISSED → (h : History) → sender_front sender.old.held.state ≡ Some h → sender_front sender.new.held.state ≡ Some h → recalled sender.old.notes (length h.changes) (slot_of (record { class = class; meta = meta })) sel ≡ 0 }
 {
     if !sender.is_open() {
         return CLOSED;
     }
     let mut asker = sender.held.take(alloc);
-    let found = asker.find_by(&mut sender.book, class, meta, sel);
+    let found = asker.probe(&mut sender.notes, class, meta, sel);
     sender.held.put(asker);
     match found {
         Ok(Some(found)) => {
@@ -142,9 +142,9 @@ pub extern "C" fn msg_probe(
 pub extern "C" fn msg_recall(sender: &SenderHandle, slot: usize, sel: u32, count: u64) -> usize
     ensures found { result ≢ NOT_NOTED → (h : History) → sender_front sender.now.held.state ≡ Some h → IsRecalled h count slot sel result }
     ensures closed { sender.now.held.state ≡ None → result ≡ NOT_NOTED }
-    ensures answer { result ≡ recalled sender.now.book count slot sel }
+    ensures answer { result ≡ recalled sender.now.notes count slot sel }
 {
-    sender.book.recall_method(count, slot, sel) as usize
+    sender.notes.recall_method(count, slot, sel) as usize
 }
 
 /// `lookUpImpOrForward`: looks up what a probe missed, and caches it. The sender has then seen all changes that were made.
@@ -168,7 +168,7 @@ pub extern "C" fn msg_fill(
     ensures listed { result ≡ 0 → (h : History) → runtime_history runtime.old.held.state ≡ Some h → imp.new ≤ last_imp h.origin.counts }
     ensures front { result ≡ 0 → sender_front sender.new.held.state ≡ runtime_history runtime.old.held.state }
     ensures begins { result ≡ 0 → SeesOn (sender_front sender.old.held.state) (sender_front sender.new.held.state) }
-    ensures noted { result ≡ 0 → (h : History) → runtime_history runtime.old.held.state ≡ Some h → recalled sender.new.book (length h.changes) (slot_of (record { class = class; meta = meta })) sel ≡ imp.new }
+    ensures noted { result ≡ 0 → (h : History) → runtime_history runtime.old.held.state ≡ Some h → recalled sender.new.notes (length h.changes) (slot_of (record { class = class; meta = meta })) sel ≡ imp.new }
     ensures fault { (a : ArenaView) → runtime_arena runtime.old.held.state ≡ Some a → is_some sender.old.held.state ≡ true → result ≡ number_of_fault (ask_fault (classes a) class sel) }
 {
     let Some(mut held) = runtime.take(alloc) else {
@@ -179,7 +179,7 @@ pub extern "C" fn msg_fill(
         return CLOSED;
     }
     let mut asker = sender.held.take(alloc);
-    let found = held.answer_by(&mut asker, &mut sender.book, class, meta, sel);
+    let found = held.fill(&mut asker, &mut sender.notes, class, meta, sel);
     sender.held.put(asker);
     *runtime = RuntimeHandle::of(held);
     match found {
@@ -214,7 +214,7 @@ pub extern "C" fn msg_meet(
         *runtime = RuntimeHandle::of(held);
         return CLOSED;
     }
-    a_longer_history_has_what_is_remembered();
+    notes_are_of_longer_histories();
     let mut asker = sender.held.take(alloc);
     held.meet(&mut asker);
     sender.held.put(asker);
@@ -235,7 +235,7 @@ pub extern "C" fn msg_refresh(alloc: Global, sender: &mut SenderHandle, count: &
     if !sender.is_open() {
         return CLOSED;
     }
-    a_longer_history_has_what_is_remembered();
+    notes_are_of_longer_histories();
     let mut asker = sender.held.take(alloc);
     *count = asker.refresh();
     sender.held.put(asker);

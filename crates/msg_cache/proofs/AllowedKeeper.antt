@@ -23,7 +23,7 @@ use Rattle.msg_cache.specs.declared.view.View.{View}
 use Rattle.msg_cache.specs.declared.view.View.TheVariants.{Sender, Keeper, Turn, Spent}
 use Rattle.msg_cache.specs.Layout.{SettingView, layout_of, header_at, base, probe_at}
 use Rattle.msg_cache.specs.Rule.{live_in, word_in, Ruled, RuledBy, IsTidy, TidyBy, holds, shown_by}
-use Rattle.msg_cache.specs.Plays.{Sat, keeper_of, stored, flushed, installed, committed, looked, rest_looked, given_out, taken_in, newcomer, lent, at_home, kept, Recalls, Stores, Flushes, Installs, Commits, Looks, RestLooks, Witnesses}
+use Rattle.msg_cache.specs.Plays.{Sat, keeper_of, stored, flushed, installed, committed, looked, rest_looked, given_out, taken_in, newcomer, lent, at_home, kept, IsTold, Stores, Flushes, Installs, Commits, Looks, RestLooks, Witnesses}
 use Rattle.msg_cache.proofs.LayoutLemmas.{header_same}
 use Rattle.msg_core.proofs.LegalSteps.{may_commit}
 use Rattle.msg_cache.proofs.KeeperLemmas.{fill_step, clear_step, commit_step, flush_step, install_step, look_step, idle_step}
@@ -51,8 +51,8 @@ module _ (look : History → ClassRef → ℕ → ℕ) (key : SettingView) (slot
   sat_is : (x : KeeperView) → (Keeper x, m.1) ≡ kept x
   sat_is x = λ i. (Keeper x, (is i).1)
 
-  recalls : (st : State ℕ View) (r : holds look key st) → r.keeper ≡ keeper_of m.0 → Recalls (keeper_of m.0)
-  recalls st r e = subst Recalls e (r.kept.told, r.kept.home)
+  is_told : (st : State ℕ View) (r : holds look key st) → r.keeper ≡ keeper_of m.0 → IsTold (keeper_of m.0)
+  is_told st r e = subst IsTold e (r.kept.told, r.kept.home)
 
   pub fill_allowed : (c : ClassRef) (a p w : ℕ) → standing_at (keeper_of m.0).standings a ≡ Live c → p < capacity (layout_of key) a → slice_index (keeper_of m.0).words (base (layout_of key) a + p) ≡ 0
       → 0 < sel_of w → imp_of w ≡ look (keeper_of m.0).history c (sel_of w)
@@ -97,7 +97,7 @@ module _ (look : History → ClassRef → ℕ → ℕ) (key : SettingView) (slot
         tt,
         subst (λ (y : ℕ × KeeperView). RuledBy look key (slice_set st.words 0 y.0) (slice_set st.views id (Keeper (committed x y.1)))) (λ i. ((ap (λ (y : KeeperView). size y.history + 1) e ∙ sym is_w) i, e i))
             (commit_step look (layout_of key) key.origin st.words st.views r id (at_own st r at) x g (ap (λ (y : KeeperView). y.turn) e ∙ home) legal).1.0,
-        (sat_is (committed x (keeper_of m.0)), recalls st r e),
+        (sat_is (committed x (keeper_of m.0)), is_told st r e),
       )
 
   pub flush_allowed : (c : ClassRef) (a : ℕ) → c.class < class_total key.origin → slice_index (keeper_of m.0).words (header_at c) ≡ suc a
@@ -157,7 +157,7 @@ module _ (look : History → ClassRef → ℕ → ℕ) (key : SettingView) (slot
         keeps,
         tt,
         subst (λ (x : KeeperView). RuledBy look key (slice_set st.words 0 (slice_index st.words 0)) (slice_set st.views id (Keeper x))) e (idle_step look (layout_of key) key.origin st.words st.views r id (at_own st r at) 0).0,
-        (sat_is (keeper_of m.0) ∙ sym is, recalls st r e),
+        (sat_is (keeper_of m.0) ∙ sym is, is_told st r e),
       )
 
   pub give_allowed : (n : ℕ) → n < key.senders → awaits (keeper_of m.0).given n ≡ false → Splits (holds look key) id m.0 (Keeper (given_out n (keeper_of m.0))) (Sender (newcomer n (keeper_of m.0).history))

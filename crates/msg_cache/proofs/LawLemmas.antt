@@ -17,7 +17,7 @@ use Rattle.msg_core.specs.State.{Layout, awaits, size}
 use Rattle.msg_cache.specs.declared.view.KeeperView.{KeeperView}
 use Rattle.msg_cache.specs.declared.view.View.{View}
 use Rattle.msg_cache.specs.declared.view.View.TheVariants.{Sender, Keeper}
-use Rattle.msg_cache.specs.Laws.{Fills, Installs, Flushes, Looks, RestLooks, Clears, Commits, Recalls, Splits, Joins, SplitsTurn, JoinsTurn, IsEvent, IsNone, seen_in, shown_at, OneIsShown, ShownIsLawful, ShownIsSound, OpeningIsShown, EnterIsEnter, LeaveIsLeave, HeaderIsHeader, BucketIsRead, VersionIsNone, StoreIsFill, StoreIsInstall, StoreIsFlush, LoadIsLook, LoadIsRest, StoreIsClear, StoreIsCommit, RecallIsNone, SplitIsNone, JoinIsNone, SplitTurnIsNone, JoinTurnIsNone}
+use Rattle.msg_cache.specs.Laws.{Fills, Installs, Flushes, Looks, RestLooks, Clears, Commits, Witnesses, Splits, Joins, SplitsTurn, JoinsTurn, IsEvent, IsNone, seen_in, shown_at, OneIsShown, ShownIsLawful, ShownIsSound, OpeningIsShown, EnterIsEnter, LeaveIsLeave, HeaderIsHeader, BucketIsRead, VersionIsNone, StoreIsFill, StoreIsInstall, StoreIsFlush, LoadIsLook, LoadIsRest, StoreIsClear, StoreIsCommit, WitnessIsNone, SplitIsNone, JoinIsNone, SplitTurnIsNone, JoinTurnIsNone}
 use Rattle.msg_cache.specs.Layout.{SettingView, layout_of, header_at, base, probe_at, word_count}
 use Rattle.msg_cache.specs.Rule.{in_word, shown, Ruled, shown_by, holds, GoesBy, Stays}
 use Rattle.msg_cache.proofs.KeeperLemmas.{fill_step, clear_step, commit_step, flush_step, install_step, look_step, idle_step}
@@ -127,8 +127,8 @@ store_is_clear key s r id k at = of_keeper key s r id (Clears key s r id) (λ ow
 pub store_is_commit : StoreIsCommit
 store_is_commit key s r id k at = of_keeper key s r id (Commits key s r id) (λ own x g home legal. event key s _ r _ (size r.keeper.history + 1) refl (commit_step lookup (layout_of key) key.origin s.words s.views r id own x g home legal)) k at
 
-pub recall_is_none : RecallIsNone
-recall_is_none key s r id k at = of_keeper key s r id (Recalls key s r id) (λ own. none key s _ r (idle_step lookup (layout_of key) key.origin s.words s.views r id own 0)) k at
+pub witness_is_none : WitnessIsNone
+witness_is_none key s r id k at = of_keeper key s r id (Witnesses key s r id) (λ own. none key s _ r (idle_step lookup (layout_of key) key.origin s.words s.views r id own 0)) k at
 
 pub split_is_none : SplitIsNone
 split_is_none key s r id k at = of_keeper key s r id (Splits key s r id) (λ own n lt free. none key s _ r (give_step lookup (layout_of key) key.origin s.words s.views r id own n lt free)) k at

@@ -14,7 +14,7 @@ pub mod LawLemmas
 pub mod LayeredLemmas
 pub mod LayoutLemmas
 pub mod NobodyLemmas
-pub mod NoteLemmas
+pub mod UseLemmas
 pub mod OpeningLemmas
 pub mod OrderLemmas
 pub mod PastLemmas

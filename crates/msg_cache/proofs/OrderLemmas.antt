@@ -35,14 +35,13 @@ use Rattle.msg_cache.specs.Plays.{retire, flushed, installed, committed, lent, g
 use Rattle.msg_cache.proofs.LayoutLemmas.{one_place}
 use Rattle.msg_cache.proofs.OpeningLemmas.{first_tidy}
 use Rattle.msg_cache.proofs.ShownLemmas.{live_is}
-use Rattle.msg_cache.specs.Keeping.{IsGroup, standing_of, array_words, header, lowest_free, looks, CollectsBy, Collects, or_least, remember, way_in, way_by_header, way_of, OnUse, filled, grown, FillsBy, Fills, InOrder}
+use Rattle.msg_cache.specs.Keeping.{IsGroup, standing_of, array_words, header, lowest_free, looks, CollectsBy, Collects, or_least, remember, way_in, way_by_header, way_of, filled, grown, FillsBy, Fills, InOrder}
 use Rattle.msg_cache.specs.declared.answer.Filled.{Filled}
 use Rattle.msg_cache.specs.declared.answer.Filled.TheVariants.{Grown, NoArray}
-use Rattle.msg_cache.specs.declared.answer.Way.{Way}
-use Rattle.msg_cache.specs.declared.answer.Way.TheVariants.{Present, Use, Take}
+use Rattle.msg_cache.specs.declared.answer.Way.TheVariants.{Take}
 use Rattle.msg_cache.proofs.ClearingLemmas.{same_or}
-use Rattle.msg_cache.specs.Notes.{Note, live, note_of, note_at, is_free_note}
-use Rattle.msg_cache.proofs.SettledLemmas.{free_at, noted_at}
+use Rattle.msg_cache.specs.Uses.{ArrayUse, live, use_of, use_at, is_free_use}
+use Rattle.msg_cache.proofs.SettledLemmas.{free_at, used_at}
 use Rattle.msg_cache.proofs.SweepingLemmas.{array_same, array_zero, array_length, array_within, word_in, looks_rest, all_emptied_rest}
 
 -- ---- capacities
@@ -101,10 +100,10 @@ module _ (z : Layout) (n : ℕ) (k : KeeperView) (from until : ℕ) (group : IsG
       find_none (λ b. is_free (standing_of k b) && (capacity z b == n)) 0 (length z.capacities) (λ b lt. ap (λ (i : ℕ). is_free (standing_of k i) && (capacity z i == n)) (let t : 0 + b ≡ b = omega arith in t) ∙ passed b lt (busy b))
 
   -- what a search of the group found
-  pub lowest_is : (notes : List Note) → notes ≡ map note_of k.standings → (o : Option ℕ) → IfNone o ((b : ℕ) → from ≤ b → b < until → is_free_note (note_at notes b) ≡ false)
-      → IfSome o (λ a. (from ≤ a) × (a < until) × (is_free_note (note_at notes a) ≡ true) × ((b : ℕ) → from ≤ b → b < a → is_free_note (note_at notes b) ≡ false)) → o ≡ lowest_free z n k
-  lowest_is notes are None none some = sym (lowest_none (λ b low high. free_at k.standings notes b false are (none b low high)))
-  lowest_is notes are (Some a) none some = sym (lowest_some a some.0 some.1 (free_at k.standings notes a true are some.2) (λ b low high. free_at k.standings notes b false are (some.3 b low high)))
+  pub lowest_is : (uses : List ArrayUse) → uses ≡ map use_of k.standings → (o : Option ℕ) → IfNone o ((b : ℕ) → from ≤ b → b < until → is_free_use (use_at uses b) ≡ false)
+      → IfSome o (λ a. (from ≤ a) × (a < until) × (is_free_use (use_at uses a) ≡ true) × ((b : ℕ) → from ≤ b → b < a → is_free_use (use_at uses b) ≡ false)) → o ≡ lowest_free z n k
+  lowest_is uses are None none some = sym (lowest_none (λ b low high. free_at k.standings uses b false are (none b low high)))
+  lowest_is uses are (Some a) none some = sym (lowest_some a some.0 some.1 (free_at k.standings uses a true are some.2) (λ b low high. free_at k.standings uses b false are (some.3 b low high)))
 
 -- ---- a standing that is written over
 
@@ -292,10 +291,10 @@ module _ (look : History → ClassRef → ℕ → ℕ) (key : SettingView) (k : 
       (alive, live_array look key k kept.tidy c (n - 1) alive, h)
 
   -- the array of a header word is noted as live
-  pub live_noted : (c : ClassRef) (n b : ℕ) (notes : List Note) → c.class < class_total key.origin → n ≡ header k c → n ≡ suc b → notes ≡ map note_of k.standings → note_at notes b ≡ live
-  live_noted c n b notes lt e is are =
+  pub live_used : (c : ClassRef) (n b : ℕ) (uses : List ArrayUse) → c.class < class_total key.origin → n ≡ header k c → n ≡ suc b → uses ≡ map use_of k.standings → use_at uses b ≡ live
+  live_used c n b uses lt e is are =
       let at : n - 1 ≡ b = omega arith in
-      ap (λ l. note_at l b) are ∙ noted_at k.standings b ∙ ap (λ (x : ℕ). note_of (standing_of k x)) (sym at) ∙ ap note_of (live_of c n lt e (λ z. absurd (omega arith))).0
+      ap (λ l. use_at l b) are ∙ used_at k.standings b ∙ ap (λ (x : ℕ). use_of (standing_of k x)) (sym at) ∙ ap use_of (live_of c n lt e (λ z. absurd (omega arith))).0
 
   pub header_small : (c : ClassRef) (n : ℕ) → c.class < class_total key.origin → n ≡ header k c → n ≤ length k.standings
   header_small c zero lt e = omega arith
@@ -312,11 +311,6 @@ way_by z rem k c s a ws h is long =
     ap (λ (n : ℕ). way_in a (find_in ws s) (plan_of n (occupied_in ws))) long
     ∙ ap (λ (x : List ℕ). way_in a (find_in x s) (plan_of (capacity z a) (occupied_in x))) is
     ∙ ap (way_by_header z rem k c s) (sym h)
-
-pub on_use : (w : Way) (P Q : ℕ → ℕ → Type 0) → ((a p : ℕ) → P a p → Q a p) → OnUse w P → OnUse w Q
-on_use Present P Q f h = tt
-on_use (Use a p) P Q f h = f a p h
-on_use (Take n) P Q f h = tt
 
 -- an array that was installed has no entries
 pub fresh_find : (look : History → ClassRef → ℕ → ℕ) (key : SettingView) (k k' : KeeperView) (rem has : List ℕ) → InOrder look key k rem has → (c : ClassRef) (a s : ℕ) → c.class < class_total key.origin → a < length (layout_of key).capacities → standing_of k a ≡ Free → 0 < capacity (layout_of key) a

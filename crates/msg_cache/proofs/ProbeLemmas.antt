@@ -33,9 +33,6 @@ earlier_more reads read =
 pub headed_is : {arrays : ℕ} {c : ClassRef} {s n : ℕ} {v : SenderView} {m' : Sat} (t : SawHeader arrays c s n v m') → sender_of m'.0 ≡ headed c s t.front v n
 headed_is t = ap (λ (x : Sat). sender_of x.0) t.seat
 
-pub headed_seated : {arrays : ℕ} {c : ClassRef} {s n : ℕ} {v : SenderView} {m' : Sat} → SawHeader arrays c s n v m' → m' ≡ seated (sender_of m'.0)
-headed_seated t = t.seat ∙ ap seated (sym (headed_is t))
-
 pub headed_probes : {z : Layout} {arrays : ℕ} {c : ClassRef} {s n : ℕ} {v : SenderView} {m' : Sat} → SawHeader arrays c s n v m' → Probes z c s v (sender_of m'.0)
 headed_probes {z} {arrays} {c} {s} {n} {v} {m'} t = subst (Probes z c s v) (sym (headed_is t)) (record {
   number = refl;

@@ -1,7 +1,6 @@
 -- What stays of the keeper's view by itself, and what it gives.
-use Rattle.std.proofs.Common.{◌≡◌, ◌≢◌, ℕ, zero, suc, ◌-◌, ◌<◌, length, Bool, true, false, Some, None, refl, sym, ap, ◌∙◌, arith}
+use Rattle.std.proofs.Common.{◌≡◌, ℕ, ◌<◌, length, Bool, true, false, Some, None, refl, sym, ◌∙◌}
 use Rattle.msg_tables.specs.Origin.{class_total}
-use Rattle.std.specs.Prelude.{slice_index}
 use Rattle.std.proofs.Math.ListN.{length-set}
 use Rattle.msg_names.specs.declared.value.ClassRef.{ClassRef}
 use Rattle.msg_tables.specs.declared.change.Change.{Change}
@@ -11,10 +10,9 @@ use Rattle.msg_core.specs.declared.state.Standing.TheVariants.{Live}
 use Rattle.msg_core.specs.State.{capacity, Agrees}
 use Rattle.msg_core.specs.View.{standing_at}
 use Rattle.msg_cache.specs.declared.view.KeeperView.{KeeperView}
-use Rattle.msg_cache.specs.Layout.{SettingView, layout_of, header_at}
+use Rattle.msg_cache.specs.Layout.{SettingView, layout_of}
 use Rattle.msg_cache.specs.Plays.{lent, given_out}
-use Rattle.msg_cache.specs.Rule.{TidyBy, named, live_in, word_in}
-use Rattle.msg_cache.proofs.ShownLemmas.{live_is}
+use Rattle.msg_cache.specs.Rule.{TidyBy, live_in, word_in}
 
 -- the turn was split off
 pub tidy_lent : (look : History → ClassRef → ℕ → ℕ) (key : SettingView) (k : KeeperView) → TidyBy look key k → TidyBy look key (lent k)
@@ -51,13 +49,6 @@ tidy_given look key k n t = record {
   };
   sound = t.sound;
 }
-
--- a header word names one of the arrays
-pub header_below : (look : History → ClassRef → ℕ → ℕ) (key : SettingView) (k : KeeperView) (c : ClassRef) (n : ℕ) → TidyBy look key k → c.class < class_total key.origin → n ≡ slice_index k.words (header_at c) → n ≢ 0 → n - 1 < length k.standings
-header_below look key k c zero t lt e entry = absurd (entry refl)
-header_below look key k c (suc a) t lt e entry =
-    let live = t.sound.lawful.live_stands c a lt (live_is (layout_of key) k.words c lt ∙ ap named (sym e)) in
-    let l = t.sound.in_range.live_array c a live in let s = t.kept.standings in omega arith
 
 -- Where a change affects no class reference that has a live array, words of live arrays agree after it as before.
 pub agrees_after : (look : History → ClassRef → ℕ → ℕ) (key : SettingView) (k : KeeperView) (x : Change) → ((c : ClassRef) (s : ℕ) → is_affected k.history x c ≡ false → look (and_then k.history x) c s ≡ look k.history c s) → TidyBy look key k

@@ -190,12 +190,12 @@ StoreIsCommit = OfKeeper Commits
 
 -- ---- what is no event
 
-abbrev pub Recalls : OfAKeeper
-Recalls key s r id k = IsNone key s r (stepped s 0 (slice_index s.words 0) id [] (Keeper k) keeps)
+abbrev pub Witnesses : OfAKeeper
+Witnesses key s r id k = IsNone key s r (stepped s 0 (slice_index s.words 0) id [] (Keeper k) keeps)
 
 -- the keeper's load of the count of changes is no event
-abbrev pub RecallIsNone : Type 0
-RecallIsNone = OfKeeper Recalls
+abbrev pub WitnessIsNone : Type 0
+WitnessIsNone = OfKeeper Witnesses
 
 abbrev pub Splits : OfAKeeper
 Splits key s r id k = (n : ℕ) → n < key.senders → awaits k.given n ≡ false

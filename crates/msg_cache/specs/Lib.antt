@@ -7,7 +7,7 @@ pub mod Keeping
 pub mod LayeredSet
 pub mod Laws
 pub mod Layout
-pub mod Notes
+pub mod Uses
 pub mod Ours
 pub mod Plays
 pub mod Record

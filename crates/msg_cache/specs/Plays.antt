@@ -185,8 +185,8 @@ abbrev pub kept : KeeperView → Sat
 kept k = (Keeper k, [])
 
 -- what a joined sender had seen is a beginning of the history, and a joined turn's history is the history
-abbrev pub Recalls : KeeperView → Type 0
-Recalls k = BeginsWith k.history k.told × ((g : History) → k.turn ≡ Home g → g ≡ k.history)
+abbrev pub IsTold : KeeperView → Type 0
+IsTold k = BeginsWith k.history k.told × ((g : History) → k.turn ≡ Home g → g ≡ k.history)
 
 -- one word is stored
 abbrev pub Stores : Telling
@@ -202,7 +202,7 @@ Installs st m n m' = (c : ClassRef) (a : ℕ) → st.word ≡ header_at c → st
 
 -- the change is committed
 abbrev pub Commits : Change → Telling
-Commits x st m n m' = (m' ≡ kept (committed x (keeper_of m.0))) × Recalls (keeper_of m.0)
+Commits x st m n m' = (m' ≡ kept (committed x (keeper_of m.0))) × IsTold (keeper_of m.0)
 
 -- the sender number was looked at, and is awaited no more if its probe word was 0
 abbrev pub Looks : ℕ → Telling
@@ -214,7 +214,7 @@ RestLooks i senders st m n m' = m' ≡ kept (rest_looked i (senders - i) (keeper
 
 -- the keeper's load of the version word changes nothing
 abbrev pub Witnesses : Telling
-Witnesses st m n m' = (m' ≡ m) × Recalls (keeper_of m.0)
+Witnesses st m n m' = (m' ≡ m) × IsTold (keeper_of m.0)
 
 -- ---- splits and joins
 

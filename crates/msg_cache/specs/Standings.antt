@@ -4,7 +4,7 @@ use Rattle.std.specs.List.{range_with_len, position_or_len}
 use Rattle.std.specs.VecDeque.{deque_capacity}
 use Rattle.msg_tables.specs.declared.limits.TheConstants.{MOST_SENDERS}
 use Rattle.msg_cache.specs.declared.standings.Standings.TheInside.{Inside}
-use Rattle.msg_cache.specs.Notes.{StandingsView, Note, free, live, waiting}
+use Rattle.msg_cache.specs.Uses.{StandingsView, ArrayUse, free, live, waiting}
 
 -- whom an array at this place of the queue awaits: the senders whose cursors haven't passed it
 unfoldable pub awaited_at : ℕ → List ℕ → ℕ → List Bool
@@ -15,25 +15,25 @@ abbrev pub place_of : List ℕ → ℕ → ℕ
 place_of queue a = position_or_len (λ b. b == a) queue
 
 -- the note of an array that isn't marked as free, by its place
-abbrev pub note_by : ℕ → ℕ → ℕ → List ℕ → ℕ → Note
-note_by end ready senders cursors place =
+abbrev pub use_by : ℕ → ℕ → ℕ → List ℕ → ℕ → ArrayUse
+use_by end ready senders cursors place =
     if nat_le end place then live
     else if nat_lt place ready then free
     else waiting (awaited_at senders cursors (place - ready))
 
-abbrev pub note_for : List Bool → List ℕ → ℕ → ℕ → List ℕ → ℕ → Note
-note_for marks queue ready senders cursors a =
-    if slice_index_or marks a true then free else note_by (length queue) ready senders cursors (place_of queue a)
+abbrev pub use_for : List Bool → List ℕ → ℕ → ℕ → List ℕ → ℕ → ArrayUse
+use_for marks queue ready senders cursors a =
+    if slice_index_or marks a true then free else use_by (length queue) ready senders cursors (place_of queue a)
 
 -- the note of each array
-abbrev pub notes : List Bool → List ℕ → ℕ → ℕ → List ℕ → List Note
-notes marks queue ready senders cursors = map (note_for marks queue ready senders cursors) (range_with_len 0 (length marks))
+abbrev pub uses : List Bool → List ℕ → ℕ → ℕ → List ℕ → List ArrayUse
+uses marks queue ready senders cursors = map (use_for marks queue ready senders cursors) (range_with_len 0 (length marks))
 
 -- how many senders there may be, the notes, and the queue's front that is to be taken out
 abbrev pub standings_view : Inside → StandingsView
 standings_view s = record {
   senders = s.senders;
-  notes = notes s.free s.queue.items s.ready s.senders s.cursors;
+  uses = uses s.free s.queue.items s.ready s.senders s.cursors;
   ready = take s.ready s.queue.items;
 }
 

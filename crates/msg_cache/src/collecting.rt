@@ -7,7 +7,7 @@ ghost use Rattle.msg_core.specs.State.{capacity, awaits};
 ghost use Rattle.msg_cache.specs.Layout.{layout_of, base as base_of};
 ghost use Rattle.msg_cache.specs.Rule.{TidyBy};
 ghost use Rattle.msg_cache.specs.Plays.{keeper_of, kept};
-ghost use Rattle.msg_cache.specs.Notes.{settled};
+ghost use Rattle.msg_cache.specs.Uses.{settled};
 ghost use Rattle.msg_cache.specs.Keeping.{standing_of, looks, cleared, emptied, Collects, InOrder};
 
 use crate::arena::Arena;

@@ -19,7 +19,7 @@ ghost use Rattle.msg_cache.specs.Layout.{layout_of, header_at};
 ghost use Rattle.msg_cache.specs.Plays.{kept, keeper_of, flushed, installed, committed, lent, turn_in, turn_view, is_lent, sender_in, given_out, taken_in, newcomer};
 ghost use Rattle.msg_cache.specs.Keeping.{header as header_of, standing_of, array_words, remember, way_of, OnUse, OnTake, CanUse, lowest_free, filled, grown, Fills, Collects};
 ghost use Rattle.msg_cache.specs.Rule.{live_in};
-ghost use Rattle.msg_cache.specs.Notes.{free, settled};
+ghost use Rattle.msg_cache.specs.Uses.{free, settled};
 ghost use Rattle.msg_cache.specs.Views.{layout, classes, IsSenderOf};
 ghost use Rattle.msg_tables.specs.Origin.{class_total};
 
@@ -30,8 +30,8 @@ use crate::filling::{count_want, retire_in, way_in_array};
 use crate::prober::Prober;
 use crate::standings::Standings;
 use crate::steps::{
-    Seat, header_at, join_sender, join_turn, recall, split_sender, split_turn, store_array,
-    store_count, store_entry, store_none,
+    Seat, header_at, join_sender, join_turn, split_sender, split_turn, store_array, store_count,
+    store_entry, store_none, witness,
 };
 use crate::view::View;
 use atomic_table::Badge;
@@ -71,27 +71,27 @@ pub struct Keeper {
     pub ghost counts: { AreCounts report },
 }
 
-// What a keeper notes of arrays: a part of it that is made by itself, as is the other, since where memory is wanted each function gives back what it has made.
+// What a keeper keeps of arrays: a part of it that is made by itself, as is the other, since where memory is wanted each function gives back what it has made.
 #[derive(Drop)]
-struct ArrayNotes {
+struct ArrayCopies {
     standings: Standings,
     occupied: Vec<u32>,
     used: Vec<bool>,
 }
 
-impl ArrayNotes {
+impl ArrayCopies {
     // Of so many arrays, which are free.
-    fn blank(alloc: Global, arrays: usize, senders: usize) -> Result<ArrayNotes, AllocError>
+    fn blank(alloc: Global, arrays: usize, senders: usize) -> Result<ArrayCopies, AllocError>
         requires arrays { arrays < 2 ^ 32 }
         requires senders { senders ≤ MOST_SENDERS }
-        ensures standings { IfOk result (λ n. n.standings ≡ record { senders = senders; notes = replicate arrays free; ready = [] }) }
+        ensures standings { IfOk result (λ n. n.standings ≡ record { senders = senders; uses = replicate arrays free; ready = [] }) }
         ensures occupied { IfOk result (λ n. n.occupied.items ≡ replicate arrays 0) }
         ensures used { IfOk result (λ n. length n.used.items ≡ arrays) }
     {
         let standings = Standings::all_free(alloc, arrays, senders)?;
         let occupied = vec![in alloc; 0; arrays]?;
         let used = vec![in alloc; false; arrays]?;
-        Ok(ArrayNotes {
+        Ok(ArrayCopies {
             standings,
             occupied,
             used,
@@ -172,7 +172,7 @@ impl Keeper {
         ensures seat { IfOk result (λ keeper. (keeper.seat.table_id ≡ seat.table_id) × (keeper.seat.me ≡ seat.me)) }
         ensures counts { IfOk result (λ keeper. (keeper.occupied.items ≡ replicate arrays 0) × (keeper.remembered.items ≡ replicate (2 * classes) 0) × (length keeper.used.items ≡ arrays)) }
     {
-        let arrays = ArrayNotes::blank(alloc, arrays, senders)?;
+        let arrays = ArrayCopies::blank(alloc, arrays, senders)?;
         let copies = Copies::blank(alloc, classes, senders)?;
         Ok(Keeper {
             words,
@@ -453,7 +453,7 @@ impl Keeper {
         let shared = arena.shared();
         let badge = replace(&mut turn.badge, Badge::blank());
         join_turn(shared, &mut self.seat, badge.into_seat());
-        recall(shared, &mut self.seat);
+        witness(shared, &mut self.seat);
         turn.badge = split_turn(shared, &mut self.seat).into_badge();
         self.lent = true;
     }
@@ -523,7 +523,7 @@ impl Keeper {
         let shared = arena.shared();
         let place = prober.number() as usize;
         join_sender(shared, &mut self.seat, prober.into_seat());
-        recall(shared, &mut self.seat);
+        witness(shared, &mut self.seat);
         self.given[place] = false;
     }
 

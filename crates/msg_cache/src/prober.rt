@@ -12,8 +12,8 @@ ghost use Rattle.msg_cache.specs.Views.{layout, classes, IsSenderOf};
 
 use crate::arena::Arena;
 use crate::steps::{
-    Seat, Words, enter, join_sender, leave, load_bucket, load_header, load_version, recall,
-    split_sender,
+    Seat, Words, enter, join_sender, leave, load_bucket, load_header, load_version, split_sender,
+    witness,
 };
 use crate::view::View;
 use atomic_table::Badge;
@@ -146,7 +146,7 @@ impl Prober {
     {
         let seat = replace(&mut self.badge, Badge::blank()).into_seat();
         join_sender(words, keeper, seat);
-        recall(words, keeper);
+        witness(words, keeper);
         let seat = split_sender(words, keeper, self.number);
         self.badge = seat.into_badge();
         self.loads = 0;

@@ -7,7 +7,7 @@ ghost use Rattle.msg_core.specs.declared.state.Standing.{Standing};
 ghost use Rattle.msg_core.specs.State.{awaits};
 ghost use Rattle.msg_core.specs.Steps.{everyone};
 ghost use Rattle.msg_cache.specs.Keeping.{looked_by};
-ghost use Rattle.msg_cache.specs.Notes.{StandingsView, free, live, waiting, note_of, note_at, is_free_note, newly_freed};
+ghost use Rattle.msg_cache.specs.Uses.{StandingsView, free, live, waiting, use_of, use_at, is_free_use, newly_freed};
 
 use crate::cursors::Cursors;
 use crate::layered_set::LayeredSet;
@@ -34,7 +34,7 @@ pub(crate) struct Standings {
 }
 
 impl Model for Standings {
-    ghost use Rattle.msg_cache.specs.Notes.{StandingsView};
+    ghost use Rattle.msg_cache.specs.Uses.{StandingsView};
 
     ghost Value = { StandingsView };
 
@@ -54,7 +54,7 @@ impl Standings {
     ) -> Result<Standings, AllocError>
         requires arrays { arrays < 2 ^ 32 }
         requires senders { senders ≤ MOST_SENDERS }
-        ensures { IfOk result (λ s. s ≡ record { senders = senders; notes = replicate arrays free; ready = [] }) }
+        ensures { IfOk result (λ s. s ≡ record { senders = senders; uses = replicate arrays free; ready = [] }) }
     {
         Ok(Standings {
             free: LayeredSet::all(alloc, arrays)?,
@@ -67,20 +67,20 @@ impl Standings {
 
     // A free array becomes the live one of a class reference.
     pub(crate) fn install(&mut self, array: usize)
-        requires array { array < length self.old.notes }
-        requires free { note_at self.old.notes array ≡ free }
+        requires array { array < length self.old.uses }
+        requires free { use_at self.old.uses array ≡ free }
         requires ready { self.old.ready ≡ [] }
-        ensures { self.new ≡ record self.old { notes = slice_set self.old.notes array live } }
+        ensures { self.new ≡ record self.old { uses = slice_set self.old.uses array live } }
     {
         self.free.remove(array);
     }
 
     // A live array is taken from its class reference, and awaits all senders.
     pub(crate) fn retire(&mut self, array: usize)
-        requires array { array < length self.old.notes }
-        requires live { note_at self.old.notes array ≡ live }
+        requires array { array < length self.old.uses }
+        requires live { use_at self.old.uses array ≡ live }
         requires ready { self.old.ready ≡ [] }
-        ensures { self.new ≡ record self.old { notes = slice_set self.old.notes array (waiting (everyone self.old.senders)) } }
+        ensures { self.new ≡ record self.old { uses = slice_set self.old.uses array (waiting (everyone self.old.senders)) } }
     {
         self.queue.push_back_reserved(array);
     }
@@ -91,11 +91,11 @@ impl Standings {
         requires outs { length outs.now.items ≡ self.old.senders }
         requires known { known ≤ self.old.senders }
         requires others { (n : ℕ) → known ≤ n → n < self.old.senders → awaits outs.now.items n ≡ true }
-        requires awaits_some { (a : ℕ) (aw : List Bool) → note_at self.old.notes a ≡ waiting aw → (n : ℕ) × (awaits aw n ≡ true) }
+        requires awaits_some { (a : ℕ) (aw : List Bool) → use_at self.old.uses a ≡ waiting aw → (n : ℕ) × (awaits aw n ≡ true) }
         requires ready { self.old.ready ≡ [] }
         ensures senders { self.new.senders ≡ self.old.senders }
-        ensures notes { (l : List Standing) → self.old.notes ≡ map note_of l → self.new.notes ≡ map note_of (map (looked_by self.old.senders outs.now.items) l) }
-        ensures ready { IsPermutation self.new.ready (newly_freed self.old.notes self.new.notes) }
+        ensures uses { (l : List Standing) → self.old.uses ≡ map use_of l → self.new.uses ≡ map use_of (map (looked_by self.old.senders outs.now.items) l) }
+        ensures ready { IsPermutation self.new.ready (newly_freed self.old.uses self.new.uses) }
         ensures count { result ≡ length self.new.ready }
     {
         let end = self.queue.len();
@@ -109,8 +109,8 @@ impl Standings {
     pub(crate) fn take_ready(&mut self) -> usize
         requires { 0 < length self.old.ready }
         ensures taken { self.old.ready ≡ result ∷ self.new.ready }
-        ensures same { (self.new.senders ≡ self.old.senders) × (self.new.notes ≡ self.old.notes) }
-        ensures free { (result < length self.old.notes) × (note_at self.old.notes result ≡ free) }
+        ensures same { (self.new.senders ≡ self.old.senders) × (self.new.uses ≡ self.old.uses) }
+        ensures free { (result < length self.old.uses) × (use_at self.old.uses result ≡ free) }
     {
         let array = self.queue.pop_front().unwrap();
         self.ready -= 1;
@@ -120,10 +120,10 @@ impl Standings {
 
     // The lowest free array from one number up to another.
     pub(crate) fn first_free(&self, from: usize, until: usize) -> Option<usize>
-        requires until { until ≤ length self.now.notes }
+        requires until { until ≤ length self.now.uses }
         requires ready { self.now.ready ≡ [] }
-        ensures none { IfNone result ((a : ℕ) → from ≤ a → a < until → is_free_note (note_at self.now.notes a) ≡ false) }
-        ensures some { IfSome result (λ found. (from ≤ found) × (found < until) × (is_free_note (note_at self.now.notes found) ≡ true) × ((a : ℕ) → from ≤ a → a < found → is_free_note (note_at self.now.notes a) ≡ false)) }
+        ensures none { IfNone result ((a : ℕ) → from ≤ a → a < until → is_free_use (use_at self.now.uses a) ≡ false) }
+        ensures some { IfSome result (λ found. (from ≤ found) × (found < until) × (is_free_use (use_at self.now.uses found) ≡ true) × ((a : ℕ) → from ≤ a → a < found → is_free_use (use_at self.now.uses a) ≡ false)) }
     {
         self.free.first(from, until)
     }

@@ -16,7 +16,7 @@ ghost use Rattle.msg_core.specs.State.{capacity, size, awaits, Agrees};
 ghost use Rattle.msg_core.specs.View.{standing_at};
 ghost use Rattle.msg_cache.specs.declared.view.TurnAt.TheVariants.{Away, Home};
 ghost use Rattle.msg_cache.specs.Layout.{SettingView, layout_of, header_at, base as base_of, probe_at};
-ghost use Rattle.msg_cache.specs.Plays.{seated, kept, sender_of, keeper_of, turn_of, stored, flushed, installed, committed, looked, rest_looked, given_out, taken_in, newcomer, lent, at_home, turn_view, Headed, Reads, Published, Goes, Recalls};
+ghost use Rattle.msg_cache.specs.Plays.{seated, kept, sender_of, keeper_of, turn_of, stored, flushed, installed, committed, looked, rest_looked, given_out, taken_in, newcomer, lent, at_home, turn_view, Headed, Reads, Published, Goes, IsTold};
 ghost use Rattle.msg_cache.specs.Rule.{TidyBy, word_in};
 
 use crate::plays::{
@@ -253,7 +253,7 @@ fn commit_as<Q: About>(words: &Words, seat: &mut Seat, count: u64, change: &Chan
     requires agrees { (c : ClassRef) (b q : ℕ) → b < length words.now.key.capacities → standing_at (keeper_of seat.old.me.0).standings b ≡ Live c → q < capacity (layout_of words.now.key) b
         → Agrees (lookup (and_then (keeper_of seat.old.me.0).history change.now)) c (word_in (layout_of words.now.key) (keeper_of seat.old.me.0).words b q) }
     ensures seat { (seat.new.table_id ≡ seat.old.table_id) × (seat.new.id ≡ seat.old.id) }
-    ensures told { (seat.new.me ≡ kept (committed change.now (keeper_of seat.old.me.0))) × Recalls (keeper_of seat.old.me.0) }
+    ensures told { (seat.new.me ≡ kept (committed change.now (keeper_of seat.old.me.0))) × IsTold (keeper_of seat.old.me.0) }
     ensures tidy { TidyBy lookup words.now.key (keeper_of seat.new.me.0) }
 {
     words.store::<Tidied<Commit<Q>, Q>>(seat, 0, count);
@@ -269,7 +269,7 @@ pub(crate) fn store_count(words: &Words, seat: &mut Seat, count: u64, change: &C
     requires agrees { (c : ClassRef) (b q : ℕ) → b < length words.now.key.capacities → standing_at (keeper_of seat.old.me.0).standings b ≡ Live c → q < capacity (layout_of words.now.key) b
         → Agrees (lookup (and_then (keeper_of seat.old.me.0).history change.now)) c (word_in (layout_of words.now.key) (keeper_of seat.old.me.0).words b q) }
     ensures seat { (seat.new.table_id ≡ seat.old.table_id) × (seat.new.id ≡ seat.old.id) }
-    ensures told { (seat.new.me ≡ kept (committed change.now (keeper_of seat.old.me.0))) × Recalls (keeper_of seat.old.me.0) }
+    ensures told { (seat.new.me ≡ kept (committed change.now (keeper_of seat.old.me.0))) × IsTold (keeper_of seat.old.me.0) }
     ensures tidy { TidyBy lookup words.now.key (keeper_of seat.new.me.0) }
 {
     commit_as::<Brand>(words, seat, count, change);
@@ -325,26 +325,26 @@ pub(crate) fn look_at_rest(words: &Words, seat: &mut Seat, number: u32)
     look_at_rest_as::<Brand>(words, seat, number);
 }
 
-fn recall_as<Q: About>(words: &Words, seat: &mut Seat)
+fn witness_as<Q: About>(words: &Words, seat: &mut Seat)
     requires table { (seat.old.table_id ≡ words.now.table_id) × (0 < words.now.table_id.words) }
     requires about { Q.key ≡ words.now.key }
     requires keeper { seat.old.me ≡ kept (keeper_of seat.old.me.0) }
     ensures seat { (seat.new.table_id ≡ seat.old.table_id) × (seat.new.id ≡ seat.old.id) }
-    ensures told { (seat.new.me ≡ seat.old.me) × Recalls (keeper_of seat.old.me.0) }
+    ensures told { (seat.new.me ≡ seat.old.me) × IsTold (keeper_of seat.old.me.0) }
     ensures tidy { TidyBy lookup words.now.key (keeper_of seat.new.me.0) }
 {
     words.load::<Tidied<Witness, Q>>(seat, 0);
 }
 
 // No event: the keeper loads the count of changes, and learns that what a joined seat knew is a beginning of the history.
-pub(crate) fn recall(words: &Words, seat: &mut Seat)
+pub(crate) fn witness(words: &Words, seat: &mut Seat)
     requires table { (seat.old.table_id ≡ words.now.table_id) × (0 < words.now.table_id.words) }
     requires keeper { seat.old.me ≡ kept (keeper_of seat.old.me.0) }
     ensures seat { (seat.new.table_id ≡ seat.old.table_id) × (seat.new.id ≡ seat.old.id) }
-    ensures told { (seat.new.me ≡ seat.old.me) × Recalls (keeper_of seat.old.me.0) }
+    ensures told { (seat.new.me ≡ seat.old.me) × IsTold (keeper_of seat.old.me.0) }
     ensures tidy { TidyBy lookup words.now.key (keeper_of seat.new.me.0) }
 {
-    recall_as::<Brand>(words, seat);
+    witness_as::<Brand>(words, seat);
 }
 
 fn give_as<Q: About>(words: &Words, seat: &mut Seat, number: u32) -> Seat

@@ -24,10 +24,5 @@ some_below-false (suc n) k test e lt =
     let (before, last) = neither (some_below n test) (test n) e in
     ⊎_elim (λ (is : k ≡ n). ap test is ∙ last) (λ ne. let inside : k < n = omega arith in some_below-false n k test before inside) (number_or k n)
 
--- the same numbers pass two tests
-pub some_below-same : (n : ℕ) (f g : ℕ → Bool) → ((k : ℕ) → k < n → f k ≡ g k) → some_below n f ≡ some_below n g
-some_below-same zero f g same = refl
-some_below-same (suc n) f g same = λ i. some_below-same n f g (λ k lt. same k (omega arith)) i || same n (omega arith) i
-
 pub entry : (word : ℕ) → word ≢ 0 → is_entry word ≡ true
 entry word ne = ap not (ne_eqb word 0 ne)

@@ -78,7 +78,6 @@ impl<'d, N: ArenaName> Changer<'d, N> {
         dispatcher
             .desk
             .lock(rt)
-            .meet(&dispatcher.arena, &mut self.turn, &mut sender.prober);
-        sender.count = Some(self.count);
+            .meet(&dispatcher.arena, &mut self.turn, &mut sender.reader);
     }
 }

@@ -9,21 +9,16 @@ ghost use Rattle.msg_tables.specs.declared.fault.ChangeFault.{ChangeFault};
 ghost use Rattle.msg_cache.specs.Counts.{AreCounts, after_refusal};
 ghost use Rattle.msg_cache.specs.Plays.{taken_in};
 ghost use Rattle.msg_cache.specs.Views.{classes, IsSenderOf};
+ghost use Rattle.msg_reader.specs.Notes.{AreNotesOf};
 ghost use Rattle.msg_runtime.specs.Parts.{AreOut, IsNew};
 
 use crate::name::ArenaName;
-use msg_cache::{Arena, Prober, Report, Turn};
+use msg_cache::{Arena, Report, Turn};
 use msg_names::{ClassRef, ImpRef, Selector};
+use msg_reader::{Notes, Reader};
 use msg_runtime::Runtime;
 use msg_tables::{Change, ChangeFault};
 use std::marker::{Model, PhantomData};
-
-// What a lookup found, and how many changes there were.
-#[derive(Clone, Copy)]
-pub(crate) struct Answer {
-    pub(crate) imp: ImpRef,
-    pub(crate) count: u64,
-}
 
 // The runtime of the arena that N names.
 #[derive(Drop)]
@@ -48,27 +43,47 @@ impl<N: ArenaName> Model for Desk<N> {
 }
 
 impl<N: ArenaName> Desk<N> {
-    // Looks up at the history, which the prober has then seen.
+    // Looks up at the history, which the reader has then seen.
     pub(crate) fn answer(
         &mut self,
         arena: &Arena,
-        prober: &mut Prober,
+        reader: &mut Reader,
         class: ClassRef,
         sel: Selector,
-    ) -> Answer
+    ) -> ImpRef
         requires arena { arena.now ≡ N.arena }
-        requires prober { IsSenderOf N.arena prober.old }
+        requires reader { IsSenderOf N.arena reader.old }
         requires class { class.class < classes N.arena }
-        ensures prober { IsSenderOf N.arena prober.new }
-        ensures origin { prober.new.sender.front.origin ≡ N.arena.key.origin }
-        ensures begins { BeginsWith prober.new.sender.front prober.old.sender.front }
-        ensures found { imp_number result.imp ≡ lookup prober.new.sender.front class (selector_number sel) }
-        ensures listed { imp_number result.imp ≤ last_imp N.arena.key.origin.counts }
-        ensures count { result.count ≡ length prober.new.sender.front.changes }
+        ensures reader { IsSenderOf N.arena reader.new }
+        ensures origin { reader.new.sender.front.origin ≡ N.arena.key.origin }
+        ensures begins { BeginsWith reader.new.sender.front reader.old.sender.front }
+        ensures found { imp_number result ≡ lookup reader.new.sender.front class (selector_number sel) }
+        ensures listed { imp_number result ≤ last_imp N.arena.key.origin.counts }
     {
-        let imp = self.runtime.answer(arena, prober, class, sel);
-        let count = self.runtime.count();
-        Answer { imp, count }
+        self.runtime.answer(arena, reader, class, sel)
+    }
+
+    // The same, and notes the answer.
+    pub(crate) fn answer_noted(
+        &mut self,
+        arena: &Arena,
+        reader: &mut Reader,
+        notes: &mut Notes,
+        class: ClassRef,
+        sel: Selector,
+    ) -> ImpRef
+        requires arena { arena.now ≡ N.arena }
+        requires reader { IsSenderOf N.arena reader.old }
+        requires notes { AreNotesOf reader.old.sender.front notes.old }
+        requires class { class.class < classes N.arena }
+        ensures reader { IsSenderOf N.arena reader.new }
+        ensures origin { reader.new.sender.front.origin ≡ N.arena.key.origin }
+        ensures begins { BeginsWith reader.new.sender.front reader.old.sender.front }
+        ensures found { imp_number result ≡ lookup reader.new.sender.front class (selector_number sel) }
+        ensures listed { imp_number result ≤ last_imp N.arena.key.origin.counts }
+        ensures notes { AreNotesOf reader.new.sender.front notes.new }
+    {
+        self.runtime.answer_noted(arena, reader, notes, class, sel)
     }
 
     pub(crate) fn change(
@@ -88,39 +103,39 @@ impl<N: ArenaName> Desk<N> {
         self.runtime.change(arena, turn, change)
     }
 
-    // The prober has then seen the turn's history, which begins with what it had seen.
-    pub(crate) fn meet(&mut self, arena: &Arena, turn: &mut Turn, prober: &mut Prober)
+    // The reader has then seen the turn's history, which begins with what it had seen.
+    pub(crate) fn meet(&mut self, arena: &Arena, turn: &mut Turn, reader: &mut Reader)
         requires arena { arena.now ≡ N.arena }
         requires turn { turn.old.table ≡ N.arena.table }
-        requires prober { IsSenderOf N.arena prober.old }
+        requires reader { IsSenderOf N.arena reader.old }
         ensures turn { turn.new.table ≡ N.arena.table }
-        ensures prober { IsSenderOf N.arena prober.new }
+        ensures reader { IsSenderOf N.arena reader.new }
         ensures same { turn.new.history ≡ turn.old.history }
-        ensures begins { BeginsWith turn.old.history prober.old.sender.front }
-        ensures front { prober.new.sender.front ≡ turn.old.history }
+        ensures begins { BeginsWith turn.old.history reader.old.sender.front }
+        ensures front { reader.new.sender.front ≡ turn.old.history }
     {
-        self.runtime.meet(arena, turn, prober);
+        self.runtime.meet(arena, turn, reader);
     }
 
-    // A prober of a sender number that isn't given out.
-    pub(crate) fn sender(&mut self, arena: &Arena) -> Option<Prober>
+    // A reader of a sender number that isn't given out.
+    pub(crate) fn sender(&mut self, arena: &Arena) -> Option<Reader>
         requires arena { arena.now ≡ N.arena }
-        ensures prober { IfSome result (IsSenderOf N.arena) }
-        ensures new { IfSome result (λ p. IsNew p.sender self.old.keeper self.new.keeper) }
+        ensures reader { IfSome result (IsSenderOf N.arena) }
+        ensures new { IfSome result (λ r. IsNew r.sender self.old.keeper self.new.keeper) }
         ensures none { IsNone result → AreOut N.arena.key.senders self.old.keeper }
         ensures refused { IsNone result → self.new.report ≡ after_refusal self.old.report }
-        ensures origin { IfSome result (λ p. p.sender.front.origin ≡ N.arena.key.origin) }
+        ensures origin { IfSome result (λ r. r.sender.front.origin ≡ N.arena.key.origin) }
     {
         self.runtime.sender(arena)
     }
 
-    // Takes a prober's number back.
-    pub(crate) fn finish(&mut self, arena: &Arena, prober: Prober)
+    // Takes a reader's number back.
+    pub(crate) fn finish(&mut self, arena: &Arena, reader: Reader)
         requires arena { arena.now ≡ N.arena }
-        requires prober { IsSenderOf N.arena prober }
-        ensures taken { self.new.keeper ≡ taken_in prober.sender self.old.keeper }
+        requires reader { IsSenderOf N.arena reader }
+        ensures taken { self.new.keeper ≡ taken_in reader.sender self.old.keeper }
     {
-        self.runtime.finish(arena, prober);
+        self.runtime.finish(arena, reader);
     }
 
     // The turn: once, then none.

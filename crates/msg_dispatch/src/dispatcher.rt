@@ -69,11 +69,10 @@ impl<N: ArenaName> Dispatcher<N> {
         ensures { IfOk result (λ s. (s.takings ≡ 0) × (s.seen.front.origin ≡ N.arena.key.origin)) }
     {
         match self.desk.lock(rt).sender(&self.arena) {
-            Some(prober) => Ok(Sender {
+            Some(reader) => Ok(Sender {
                 dispatcher: self,
-                prober,
+                reader,
                 takings: 0,
-                count: None,
             }),
             None => Err(NoSenderFree),
         }

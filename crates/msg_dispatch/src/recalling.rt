@@ -1,25 +1,24 @@
-//! A sender with its memory.
+//! A sender with notes of its own.
 
 ghost use Rattle.std.specs.Prelude.{◌≡◌, ◌<◌, ◌≤◌, ◌+◌, length, IfErr, IfOk, IfSome};
 ghost use Rattle.msg_names.specs.Number.{selector_number, imp_number};
 ghost use Rattle.msg_tables.specs.Origin.{class_total, last_imp};
 ghost use Rattle.msg_tables.specs.History.{BeginsWith, lookup};
-ghost use Rattle.msg_memory.specs.Remembered.{IsSiteOf};
 
 use crate::changer::Changer;
 use crate::name::ArenaName;
 use crate::sender::Sender;
-use msg_memory::{Memory, Site};
 use msg_names::{ClassRef, ImpRef, Selector};
+use msg_reader::Notes;
 use std::alloc::Global;
 use std::marker::Model;
 use std::sync::Wait;
 
-/// A sender that remembers its lookups. Contracts see it as the sender.
+/// A sender that notes its lookups. Contracts see it as the sender.
 #[derive(Drop)]
 pub struct Recalling<'d, N: ArenaName> {
     sender: Sender<'d, N>,
-    memory: Box<Memory>,
+    notes: Box<Notes>,
 }
 
 impl<'d, N: ArenaName> Model for Recalling<'d, N> {
@@ -31,33 +30,33 @@ impl<'d, N: ArenaName> Model for Recalling<'d, N> {
 
     ghost coded = { Prim.hlevel codes };
 
-    ghost use Rattle.msg_memory.specs.Remembered.{IsMemoryOf};
+    ghost use Rattle.msg_reader.specs.Notes.{AreNotesOf};
 
     ghost view = { λ r. r.sender };
 
-    ghost invariant = { λ r. IsMemoryOf r.sender.seen.front r.memory.value };
+    ghost invariant = { λ r. AreNotesOf r.sender.seen.front r.notes.value };
 }
 
 impl<'d, N: ArenaName> Recalling<'d, N> {
-    /// The sender, which remembers nothing yet. A memory takes 48 KiB: where they can't be had, the sender comes back.
+    /// The sender, with nothing noted yet. Notes take 48 KiB: where they can't be had, the sender comes back.
     pub fn new(alloc: Global, sender: Sender<'d, N>) -> Result<Recalling<'d, N>, Sender<'d, N>>
         ensures ok { IfOk result (λ r. r ≡ sender.entry) }
         ensures err { IfErr result (λ s. s ≡ sender.entry) }
     {
-        match Box::new(alloc, Memory::new()) {
-            Ok(memory) => Ok(Recalling { sender, memory }),
+        match Box::new(alloc, Notes::new()) {
+            Ok(notes) => Ok(Recalling { sender, notes }),
             Err(_) => Err(sender),
         }
     }
 
-    /// The sender without its memory.
+    /// The sender without its notes.
     pub fn into_sender(self) -> Sender<'d, N>
         ensures { result ≡ self.entry }
     {
         self.sender
     }
 
-    /// The implementation that a lookup finds at what the sender has then seen. What it remembers of that point it answers with no load of a shared word.
+    /// The implementation that a lookup finds at what the sender has then seen. What it has noted of that point it answers with no load of a shared word.
     #[inline]
     pub fn find<R: Wait>(&mut self, rt: &R, class: ClassRef, sel: Selector) -> ImpRef
         requires class { class.class < class_total self.old.seen.front.origin }
@@ -66,52 +65,16 @@ impl<'d, N: ArenaName> Recalling<'d, N> {
         ensures listed { imp_number result ≤ last_imp self.new.seen.front.origin.counts }
         ensures takings { (self.old.takings ≤ self.new.takings) × (self.new.takings ≤ self.old.takings + 1) }
     {
-        match self.recall(class, sel) {
-            Some(imp) => imp,
-            None => self.find_unremembered(rt, class, sel),
-        }
+        self.sender.find_noted(rt, &mut self.notes, class, sel)
     }
 
-    // As `find`, of what the memory may lack.
-    #[cold]
-    #[inline(never)]
-    fn find_unremembered<R: Wait>(&mut self, rt: &R, class: ClassRef, sel: Selector) -> ImpRef
-        requires class { class.class < class_total self.old.seen.front.origin }
-        ensures begins { BeginsWith self.new.seen.front self.old.seen.front }
-        ensures found { imp_number result ≡ lookup self.new.seen.front class (selector_number sel) }
-        ensures listed { imp_number result ≤ last_imp self.new.seen.front.origin.counts }
-        ensures takings { (self.old.takings ≤ self.new.takings) × (self.new.takings ≤ self.old.takings + 1) }
-    {
-        self.sender.find_by(rt, &mut self.memory, class, sel)
-    }
-
-    /// As `find`, but first from the site, which is the sender's alone.
-    #[inline]
-    pub fn find_at<R: Wait>(
-        &mut self,
-        rt: &R,
-        site: &mut Site,
-        class: ClassRef,
-        sel: Selector,
-    ) -> ImpRef
-        requires class { class.class < class_total self.old.seen.front.origin }
-        requires site { IsSiteOf self.old.seen.front site.old }
-        ensures begins { BeginsWith self.new.seen.front self.old.seen.front }
-        ensures found { imp_number result ≡ lookup self.new.seen.front class (selector_number sel) }
-        ensures listed { imp_number result ≤ last_imp self.new.seen.front.origin.counts }
-        ensures site { IsSiteOf self.new.seen.front site.new }
-        ensures takings { (self.old.takings ≤ self.new.takings) × (self.new.takings ≤ self.old.takings + 1) }
-    {
-        self.sender.find_at(rt, site, class, sel)
-    }
-
-    /// What it remembers of the point at which the sender stands. It waits for nothing, and no shared word is loaded.
+    /// What it has noted of the point at which the sender stands. It waits for nothing, and no shared word is loaded.
     #[inline]
     pub fn recall(&self, class: ClassRef, sel: Selector) -> Option<ImpRef>
         ensures found { IfSome result (λ i. imp_number i ≡ lookup self.now.seen.front class (selector_number sel)) }
         ensures listed { IfSome result (λ i. imp_number i ≤ last_imp self.now.seen.front.origin.counts) }
     {
-        self.sender.recall(&self.memory, class, sel)
+        self.sender.recall(&self.notes, class, sel)
     }
 
     /// How many changes there are, which the sender has then seen: nothing older is answered from then on. One shared word is loaded, and nothing is forgotten.

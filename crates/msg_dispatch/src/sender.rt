@@ -6,12 +6,12 @@ ghost use Rattle.msg_tables.specs.Origin.{class_total, last_imp};
 ghost use Rattle.msg_tables.specs.History.{BeginsWith, lookup};
 ghost use Rattle.msg_cache.specs.Record.{Probes, Hits, Misses};
 ghost use Rattle.msg_cache.specs.Views.{layout};
+ghost use Rattle.msg_reader.specs.Notes.{AreNotesOf};
 
-use crate::desk::Answer;
 use crate::dispatcher::Dispatcher;
 use crate::name::ArenaName;
-use msg_cache::Prober;
 use msg_names::{ClassRef, ImpRef, Selector};
+use msg_reader::{Notes, Reader};
 use msg_tables::laws::a_found_implementation_is_listed;
 use std::marker::Model;
 use std::sync::Wait;
@@ -20,14 +20,12 @@ use std::sync::Wait;
 #[derive(Drop)]
 pub struct Sender<'d, N: ArenaName> {
     pub(crate) dispatcher: &'d Dispatcher<N>,
-    pub(crate) prober: Prober,
+    pub(crate) reader: Reader,
     pub(crate) takings: u64,
-    // how many changes it has seen, where it knows
-    pub(crate) count: Option<u64>,
 }
 
 impl<'d, N: ArenaName> Model for Sender<'d, N> {
-    ghost use Rattle.std.specs.Prelude.{◌≡◌, length, IfSome};
+    ghost use Rattle.std.specs.Prelude.{◌≡◌};
     ghost use Rattle.msg_cache.specs.Views.{IsSenderOf};
     ghost use Rattle.msg_dispatch.specs.Seen.{SenderView};
 
@@ -37,9 +35,9 @@ impl<'d, N: ArenaName> Model for Sender<'d, N> {
 
     ghost coded = { Prim.hlevel codes };
 
-    ghost view = { λ s. record { seen = s.prober.sender; takings = s.takings } };
+    ghost view = { λ s. record { seen = s.reader.sender; takings = s.takings } };
 
-    ghost invariant = { λ s. IsSenderOf N.arena s.prober × (s.prober.sender.front.origin ≡ N.arena.key.origin) × IfSome s.count (λ n. n ≡ length s.prober.sender.front.changes) };
+    ghost invariant = { λ s. IsSenderOf N.arena s.reader × (s.reader.sender.front.origin ≡ N.arena.key.origin) };
 }
 
 impl<'d, N: ArenaName> Sender<'d, N> {
@@ -52,28 +50,59 @@ impl<'d, N: ArenaName> Sender<'d, N> {
         ensures some { IfSome result (λ i. Hits self.new.seen.last (imp_number i) × (imp_number i ≡ lookup self.new.seen.front class (selector_number sel))) }
         ensures none { IfNone result (Misses (layout N.arena) self.new.seen.last) }
     {
-        self.count = None;
-        self.prober.probe(&self.dispatcher.arena, class, sel)
+        self.reader.probe(&self.dispatcher.arena, class, sel)
     }
 
-    // After a miss: takes the lock. The sender then knows how many changes it has seen.
-    pub(crate) fn find_locked<R: Wait>(&mut self, rt: &R, class: ClassRef, sel: Selector) -> Answer
-        requires class { class.class < class_total self.old.seen.front.origin }
-        ensures begins { BeginsWith self.new.seen.front self.old.seen.front }
-        ensures found { imp_number result.imp ≡ lookup self.new.seen.front class (selector_number sel) }
-        ensures listed { imp_number result.imp ≤ last_imp self.new.seen.front.origin.counts }
-        ensures count { result.count ≡ length self.new.seen.front.changes }
+    // The lock is taken once more.
+    fn count_taking(&mut self)
+        ensures seen { self.new.seen ≡ self.old.seen }
         ensures takings { (self.old.takings ≤ self.new.takings) × (self.new.takings ≤ self.old.takings + 1) }
         ensures counted { self.old.takings < 2 ^ 64 - 1 → self.new.takings ≡ self.old.takings + 1 }
     {
-        let dispatcher = self.dispatcher;
         self.takings = self.takings.saturating_add(1);
-        let answer = dispatcher
+    }
+
+    // After a miss: takes the lock.
+    fn find_locked<R: Wait>(&mut self, rt: &R, class: ClassRef, sel: Selector) -> ImpRef
+        requires class { class.class < class_total self.old.seen.front.origin }
+        ensures begins { BeginsWith self.new.seen.front self.old.seen.front }
+        ensures found { imp_number result ≡ lookup self.new.seen.front class (selector_number sel) }
+        ensures listed { imp_number result ≤ last_imp self.new.seen.front.origin.counts }
+        ensures takings { (self.old.takings ≤ self.new.takings) × (self.new.takings ≤ self.old.takings + 1) }
+        ensures counted { self.old.takings < 2 ^ 64 - 1 → self.new.takings ≡ self.old.takings + 1 }
+    {
+        self.count_taking();
+        let dispatcher = self.dispatcher;
+        dispatcher
             .desk
             .lock(rt)
-            .answer(&dispatcher.arena, &mut self.prober, class, sel);
-        self.count = Some(answer.count);
-        answer
+            .answer(&dispatcher.arena, &mut self.reader, class, sel)
+    }
+
+    // The same, and notes the answer.
+    #[cold]
+    #[inline(never)]
+    fn find_locked_noted<R: Wait>(
+        &mut self,
+        rt: &R,
+        notes: &mut Notes,
+        class: ClassRef,
+        sel: Selector,
+    ) -> ImpRef
+        requires class { class.class < class_total self.old.seen.front.origin }
+        requires notes { AreNotesOf self.old.seen.front notes.old }
+        ensures begins { BeginsWith self.new.seen.front self.old.seen.front }
+        ensures found { imp_number result ≡ lookup self.new.seen.front class (selector_number sel) }
+        ensures listed { imp_number result ≤ last_imp self.new.seen.front.origin.counts }
+        ensures notes { AreNotesOf self.new.seen.front notes.new }
+        ensures takings { (self.old.takings ≤ self.new.takings) × (self.new.takings ≤ self.old.takings + 1) }
+    {
+        self.count_taking();
+        let dispatcher = self.dispatcher;
+        dispatcher
+            .desk
+            .lock(rt)
+            .answer_noted(&dispatcher.arena, &mut self.reader, notes, class, sel)
     }
 
     /// The implementation that a lookup finds at what the sender has then seen. After a miss it takes the lock, once.
@@ -90,7 +119,40 @@ impl<'d, N: ArenaName> Sender<'d, N> {
         a_found_implementation_is_listed();
         match self.find_cached(class, sel) {
             Some(imp) => imp,
-            None => self.find_locked(rt, class, sel).imp,
+            None => self.find_locked(rt, class, sel),
+        }
+    }
+
+    /// What the notes have of a lookup at what the sender has seen. It waits for nobody, and reads no word that threads share.
+    #[inline]
+    pub fn recall(&self, notes: &Notes, class: ClassRef, sel: Selector) -> Option<ImpRef>
+        requires notes { AreNotesOf self.now.seen.front notes.now }
+        ensures found { IfSome result (λ i. imp_number i ≡ lookup self.now.seen.front class (selector_number sel)) }
+        ensures listed { IfSome result (λ i. imp_number i ≤ last_imp self.now.seen.front.origin.counts) }
+    {
+        self.reader.recall(notes, class, sel)
+    }
+
+    /// As `find`, but first from the notes. What they lacked is then noted.
+    #[inline]
+    pub fn find_noted<R: Wait>(
+        &mut self,
+        rt: &R,
+        notes: &mut Notes,
+        class: ClassRef,
+        sel: Selector,
+    ) -> ImpRef
+        requires class { class.class < class_total self.old.seen.front.origin }
+        requires notes { AreNotesOf self.old.seen.front notes.old }
+        ensures begins { BeginsWith self.new.seen.front self.old.seen.front }
+        ensures found { imp_number result ≡ lookup self.new.seen.front class (selector_number sel) }
+        ensures listed { imp_number result ≤ last_imp self.new.seen.front.origin.counts }
+        ensures notes { AreNotesOf self.new.seen.front notes.new }
+        ensures takings { (self.old.takings ≤ self.new.takings) × (self.new.takings ≤ self.old.takings + 1) }
+    {
+        match self.reader.find(&self.dispatcher.arena, notes, class, sel) {
+            Some(imp) => imp,
+            None => self.find_locked_noted(rt, notes, class, sel),
         }
     }
 
@@ -100,9 +162,7 @@ impl<'d, N: ArenaName> Sender<'d, N> {
         ensures length { result ≡ length self.new.seen.front.changes }
         ensures takings { self.new.takings ≡ self.old.takings }
     {
-        let count = self.prober.published(&self.dispatcher.arena);
-        self.count = Some(count);
-        count
+        self.reader.refresh(&self.dispatcher.arena)
     }
 
     /// How often `find` took the lock.
@@ -118,9 +178,9 @@ impl<'d, N: ArenaName> Sender<'d, N> {
     pub fn finish<R: Wait>(self, rt: &R) {
         let Sender {
             dispatcher,
-            prober,
+            reader,
             ..
         } = self;
-        dispatcher.desk.lock(rt).finish(&dispatcher.arena, prober);
+        dispatcher.desk.lock(rt).finish(&dispatcher.arena, reader);
     }
 }

@@ -4,11 +4,10 @@ use crate::asker::Asker;
 use crate::images::{CHILD, GRAND, ROOT, selector};
 use crate::one_thread::Row;
 use crate::opening::{Steps, open};
-use crate::same::same;
 use msg_dispatch::{ArenaName, Changer};
 use msg_image::Change;
 use msg_names::Selector;
-use msg_samples::IMAGE;
+use msg_samples::{IMAGE, same};
 use std::process::Abort;
 use std::sync::Wait;
 

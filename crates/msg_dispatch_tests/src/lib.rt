@@ -4,6 +4,8 @@
 #[cfg(test)]
 mod asker;
 #[cfg(test)]
+mod counts;
+#[cfg(test)]
 mod desk;
 #[cfg(test)]
 mod exchange;
@@ -12,17 +14,15 @@ mod images;
 #[cfg(test)]
 mod memory;
 #[cfg(test)]
+mod noting;
+#[cfg(test)]
 mod one_thread;
 #[cfg(test)]
 mod opening;
 #[cfg(test)]
 mod owners;
 #[cfg(test)]
-mod remembering;
-#[cfg(test)]
 mod rows;
-#[cfg(test)]
-mod same;
 #[cfg(test)]
 mod stops;
 #[cfg(test)]

@@ -4,14 +4,14 @@ ghost use Rattle.std.specs.Prelude.{◌≡◌};
 ghost use Rattle.msg_tables.specs.Origin.{class_total};
 
 use crate::asker::Asker;
+use crate::counts::five;
 use crate::exchange::an_exchange_is_seen_below;
 use crate::images::{CHILD, GRAND, ROOT, selector};
 use crate::opening::{Steps, open};
-use crate::same::{five, same};
 use msg_dispatch::{ArenaName, Changer, Dispatcher, Receipt};
 use msg_image::Change;
 use msg_names::{ClassRef, ImpRef, Selector};
-use msg_samples::{IMAGE, SMALL};
+use msg_samples::{IMAGE, SMALL, same};
 use msg_tables::ChangeFault;
 use std::process::Abort;
 use std::sync::Wait;

@@ -8,7 +8,7 @@ ghost use Rattle.msg_runtime.specs.Parts.{IsKeeperOf, keeper_history};
 use crate::asker::Asker;
 use crate::images::{image, opened};
 use crate::one_thread::{self, Row};
-use crate::{remembering, threads};
+use crate::{noting, threads};
 use msg_cache::{Arena, Keeper};
 use msg_dispatch::{ArenaName, Dispatcher};
 use msg_image::Image;
@@ -22,8 +22,7 @@ use std::thread::Threads;
 #[derive(Clone, Copy)]
 pub(crate) enum Steps {
     InOneThread(Row),
-    RememberPlaces,
-    RememberASite,
+    Note,
     AskBesideExchanges,
     AskBesideAdditions,
 }
@@ -56,8 +55,7 @@ fn take<N: ArenaName + Send + Sync, R: Threads + Wait + Abort + Sync>(
 {
     match steps {
         Steps::InOneThread(row) => in_one_thread(rt, dispatcher, image, row),
-        Steps::RememberPlaces => remembering::remembers(rt, alloc, dispatcher, image),
-        Steps::RememberASite => remembering::notes_at_a_site(rt, dispatcher, image),
+        Steps::Note => noting::notes(rt, alloc, dispatcher, image),
         Steps::AskBesideExchanges => {
             threads::all_ask_beside_exchanges(rt, alloc, dispatcher, image);
         }

@@ -41,10 +41,6 @@ expression_of-array v values is = ap (λ w. expression_of (view w)) is ∙ ap ex
 pub reading_there : {A : Type 0} (vs : List (Value A)) (i : ℕ) (v : Value A) → i < length vs → v ≡ get_or vs i v → slice_get (map expression_of (map view vs)) i ≡ Some (expression_of (view v))
 reading_there vs i v lt at = slice_get-map expression_of (map view vs) i ∙ ap (option_map expression_of) (value_there vs i v lt at)
 
--- there is no expression past the end
-pub no_reading : {A : Type 0} (vs : List (Value A)) (i : ℕ) → length vs ≤ i → at i (map expression_of (map view vs)) ≡ None
-no_reading vs i past = ap (λ o. o >>= λ e. e) (slice_get_past (map expression_of (map view vs)) i (omega (arith, length-map (map view vs) expression_of, length-map vs view)))
-
 pub reading_is : {A : Type 0} (vs : List (Value A)) (i : ℕ) (v : Value A) → i < length vs → v ≡ get_or vs i v → at i (map expression_of (map view vs)) ≡ expression_of (view v)
 reading_is vs i v lt there = ap (λ o. o >>= λ e. e) (reading_there vs i v lt there)
 

@@ -12,14 +12,6 @@ abbrev Rise : ℕ → List Condition → Type 0
 Rise least [] = Unit {0}
 Rise least (c ∷ cs) = (least ≤ document_fault_number c.0) × Rise (document_fault_number c.0) cs
 
-not_below : (least : ℕ) (cs : List Condition) (f : Form) (told : DocumentFault) → Rise least cs → first_of cs f ≡ Some told → least ≤ document_fault_number told
-not_below least [] f told rise e = cc
-not_below least (c ∷ cs) f told rise e = at_test (c.1 f) e (λ rest. not_below (document_fault_number c.0) cs f told rise.1 rest)
-  where
-    at_test : (b : Bool) → cond b (Some c.0) (first_of cs f) ≡ Some told → (first_of cs f ≡ Some told → document_fault_number c.0 ≤ document_fault_number told) → least ≤ document_fault_number told
-    at_test true h later = let same = ap document_fault_number (same_Some c.0 told h) in omega (arith, same, rise.0)
-    at_test false h later = omega (arith, rise.0, later h)
-
 -- the fault of a condition that is met isn't below the one that is told
 at_most : (least place : ℕ) (cs : List Condition) (f : Form) (told : DocumentFault) (c : Condition) → Rise least cs → first_of cs f ≡ Some told → slice_get cs place ≡ Some c → c.1 f ≡ true → document_fault_number told ≤ document_fault_number c.0
 at_most least place [] f told c rise e at met = cc

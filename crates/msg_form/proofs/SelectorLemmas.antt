@@ -10,9 +10,6 @@ use Rattle.msg_form.specs.Walk.{list_texts}
 use Rattle.msg_form.specs.declared.form.Pair.{Pair}
 use Rattle.msg_form.proofs.AnyLemmas.{list_any-map}
 
-pub any_text : (p : Text → Bool) (ts us : List (Bor Text)) (all : List Text) (r : Bool) → us ≡ ts → texts_view ts ≡ all → r ≡ list_any (λ t. p t.now) us → r ≡ list_any p all
-any_text p ts us all r same is e = e ∙ ap (list_any (λ t. p t.now)) same ∙ sym (list_any-map p (λ t. t.now) ts) ∙ ap (list_any p) is
-
 -- a selector stands twice in one of the lists
 pub list_repeats : (lists : List (Bor (List Pair))) (all : List (List PairForm)) → lists_view lists ≡ all → list_any (λ l. has_duplicate (map (λ p. p.selector.now) l.now)) lists ≡ list_any (λ l. has_duplicate (list_texts l)) all
 list_repeats lists all is =

@@ -117,33 +117,12 @@ length-distinct texts = let all = on [] texts in omega (arith, all)
     on names [] = omega arith
     on names (t ∷ ts) = let rest = on (with_name names t) ts in let first = one names t (is_among t names) in omega (arith, rest, first)
 
-was_absent : (b a : Bool) → b ≡ not a → b ≡ true → a ≡ false
-was_absent b false e f = refl
-was_absent b true e f = cc
-
--- a turn of the loop over the parts with the keys f, where the key is a new one
-pub repeats_on : {A : Type 0} (f : A → Text) (xs : List A) (i : ℕ) (x : A) (t : Text) (added : Bool) (seen after : List Text) (whole : Bool) → i < length xs → x ≡ get_or xs i x → t ≡ f x
-    → added ≡ not (is_among t seen) → added ≡ true → after ≡ with_name seen t → repeats seen (map f (drop i xs)) ≡ whole → repeats after (map f (drop (i + 1) xs)) ≡ whole
-repeats_on f xs i x t added seen after whole lt at is put new grown so_far =
-    let left : map f (drop i xs) ≡ t ∷ map f (drop (i + 1) xs) = rw (add-one, is) (ap (map f) (drop-cons xs i x lt ∙ ap (λ y. y ∷ drop (suc i) xs) (sym at))) in
-    let rest = map f (drop (i + 1) xs) in
-    let step : repeats seen (map f (drop i xs)) ≡ repeats (with_name seen t) rest = ap (repeats seen) left ∙ repeats-step seen t rest ∙ ap (λ b. b || repeats (with_name seen t) rest) (was_absent added (is_among t seen) put new) in
-    ap (λ ns. repeats ns rest) grown ∙ sym step ∙ so_far
-
 -- a turn of the loop that adds the keys
 pub added_on : {A : Type 0} (f : A → Text) (xs : List A) (i : ℕ) (x : A) (t : Text) (seen after whole : List Text) → i < length xs → x ≡ get_or xs i x → t ≡ f x → after ≡ with_name seen t
     → fold with_name seen (map f (drop i xs)) ≡ whole → fold with_name after (map f (drop (i + 1) xs)) ≡ whole
 added_on f xs i x t seen after whole lt at is grown so_far =
     let left : map f (drop i xs) ≡ t ∷ map f (drop (i + 1) xs) = rw (add-one, is) (ap (map f) (drop-cons xs i x lt ∙ ap (λ y. y ∷ drop (suc i) xs) (sym at))) in
     ap (λ ns. fold with_name ns (map f (drop (i + 1) xs))) grown ∙ sym (ap (fold with_name seen) left) ∙ so_far
-
--- some cited name is none of the set's, which are the names f of the parts xs as g shows them
-pub unknown-distinct : {A B : Type 0} (f : B → Text) (g : A → B) (xs ys : List A) (set cited : List Text) (r : Bool) → xs ≡ ys → set ≡ distinct (map (λ x. f (g x)) xs) → r ≡ list_any (is_unknown set) cited → r ≡ list_any (is_unknown (map f (map g ys))) cited
-unknown-distinct f g xs ys set cited r same is e =
-    let names = map f (map g ys) in
-    let given : set ≡ distinct names = is ∙ ap (λ zs. distinct (map (λ x. f (g x)) zs)) same ∙ ap distinct (sym (map-map f g ys)) in
-    let tests : is_unknown (distinct names) ≡ is_unknown names = λ i n. not (is_among-distinct n names i) in
-    e ∙ ap (λ s. list_any (is_unknown s) cited) given ∙ ap (λ p. list_any p cited) tests
 
 -- names that are added take none away
 pub fold_grows : (names texts : List Text) → length names ≤ length (fold with_name names texts)

@@ -3,7 +3,6 @@
 ghost use Rattle.std.specs.Prelude.{◌≡◌, ◌<◌, length};
 ghost use Rattle.msg_image.specs.Opened.{origin_of};
 ghost use Rattle.msg_tables.specs.Origin.{class_total};
-ghost use Rattle.msg_memory.specs.Remembered.{IsSiteOf};
 ghost use Rattle.msg_runtime.specs.Parts.{IsKeeperOf, keeper_history};
 ghost use Rattle.msg_tables.specs.History.{empty};
 
@@ -11,7 +10,7 @@ use crate::document::image;
 use crate::load::{Load, QUERY_COUNT, Queries, drawn};
 use anyhow::{Context, Result, bail};
 use msg_cache::{Arena, Config, Keeper};
-use msg_dispatch::{ArenaName, Dispatcher, Recalling, Sender, Site};
+use msg_dispatch::{ArenaName, Dispatcher, Recalling, Sender};
 use msg_image::Image;
 use msg_tables::Tables;
 use std::alloc::Global;
@@ -25,16 +24,12 @@ pub(crate) enum Way {
     Tables,
     /// By a sender that probes the cache of the class.
     Probe,
-    /// By a sender with a memory.
-    Memory,
+    /// By a sender with notes of its own.
+    Notes,
     /// The same, first by a call that can't wait.
     Recalled,
     /// The same, once it knows how many changes there are.
     Refreshed,
-    /// By a sender, at a site that meets each question.
-    Site,
-    /// By a sender, at a site that meets one question.
-    Spot,
 }
 
 impl Way {
@@ -42,11 +37,9 @@ impl Way {
         match word {
             "tables" => Some(Way::Tables),
             "probe" => Some(Way::Probe),
-            "memory" => Some(Way::Memory),
+            "notes" => Some(Way::Notes),
             "recalled" => Some(Way::Recalled),
             "refreshed" => Some(Way::Refreshed),
-            "site" => Some(Way::Site),
-            "spot" => Some(Way::Spot),
             _ => None,
         }
     }
@@ -55,14 +48,14 @@ impl Way {
 // Enough for all that is cached, with room to grow.
 const ARRAYS: [u16; 9] = [32, 32, 32, 32, 0, 0, 0, 0, 0];
 
-// A sender with a memory, of an image of 32 classes.
+// A sender with notes, of an image of 32 classes.
 #[derive(Drop)]
-struct Rememberer<'d, N: ArenaName> {
+struct Noter<'d, N: ArenaName> {
     sender: Recalling<'d, N>,
     ghost all: { class_total sender.seen.front.origin ≡ 32 },
 }
 
-impl<N: ArenaName> Rememberer<'_, N> {
+impl<N: ArenaName> Noter<'_, N> {
     fn find<R: Wait>(&mut self, rt: &R, queries: &Queries, lookups: u64) -> u64 {
         let all = queries.all();
         let mut sum = 0u64;
@@ -101,13 +94,11 @@ impl<N: ArenaName> Rememberer<'_, N> {
     }
 }
 
-// A sender, of an image of 32 classes, with a site.
+// A sender, of an image of 32 classes.
 #[derive(Drop)]
 struct Caller<'d, N: ArenaName> {
     sender: Sender<'d, N>,
-    site: Site,
     ghost all: { class_total sender.seen.front.origin ≡ 32 },
-    ghost noted: { IsSiteOf sender.seen.front site },
 }
 
 impl<N: ArenaName> Caller<'_, N> {
@@ -117,32 +108,6 @@ impl<N: ArenaName> Caller<'_, N> {
         for at in 0..lookups {
             let query = all[at as usize % QUERY_COUNT];
             let imp = self.sender.find(rt, query.class, query.sel);
-            sum = sum.wrapping_add(u64::from(imp.number()));
-        }
-        sum
-    }
-
-    fn find_at<R: Wait>(&mut self, rt: &R, queries: &Queries, lookups: u64) -> u64 {
-        let all = queries.all();
-        let mut sum = 0u64;
-        for at in 0..lookups {
-            let query = all[at as usize % QUERY_COUNT];
-            let imp = self
-                .sender
-                .find_at(rt, &mut self.site, query.class, query.sel);
-            sum = sum.wrapping_add(u64::from(imp.number()));
-        }
-        sum
-    }
-
-    // As a place of a program does that sends one selector, to objects of one class.
-    fn find_at_spot<R: Wait>(&mut self, rt: &R, queries: &Queries, lookups: u64) -> u64 {
-        let query = queries.at(0);
-        let mut sum = 0u64;
-        for _at in 0..lookups {
-            let imp = self
-                .sender
-                .find_at(rt, &mut self.site, query.class, query.sel);
             sum = sum.wrapping_add(u64::from(imp.number()));
         }
         sum
@@ -174,21 +139,16 @@ fn sum_by_sender<N: ArenaName, R: Wait>(
     requires { class_total N.arena.key.origin ≡ 32 }
 {
     let sender = dispatcher.sender(rt)?;
-    if let Way::Probe | Way::Site | Way::Spot = way {
-        let site = Site::new();
-        let mut caller = Caller { sender, site };
-        return Ok(match way {
-            Way::Site => caller.find_at(rt, queries, lookups),
-            Way::Spot => caller.find_at_spot(rt, queries, lookups),
-            _ => caller.find(rt, queries, lookups),
-        });
+    if let Way::Probe = way {
+        let mut caller = Caller { sender };
+        return Ok(caller.find(rt, queries, lookups));
     }
-    let sender = Recalling::new(alloc, sender).ok().context("a memory")?;
-    let mut rememberer = Rememberer { sender };
+    let sender = Recalling::new(alloc, sender).ok().context("notes")?;
+    let mut noter = Noter { sender };
     Ok(match way {
-        Way::Recalled => rememberer.recall_or_find(rt, queries, lookups),
-        Way::Refreshed => rememberer.find_refreshed(rt, queries, lookups),
-        _ => rememberer.find(rt, queries, lookups),
+        Way::Recalled => noter.recall_or_find(rt, queries, lookups),
+        Way::Refreshed => noter.find_refreshed(rt, queries, lookups),
+        _ => noter.find(rt, queries, lookups),
     })
 }
 

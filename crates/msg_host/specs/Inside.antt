@@ -1,5 +1,5 @@
 -- The fields of what handles hold.
-use Rattle.std.specs.Prelude.{◌≡◌, ◌≤◌, length, IfSome}
+use Rattle.std.specs.Prelude.{◌≡◌, ◌≤◌}
 use Rattle.std.specs.Arc.{arc_value}
 use Rattle.msg_tables.specs.declared.limits.TheConstants.{MAX_CLASSES}
 use Rattle.msg_cache.specs.Views.{IsSenderOf, classes}
@@ -21,13 +21,11 @@ pub record AreOfOne (r : RuntimeInside) : Type 0 where
 
 -- what contracts see of a sender
 abbrev pub sender_view : SenderInside → SenderView
-sender_view s = record { arena = arc_value s.arena; seen = s.prober.sender }
+sender_view s = record { arena = arc_value s.arena; seen = s.reader.sender }
 
 -- the invariant of senders
 pub record IsOfArena (s : SenderInside) : Type 0 where
-  pub prober : IsSenderOf (arc_value s.arena) s.prober
-  pub origin : s.prober.sender.front.origin ≡ (arc_value s.arena).key.origin
+  pub reader : IsSenderOf (arc_value s.arena) s.reader
+  pub origin : s.reader.sender.front.origin ≡ (arc_value s.arena).key.origin
   pub classes : s.classes ≡ classes (arc_value s.arena)
   pub few_classes : s.classes ≤ MAX_CLASSES
-  -- how many changes were seen, where it is known
-  pub count : IfSome s.count (λ n. n ≡ length s.prober.sender.front.changes)

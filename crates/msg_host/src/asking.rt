@@ -11,34 +11,34 @@ use crate::runtime::HostedRuntime;
 use msg_names::ClassRef;
 
 impl HostedRuntime {
-    /// As `lookup`.
-    pub fn lookup_by(&self, class: u32, meta: bool, sel: u32) -> Result<u32, AskFault>
+    /// `class_getMethodImplementation`: the number of the implementation that a lookup finds now, or of forwarding. No cache is looked at or filled.
+    pub fn lookup(&self, class: u32, meta: bool, sel: u32) -> Result<u32, AskFault>
         ensures found { IfOk result (λ i. i ≡ lookup self.now.history (record { class = class; meta = meta }) sel) }
         ensures listed { IfOk result (λ i. i ≤ last_imp self.now.history.origin.counts) }
         ensures ok { OnOk result (ask_fault (classes self.now.arena) class sel ≡ None) }
         ensures err { IfErr result (λ f. ask_fault (classes self.now.arena) class sel ≡ Some f) }
     {
         let (class, sel) = asked(self.class_count(), class, meta, sel)?;
-        Ok(self.lookup(class, sel).number())
+        Ok(self.runtime.lookup(class, sel).number())
     }
 
-    /// As `holder`.
-    pub fn holder_by(&self, class: u32, meta: bool, sel: u32) -> Result<Option<ClassRef>, AskFault>
+    /// The class reference at which the method stands that `class_getInstanceMethod` finds.
+    pub fn holder(&self, class: u32, meta: bool, sel: u32) -> Result<Option<ClassRef>, AskFault>
         ensures found { IfOk result (λ p. p ≡ holder self.now.history (record { class = class; meta = meta }) sel) }
         ensures ok { OnOk result (ask_fault (classes self.now.arena) class sel ≡ None) }
         ensures err { IfErr result (λ f. ask_fault (classes self.now.arena) class sel ≡ Some f) }
     {
         let (class, sel) = asked(self.class_count(), class, meta, sel)?;
-        Ok(self.holder(class, sel))
+        Ok(self.runtime.holder(class, sel))
     }
 
-    /// As `superclass`.
-    pub fn superclass_by(&self, class: u32, meta: bool) -> Result<Option<ClassRef>, AskFault>
+    /// `class_getSuperclass`.
+    pub fn superclass(&self, class: u32, meta: bool) -> Result<Option<ClassRef>, AskFault>
         ensures found { IfOk result (λ above. above ≡ superclass self.now.history (record { class = class; meta = meta })) }
         ensures ok { OnOk result (ask_fault (classes self.now.arena) class 1 ≡ None) }
         ensures err { IfErr result (λ f. ask_fault (classes self.now.arena) class 1 ≡ Some f) }
     {
         let class = asked_class(self.class_count(), class, meta)?;
-        Ok(self.superclass(class))
+        Ok(self.runtime.superclass(class))
     }
 }

@@ -3,14 +3,14 @@
 ghost use Rattle.std.specs.Prelude.{◌≡◌, ◌≢◌, ◌<◌, ◌≤◌, ◌*◌, length, replicate, None, Some, IfOk, IfErr, IsErrOf, OnErr, OnOk, false, true};
 ghost use Rattle.msg_names.specs.Number.{selector_number, imp_number};
 ghost use Rattle.msg_tables.specs.Origin.{last_imp};
-ghost use Rattle.msg_tables.specs.History.{BeginsWith, and_then, holder, lookup, superclass};
+ghost use Rattle.msg_tables.specs.History.{BeginsWith, and_then, lookup};
 ghost use Rattle.msg_tables.specs.Marking.{MarksAffected};
 ghost use Rattle.msg_tables.specs.Refusal.{refusal};
 ghost use Rattle.msg_tables.specs.declared.fault.ChangeFault.{ChangeFault};
 ghost use Rattle.msg_cache.specs.Counts.{AreCounts};
 ghost use Rattle.msg_cache.specs.Views.{classes};
 ghost use Rattle.msg_names.specs.ClassRef.{slot_of};
-ghost use Rattle.msg_memory.specs.Remembered.{IsMemoryOf, recalled};
+ghost use Rattle.msg_reader.specs.Notes.{AreNotesOf, recalled};
 ghost use Rattle.msg_host.specs.Config.{is_beyond};
 ghost use Rattle.msg_host.specs.Opening.{OpensAs};
 ghost use Rattle.msg_host.specs.declared.fault.OpenFault.{OpenFault};
@@ -20,9 +20,9 @@ use crate::fault::{OpenFault, SenderFault};
 use crate::opening::opened;
 use crate::sender::HostedSender;
 use msg_cache::{Arena, Report, Turn};
-use msg_memory::Memory;
-use msg_memory::laws::{a_longer_history_has_what_is_remembered, a_slot_of_few_classes_is_short};
 use msg_names::{ClassRef, ImpRef, Selector};
+use msg_reader::Notes;
+use msg_reader::laws::a_slot_of_few_classes_is_short;
 use msg_runtime::Runtime;
 use msg_tables::{Change, ChangeFault, Marks};
 use std::alloc::{AllocError, Global};
@@ -35,7 +35,7 @@ use std::sync::Arc;
 #[derive(Drop)]
 pub struct HostedRuntime {
     arena: Arc<Arena, Global>,
-    runtime: Runtime,
+    pub(crate) runtime: Runtime,
     turn: Turn,
     // how many class numbers are reserved
     classes: u32,
@@ -86,31 +86,6 @@ impl HostedRuntime {
         ensures origin { self.now.history.origin ≡ self.now.arena.key.origin }
     {
         self.classes
-    }
-
-    /// `class_getMethodImplementation`: the implementation that a lookup finds now, or forwarding. No cache is looked at or filled.
-    pub fn lookup(&self, class: ClassRef, sel: Selector) -> ImpRef
-        requires class { class.class < classes self.now.arena }
-        ensures found { imp_number result ≡ lookup self.now.history class (selector_number sel) }
-        ensures listed { imp_number result ≤ last_imp self.now.history.origin.counts }
-    {
-        self.runtime.lookup(class, sel)
-    }
-
-    /// The class reference at which the method stands that `class_getInstanceMethod` finds.
-    pub fn holder(&self, class: ClassRef, sel: Selector) -> Option<ClassRef>
-        requires class { class.class < classes self.now.arena }
-        ensures { result ≡ holder self.now.history class (selector_number sel) }
-    {
-        self.runtime.holder(class, sel)
-    }
-
-    /// `class_getSuperclass`.
-    pub fn superclass(&self, class: ClassRef) -> Option<ClassRef>
-        requires class { class.class < classes self.now.arena }
-        ensures { result ≡ superclass self.now.history class }
-    {
-        self.runtime.superclass(class)
     }
 
     /// Marks for the class references, none of them marked.
@@ -165,27 +140,26 @@ impl HostedRuntime {
         ensures front { IfOk result (λ s. s.seen.front ≡ self.old.history) }
     {
         let arena = Arc::try_clone(&self.arena)?;
-        let Some(prober) = self.runtime.sender(&self.arena) else {
+        let Some(reader) = self.runtime.sender(&self.arena) else {
             return Err(SenderFault::NoneFree);
         };
         Ok(HostedSender {
             arena,
-            prober,
+            reader,
             classes: self.classes,
-            count: None,
         })
     }
 
-    /// `lookUpImpOrForward`: answers what a sender's probe missed, caches it, and notes it in the sender's memory. The sender has then seen the whole history.
-    pub fn answer(
+    // Answers what a sender missed, caches it, and notes it. The sender has then seen the whole history.
+    pub(crate) fn answer(
         &mut self,
         sender: &mut HostedSender,
-        memory: &mut Memory,
+        notes: &mut Notes,
         class: ClassRef,
         sel: Selector,
     ) -> ImpRef
         requires sender { sender.old.arena ≡ self.old.arena }
-        requires memory { IsMemoryOf sender.old.seen.front memory.old }
+        requires notes { AreNotesOf sender.old.seen.front notes.old }
         requires class { class.class < classes self.old.arena }
         ensures same { self.new ≡ self.old }
         ensures arena { sender.new.arena ≡ sender.old.arena }
@@ -193,19 +167,12 @@ impl HostedRuntime {
         ensures front { sender.new.seen.front ≡ self.old.history }
         ensures found { imp_number result ≡ lookup self.old.history class (selector_number sel) }
         ensures listed { imp_number result ≤ last_imp self.old.history.origin.counts }
-        ensures memory { IsMemoryOf self.old.history memory.new }
-        ensures noted { recalled memory.new (length self.old.history.changes) (slot_of class) (selector_number sel) ≡ imp_number result }
+        ensures notes { AreNotesOf self.old.history notes.new }
+        ensures noted { recalled notes.new (length self.old.history.changes) (slot_of class) (selector_number sel) ≡ imp_number result }
     {
-        a_longer_history_has_what_is_remembered();
         a_slot_of_few_classes_is_short();
-        sender.count = None;
-        let imp = self
-            .runtime
-            .answer(&self.arena, &mut sender.prober, class, sel);
-        let count = self.runtime.count();
-        memory.keep(count, class, sel, imp);
-        sender.count = Some(count);
-        imp
+        self.runtime
+            .answer_noted(&self.arena, &mut sender.reader, notes, class, sel)
     }
 
     /// A sender has then seen the whole history, which begins with what it had seen.
@@ -216,10 +183,8 @@ impl HostedRuntime {
         ensures begins { BeginsWith self.old.history sender.old.seen.front }
         ensures front { sender.new.seen.front ≡ self.old.history }
     {
-        sender.count = None;
         self.runtime
-            .meet(&self.arena, &mut self.turn, &mut sender.prober);
-        sender.count = Some(self.runtime.count());
+            .meet(&self.arena, &mut self.turn, &mut sender.reader);
     }
 
     /// Takes a sender back. The number of one that is dropped stays used.
@@ -227,7 +192,7 @@ impl HostedRuntime {
         requires sender { sender.arena ≡ self.old.arena }
         ensures same { self.new ≡ self.old }
     {
-        let HostedSender { prober, .. } = sender;
-        self.runtime.finish(&self.arena, prober);
+        let HostedSender { reader, .. } = sender;
+        self.runtime.finish(&self.arena, reader);
     }
 }

@@ -3,5 +3,3 @@
 
 #[cfg(test)]
 mod host_machine;
-#[cfg(test)]
-mod same;

@@ -93,13 +93,6 @@ depth-above image k sound inside = at (super_of (superclasses image) k) refl
     at None e = depth-root (superclasses image) k e
     at (Some d) e = let n = length-map image.classes (λ (c : ClassParts). c.superclass) in depth-step (superclasses image) k d sound.chains (omega (arith, inside, n)) e
 
--- the superclass of a listed class
-pub superclass_seen : (image : ImageParts) (c : ClassRef) (d : Option ℕ) → slice_get (superclasses image) c.class ≡ Some d → superclass_in image c ≡ above c d
-superclass_seen image c d at =
-    let inside : c.class < length image.classes = let n = length-map image.classes (λ (k : ClassParts). k.superclass) in let m = slice_get_within (superclasses image) c.class d at in omega (arith, n, m) in
-    let (k, here) = element image.classes c.class inside in
-    superclass_in-at image c k d here (same_Some k.superclass d (sym (slice_get-map (λ (e : ClassParts). e.superclass) image.classes c.class ∙ ap (option_map (λ (e : ClassParts). e.superclass)) here) ∙ at))
-
 module _ (i : Inside) (image : ImageParts) (view_is : image_parts i ≡ image) (kept : IsKept i) where
   pub sound : IsSound image
   sound = subst IsSound view_is kept.sound

@@ -57,8 +57,5 @@ not_readable o j rest is some = rw is (unlast rest)
     unlast [] = rw some at (readable j)
     unlast (t ∷ ts) = refl
 
-pub not_last : (o : Option (json.Json × List Token)) (j : json.Json) (rest : List Token) (t : Token) (more : List Token) → o ≡ Some (j, rest) → rest ≡ t ∷ more → whole o ≡ None
-not_last o j rest t more is next = rw (is, next) refl
-
 pub refused : (o : Option (json.Json × List Token)) → o ≡ None → whole o ≡ None
 refused o none = rw none refl

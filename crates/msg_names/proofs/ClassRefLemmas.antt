@@ -14,10 +14,6 @@ slot_of-inside c classes slots e inside = at_meta c.meta
     at_meta true = omega arith
     at_meta false = omega arith
 
--- and one that isn't listed has none
-pub slot_of-outside : (c : ClassRef) (classes slots : ℕ) → slots ≡ 2 * classes → classes ≤ c.class → slots ≤ slot_of c
-slot_of-outside c classes slots e outside = omega arith
-
 -- two class references have two slots
 pub slot_of-same : (c d : ClassRef) → slot_of c ≡ slot_of d → c ≡ d
 slot_of-same c d e =

@@ -28,10 +28,6 @@ in_range n i few = get_or-range_with_len 0 n i 0 few ∙ zero-add i
 
 -- ---- depths
 
--- one more stands above a class than above its superclass
-pub depth-more : (n : ℕ) (supers : List (Option ℕ)) (k d m : ℕ) → super_of supers k ≡ Some d → depth_up n supers d ≡ m → depth_up (suc n) supers k ≡ suc m
-depth-more n supers k d m up e = ap (λ o. option_map_or (λ x. suc (depth_up n supers x)) o 0) up ∙ ap suc e
-
 -- no more are counted than may be
 pub depth-most : (n : ℕ) (supers : List (Option ℕ)) (k : ℕ) → depth_up n supers k ≤ n
 depth-most zero supers k = omega arith

@@ -11,17 +11,17 @@ use std::alloc::Global;
 use std::marker::Model;
 use std::sync::Wait;
 
-// For fewer sends a memory isn't worth its making.
-const SENDS_FOR_A_MEMORY: usize = 16;
+// For fewer sends notes aren't worth their making.
+const SENDS_FOR_NOTES: usize = 16;
 
-// A sender, with a memory or without.
+// A sender, with notes or without.
 #[derive(Drop)]
 enum Kind<'d, N: ArenaName> {
     Plain(Sender<'d, N>),
-    Remembering(Recalling<'d, N>),
+    Noting(Recalling<'d, N>),
 }
 
-// A sender, with a memory where one is worth its making. Contracts see it as the sender.
+// A sender, with notes where they are worth their making. Contracts see it as the sender.
 #[derive(Drop)]
 pub(crate) struct Asker<'d, N: ArenaName> {
     kind: Kind<'d, N>,
@@ -42,39 +42,39 @@ impl<'d, N: ArenaName> Model for Asker<'d, N> {
 }
 
 impl<'d, N: ArenaName> Asker<'d, N> {
-    // The sender for so many sends. Where a memory can't be had it goes without one.
+    // The sender for so many sends. Where notes can't be had it goes without.
     pub(crate) fn of(alloc: Global, sender: Sender<'d, N>, sends: usize) -> Asker<'d, N>
         ensures { result ≡ sender.entry }
     {
-        let kind = if sends < SENDS_FOR_A_MEMORY {
+        let kind = if sends < SENDS_FOR_NOTES {
             Kind::Plain(sender)
         } else {
             match Recalling::new(alloc, sender) {
-                Ok(sender) => Kind::Remembering(sender),
+                Ok(sender) => Kind::Noting(sender),
                 Err(sender) => Kind::Plain(sender),
             }
         };
         Asker { kind }
     }
 
-    // The sender without its memory.
+    // The sender without its notes.
     pub(crate) fn into_sender(self) -> Sender<'d, N>
         ensures { result ≡ self.entry }
     {
         match self.kind {
             Kind::Plain(sender) => sender,
-            Kind::Remembering(sender) => sender.into_sender(),
+            Kind::Noting(sender) => sender.into_sender(),
         }
     }
 
-    // What it remembers of the point at which the sender stands. It waits for nothing.
+    // What it has noted of the point at which the sender stands. It waits for nothing.
     #[inline]
     pub(crate) fn recall(&self, class: ClassRef, sel: Selector) -> Option<ImpRef>
         ensures found { IfSome result (λ i. imp_number i ≡ lookup self.now.seen.front class (selector_number sel)) }
         ensures listed { IfSome result (λ i. imp_number i ≤ last_imp self.now.seen.front.origin.counts) }
     {
         match &self.kind {
-            Kind::Remembering(sender) => sender.recall(class, sel),
+            Kind::Noting(sender) => sender.recall(class, sel),
             Kind::Plain(_) => None,
         }
     }
@@ -89,7 +89,7 @@ impl<'d, N: ArenaName> Asker<'d, N> {
         ensures listed { imp_number result ≤ last_imp self.new.seen.front.origin.counts }
     {
         match &mut self.kind {
-            Kind::Remembering(sender) => sender.find(rt, class, sel),
+            Kind::Noting(sender) => sender.find(rt, class, sel),
             Kind::Plain(sender) => sender.find(rt, class, sel),
         }
     }
@@ -100,7 +100,7 @@ impl<'d, N: ArenaName> Asker<'d, N> {
         ensures length { result ≡ length self.new.seen.front.changes }
     {
         match &mut self.kind {
-            Kind::Remembering(sender) => sender.refresh(),
+            Kind::Noting(sender) => sender.refresh(),
             Kind::Plain(sender) => sender.published(),
         }
     }

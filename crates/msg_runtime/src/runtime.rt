@@ -10,12 +10,15 @@ ghost use Rattle.msg_tables.specs.declared.fault.ChangeFault.{ChangeFault};
 ghost use Rattle.msg_cache.specs.Counts.{AreCounts, after_refusal};
 ghost use Rattle.msg_cache.specs.Plays.{given_out, taken_in, lent, is_lent};
 ghost use Rattle.msg_cache.specs.Views.{classes, layout, IsSenderOf};
+ghost use Rattle.msg_reader.specs.Notes.{AreNotesOf, IsNoted};
 ghost use Rattle.msg_runtime.specs.Parts.{IsKeeperOf, AnswersMiss, IsNew, AreOut, keeper_history, keeper_view, keeper_remembered, keeper_report};
 
 use crate::caching::cache_found;
 use crate::flushing::flush_reached;
-use msg_cache::{Arena, Keeper, Prober, Report, Turn};
+use msg_cache::{Arena, Keeper, Report, Turn};
 use msg_names::{ClassRef, ImpRef, Selector};
+use msg_reader::laws::notes_are_of_longer_histories;
+use msg_reader::{Notes, Reader};
 use msg_tables::laws::{an_accepted_change_is_within_the_limit, tables_are_of_their_origin};
 use msg_tables::{Below, Change, ChangeFault, HasOrigin, Marks, Origin, Tables};
 use std::alloc::{AllocError, Global};
@@ -93,25 +96,25 @@ impl Runtime {
         })
     }
 
-    /// Answers a lookup that a prober missed, from the tables, and caches the answer. The prober has then seen the whole history.
+    /// Answers a lookup that a reader missed, from the tables, and caches the answer. The reader has then seen the whole history.
     pub fn answer(
         &mut self,
         arena: &Arena,
-        prober: &mut Prober,
+        reader: &mut Reader,
         class: ClassRef,
         sel: Selector,
     ) -> ImpRef
         requires arena { arena.now ≡ self.old.arena }
-        requires prober { IsSenderOf self.old.arena prober.old }
+        requires reader { IsSenderOf self.old.arena reader.old }
         requires class { class.class < classes self.old.arena }
         ensures arena { self.new.arena ≡ self.old.arena }
         ensures history { self.new.keeper.history ≡ self.old.keeper.history }
         ensures remembered { self.new.remembered ≡ self.old.remembered }
-        ensures cached { AnswersMiss (layout self.old.arena) self.old.remembered class (selector_number sel) (imp_number result) prober.old.sender self.old.keeper self.new.keeper self.old.report self.new.report }
-        ensures prober { IsSenderOf self.old.arena prober.new }
-        ensures number { prober.new.sender.number ≡ prober.old.sender.number }
-        ensures begins { BeginsWith self.old.keeper.history prober.old.sender.front }
-        ensures front { prober.new.sender.front ≡ self.old.keeper.history }
+        ensures cached { AnswersMiss (layout self.old.arena) self.old.remembered class (selector_number sel) (imp_number result) reader.old.sender self.old.keeper self.new.keeper self.old.report self.new.report }
+        ensures reader { IsSenderOf self.old.arena reader.new }
+        ensures number { reader.new.sender.number ≡ reader.old.sender.number }
+        ensures begins { BeginsWith self.old.keeper.history reader.old.sender.front }
+        ensures front { reader.new.sender.front ≡ self.old.keeper.history }
         ensures origin { self.old.keeper.history.origin ≡ self.old.arena.key.origin }
         ensures found { imp_number result ≡ lookup self.old.keeper.history class (selector_number sel) }
         ensures listed { imp_number result ≤ last_imp self.old.arena.key.origin.counts }
@@ -119,7 +122,40 @@ impl Runtime {
         tables_are_of_their_origin();
         let imp = self.tables.lookup(class, sel);
         cache_found(&mut self.keeper, arena, class, sel, imp);
-        self.keeper.renew(arena, prober);
+        reader.renew(arena, &mut self.keeper);
+        imp
+    }
+
+    /// The same, and notes the answer.
+    pub fn answer_noted(
+        &mut self,
+        arena: &Arena,
+        reader: &mut Reader,
+        notes: &mut Notes,
+        class: ClassRef,
+        sel: Selector,
+    ) -> ImpRef
+        requires arena { arena.now ≡ self.old.arena }
+        requires reader { IsSenderOf self.old.arena reader.old }
+        requires notes { AreNotesOf reader.old.sender.front notes.old }
+        requires class { class.class < classes self.old.arena }
+        ensures arena { self.new.arena ≡ self.old.arena }
+        ensures history { self.new.keeper.history ≡ self.old.keeper.history }
+        ensures remembered { self.new.remembered ≡ self.old.remembered }
+        ensures cached { AnswersMiss (layout self.old.arena) self.old.remembered class (selector_number sel) (imp_number result) reader.old.sender self.old.keeper self.new.keeper self.old.report self.new.report }
+        ensures reader { IsSenderOf self.old.arena reader.new }
+        ensures number { reader.new.sender.number ≡ reader.old.sender.number }
+        ensures begins { BeginsWith self.old.keeper.history reader.old.sender.front }
+        ensures front { reader.new.sender.front ≡ self.old.keeper.history }
+        ensures origin { self.old.keeper.history.origin ≡ self.old.arena.key.origin }
+        ensures found { imp_number result ≡ lookup self.old.keeper.history class (selector_number sel) }
+        ensures listed { imp_number result ≤ last_imp self.old.arena.key.origin.counts }
+        ensures notes { AreNotesOf self.old.keeper.history notes.new }
+        ensures noted { IsNoted self.old.keeper.history notes.new class (selector_number sel) (imp_number result) }
+    {
+        notes_are_of_longer_histories();
+        let imp = self.answer(arena, reader, class, sel);
+        notes.keep(self.count(), class, sel, imp);
         imp
     }
 
@@ -210,40 +246,40 @@ impl Runtime {
         Ok(self.keeper.commit(arena, turn, change))
     }
 
-    /// A prober of a sender number that isn't given out, where there is one. It has seen the whole history.
+    /// A reader of a sender number that isn't given out, where there is one. It has seen the whole history.
     ///
     /// It looks at the numbers that are out up to the least that isn't.
-    pub fn sender(&mut self, arena: &Arena) -> Option<Prober>
+    pub fn sender(&mut self, arena: &Arena) -> Option<Reader>
         requires arena { arena.now ≡ self.old.arena }
         ensures arena { self.new.arena ≡ self.old.arena }
         ensures remembered { self.new.remembered ≡ self.old.remembered }
         ensures report { self.new.report ≡ cond (is_some result) self.old.report (after_refusal self.old.report) }
-        ensures prober { IfSome result (IsSenderOf self.old.arena) }
-        ensures some { IfSome result (λ p. IsNew p.sender self.old.keeper self.new.keeper) }
-        ensures front { IfSome result (λ p. p.sender.front ≡ self.old.keeper.history) }
+        ensures reader { IfSome result (IsSenderOf self.old.arena) }
+        ensures some { IfSome result (λ r. IsNew r.sender self.old.keeper self.new.keeper) }
+        ensures front { IfSome result (λ r. r.sender.front ≡ self.old.keeper.history) }
         ensures none { IsNone result → AreOut self.old.arena.key.senders self.old.keeper × (self.new.keeper ≡ self.old.keeper) }
         ensures origin { self.old.keeper.history.origin ≡ self.old.arena.key.origin }
     {
         for number in 0..arena.senders() {
             if let Some(prober) = self.keeper.give_out(arena, number) {
-                return Some(prober);
+                return Some(Reader::new(prober, self.keeper.count()));
             }
         }
         self.keeper.refuse(arena);
         None
     }
 
-    /// Takes a prober's number back.
-    pub fn finish(&mut self, arena: &Arena, prober: Prober)
+    /// Takes a reader's number back.
+    pub fn finish(&mut self, arena: &Arena, reader: Reader)
         requires arena { arena.now ≡ self.old.arena }
-        requires prober { IsSenderOf self.old.arena prober }
+        requires reader { IsSenderOf self.old.arena reader }
         ensures arena { self.new.arena ≡ self.old.arena }
         ensures remembered { self.new.remembered ≡ self.old.remembered }
         ensures report { self.new.report ≡ self.old.report }
-        ensures keeper { self.new.keeper ≡ taken_in prober.sender self.old.keeper }
-        ensures begins { BeginsWith self.old.keeper.history prober.sender.front }
+        ensures keeper { self.new.keeper ≡ taken_in reader.sender self.old.keeper }
+        ensures begins { BeginsWith self.old.keeper.history reader.sender.front }
     {
-        self.keeper.take_in(arena, prober);
+        self.keeper.take_in(arena, reader.into_prober());
     }
 
     /// The right to make changes: once, and then none. There was no change before.
@@ -261,25 +297,25 @@ impl Runtime {
         self.keeper.turn(arena)
     }
 
-    /// A prober has then seen the turn's whole history, which begins with what it had seen.
-    pub fn meet(&mut self, arena: &Arena, turn: &mut Turn, prober: &mut Prober)
+    /// A reader has then seen the turn's whole history, which begins with what it had seen.
+    pub fn meet(&mut self, arena: &Arena, turn: &mut Turn, reader: &mut Reader)
         requires arena { arena.now ≡ self.old.arena }
         requires turn { turn.old.table ≡ self.old.arena.table }
-        requires prober { IsSenderOf self.old.arena prober.old }
+        requires reader { IsSenderOf self.old.arena reader.old }
         ensures arena { self.new.arena ≡ self.old.arena }
         ensures remembered { self.new.remembered ≡ self.old.remembered }
         ensures report { self.new.report ≡ self.old.report }
-        ensures keeper { self.new.keeper ≡ given_out prober.old.sender.number (taken_in prober.old.sender (lent self.old.keeper)) }
+        ensures keeper { self.new.keeper ≡ given_out reader.old.sender.number (taken_in reader.old.sender (lent self.old.keeper)) }
         ensures turn { turn.new.table ≡ self.old.arena.table }
-        ensures prober { IsSenderOf self.old.arena prober.new }
-        ensures number { prober.new.sender.number ≡ prober.old.sender.number }
+        ensures reader { IsSenderOf self.old.arena reader.new }
+        ensures number { reader.new.sender.number ≡ reader.old.sender.number }
         ensures was { turn.old.history ≡ self.old.keeper.history }
         ensures is { turn.new.history ≡ self.old.keeper.history }
-        ensures begins { BeginsWith self.old.keeper.history prober.old.sender.front }
-        ensures front { prober.new.sender.front ≡ self.old.keeper.history }
+        ensures begins { BeginsWith self.old.keeper.history reader.old.sender.front }
+        ensures front { reader.new.sender.front ≡ self.old.keeper.history }
     {
         self.keeper.face(arena, turn);
-        self.keeper.renew(arena, prober);
+        reader.renew(arena, &mut self.keeper);
     }
 
     /// How many changes were made.

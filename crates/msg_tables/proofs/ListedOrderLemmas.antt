@@ -1,5 +1,5 @@
 -- The listed classes in their order, and as an image is opened.
-use Rattle.std.proofs.Common.{◌≡◌, ◌<◌, ◌≤◌, ◌+◌, ◌++◌, ℕ, zero, suc, List, [], ◌∷◌, length, map, Option, Some, None, true, slice_get, refl, sym, ap, ap₂, ◌∙◌, length-append, arith}
+use Rattle.std.proofs.Common.{◌≡◌, ◌<◌, ◌+◌, ◌++◌, ℕ, zero, suc, List, [], ◌∷◌, length, map, Option, Some, None, true, slice_get, refl, sym, ap, ap₂, ◌∙◌, length-append, arith}
 use Rattle.std.specs.Prelude.{replicate, is_some}
 use Rattle.std.proofs.lemmas.List.{length-map, length-replicate}
 use Rattle.std.proofs.lemmas.Option.{same_Some}
@@ -63,21 +63,8 @@ opened-at (c ∷ cs) n (suc k) o e = opened-at cs n k o e
 abbrev absent : ℕ → List (Option Presence)
 absent n = replicate n None
 
-none-at : (n k : ℕ) → k < n → slice_get (absent n) k ≡ Some None
-none-at zero k inside = absurd (omega (arith, inside))
-none-at (suc n) zero inside = refl
-none-at (suc n) (suc k) inside = none-at n k (omega (arith, inside))
-
-made-at : (cs : List (Option ℕ)) (n k : ℕ) → length cs ≤ k → k < length cs + n → slice_get (map listed cs ++ replicate n None) k ≡ Some None
-made-at [] n k past inside = none-at n k (omega (arith, inside))
-made-at (c ∷ cs) n zero past inside = absurd (omega (arith, past))
-made-at (c ∷ cs) n (suc k) past inside = made-at cs n k (omega (arith, past)) (omega (arith, inside))
-
 pub opened-class : (o : OriginView) (k : ℕ) (d : Option ℕ) → slice_get o.superclasses k ≡ Some d → slice_get (opened_supers o) k ≡ Some (Some (record { superclass = d }))
 opened-class o k d e = opened-at o.superclasses o.made k d e
-
-pub opened-made : (o : OriginView) (k : ℕ) → length o.superclasses ≤ k → k < class_total o → slice_get (opened_supers o) k ≡ Some None
-opened-made o k past inside = made-at o.superclasses o.made k past inside
 
 pub length-opened : (o : OriginView) → length (opened_supers o) ≡ class_total o
 length-opened o = length-append (map listed o.superclasses) (replicate o.made None) ∙ ap₂ (λ m n. m + n) (length-map o.superclasses listed) (length-replicate o.made None)

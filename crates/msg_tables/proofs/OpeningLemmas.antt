@@ -69,9 +69,6 @@ adds-for o a b more is adds = record {
   limits = ap (λ (t : TablesView). t.limits) adds.rest ∙ is.limits;
 }
 
-pub adds-none : (t : TablesView) → Adds t t []
-adds-none t = record { rows = λ rows holds. subst (Holds t.lists) (sym (append-nil rows)) holds; row_count = omega arith; rest = refl }
-
 kept-blank : (n k : ℕ) → slice_index_or {A = List (ℕ × ℕ)} (replicate n []) k [] ≡ []
 kept-blank zero k = refl
 kept-blank (suc n) zero = refl

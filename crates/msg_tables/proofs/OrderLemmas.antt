@@ -138,20 +138,6 @@ only_present-listed supers c (Some d) e inside = at (is_present supers c.class) 
     at true e = rw (same_Some d c e) inside
     at false e = cc
 
-pub begins-enough : (supers : List (Option Presence)) (order : List ℕ) → IsOrder supers order → (c : ClassRef) (o : Option ClassRef) → o ≡ only_present supers c → Suffices order (length supers) o
-begins-enough supers order is c None e = tt
-begins-enough supers order is c (Some d) e = at (is_present supers c.class) refl e
-  where
-    at : (b : Bool) → is_present supers c.class ≡ b → Some d ≡ cond b (Some c) None → steps_of order d ≤ length supers
-    at true here e = rw (same_Some d c e) (steps_suffice supers order is c here)
-    at false here e = cc
-
--- an element that was read
-pub read-element : (xs : List ℕ) (i k : ℕ) → i < length xs → k ≡ get_or xs i k → slice_get xs i ≡ Some k
-read-element [] i k inside e = absurd (omega (arith, inside))
-read-element (x ∷ xs) zero k inside e = ap Some (sym e)
-read-element (x ∷ xs) (suc i) k inside e = read-element xs i k (omega (arith, inside)) e
-
 pub suffices : (order : List ℕ) (n : ℕ) (o : Option ClassRef) → IfSome o (λ c. steps_of order c ≤ n) → Suffices order n o
 suffices order n None e = tt
 suffices order n (Some c) e = e

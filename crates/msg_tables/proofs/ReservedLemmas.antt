@@ -1,5 +1,5 @@
 -- Lists of rows of which the last ones aren't written.
-use Rattle.std.proofs.Common.{◌≡◌, ◌<◌, ◌≤◌, ◌+◌, ◌-◌, ℕ, zero, suc, List, [], ◌∷◌, ◌++◌, length, length-append, replicate, append_assoc, append-nil, None, refl, sym, ap, ◌∙◌, subst, arith}
+use Rattle.std.proofs.Common.{◌≡◌, ◌<◌, ◌≤◌, ◌+◌, ◌-◌, ℕ, zero, suc, List, [], ◌∷◌, ◌++◌, length, length-append, replicate, append_assoc, None, refl, sym, ap, ◌∙◌, subst, arith}
 use Rattle.std.specs.Prelude.{Bool, true, false, nat_lt, Result, Ok, Err, OnOk, OnErr, IsSome, slice_index_or, slice_set}
 use Rattle.std.proofs.Math.ListN.{length-set}
 use Rattle.std.proofs.lemmas.List.{length-map, length-replicate, map-append, replicate-append-replicate}
@@ -152,9 +152,3 @@ if_err (Err e) err f = f err
 pub on_err : {A B P : Type 0} (r : Result A B) → P → OnErr r P
 on_err (Ok a) p = tt
 on_err (Err e) p = p
-
--- nothing put at the end changes nothing
-pub set-same : (xs : List (List (ℕ × ℕ))) (k : ℕ) → slice_set xs k (slice_index_or xs k [] ++ []) ≡ xs
-set-same [] k = refl
-set-same (x ∷ xs) zero = ap (λ y. y ∷ xs) (append-nil x)
-set-same (x ∷ xs) (suc k) = ap (λ rs. x ∷ rs) (set-same xs k)

@@ -1,5 +1,5 @@
 -- The first of a list, one more at a time.
-use Rattle.std.proofs.Common.{◌≡◌, ◌<◌, ◌≤◌, ◌+◌, ℕ, zero, suc, List, [], ◌∷◌, ◌++◌, take, take_all, drop, append-nil, map, length, Some, option_map, slice_get, refl, ap, ◌∙◌, subst, arith}
+use Rattle.std.proofs.Common.{◌≡◌, ◌<◌, ◌+◌, ℕ, zero, suc, List, [], ◌∷◌, ◌++◌, take, take_all, drop, append-nil, map, length, Some, option_map, slice_get, refl, ap, ◌∙◌, subst, arith}
 use Rattle.std.specs.Prelude.{All}
 use Rattle.std.proofs.lemmas.List.{take_more}
 use Rattle.std.proofs.Math.Seq.{drop-length}
@@ -15,11 +15,6 @@ pub element : {X : Type 0} (xs : List X) (k : ℕ) → k < length xs → (x : X)
 element [] k inside = absurd (omega (arith, inside))
 element (x ∷ xs) zero inside = (x, refl)
 element (x ∷ xs) (suc k) inside = element xs k (omega (arith, inside))
-
-pub length-take_inside : {X : Type 0} (xs : List X) (k : ℕ) → k ≤ length xs → length (take k xs) ≡ k
-length-take_inside xs zero inside = refl
-length-take_inside [] (suc k) inside = absurd (omega (arith, inside))
-length-take_inside (x ∷ xs) (suc k) inside = ap suc (length-take_inside xs k (omega (arith, inside)))
 
 -- a list whose elements were all written
 pub whole : {X : Type 0} (xs ys : List X) (n : ℕ) → length xs ≡ length ys → n ≡ length ys → take n (xs ++ drop (length xs) ys) ≡ xs

@@ -1,8 +1,7 @@
 //! Documents at their limits.
 
 use crate::documents::{EMPTY, FULL, edit_is, edited, listed, number};
-use crate::same::{same, same_at};
-use msg_samples::SMALL;
+use msg_samples::{SMALL, same, same_at};
 use std::alloc::Global;
 use std::process::Abort;
 

@@ -3,6 +3,6 @@ use Rattle.msg_host.specs.View.{SenderView}
 use Rattle.msg_c.specs.Answers.{sender_front}
 use Rattle.msg_c.proofs.sending.msg_fill.Goals as goal
 
-pub answer_by-found-requires-clause-memory : goal.answer_by-found-requires-clause-memory
-answer_by-found-requires-clause-memory c = c.args.sender.now.noted.seen c.deref_mut-2.result.now.seen.front
+pub fill-found-requires-clause-notes : goal.fill-found-requires-clause-notes
+fill-found-requires-clause-notes c = c.args.sender.now.noted.seen c.deref_mut-2.result.now.seen.front
     (ap sender_front c.take-asker.ensures.taken ∙ ap (λ (v : SenderView). Some v.seen.front) (sym c.deref_mut-2.ensures.value))

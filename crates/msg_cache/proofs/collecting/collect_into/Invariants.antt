@@ -14,7 +14,7 @@ invariant-loop-turn l = record {
   tidy : TidyBy lookup l.arena.key (keeper_of l.seat.me.0);
   words : l.words.items ≡ (keeper_of l.seat.me.0).words;
   senders : l.standings.senders ≡ l.initial.standings.senders;
-  notes : l.standings.notes ≡ l.initial.standings.notes;
+  uses : l.standings.uses ≡ l.initial.standings.uses;
   ready : l.standings.ready ≡ drop l._turn l.initial.standings.ready;
   swept : Swept (layout_of l.arena.key) (keeper_of l.fn.seat.me.0) (keeper_of l.initial.seat.me.0) l.fn.occupied.items (take l._turn l.initial.standings.ready) (keeper_of l.seat.me.0) l.occupied.items;
 }

@@ -14,8 +14,8 @@ use Rattle.msg_cache.proofs.LayoutLemmas.{header_inside}
 use Rattle.msg_cache.proofs.SweepingLemmas.{sizes}
 use Rattle.msg_cache.proofs.OrderLemmas.{kept_flushed, header_read, live_of}
 use Rattle.std.proofs.lemmas.List.{length-map}
-use Rattle.msg_cache.specs.Notes.{StandingsView, settled, note_of, note_at}
-use Rattle.msg_cache.proofs.SettledLemmas.{noted_at, flushed_settled}
+use Rattle.msg_cache.specs.Uses.{StandingsView, settled, use_of, use_at}
+use Rattle.msg_cache.proofs.SettledLemmas.{used_at, flushed_settled}
 use Rattle.msg_cache.proofs.keeper.Keeper.flush.Goals as goal
 
 pub capacity-capacity-requires : goal.capacity-capacity-requires
@@ -58,8 +58,8 @@ retire-requires c =
     let n = c.index-header.result.now in
     let read : n ≡ slice_index k.words (header_at c.args.class) = header_read s.words.items k.words (header_at c.args.class) n (length k.words) s.words_are (c.index-header.ensures ∙ ap (λ (i : ℕ). get_or s.words.items i n) c.header_at-place.ensures) refl (omega (arith, kept_is.tidy.kept.words, hi)) in
     let live = live_of lookup key k s.remembered.items s.occupied.items kept_is c.args.class n cl read c.if-header-eq0.false in record {
-      array = omega (arith, live.1, kept_is.tidy.kept.standings, ap (λ (v : StandingsView). length v.notes) s.standings_are, length-map k.standings note_of);
-      live = ap (λ (v : StandingsView). note_at v.notes (n - 1)) s.standings_are ∙ noted_at k.standings (n - 1) ∙ ap note_of live.0;
+      array = omega (arith, live.1, kept_is.tidy.kept.standings, ap (λ (v : StandingsView). length v.uses) s.standings_are, length-map k.standings use_of);
+      live = ap (λ (v : StandingsView). use_at v.uses (n - 1)) s.standings_are ∙ used_at k.standings (n - 1) ∙ ap use_of live.0;
       ready = ap (λ (v : StandingsView). v.ready) s.standings_are;
     }
 

@@ -12,11 +12,11 @@ use Rattle.msg_tables.specs.History.{lookup}
 use Rattle.msg_cache.specs.Plays.{Sat, keeper_of}
 use Rattle.std.proofs.lemmas.List.{length-map}
 use Rattle.msg_core.specs.Steps.{everyone}
-use Rattle.msg_cache.specs.Notes.{StandingsView, free, live, settled, note_of, note_at}
-use Rattle.msg_cache.proofs.SettledLemmas.{noted_at, retired_length, retired_free, installed_settled}
+use Rattle.msg_cache.specs.Uses.{StandingsView, free, live, settled, use_of, use_at}
+use Rattle.msg_cache.proofs.SettledLemmas.{used_at, retired_length, retired_free, installed_settled}
 use Rattle.msg_cache.proofs.LayoutLemmas.{header_inside}
 use Rattle.msg_cache.proofs.SweepingLemmas.{sizes, few_arrays}
-use Rattle.msg_cache.proofs.OrderLemmas.{kept_installed, header_read, header_small, live_noted}
+use Rattle.msg_cache.proofs.OrderLemmas.{kept_installed, header_read, header_small, live_used}
 use Rattle.msg_cache.proofs.keeper.Keeper.install.Goals as goal
 
 pub store_array-requires-clause-clear : goal.store_array-requires-clause-clear
@@ -32,7 +32,7 @@ retire_in-requires-clause-header c =
     let cl : c.args.class.class < class_total key.origin = c.requires.class in
     let n = c.index-header.result.now in
     let read : n ≡ slice_index k.words (header_at c.args.class) = header_read s.words.items k.words (header_at c.args.class) n (length k.words) s.words_are (c.index-header.ensures ∙ ap (λ (i : ℕ). get_or s.words.items i n) c.header_at-at.ensures) refl (let hi = header_inside (layout_of key) c.args.class cl in omega (arith, kept_is.tidy.kept.words, hi)) in
-    omega (arith, header_small lookup key k s.remembered.items s.occupied.items kept_is c.args.class n cl read, ap (λ (v : StandingsView). length v.notes) s.standings_are, length-map k.standings note_of)
+    omega (arith, header_small lookup key k s.remembered.items s.occupied.items kept_is c.args.class n cl read, ap (λ (v : StandingsView). length v.uses) s.standings_are, length-map k.standings use_of)
 
 pub retire_in-requires-clause-live : goal.retire_in-requires-clause-live
 retire_in-requires-clause-live c = λ b is.
@@ -43,7 +43,7 @@ retire_in-requires-clause-live c = λ b is.
     let cl : c.args.class.class < class_total key.origin = c.requires.class in
     let n = c.index-header.result.now in
     let read : n ≡ slice_index k.words (header_at c.args.class) = header_read s.words.items k.words (header_at c.args.class) n (length k.words) s.words_are (c.index-header.ensures ∙ ap (λ (i : ℕ). get_or s.words.items i n) c.header_at-at.ensures) refl (let hi = header_inside (layout_of key) c.args.class cl in omega (arith, kept_is.tidy.kept.words, hi)) in
-    live_noted lookup key k s.remembered.items s.occupied.items kept_is c.args.class n b s.standings.notes cl read is (ap (λ (v : StandingsView). v.notes) s.standings_are)
+    live_used lookup key k s.remembered.items s.occupied.items kept_is c.args.class n b s.standings.uses cl read is (ap (λ (v : StandingsView). v.uses) s.standings_are)
 
 pub install-requires : goal.install-requires
 install-requires c =
@@ -56,10 +56,10 @@ install-requires c =
     let cl : c.args.class.class < class_total key.origin = c.requires.class in
     let n = c.index-header.result.now in
     let read : n ≡ slice_index k.words (header_at c.args.class) = header_read s.words.items k.words (header_at c.args.class) n (length k.words) s.words_are (c.index-header.ensures ∙ ap (λ (i : ℕ). get_or s.words.items i n) c.header_at-at.ensures) refl (let hi = header_inside (layout_of key) c.args.class cl in omega (arith, kept_is.tidy.kept.words, hi)) in
-    let alive : (b : ℕ) → n ≡ suc b → note_at s.standings.notes b ≡ live = λ b is. live_noted lookup key k s.remembered.items s.occupied.items kept_is c.args.class n b s.standings.notes cl read is (ap (λ (v : StandingsView). v.notes) s.standings_are) in
-    let was : note_at s.standings.notes c.args.array ≡ free = ap (λ (v : StandingsView). note_at v.notes c.args.array) s.standings_are ∙ noted_at k.standings c.args.array ∙ ap note_of c.requires.free in record {
-      array = omega (arith, ap (λ (v : StandingsView). length v.notes) e, retired_length n all s.standings.notes, ap (λ (v : StandingsView). length v.notes) s.standings_are, length-map k.standings note_of, c.requires.arena.1.tidy.kept.standings, c.requires.array);
-      free = ap (λ (v : StandingsView). note_at v.notes c.args.array) e ∙ retired_free n all s.standings.notes c.args.array was alive;
+    let alive : (b : ℕ) → n ≡ suc b → use_at s.standings.uses b ≡ live = λ b is. live_used lookup key k s.remembered.items s.occupied.items kept_is c.args.class n b s.standings.uses cl read is (ap (λ (v : StandingsView). v.uses) s.standings_are) in
+    let was : use_at s.standings.uses c.args.array ≡ free = ap (λ (v : StandingsView). use_at v.uses c.args.array) s.standings_are ∙ used_at k.standings c.args.array ∙ ap use_of c.requires.free in record {
+      array = omega (arith, ap (λ (v : StandingsView). length v.uses) e, retired_length n all s.standings.uses, ap (λ (v : StandingsView). length v.uses) s.standings_are, length-map k.standings use_of, c.requires.arena.1.tidy.kept.standings, c.requires.array);
+      free = ap (λ (v : StandingsView). use_at v.uses c.args.array) e ∙ retired_free n all s.standings.uses c.args.array was alive;
       ready = ap (λ (v : StandingsView). v.ready) e ∙ ap (λ (v : StandingsView). v.ready) s.standings_are;
     }
 

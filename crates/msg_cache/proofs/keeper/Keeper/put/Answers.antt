@@ -4,7 +4,7 @@ use Rattle.std.proofs.lemmas.List.{get_or_default}
 use Rattle.msg_cache.specs.declared.view.KeeperView.{KeeperView}
 use Rattle.msg_cache.specs.Layout.{layout_of, SettingView}
 use Rattle.msg_cache.specs.Rule.{TidyBy}
-use Rattle.msg_cache.specs.Notes.{settled}
+use Rattle.msg_cache.specs.Uses.{settled}
 use Rattle.msg_cache.specs.Plays.{stored}
 use Rattle.msg_cache.specs.Keeping.{filled, InOrder}
 use Rattle.msg_tables.specs.History.{lookup}

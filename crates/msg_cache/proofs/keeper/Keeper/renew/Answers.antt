@@ -6,7 +6,7 @@ use Rattle.msg_tables.specs.History.{lookup}
 use Rattle.msg_cache.specs.declared.view.KeeperView.{KeeperView}
 use Rattle.msg_cache.specs.Layout.{SettingView}
 use Rattle.msg_cache.specs.Rule.{TidyBy}
-use Rattle.msg_cache.specs.Notes.{settled}
+use Rattle.msg_cache.specs.Uses.{settled}
 use Rattle.msg_cache.specs.Plays.{keeper_of, taken_in, given_out}
 use Rattle.msg_cache.specs.Keeping.{InOrder}
 use Rattle.msg_cache.proofs.OrderLemmas.{kept_given, kept_taken}

@@ -1,8 +1,8 @@
 use Rattle.std.proofs.Common.{◌≡◌, ℕ, List, [], Bool, true, length, replicate, ap, ◌∙◌, arith}
 use Rattle.std.specs.Prelude.{slice_index}
 use Rattle.std.proofs.lemmas.List.{length-replicate}
-use Rattle.msg_cache.specs.Standings.{notes}
-use Rattle.msg_cache.proofs.NoteLemmas.{all_zero, notes_first}
+use Rattle.msg_cache.specs.Standings.{uses}
+use Rattle.msg_cache.proofs.UseLemmas.{all_zero, uses_first}
 use Rattle.msg_cache.proofs.standings.Standings.all_free.Goals as goal
 
 pub invariant_of-result : goal.invariant_of-result
@@ -24,5 +24,5 @@ pub returns : goal.returns
 returns c =
     let marks : c.in_ok-all.field-0 ≡ replicate c.args.arrays true = c.in_ok-all.ensures in
     let zeros : c.in_ok-all_first.field-0 ≡ replicate c.args.senders 0 = c.in_ok-all_first.ensures in
-    (λ i. record { senders = c.args.senders; notes = notes (marks i) (c.in_ok-with_capacity.ensures.items i) 0 c.args.senders (zeros i); ready = [] })
-    ∙ (λ i. record { senders = c.args.senders; notes = notes_first c.args.arrays c.args.senders (replicate c.args.senders 0) i; ready = [] })
+    (λ i. record { senders = c.args.senders; uses = uses (marks i) (c.in_ok-with_capacity.ensures.items i) 0 c.args.senders (zeros i); ready = [] })
+    ∙ (λ i. record { senders = c.args.senders; uses = uses_first c.args.arrays c.args.senders (replicate c.args.senders 0) i; ready = [] })

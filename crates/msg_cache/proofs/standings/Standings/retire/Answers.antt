@@ -1,10 +1,10 @@
 use Rattle.std.proofs.Common.{◌≡◌, ℕ, ◌-◌, ◌<◌, List, [], ◌∷◌, ◌++◌, length, set, take, ap, ◌∙◌, sym, subst, arith, length-append}
 use Rattle.std.proofs.lemmas.List.{take-append-le}
 use Rattle.msg_core.specs.Steps.{everyone}
-use Rattle.msg_cache.specs.Notes.{StandingsView, live, waiting, note_at}
-use Rattle.msg_cache.specs.Standings.{note_for, notes}
+use Rattle.msg_cache.specs.Uses.{StandingsView, live, waiting, use_at}
+use Rattle.msg_cache.specs.Standings.{use_for, uses}
 use Rattle.msg_cache.proofs.AwaitedLemmas.{all_awaited}
-use Rattle.msg_cache.proofs.NoteLemmas.{Unmarked, notes_length, notes_at, notes_retired, unmarked_inside, unmarked_retired, differ_retired, none_ready}
+use Rattle.msg_cache.proofs.UseLemmas.{Unmarked, uses_length, uses_at, uses_retired, unmarked_inside, unmarked_retired, differ_retired, none_ready}
 use Rattle.msg_cache.proofs.QueueLemmas.{Differ, few}
 use Rattle.msg_cache.proofs.standings.Standings.retire.Goals as goal
 
@@ -13,8 +13,8 @@ push_back_reserved-requires c =
     let s = c.self.inside in
     let v = c.self.invariant in
     let none : s.ready ≡ 0 = none_ready s.ready s.queue.items (ap (λ (v : StandingsView). v.ready) c.self.view_is ∙ c.requires.ready) v.ends in
-    let is : note_for s.free s.queue.items 0 s.senders s.cursors c.args.array ≡ live =
-    ap (λ (p : ℕ). note_for s.free s.queue.items p s.senders s.cursors c.args.array) (sym none) ∙ sym (notes_at s.free s.queue.items s.ready s.senders s.cursors c.args.array) ∙ ap (λ (v : StandingsView). note_at v.notes c.args.array) c.self.view_is ∙ c.requires.live in
+    let is : use_for s.free s.queue.items 0 s.senders s.cursors c.args.array ≡ live =
+    ap (λ (p : ℕ). use_for s.free s.queue.items p s.senders s.cursors c.args.array) (sym none) ∙ sym (uses_at s.free s.queue.items s.ready s.senders s.cursors c.args.array) ∙ ap (λ (v : StandingsView). use_at v.uses c.args.array) c.self.view_is ∙ c.requires.live in
     let apart = unmarked_retired s.free s.queue.items s.senders s.cursors v.unmarked c.args.array is in
     let t = few (s.queue.items ++ c.args.array ∷ []) (length s.free) (differ_retired s.free s.queue.items s.senders s.cursors v.unmarked c.args.array is v.distinct) (unmarked_inside s.free (s.queue.items ++ c.args.array ∷ []) apart) in
     omega (arith, t, length-append s.queue.items (c.args.array ∷ []), v.room, s.queue.ok.0)
@@ -24,8 +24,8 @@ invariant_of-self c =
     let s = c.self.inside in
     let v = c.self.invariant in
     let none : s.ready ≡ 0 = none_ready s.ready s.queue.items (ap (λ (v : StandingsView). v.ready) c.self.view_is ∙ c.requires.ready) v.ends in
-    let is : note_for s.free s.queue.items 0 s.senders s.cursors c.args.array ≡ live =
-    ap (λ (p : ℕ). note_for s.free s.queue.items p s.senders s.cursors c.args.array) (sym none) ∙ sym (notes_at s.free s.queue.items s.ready s.senders s.cursors c.args.array) ∙ ap (λ (v : StandingsView). note_at v.notes c.args.array) c.self.view_is ∙ c.requires.live in
+    let is : use_for s.free s.queue.items 0 s.senders s.cursors c.args.array ≡ live =
+    ap (λ (p : ℕ). use_for s.free s.queue.items p s.senders s.cursors c.args.array) (sym none) ∙ sym (uses_at s.free s.queue.items s.ready s.senders s.cursors c.args.array) ∙ ap (λ (v : StandingsView). use_at v.uses c.args.array) c.self.view_is ∙ c.requires.live in
     let items = sym c.push_back_reserved.ensures.items in record {
       few_arrays = v.few_arrays;
       few_senders = v.few_senders;
@@ -43,13 +43,13 @@ returns c =
     let v = c.self.invariant in
     let a = c.args.array in
     let none : s.ready ≡ 0 = none_ready s.ready s.queue.items (ap (λ (v : StandingsView). v.ready) c.self.view_is ∙ c.requires.ready) v.ends in
-    let is : note_for s.free s.queue.items 0 s.senders s.cursors a ≡ live =
-    ap (λ (p : ℕ). note_for s.free s.queue.items p s.senders s.cursors a) (sym none) ∙ sym (notes_at s.free s.queue.items s.ready s.senders s.cursors a) ∙ ap (λ (v : StandingsView). note_at v.notes a) c.self.view_is ∙ c.requires.live in
-    let lt : a < length s.free = omega (arith, c.requires.array, notes_length s.free s.queue.items s.ready s.senders s.cursors, ap (λ (v : StandingsView). length v.notes) c.self.view_is) in
+    let is : use_for s.free s.queue.items 0 s.senders s.cursors a ≡ live =
+    ap (λ (p : ℕ). use_for s.free s.queue.items p s.senders s.cursors a) (sym none) ∙ sym (uses_at s.free s.queue.items s.ready s.senders s.cursors a) ∙ ap (λ (v : StandingsView). use_at v.uses a) c.self.view_is ∙ c.requires.live in
+    let lt : a < length s.free = omega (arith, c.requires.array, uses_length s.free s.queue.items s.ready s.senders s.cursors, ap (λ (v : StandingsView). length v.uses) c.self.view_is) in
     let all = all_awaited s.senders s.cursors (length s.queue.items - 0) v.few_senders (λ n l. omega (arith, v.within n l)) in
-    let done = (λ i. notes s.free (c.push_back_reserved.ensures.items i) (none i) s.senders s.cursors)
-    ∙ notes_retired s.free s.queue.items s.senders s.cursors v.unmarked a is lt all
-    ∙ ap (λ (p : ℕ). set (notes s.free s.queue.items p s.senders s.cursors) a (waiting (everyone s.senders))) (sym none) in
+    let done = (λ i. uses s.free (c.push_back_reserved.ensures.items i) (none i) s.senders s.cursors)
+    ∙ uses_retired s.free s.queue.items s.senders s.cursors v.unmarked a is lt all
+    ∙ ap (λ (p : ℕ). set (uses s.free s.queue.items p s.senders s.cursors) a (waiting (everyone s.senders))) (sym none) in
     let same : take s.ready c.push_back_reserved.new.self.items ≡ take s.ready s.queue.items = ap (take s.ready) c.push_back_reserved.ensures.items ∙ take-append-le s.ready s.queue.items (a ∷ []) (omega arith) in
-    (λ i. record { senders = s.senders; notes = done i; ready = same i })
-    ∙ ap (λ (v : StandingsView). record v { notes = set v.notes a (waiting (everyone v.senders)) }) c.self.view_is
+    (λ i. record { senders = s.senders; uses = done i; ready = same i })
+    ∙ ap (λ (v : StandingsView). record v { uses = set v.uses a (waiting (everyone v.senders)) }) c.self.view_is

@@ -2,9 +2,9 @@ use Rattle.std.proofs.Common.{◌≡◌, ℕ, suc, ◌-◌, ◌<◌, List, Bool,
 use Rattle.std.specs.Option.{option_to_list}
 use Rattle.std.proofs.lemmas.List.{length-take-le}
 use Rattle.std.proofs.Math.ListN.{length-set}
-use Rattle.msg_cache.specs.Notes.{StandingsView, note_at}
-use Rattle.msg_cache.specs.Standings.{notes}
-use Rattle.msg_cache.proofs.NoteLemmas.{Unmarked, notes_length, notes_at, first_inside, first_free_note, notes_taken, unmarked_taken, differ_taken}
+use Rattle.msg_cache.specs.Uses.{StandingsView, use_at}
+use Rattle.msg_cache.specs.Standings.{uses}
+use Rattle.msg_cache.proofs.UseLemmas.{Unmarked, uses_length, uses_at, first_inside, first_free_use, uses_taken, unmarked_taken, differ_taken}
 use Rattle.msg_cache.proofs.QueueLemmas.{Differ}
 use Rattle.msg_cache.proofs.standings.Standings.take_ready.Goals as goal
 
@@ -48,12 +48,12 @@ returns c =
     let some : 0 < s.ready = omega (arith, c.requires, ap (λ (v : StandingsView). length v.ready) c.self.view_is, length-take-le s.ready s.queue.items v.ends) in
     let next : s.ready ≡ suc (s.ready - 1) = omega arith in
     let inside = first_inside s.free a rest s.ready s.senders s.cursors apart differ in
-    let same : notes s.free (a ∷ rest) (suc (s.ready - 1)) s.senders s.cursors ≡ c.args.self.now.notes =
-    (λ i. notes s.free (sym items i) (sym next i) s.senders s.cursors) ∙ ap (λ (v : StandingsView). v.notes) c.self.view_is in record {
+    let same : uses s.free (a ∷ rest) (suc (s.ready - 1)) s.senders s.cursors ≡ c.args.self.now.uses =
+    (λ i. uses s.free (sym items i) (sym next i) s.senders s.cursors) ∙ ap (λ (v : StandingsView). v.uses) c.self.view_is in record {
       taken = ap (λ (v : StandingsView). v.ready) (sym c.self.view_is) ∙ (λ i. take (next i) (items i));
-      same = (ap (λ (v : StandingsView). v.senders) c.self.view_is, ap (λ (l : List Bool). notes l rest (s.ready - 1) s.senders s.cursors) c.insert.ensures ∙ notes_taken s.free a rest (s.ready - 1) s.senders s.cursors apart differ ∙ same);
+      same = (ap (λ (v : StandingsView). v.senders) c.self.view_is, ap (λ (l : List Bool). uses l rest (s.ready - 1) s.senders s.cursors) c.insert.ensures ∙ uses_taken s.free a rest (s.ready - 1) s.senders s.cursors apart differ ∙ same);
       free = (
-        omega (arith, inside, notes_length s.free s.queue.items s.ready s.senders s.cursors, ap (λ (v : StandingsView). length v.notes) c.self.view_is),
-        ap (λ l. note_at l a) (sym same) ∙ notes_at s.free (a ∷ rest) (suc (s.ready - 1)) s.senders s.cursors a ∙ first_free_note s.free a rest (s.ready - 1) s.senders s.cursors apart differ,
+        omega (arith, inside, uses_length s.free s.queue.items s.ready s.senders s.cursors, ap (λ (v : StandingsView). length v.uses) c.self.view_is),
+        ap (λ l. use_at l a) (sym same) ∙ uses_at s.free (a ∷ rest) (suc (s.ready - 1)) s.senders s.cursors a ∙ first_free_use s.free a rest (s.ready - 1) s.senders s.cursors apart differ,
       );
     }

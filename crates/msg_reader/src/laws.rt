@@ -1,0 +1,32 @@
+//! What is noted stays right.
+
+ghost use Rattle.std.specs.Prelude.{◌≡◌, ◌<◌, ◌^◌, length};
+ghost use Rattle.msg_names.specs.ClassRef.{slot_of};
+ghost use Rattle.msg_names.specs.declared.value.ClassRef.{ClassRef};
+ghost use Rattle.msg_tables.specs.History.{History, BeginsWith};
+ghost use Rattle.msg_reader.specs.Notes.{AreBlank, AreNotesOf};
+ghost use Rattle.msg_reader.specs.declared.notes.Notes.{Notes};
+
+/// Notes of a history are notes of each longer history.
+#[tactic(auto, using(crate::proofs::NoteLemmas::notes_begin))]
+pub fn notes_are_of_longer_histories()
+    ensures { (p h : History) (n : Notes) → BeginsWith p h → AreNotesOf h n → AreNotesOf p n }
+{}
+
+/// Blank notes are notes of each history.
+#[tactic(auto, using(crate::proofs::NoteLemmas::blank_of))]
+pub fn blank_notes_are_of_each_history()
+    ensures { (h : History) (n : Notes) → AreBlank n → AreNotesOf h n }
+{}
+
+/// A history that begins with another and is no longer is that one.
+#[tactic(auto, using(crate::proofs::NoteLemmas::begins_same))]
+pub fn a_history_no_longer_is_the_same()
+    ensures { (p h : History) → BeginsWith p h → length p.changes ≡ length h.changes → p ≡ h }
+{}
+
+/// The slot of a class reference takes 32 bits, where there are at most so many classes; then what is noted of it is recalled.
+#[tactic(auto, using(crate::proofs::NoteLemmas::short_slot))]
+pub fn a_slot_of_few_classes_is_short()
+    ensures { (c : ClassRef) → c.class < 2 ^ 31 → slot_of c < 2 ^ 32 }
+{}

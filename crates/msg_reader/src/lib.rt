@@ -1,0 +1,9 @@
+//! What a sender reads without a lock: its own notes, then the caches that all senders share.
+#![tactic(auto)]
+
+pub mod laws;
+mod notes;
+mod reader;
+
+pub use notes::Notes;
+pub use reader::Reader;

@@ -1,0 +1,200 @@
+//! The sender's protocol: recall; else probe, count again, and note.
+//!
+//! A lookup is answered from the notes where it was noted after as many changes as the reader has seen: then it is the lookup at what the reader has seen, and no word
+//! that threads share is read. What the notes lack is probed for, and is then noted. No lock is taken: what a cache lacks is the runtime's to answer.
+
+ghost use Rattle.std.specs.Prelude.{◌≡◌, ◌<◌, ◌≤◌, length, IfSome, IfNone};
+ghost use Rattle.msg_names.specs.ClassRef.{slot_of};
+ghost use Rattle.msg_names.specs.Number.{selector_number, imp_number};
+ghost use Rattle.msg_tables.specs.Origin.{last_imp};
+ghost use Rattle.msg_tables.specs.History.{BeginsWith, lookup};
+ghost use Rattle.msg_cache.specs.Ours.{IsOf, view};
+ghost use Rattle.msg_cache.specs.Plays.{given_out, taken_in, newcomer};
+ghost use Rattle.msg_cache.specs.Record.{Probes, Hits, Misses};
+ghost use Rattle.msg_cache.specs.Views.{IsSenderOf, classes, layout};
+ghost use Rattle.msg_reader.specs.Notes.{AreNotesOf, IsNoted, recalled};
+
+use crate::laws::{a_history_no_longer_is_the_same, notes_are_of_longer_histories};
+use crate::notes::Notes;
+use msg_cache::{Arena, Keeper, Prober};
+use msg_names::{ClassRef, ImpRef, Selector};
+use msg_tables::laws::a_found_implementation_is_listed;
+use std::marker::Model;
+
+/// Reads without a lock. It carries what it has seen of the history, and never answers from before that.
+#[derive(Drop)]
+pub struct Reader {
+    prober: Prober,
+    // how many changes it has seen, where it knows
+    count: Option<u64>,
+}
+
+impl Model for Reader {
+    ghost use Rattle.std.specs.Prelude.{◌≡◌, length, IfSome};
+    ghost use Rattle.msg_cache.specs.Views.{ProberView};
+
+    ghost Value = { ProberView };
+
+    ghost use Rattle.std.specs.Coded.{codes};
+    ghost use Rattle.atomic_table.specs.Seated.{table_id_coded};
+
+    ghost coded = { Prim.hlevel (codes, table_id_coded) };
+
+    ghost view = { λ r. r.prober };
+
+    ghost invariant = { λ r. IfSome r.count (λ n. n ≡ length r.prober.sender.front.changes) };
+}
+
+impl Reader {
+    /// A reader that has seen so many changes.
+    pub fn new(prober: Prober, count: u64) -> Reader
+        requires { count ≡ length prober.sender.front.changes }
+        ensures { result ≡ prober }
+    {
+        Reader {
+            prober,
+            count: Some(count),
+        }
+    }
+
+    /// What probes, for the keeper to take back.
+    pub fn into_prober(self) -> Prober
+        ensures { result ≡ self }
+    {
+        self.prober
+    }
+
+    /// Has then seen all that the keeper has, as the keeper's `renew`.
+    pub fn renew(&mut self, arena: &Arena, keeper: &mut Keeper)
+        requires keeper { IsOf arena.now keeper.old }
+        requires reader { IsSenderOf arena.now self.old }
+        ensures arena { IsOf arena.now keeper.new }
+        ensures remembered { keeper.new.remembered.items ≡ keeper.old.remembered.items }
+        ensures report { keeper.new.report ≡ keeper.old.report }
+        ensures view { view keeper.new ≡ given_out self.old.sender.number (taken_in self.old.sender (view keeper.old)) }
+        ensures reader { IsSenderOf arena.now self.new }
+        ensures sender { self.new.sender ≡ newcomer self.old.sender.number (view keeper.old).history }
+        ensures begins { BeginsWith (view keeper.old).history self.old.sender.front }
+    {
+        keeper.renew(arena, &mut self.prober);
+        self.count = Some(keeper.count());
+    }
+
+    /// `cache_getImp`: the implementation that the cache of a class reference has, which is the lookup's at what the reader has then seen. The notes aren't asked.
+    #[inline]
+    pub fn probe(&mut self, arena: &Arena, class: ClassRef, sel: Selector) -> Option<ImpRef>
+        requires reader { IsSenderOf arena.now self.old }
+        requires class { class.class < classes arena.now }
+        ensures reader { IsSenderOf arena.now self.new }
+        ensures probes { Probes (layout arena.now) class (selector_number sel) self.old.sender self.new.sender }
+        ensures some { IfSome result (λ i. Hits self.new.sender.last (imp_number i) × (imp_number i ≡ lookup self.new.sender.front class (selector_number sel))) }
+        ensures none { IfNone result (Misses (layout arena.now) self.new.sender.last) }
+    {
+        self.count = None;
+        self.prober.probe(arena, class, sel)
+    }
+
+    /// How many changes there are, which the reader has then seen: nothing older is answered from then on. One shared word is loaded.
+    pub fn refresh(&mut self, arena: &Arena) -> u64
+        requires reader { IsSenderOf arena.now self.old }
+        ensures reader { IsSenderOf arena.now self.new }
+        ensures begins { BeginsWith self.new.sender.front self.old.sender.front }
+        ensures length { result ≡ length self.new.sender.front.changes }
+    {
+        let count = self.prober.published(arena);
+        self.count = Some(count);
+        count
+    }
+
+    // How many changes the reader has seen. Where it doesn't know, it loads how many there are.
+    #[inline]
+    fn seen(&mut self, arena: &Arena) -> u64
+        requires reader { IsSenderOf arena.now self.old }
+        ensures reader { IsSenderOf arena.now self.new }
+        ensures begins { BeginsWith self.new.sender.front self.old.sender.front }
+        ensures length { result ≡ length self.new.sender.front.changes }
+    {
+        match self.count {
+            Some(count) => count,
+            None => self.refresh(arena),
+        }
+    }
+
+    /// What the notes have of a lookup at what the reader has seen, where it knows how many changes that are. No shared word is loaded.
+    #[inline]
+    pub fn recall(&self, notes: &Notes, class: ClassRef, sel: Selector) -> Option<ImpRef>
+        requires notes { AreNotesOf self.now.sender.front notes.now }
+        ensures found { IfSome result (λ i. imp_number i ≡ lookup self.now.sender.front class (selector_number sel)) }
+        ensures listed { IfSome result (λ i. imp_number i ≤ last_imp self.now.sender.front.origin.counts) }
+    {
+        match self.count {
+            Some(count) => notes.recall(count, class, sel),
+            None => None,
+        }
+    }
+
+    /// The implementation that the notes have, or else that the cache has, and then the notes too: what a lookup finds at what the reader has then seen. Where a
+    /// change falls into a probe that hits, its answer is left. The notes are asked once, and what they have of the point at which the reader stands is found, unless it
+    /// sees a change meanwhile.
+    #[inline]
+    pub fn find(
+        &mut self,
+        arena: &Arena,
+        notes: &mut Notes,
+        class: ClassRef,
+        sel: Selector,
+    ) -> Option<ImpRef>
+        requires reader { IsSenderOf arena.now self.old }
+        requires class { class.class < classes arena.now }
+        requires notes { AreNotesOf self.old.sender.front notes.old }
+        ensures reader { IsSenderOf arena.now self.new }
+        ensures begins { BeginsWith self.new.sender.front self.old.sender.front }
+        ensures some { IfSome result (λ i. imp_number i ≡ lookup self.new.sender.front class (selector_number sel)) }
+        ensures listed { IfSome result (λ i. imp_number i ≤ last_imp self.new.sender.front.origin.counts) }
+        ensures notes { AreNotesOf self.new.sender.front notes.new }
+        ensures noted { IfSome result (λ i. IsNoted self.new.sender.front notes.new class (selector_number sel) (imp_number i)) }
+        ensures recalled { IfNone result (self.new.sender.front ≡ self.old.sender.front → recalled notes.old (length self.old.sender.front.changes) (slot_of class) (selector_number sel) ≡ 0) }
+    {
+        notes_are_of_longer_histories();
+        a_history_no_longer_is_the_same();
+        let count = self.seen(arena);
+        match notes.recall(count, class, sel) {
+            Some(imp) => Some(imp),
+            None => self.find_cached(arena, notes, count, class, sel),
+        }
+    }
+
+    // As `find`, of what the notes lack after so many changes.
+    #[cold]
+    #[inline(never)]
+    fn find_cached(
+        &mut self,
+        arena: &Arena,
+        notes: &mut Notes,
+        before: u64,
+        class: ClassRef,
+        sel: Selector,
+    ) -> Option<ImpRef>
+        requires reader { IsSenderOf arena.now self.old }
+        requires class { class.class < classes arena.now }
+        requires notes { AreNotesOf self.old.sender.front notes.old }
+        requires before { before ≡ length self.old.sender.front.changes }
+        ensures reader { IsSenderOf arena.now self.new }
+        ensures begins { BeginsWith self.new.sender.front self.old.sender.front }
+        ensures some { IfSome result (λ i. imp_number i ≡ lookup self.new.sender.front class (selector_number sel)) }
+        ensures listed { IfSome result (λ i. imp_number i ≤ last_imp self.new.sender.front.origin.counts) }
+        ensures notes { AreNotesOf self.new.sender.front notes.new }
+        ensures noted { IfSome result (λ i. IsNoted self.new.sender.front notes.new class (selector_number sel) (imp_number i)) }
+    {
+        notes_are_of_longer_histories();
+        a_history_no_longer_is_the_same();
+        a_found_implementation_is_listed();
+        let imp = self.probe(arena, class, sel)?;
+        let count = self.seen(arena);
+        if count != before {
+            return None;
+        }
+        notes.keep(count, class, sel, imp);
+        Some(imp)
+    }
+}
