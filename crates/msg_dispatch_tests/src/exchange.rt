@@ -4,10 +4,11 @@ use crate::asker::Asker;
 use crate::images::{CHILD, GRAND, ROOT, selector};
 use crate::one_thread::Row;
 use crate::opening::{Steps, open};
+use crate::same::same;
 use msg_dispatch::{ArenaName, Changer};
 use msg_image::Change;
 use msg_names::Selector;
-use msg_samples::{IMAGE, same};
+use msg_samples::IMAGE;
 use std::process::Abort;
 use std::sync::Wait;
 

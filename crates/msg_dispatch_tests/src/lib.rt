@@ -24,6 +24,8 @@ mod owners;
 #[cfg(test)]
 mod rows;
 #[cfg(test)]
+mod same;
+#[cfg(test)]
 mod stops;
 #[cfg(test)]
 mod threads;

@@ -7,11 +7,12 @@ ghost use Rattle.msg_runtime.specs.Parts.{IsKeeperOf, keeper_history};
 
 use crate::asker::Asker;
 use crate::images::{GRAND, ROOT};
+use crate::same::same;
 use msg_cache::{Arena, ArenaFault, Config, Keeper};
 use msg_dispatch::{ArenaName, Changer, Dispatcher, Receipt};
 use msg_image::{Change, DocumentFault, Image, read_document};
 use msg_names::{ImpRef, Selector};
-use msg_samples::{Hog, IMAGE, same};
+use msg_samples::{Hog, IMAGE};
 use msg_tables::ChangeFault;
 use std::alloc::Global;
 use std::marker::Brand;

@@ -7,10 +7,11 @@ ghost use Rattle.msg_tables.specs.Origin.{class_total};
 
 use crate::images::{CHILD, GRAND, selector};
 use crate::opening::{Steps, open};
+use crate::same::same;
 use msg_dispatch::{ArenaName, Changer, Dispatcher, Recalling};
 use msg_image::{Change, Image};
 use msg_names::{ClassRef, ImpRef, Selector};
-use msg_samples::{IMAGE, same};
+use msg_samples::IMAGE;
 use std::alloc::Global;
 use std::process::Abort;
 use std::sync::Wait;

@@ -2,9 +2,9 @@
 
 use crate::desk::{Desk, Reader, open};
 use crate::images::{CHILD, selector};
+use crate::same::same;
 use msg_cache::Filled;
 use msg_names::{ImpRef, Selector};
-use msg_samples::same;
 use std::process::Abort;
 use std::sync::Wait;
 use std::thread::{self, Threads};

@@ -3,11 +3,12 @@
 use crate::counts::five;
 use crate::desk::{Desk, Reader, open};
 use crate::images::{CHILD, ROOT, image, selector};
+use crate::same::{same, same_at};
 use crate::stops::{ONE, stop_once};
 use msg_cache::{Arena, ArenaFault, Config, Filled};
 use msg_image::{Change, Image};
 use msg_names::ImpRef;
-use msg_samples::{Hog, SMALL, same, same_at};
+use msg_samples::{Hog, SMALL};
 use std::alloc::Global;
 use std::process::Abort;
 

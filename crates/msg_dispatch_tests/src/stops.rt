@@ -2,9 +2,9 @@
 
 use crate::desk::{Desk, Reader, open};
 use crate::images::{CHILD, ROOT, selector};
+use crate::same::same_at;
 use msg_cache::{Filled, Pause};
 use msg_names::{ImpRef, Selector};
-use msg_samples::same_at;
 use std::alloc::Global;
 use std::process::Abort;
 

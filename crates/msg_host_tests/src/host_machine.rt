@@ -1,8 +1,8 @@
 //! The machine of events over a host's classes, which are made one by one, with numbers and limits of the host's own.
 
+use crate::same::same_at;
 use msg_core::{Event, EventFault, Machine, Seen};
 use msg_names::{ClassRef, ImpRef, Selector};
-use msg_samples::same_at;
 use msg_tables::{Change, ChangeFault, Limits, Origin};
 use std::alloc::Global;
 use std::process::Abort;

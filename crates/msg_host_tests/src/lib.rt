@@ -3,3 +3,5 @@
 
 #[cfg(test)]
 mod host_machine;
+#[cfg(test)]
+mod same;

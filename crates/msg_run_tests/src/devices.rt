@@ -3,8 +3,9 @@
 ghost use Rattle.std.specs.Prelude.{◌≡◌, false};
 
 use crate::runs::Way;
+use crate::same::{same, same_at};
 use msg_runner::{Failed, FromReader, OpenGate, RunFault, Sink, Source, ToWriter, run, run_beside};
-use msg_samples::{SMALL, same, same_at};
+use msg_samples::SMALL;
 use std::alloc::Global;
 use std::io::{self, ErrorKind, Read, Write};
 use std::process::Abort;

@@ -2,8 +2,10 @@
 
 use crate::holding::Moment::{ChangeDone, ChangeStarts, PieceDone, PieceStarts};
 use crate::holding::{Hold, Holding, Moment, TURNS};
+use crate::images::with_items;
 use crate::runs::{Way, ran};
-use msg_samples::{IMAGE, same_at, with_items};
+use crate::same::same_at;
+use msg_samples::IMAGE;
 use std::alloc::Global;
 use std::process::Abort;
 use std::sync::Wait;

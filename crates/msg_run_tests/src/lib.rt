@@ -12,6 +12,8 @@ mod holding;
 #[cfg(test)]
 mod holds;
 #[cfg(test)]
+mod images;
+#[cfg(test)]
 mod memory;
 #[cfg(test)]
 mod order;
@@ -21,5 +23,7 @@ mod points;
 mod refusals;
 #[cfg(test)]
 mod runs;
+#[cfg(test)]
+mod same;
 #[cfg(test)]
 mod stress;

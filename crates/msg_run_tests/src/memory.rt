@@ -3,13 +3,15 @@
 ghost use Rattle.std.specs.Prelude.{◌≡◌, ◌<◌};
 ghost use Rattle.msg_eval.specs.Finder.{sizes_of, table_sizes};
 
+use crate::images::with_items;
 use crate::runs::Way;
+use crate::same::{same, same_at};
 use msg_core::{Event, EventFault, Machine};
 use msg_eval::{Args, Reply, SendFault, Tabled, send};
 use msg_image::{Change, DocumentFault, Image, read_document};
 use msg_names::{ClassRef, ImpRef, NameFault, Names, ObjectRef, Selector, Value};
 use msg_runner::{FromReader, OpenGate, Program, RunFault, ToWriter, complain, run, run_beside};
-use msg_samples::{Hog, IMAGE, SMALL, same, same_at, with_items};
+use msg_samples::{Hog, IMAGE, SMALL};
 use msg_tables::{ChangeFault, Tables};
 use std::alloc::Global;
 use std::io;

@@ -2,8 +2,8 @@
 
 use crate::holding::Moment;
 use crate::runs::{Way, document, ran, wrote};
+use crate::same::{same, same_at};
 use msg_runner::Gate;
-use msg_samples::{same, same_at};
 use std::alloc::Global;
 use std::process::Abort;
 use std::sync::{Mutex, Wait};

@@ -1,9 +1,10 @@
 //! Runs that end before they read, or with nothing to read.
 
 use crate::runs::{Way, ran};
+use crate::same::same_at;
 use msg_form::DocumentFault;
 use msg_runner::{OpenGate, RunFault};
-use msg_samples::{SMALL, same_at};
+use msg_samples::SMALL;
 use std::alloc::Global;
 use std::process::Abort;
 use std::sync::Wait;

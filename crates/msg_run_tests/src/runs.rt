@@ -1,7 +1,7 @@
 //! Documents, and what a run of one writes.
 
+use crate::same::same;
 use msg_runner::{FromReader, Gate, RunFault, ToWriter, run, run_beside};
-use msg_samples::same;
 use std::alloc::Global;
 use std::process::Abort;
 use std::sync::Wait;

@@ -3,8 +3,8 @@
 use crate::edits::{CLASSES, Edit, SELECTORS, item};
 use crate::points::{FACTOR, Points, Sent, send_of};
 use crate::runs::{Way, ran};
+use crate::same::{same, same_at};
 use msg_runner::Gate;
-use msg_samples::{same, same_at};
 use std::alloc::Global;
 use std::process::Abort;
 use std::sync::Wait;

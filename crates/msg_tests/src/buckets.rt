@@ -1,11 +1,11 @@
 //! Bucket words and plain arrays.
 
+use crate::same::{same, same_at};
 use msg_buckets::{
     Look, Placed, Plan, Probe, fill_plan, find, first_place, is_capacity, look_at, next_place,
     pack, put, unpack,
 };
 use msg_names::{ImpRef, Selector};
-use msg_samples::{same, same_at};
 use std::process::Abort;
 
 fn selector(rt: &impl Abort, number: u32) -> Selector {

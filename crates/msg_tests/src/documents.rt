@@ -1,8 +1,8 @@
 //! Documents, edits of them, and the number of the fault that one is refused with. Want of memory ends a test where it comes: a `?` there would drop each text that
 //! the test owns once more.
 
+use crate::same::same_at;
 use msg_image::{DocumentFault, read_document};
-use msg_samples::same_at;
 use std::alloc::Global;
 use std::process::Abort;
 

@@ -1,7 +1,8 @@
 //! Documents at their limits.
 
 use crate::documents::{EMPTY, FULL, edit_is, edited, listed, number};
-use msg_samples::{SMALL, same, same_at};
+use crate::same::{same, same_at};
+use msg_samples::SMALL;
 use std::alloc::Global;
 use std::process::Abort;
 

@@ -1,7 +1,8 @@
 //! Which texts are JSON, and which values have the form of a document.
 
 use crate::documents::{BODY, EMPTY, FULL, edit_is, nested, number};
-use msg_samples::{IMAGE, SMALL, same_at};
+use crate::same::same_at;
+use msg_samples::{IMAGE, SMALL};
 use std::alloc::Global;
 use std::process::Abort;
 

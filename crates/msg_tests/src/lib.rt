@@ -10,6 +10,8 @@ mod faults;
 #[cfg(test)]
 mod forms;
 #[cfg(test)]
+mod images;
+#[cfg(test)]
 mod machine;
 #[cfg(test)]
 mod names;
@@ -17,6 +19,8 @@ mod names;
 mod reaching;
 #[cfg(test)]
 mod readings;
+#[cfg(test)]
+mod same;
 #[cfg(test)]
 mod sets;
 #[cfg(test)]

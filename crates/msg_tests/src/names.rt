@@ -1,7 +1,7 @@
 //! Selectors, values and interned names.
 
+use crate::same::{same, same_at};
 use msg_names::{ImpRef, NameFault, Names, Selector, Value, is_identifier, is_selector_name};
-use msg_samples::{same, same_at};
 use std::alloc::Global;
 use std::process::Abort;
 

@@ -5,9 +5,10 @@ ghost use Rattle.msg_image.specs.Opened.{origin_of};
 ghost use Rattle.msg_tables.specs.History.{History, empty};
 ghost use Rattle.msg_tables.specs.Stands.{StandsAt};
 
+use crate::same::same;
 use msg_image::{Change, Image, MethodList, read_document};
 use msg_names::{ClassRef, ImpRef, Selector};
-use msg_samples::{IMAGE, same};
+use msg_samples::IMAGE;
 use msg_tables::{ChangeFault, Marks, Tables};
 use std::alloc::Global;
 use std::process::Abort;

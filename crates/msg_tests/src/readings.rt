@@ -2,9 +2,11 @@
 
 ghost use Rattle.std.specs.Prelude.{◌≡◌};
 
+use crate::images::with_items;
+use crate::same::{same, same_at};
 use msg_image::{Change, Document, Expr, Image, Item, MethodList, read_document};
 use msg_names::{ClassRef, ImpRef, ObjectRef, Selector, Value};
-use msg_samples::{Hog, IMAGE, same, same_at, with_items};
+use msg_samples::{Hog, IMAGE};
 use std::alloc::Global;
 use std::process::Abort;
 

@@ -1,9 +1,9 @@
 //! The walk over selectors, the sets of names, and the faults' numbers and texts.
 
 use crate::documents::FULL;
+use crate::same::{same, same_at};
 use msg_form::{DocumentFault, FORWARDING, Form, NameSet, ReadFault};
 use msg_json::{Bump, Scratch, Value, read};
-use msg_samples::{same, same_at};
 use std::alloc::Global;
 use std::process::Abort;
 

@@ -4,9 +4,10 @@ ghost use Rattle.std.specs.Prelude.{◌≡◌, ◌<◌, ◌*◌, length};
 ghost use Rattle.msg_image.specs.Opened.{origin_of};
 ghost use Rattle.msg_tables.specs.Origin.{class_total};
 
+use crate::same::{same, same_at};
 use msg_image::{Change, Image, MAX_CHANGES, MethodList, read_document};
 use msg_names::{ClassRef, ImpRef, Selector};
-use msg_samples::{Hog, IMAGE, same, same_at};
+use msg_samples::{Hog, IMAGE};
 use msg_tables::{ChangeFault, Marks, Tables};
 use std::alloc::Global;
 use std::fmt::Debug;

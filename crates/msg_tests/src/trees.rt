@@ -1,7 +1,7 @@
 //! JSON texts as trees.
 
+use crate::same::{same, same_at};
 use msg_json::{JsonFault, Scratch, Value, get, has_keys, read, whole};
-use msg_samples::{same, same_at};
 use std::alloc::Global;
 use std::process::Abort;
 

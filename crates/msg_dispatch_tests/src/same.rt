@@ -4,13 +4,13 @@
 use std::fmt::Debug;
 use std::process::Abort;
 
-/// The two are equal.
-pub fn same<T: PartialEq + Debug + Drop>(rt: &impl Abort, found: T, wanted: T) {
+// The two are equal.
+pub(crate) fn same<T: PartialEq + Debug + Drop>(rt: &impl Abort, found: T, wanted: T) {
     assert_eq!(rt; found, wanted);
 }
 
-/// The two are equal, in this row of a table.
-pub fn same_at<K: Debug, T: PartialEq + Debug + Drop>(
+// The two are equal, in this row of a table.
+pub(crate) fn same_at<K: Debug, T: PartialEq + Debug + Drop>(
     rt: &impl Abort,
     row: &K,
     found: T,
