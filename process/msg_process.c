@@ -34,10 +34,9 @@ static _Alignas(64) msg_sender nobody; /* closed, without notes */
 __thread struct msg_process_thread msg_process_own = {.sender = &nobody};
 
 static pthread_mutex_t lock = PTHREAD_MUTEX_INITIALIZER;
-/* Under the lock. `dead`: of threads that a fork left behind. `changes`: it is held to change. */
+/* Under the lock. `dead`: of threads that a fork left behind. */
 static msg_runtime runtime = MSG_RUNTIME_INIT;
 static struct seat *seats, *dead;
-static bool changes;
 
 static atomic_bool started;
 static atomic_uint forks; /* that are coming */
@@ -50,7 +49,6 @@ static uint32_t take(bool to_change)
     if (holds) return MSG_LOCK_HELD;
     holds = true;
     pthread_mutex_lock(&lock);
-    changes = to_change;
     if (to_change) __atomic_store_n(&msg_process_changes.begun, BEGUN, __ATOMIC_RELAXED);
     return MSG_DONE;
 }
@@ -68,8 +66,8 @@ static void give(void)
         dead = seat->next;
         if (!seat->asks) close_seat(seat);
     }
-    if (changes && !msg_change_count(&runtime, &count)) __atomic_store_n(&msg_process_changes.begun, count, __ATOMIC_RELEASE);
-    changes = false;
+    if (!msg_change_count(&runtime, &count) && count != msg_process_changes.begun)
+        __atomic_store_n(&msg_process_changes.begun, count, __ATOMIC_RELEASE);
     pthread_mutex_unlock(&lock);
     holds = false;
 }

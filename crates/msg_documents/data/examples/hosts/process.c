@@ -6,9 +6,9 @@
 
 enum { SQUARE, AREA = 1, OLD = 1, NEW, SWAPS = 1001, THREADS = 3 };
 static atomic_bool is_over;
-static void must(uint32_t fault) { if (fault) exit((puts(msg_fault_text(fault)), 1)); }
+static void must(uint32_t fault) { if (fault) { puts(msg_fault_text(fault)); exit(1); } }
 
-static size_t is_wrong(uint32_t least) /* what a square's area is, is one of the two */
+static size_t is_wrong(uint32_t least)
 {
     uint32_t imp;
     must(msg_process_find(SQUARE, false, AREA, &imp));
@@ -24,11 +24,11 @@ static void *work(void *wrong)
 
 int main(void)
 {
-    size_t wrong[THREADS] = {0};
+    size_t wrong[THREADS] = {0, 0, 0};
     pthread_t threads[THREADS];
-    msg_runtime *runtime;
     must(msg_process_start(NULL));
     for (int i = 0; i <= SWAPS; i++) {
+        msg_runtime *runtime;
         must(msg_process_lock_to_change(&runtime));
         if (i == 0) must(msg_make_root_class(runtime, SQUARE));
         must(msg_replace(runtime, SQUARE, false, AREA, i % 2 ? NEW : OLD));
