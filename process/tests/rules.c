@@ -289,7 +289,7 @@ static void fork_and_wait(bool holds)
 
 int main(void)
 {
-    alarm(200);
+    alarm(100);
     texts();
     before_start();
     finds();

@@ -40,15 +40,15 @@ static uint32_t below(uint32_t limit)
 /* Two methods of a class are noted at one place. */
 static uint32_t selector(long method) { return 1 + (uint32_t)method % 8 + MSG_NOTES * ((uint32_t)method / 8); }
 
-/* A find, and whether its answer may be. A handler's may have no answer. */
-static void find(uint32_t class_, long method, bool in_handler)
+/* A find, and whether its answer may be. With the lock, as perhaps in a handler, it may have none. */
+static void find(uint32_t class_, long method, bool may_hold)
 {
     uint32_t imp;
     long least = returned;
     if (seen > least) least = seen;
     uint32_t fault = msg_process_find(class_, false, selector(method), &imp);
     long most = begun, step = imp;
-    if (fault == MSG_LOCK_HELD && in_handler) {
+    if (fault == MSG_LOCK_HELD && may_hold) {
         held++;
         return;
     }
@@ -60,13 +60,13 @@ static void find(uint32_t class_, long method, bool in_handler)
 }
 
 /* The same by two classes, or two methods of a place. */
-static void find_some(bool in_handler)
+static void find_some(bool may_hold)
 {
     long method = below(METHODS);
     uint32_t count = (uint32_t)made;
-    find(below(count), method, in_handler);
-    find(below(8), method, in_handler);
-    find(below(8), (method + METHODS / 2) % METHODS, in_handler);
+    find(below(count), method, may_hold);
+    find(below(8), method, may_hold);
+    find(below(8), (method + METHODS / 2) % METHODS, may_hold);
 }
 
 static void begin_thread(long number) { drawn = (uint32_t)number * 2654435761u + 1; }
@@ -91,6 +91,8 @@ static void change(msg_runtime *runtime, int steps)
     for (int i = 0; i < steps; i++) {
         long step = ++begun; /* under the lock */
         want(msg_replace(runtime, 0, false, selector(step % METHODS), (uint32_t)step), MSG_DONE);
+        seen = step; /* a thread that holds the lock has seen what it changed */
+        find(below(8), below(2) ? step % METHODS : below(METHODS), true);
     }
     if (below(3)) return;
     want(msg_replace(runtime, CLASSES, false, 1, 1), MSG_NO_SUCH_CLASS);
