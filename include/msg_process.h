@@ -10,13 +10,14 @@
  * Threads: any. A thread gets its sender at its first find, and gives it back at its end. A thread that finds as many out as the config says, or no memory, finds under the lock as
  * long as it lives; so does a thread that ends, from where its sender is given back.
  *
- * Fork: the child has its thread, that thread's sender and the runtime, as they were; the others' senders are closed in it. It may find, change and start threads. msg_runtime.h
- * promises nothing of its calls there, so this is tested and not proved. Fork in no handler of a signal. In a child that was forked while its thread held the lock, the sender of
- * another thread that was in a find may stay out.
+ * Fork: the child has its thread, that thread's sender and the runtime, as they were; the others' senders are closed in it. It may find, change and start threads. Fork in no handler
+ * of a signal. Where the forking thread held the lock, it does in the child, too, and there the sender of another thread that was in a find may stay out.
  *
- * Handlers of signals may find. They may lock, too, and change. Where the handler has interrupted its own thread while that held the lock, what isn't noted or cached is answered
- * MSG_LOCK_HELD, and so is a lock: let the handler put the work off until after it, or block the signal while the thread holds the lock. A thread's first find takes memory: make it
- * outside of handlers. A handler ends by its return. */
+ * Handlers of signals find by msg_process_find_at_once, which waits for nothing. Where it answers MSG_LOCK_HELD, let the handler put the work off until after it, or block the signal
+ * while the lock is held. msg_process_find and the locks also answer MSG_LOCK_HELD to a handler whose own thread has the lock, and are right in one otherwise; but they may wait for a
+ * thread that wants memory, and a thread's first find takes some: so not where malloc may be what the handler interrupted. A handler ends by its return.
+ *
+ * msg_runtime.h promises nothing of its calls in handlers and in a forked child: that they answer there is tested (tools/process), not proved. */
 #ifndef MSG_PROCESS_H
 #define MSG_PROCESS_H
 
@@ -33,11 +34,11 @@ uint32_t msg_process_start(const msg_config *config);
  * calling thread holds it; then there is nothing to unlock. */
 uint32_t msg_process_lock(msg_runtime **runtime);
 uint32_t msg_process_lock_to_change(msg_runtime **runtime);
-/* By the thread that locked it. */
+/* Gives the lock back; by the thread that took it. */
 void msg_process_unlock(void);
 
-/* msg_process_find_key where nothing is noted. */
-uint32_t msg_process_find_slowly(uint64_t key, uint32_t *imp);
+/* The inline calls below, where the calling thread has noted nothing, or isn't asked. */
+uint32_t msg_process_find_slowly(uint64_t key, bool waits, uint32_t *imp);
 
 /* What the inline call goes by. `turns`: how often the thread was on the slow way. `sender`: its own; or one without notes while that is in use, and where it has none. */
 struct msg_process_thread { const msg_sender *sender; uint64_t turns; };
@@ -53,11 +54,11 @@ extern struct msg_process_count msg_process_changes;
 }
 #endif
 
-/* msg_process_find of a key, for a host that keeps msg_key(2 * number + meta, 0) with each class. A handler may come between any two loads, and send: then `turns` is another after them. */
+/* msg_process_find of a key, for a host that keeps msg_key(2 * number + meta, 0) with each class, and adds a selector's number to it. */
 static inline uint32_t msg_process_find_key(uint64_t key, uint32_t *imp)
 {
     uint64_t turns = __atomic_load_n(&msg_process_own.turns, __ATOMIC_RELAXED), noted;
-    __atomic_signal_fence(__ATOMIC_SEQ_CST);
+    __atomic_signal_fence(__ATOMIC_SEQ_CST); /* a handler may come between any two of the loads, and find: then `turns` is another after them */
     const msg_sender *sender = __atomic_load_n(&msg_process_own.sender, __ATOMIC_RELAXED);
     uint64_t count = __atomic_load_n(&msg_process_changes.begun, __ATOMIC_ACQUIRE);
     const msg_note *note = &sender->notes[(uint32_t)((key >> 27) + key) % MSG_NOTES]; /* as msg_recall_key */
@@ -65,7 +66,7 @@ static inline uint32_t msg_process_find_key(uint64_t key, uint32_t *imp)
     bool is_of = noted == key && note->count == count;
     uint32_t found = note->imp;
     __atomic_signal_fence(__ATOMIC_SEQ_CST);
-    if (!is_of || !found || __atomic_load_n(&msg_process_own.turns, __ATOMIC_RELAXED) != turns) return msg_process_find_slowly(key, imp);
+    if (!is_of || !found || __atomic_load_n(&msg_process_own.turns, __ATOMIC_RELAXED) != turns) return msg_process_find_slowly(key, true, imp);
     MSG_TEST(found == msg_recall(sender, key >> 32, (uint32_t)key, count) || __atomic_load_n(&msg_process_own.turns, __ATOMIC_RELAXED) != turns);
     *imp = found;
     return MSG_DONE;
@@ -76,6 +77,12 @@ static inline uint32_t msg_process_find_key(uint64_t key, uint32_t *imp)
 static inline uint32_t msg_process_find(uint32_t number, bool meta, uint32_t sel, uint32_t *imp)
 {
     return number >> 31 ? (uint32_t)MSG_NO_CLASS : msg_process_find_key(msg_key(2 * number + meta, sel), imp);
+}
+
+/* msg_process_find that never waits and takes no memory: where it would ask under the lock, and any thread has that, it answers MSG_LOCK_HELD. */
+static inline uint32_t msg_process_find_at_once(uint32_t number, bool meta, uint32_t sel, uint32_t *imp)
+{
+    return number >> 31 ? (uint32_t)MSG_NO_CLASS : msg_process_find_slowly(msg_key(2 * number + meta, sel), false, imp);
 }
 
 #endif

@@ -14,7 +14,8 @@
  *     is half written; and it finds no seat, so it asks under the lock. `turns` goes up before each use, so a find that
  *     a handler interrupted between its loads starts again. All of this is one thread's: fences of signals do.
  *  4. A handler doesn't wait for its own thread: `holds` is set before the lock is taken and cleared after it is given.
- *     A C library's lock may be taken in a handler that interrupted no use of it: so it is in glibc and musl.
+ *     A C library's lock may be taken in a handler that interrupted no use of it: so it is in glibc and musl. But who
+ *     holds it may want memory, and the handler may have interrupted malloc; hence msg_process_find_at_once.
  *  5. A fork comes while no other sender is in a call without the lock, so that the child may close them: a thread
  *     stores `asks` and then loads `forks`, and a fork stores `forks` and then loads `asks`. Both are sequentially
  *     consistent, so one of them sees the other. `asks` is cleared by a release: the call's stores are before it.
@@ -44,73 +45,65 @@ static pthread_key_t key;
 static __thread struct seat *own;
 static __thread volatile bool holds, tried, kept; /* `kept`: the lock was held before the fork */
 
-static uint32_t take(bool to_change)
+static uint32_t take(bool to_change, bool waits)
 {
     if (holds) return MSG_LOCK_HELD;
     holds = true;
-    pthread_mutex_lock(&lock);
+    if (waits) pthread_mutex_lock(&lock);
+    else if (pthread_mutex_trylock(&lock)) {
+        holds = false;
+        return MSG_LOCK_HELD;
+    }
     if (to_change) __atomic_store_n(&msg_process_changes.begun, BEGUN, __ATOMIC_RELAXED);
     return MSG_DONE;
 }
 
-static void close_seat(struct seat *seat)
+/* Answers the next. A sender that is in a call stays out: so it may be in a forked child alone. */
+static struct seat *close_seat(struct seat *seat)
 {
+    struct seat *next = seat->next;
+    if (seat->asks) return next;
     msg_sender_close(&runtime, &seat->sender);
     free(seat);
+    return next;
 }
 
 static void give(void)
 {
     uint64_t count;
-    for (struct seat *seat; (seat = dead);) {
-        dead = seat->next;
-        if (!seat->asks) close_seat(seat);
-    }
+    while (dead) dead = close_seat(dead);
     if (!msg_change_count(&runtime, &count) && count != msg_process_changes.begun)
         __atomic_store_n(&msg_process_changes.begun, count, __ATOMIC_RELEASE);
     pthread_mutex_unlock(&lock);
     holds = false;
 }
 
-/* The thread's sender isn't to be used but by whom this answers its seat. */
-static struct seat *hide(const msg_sender **was)
-{
-    *was = msg_process_own.sender;
-    __atomic_store_n(&msg_process_own.turns, msg_process_own.turns + 1, __ATOMIC_RELAXED);
-    __atomic_store_n(&msg_process_own.sender, &nobody, __ATOMIC_RELAXED);
-    atomic_signal_fence(memory_order_seq_cst);
-    return *was == &nobody ? NULL : own;
-}
-
 static void show(const msg_sender *sender)
 {
     atomic_signal_fence(memory_order_seq_cst);
     __atomic_store_n(&msg_process_own.sender, sender, __ATOMIC_RELAXED);
+    atomic_signal_fence(memory_order_seq_cst);
+}
+
+/* The thread's seat, for the caller alone; NULL where it has none, or is using it already. */
+static struct seat *hide(const msg_sender **was)
+{
+    *was = msg_process_own.sender;
+    __atomic_store_n(&msg_process_own.turns, msg_process_own.turns + 1, __ATOMIC_RELAXED);
+    show(&nobody);
+    return *was == &nobody ? NULL : own;
 }
 
 static void at_thread_end(void *seat)
 {
     const msg_sender *was;
     hide(&was);
-    take(false); /* or the thread ends with the lock, which is given below */
+    take(false, true); /* or the thread ends with the lock, which is given below */
     struct seat **at = &seats;
     while (*at != seat) at = &(*at)->next;
-    *at = (*at)->next;
     own = NULL;
-    close_seat(seat);
+    *at = close_seat(seat);
     give();
-}
-
-static bool open_seat(struct seat *seat)
-{
-    if (take(false)) return false;
-    bool is_open = !msg_sender_open(&runtime, &seat->sender);
-    if (is_open) {
-        seat->next = seats;
-        own = seats = seat;
-    }
-    give();
-    return is_open;
 }
 
 /* The thread's seat at its first find; or NULL. */
@@ -121,10 +114,14 @@ static struct seat *sit_down(void)
     struct seat *seat = aligned_alloc(_Alignof(struct seat), sizeof *seat);
     if (!seat) return NULL;
     memset(seat, 0, sizeof *seat);
-    if (!pthread_setspecific(key, seat)) {
-        if (open_seat(seat)) return seat;
-        pthread_setspecific(key, NULL);
+    take(false, true);
+    if (!pthread_setspecific(key, seat) && !msg_sender_open(&runtime, &seat->sender)) {
+        seat->next = seats;
+        own = seats = seat;
     }
+    give();
+    if (own) return own;
+    pthread_setspecific(key, NULL);
     free(seat);
     return NULL;
 }
@@ -142,32 +139,31 @@ static uint32_t probe(struct seat *seat, uint32_t slot, uint32_t sel, uint32_t *
     return answer;
 }
 
-static uint32_t fill(struct seat *seat, uint32_t slot, uint32_t sel, uint32_t *imp)
+static uint32_t fill(struct seat *seat, uint32_t slot, uint32_t sel, bool waits, uint32_t *imp)
 {
-    uint32_t answer = take(false);
+    uint32_t answer = take(false, waits);
     if (answer) return answer;
     answer = seat ? msg_fill(&runtime, &seat->sender, slot / 2, slot % 2, sel, imp) : msg_lookup(&runtime, slot / 2, slot % 2, sel, imp);
     give();
     return answer;
 }
 
-uint32_t msg_process_find_slowly(uint64_t key, uint32_t *imp)
+uint32_t msg_process_find_slowly(uint64_t key, bool waits, uint32_t *imp)
 {
     uint32_t slot = (uint32_t)(key >> 32), sel = (uint32_t)key, answer = MSG_MISSED;
     const msg_sender *was;
     if (!atomic_load_explicit(&started, memory_order_acquire)) return MSG_CLOSED;
     struct seat *seat = hide(&was);
-    if (!seat && (seat = sit_down())) was = &seat->sender;
+    if (!seat && waits && (seat = sit_down())) was = &seat->sender;
     if (seat) answer = probe(seat, slot, sel, imp);
-    if (answer == MSG_MISSED) answer = fill(seat, slot, sel, imp);
+    if (answer == MSG_MISSED) answer = fill(seat, slot, sel, waits, imp);
     show(was);
     return answer;
 }
 
 static uint32_t take_started(bool to_change, msg_runtime **taken)
 {
-    if (!atomic_load_explicit(&started, memory_order_acquire)) return MSG_CLOSED;
-    uint32_t fault = take(to_change);
+    uint32_t fault = atomic_load_explicit(&started, memory_order_acquire) ? take(to_change, true) : MSG_CLOSED;
     if (!fault) *taken = &runtime;
     return fault;
 }
@@ -188,7 +184,7 @@ static void before_fork(void)
     kept = holds;
     atomic_fetch_add(&forks, 1);
     if (kept) return; /* without waiting, which the lock would have to be given for */
-    for (take(false); is_any_asking(); take(false)) {
+    for (take(false, true); is_any_asking(); take(false, true)) {
         give();
         sched_yield();
     }
@@ -213,20 +209,14 @@ static void in_child(void)
     if (!kept) give();
 }
 
-static uint32_t care_for_threads(void)
-{
-    if (pthread_key_create(&key, at_thread_end)) return MSG_NO_MEMORY;
-    if (!pthread_atfork(before_fork, in_parent, in_child)) return MSG_DONE;
-    pthread_key_delete(key);
-    return MSG_NO_MEMORY;
-}
-
 uint32_t msg_process_start(const msg_config *config)
 {
-    uint32_t fault = take(false);
+    static bool has_key, has_forks; /* also of a start that was refused */
+    uint32_t fault = take(false, true);
     if (fault) return fault;
-    fault = msg_open(&runtime, config);
-    if (!fault && (fault = care_for_threads())) msg_close(&runtime);
+    has_key = has_key || !pthread_key_create(&key, at_thread_end);
+    has_forks = has_forks || !pthread_atfork(before_fork, in_parent, in_child);
+    fault = has_key && has_forks ? msg_open(&runtime, config) : (uint32_t)MSG_NO_MEMORY;
     if (!fault) atomic_store_explicit(&started, true, memory_order_release);
     give();
     return fault;

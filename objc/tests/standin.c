@@ -88,19 +88,6 @@ uint32_t msg_open_words(msg_runtime *runtime, const uint32_t *config, size_t wor
     return MSG_DONE;
 }
 
-/* Without senders, as after a start that failed. */
-uint32_t msg_close(msg_runtime *runtime)
-{
-    if (!runtime->open) return MSG_CLOSED;
-    struct tables *tables = runtime->at;
-    must(!tables->out);
-    free(tables->of);
-    free(tables->cells);
-    free(tables);
-    *runtime = (msg_runtime)MSG_RUNTIME_INIT;
-    return MSG_DONE;
-}
-
 uint32_t msg_change_count(msg_runtime *runtime, uint64_t *count)
 {
     if (!runtime->open) return MSG_CLOSED;

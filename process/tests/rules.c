@@ -31,6 +31,13 @@ static uint32_t find(uint32_t number, bool meta, uint32_t sel)
     return fault ? 1000 + fault : imp;
 }
 
+static uint32_t find_at_once(uint32_t number, bool meta, uint32_t sel)
+{
+    uint32_t imp = 999, fault = msg_process_find_at_once(number, meta, sel, &imp);
+    if (fault) WANT(imp, 999);
+    return fault ? 1000 + fault : imp;
+}
+
 static uint32_t set(uint32_t number, bool meta, uint32_t sel, uint32_t imp)
 {
     uint32_t fault = msg_process_lock_to_change(&runtime);
@@ -62,6 +69,7 @@ static void texts(void)
 static void before_start(void)
 {
     WANT(find(ROOT, false, ONE), 1000 + MSG_CLOSED);
+    WANT(find_at_once(ROOT, false, ONE), 1000 + MSG_CLOSED);
     WANT(msg_process_lock(&runtime), MSG_CLOSED);
     WANT(msg_process_lock_to_change(&runtime), MSG_CLOSED);
     WANT(runtime != NULL, 0);
@@ -134,7 +142,7 @@ static void locked(void)
 
 /* ---- handlers ---- */
 
-static volatile uint32_t handled[3];
+static volatile uint32_t handled[4];
 
 static void handle(int signal)
 {
@@ -144,6 +152,47 @@ static void handle(int signal)
     handled[1] = find(CHILD, true, TWO + 1000);
     handled[2] = msg_process_lock(&asked);
     if (!handled[2]) msg_process_unlock();
+    handled[3] = find_at_once(CHILD, true, TWO + 1001);
+}
+
+static pthread_barrier_t is_locked, is_asked;
+
+static void *hold(void *none)
+{
+    msg_runtime *held;
+    WANT(msg_process_lock(&held), MSG_DONE);
+    pthread_barrier_wait(&is_locked);
+    pthread_barrier_wait(&is_asked);
+    msg_process_unlock();
+    return none;
+}
+
+/* While another thread has the lock: what is noted is found, and nothing waited for. */
+static void at_once(void)
+{
+    pthread_t thread;
+    pthread_barrier_init(&is_locked, NULL, 2);
+    pthread_barrier_init(&is_asked, NULL, 2);
+    WANT(find_at_once(CHILD, false, ONE), 15);
+    WANT(find_at_once(CHILD, false, 0), 1000 + MSG_NO_SELECTOR);
+    WANT(find_at_once(CHILD + (1u << 31), false, ONE), 1000 + MSG_NO_CLASS);
+    pthread_create(&thread, NULL, hold, NULL);
+    pthread_barrier_wait(&is_locked);
+    WANT(find_at_once(CHILD, false, ONE), 15);
+    WANT(find_at_once(CHILD, true, TWO + 1002), 1000 + MSG_LOCK_HELD);
+    pthread_barrier_wait(&is_asked);
+    pthread_join(thread, NULL);
+    WANT(find_at_once(CHILD, true, TWO + 1002), 0);
+}
+
+/* In a thread that hasn't found before, it takes no memory, and so no sender; nor does it stand in the way of one later. */
+static void *find_first_at_once(void *none)
+{
+    WANT(find_at_once(CHILD, false, ONE), 15);
+    WANT(msg_process_own.sender->open, 0);
+    WANT(find(CHILD, false, ONE), 15);
+    WANT(msg_process_own.sender->open, 1);
+    return none;
 }
 
 static void handlers(void)
@@ -162,9 +211,15 @@ static void handlers(void)
     WANT(handled[0], 15);
     WANT(handled[1], 1000 + MSG_LOCK_HELD);
     WANT(handled[2], MSG_LOCK_HELD);
+    WANT(handled[3], 1000 + MSG_LOCK_HELD);
     raise(SIGUSR1);
     WANT(handled[1], 0);
     WANT(handled[2], MSG_DONE);
+    WANT(handled[3], 0);
+    at_once();
+    pthread_t thread;
+    pthread_create(&thread, NULL, find_first_at_once, NULL);
+    pthread_join(thread, NULL);
 }
 
 /* ---- threads ---- */

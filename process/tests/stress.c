@@ -46,7 +46,8 @@ static void find(uint32_t class_, long method, bool may_hold)
     uint32_t imp;
     long least = returned;
     if (seen > least) least = seen;
-    uint32_t fault = msg_process_find(class_, false, selector(method), &imp);
+    bool waits = !may_hold || below(2);
+    uint32_t fault = (waits ? msg_process_find : msg_process_find_at_once)(class_, false, selector(method), &imp);
     long most = begun, step = imp;
     if (fault == MSG_LOCK_HELD && may_hold) {
         held++;
