@@ -15,7 +15,8 @@
  *
  * Handlers of signals find by msg_process_find_at_once, which waits for nothing. Where it answers MSG_LOCK_HELD, let the handler put the work off until after it, or block the signal
  * while the lock is held. msg_process_find and the locks also answer MSG_LOCK_HELD to a handler whose own thread has the lock, and are right in one otherwise; but they may wait for a
- * thread that wants memory, and a thread's first find takes some: so not where malloc may be what the handler interrupted. A handler ends by its return.
+ * thread that wants memory, and a thread's first find takes some: so not where malloc may be what the handler interrupted. A handler ends by its return, and no thread is cancelled
+ * asynchronously.
  *
  * msg_runtime.h promises nothing of its calls in handlers and in a forked child: that they answer there is tested (tools/process), not proved. */
 #ifndef MSG_PROCESS_H

@@ -18,7 +18,7 @@ enum { FINDERS = 16, CHANGERS = 4, BEGINNERS = 6, SENDERS = 26, CLASSES = 512, M
 #endif
 
 static atomic_bool is_over;
-static atomic_long begun, returned, made, answers, held, handled, refused, ended, without, forked;
+static atomic_long begun, returned, made, answers, held, handled, refused, ended, without, forked, ready;
 static atomic_long wrong;
 
 static _Thread_local volatile long seen;
@@ -70,7 +70,13 @@ static void find_some(bool may_hold)
     find(below(8), (method + METHODS / 2) % METHODS, may_hold);
 }
 
-static void begin_thread(long number) { drawn = (uint32_t)number * 2654435761u + 1; }
+/* A thread's first find is outside of handlers. */
+static void begin_thread(long number)
+{
+    drawn = (uint32_t)number * 2654435761u + 1;
+    find_some(false);
+    ready++;
+}
 
 static void *find_on(void *number)
 {
@@ -261,6 +267,8 @@ static void handle(int signal)
     errno = kept;
 }
 
+static bool is_little(void) { return !refused || !ended || !without || (FORKS && !forked) || !handled || !held || made < 9; }
+
 int main(void)
 {
     enum { THREADS = FINDERS + CHANGERS + 1 };
@@ -281,10 +289,10 @@ int main(void)
 
     sigaction(SIGUSR1, &(struct sigaction){.sa_handler = handle, .sa_flags = SA_RESTART}, NULL);
     for (long i = 0; i < THREADS; i++) pthread_create(&threads[i], NULL, i < FINDERS ? find_on : i < FINDERS + CHANGERS ? change_on : make_on, (void *)(i + 1));
-    usleep(100000); /* each has found outside of a handler */
+    while (ready < THREADS) usleep(1000);
     for (long i = 0; i < 3; i++) pthread_create(&beside[i], NULL, others[i], (void *)(i + 100));
     time_t end = time(NULL) + SECONDS;
-    while (time(NULL) < end) {
+    while (time(NULL) < end || (is_little() && time(NULL) < end + PATIENCE / 2)) {
         pthread_kill(threads[below(THREADS)], SIGUSR1);
         usleep(20);
     }
@@ -294,7 +302,6 @@ int main(void)
     if (left() != SENDERS) tell("senders that are left", left(), SENDERS); /* this thread has none */
     fprintf(stderr, "%ld answers beside %ld steps, %ld refused changes, %ld classes, %ld threads (%ld without a sender), %ld forks; %ld signals, %ld answered that the lock is held\n",
             (long)answers, (long)begun, (long)refused, (long)made, (long)ended, (long)without, (long)forked, (long)handled, (long)held);
-    bool few = !answers || !refused || !ended || !without || (FORKS && !forked) || !handled || made < 9;
-    printf("stress: %ld wrong%s\n", (long)wrong, few ? ", and too little was tried" : "");
-    return wrong || few;
+    printf("stress: %ld wrong%s\n", (long)wrong, is_little() ? ", and too little was tried" : "");
+    return wrong || is_little();
 }
