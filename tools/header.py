@@ -73,6 +73,11 @@ def constants(text):
     return {name: int(value) for body in bodies for name, value in CONSTANT.findall(body)}
 
 
+def version(text):
+    """As a face's manifest spells it."""
+    return ".".join(re.findall(r"^#define MSG_VERSION_(?:MAJOR|MINOR|PATCH) (\d+)$", text, re.M))
+
+
 def said_of(text):
     """Of each constant the comment that stands behind it in its line."""
     return dict(re.findall(r"^[ ]*(MSG_\w+) = \d+,?[ ]*/\* (.*?) \*/", text, re.M))
