@@ -12,6 +12,8 @@
  *   - malloc, realloc and free are the C library's; there is enough stack; no call is made in a signal handler,
  *     or in the forked child of a process with threads.
  *
+ * msg_process.h does this for a whole process: it has the lock, a sender for each thread, and what forks and handlers want.
+ *
  * Not trusted, since it is refused by a number: a handle that is closed, or opened twice; numbers of classes, selectors and implementations that are nobody's.
  *
  * Every call answers MSG_DONE or the number of a fault. After a fault nothing has changed and nothing was written to what a pointer points to.
