@@ -58,7 +58,7 @@ static uint32_t take(bool to_change, bool waits)
     return MSG_DONE;
 }
 
-/* Answers the next. A sender that is in a call stays out: so it may be in a forked child alone. */
+/* Answers the next. A sender that may be in a call stays out: so it is in a forked child alone. */
 static struct seat *close_seat(struct seat *seat)
 {
     struct seat *next = seat->next;
@@ -196,7 +196,8 @@ static void in_parent(void)
     if (!kept) give();
 }
 
-/* The other threads aren't here. Where the lock was held before, they are left when it is given. */
+/* The other threads aren't here. Those that ask by now have seen the fork and are in no call, unless it didn't wait.
+ * Where the lock was held before, their senders are closed when it is given. */
 static void in_child(void)
 {
     struct seat **at = &seats;
@@ -205,6 +206,7 @@ static void in_child(void)
     dead = seats;
     seats = own;
     if (own) own->next = NULL;
+    for (struct seat *seat = dead; seat && !kept; seat = seat->next) seat->asks = false;
     atomic_store(&forks, 0);
     if (!kept) give();
 }

@@ -309,7 +309,7 @@ static void child(bool holds)
     WANT(left(), SENDERS - 1);
     WANT(set(CHILD, false, ONE, 17), MSG_DONE);
     WANT(find(CHILD, false, ONE), 17);
-#ifdef __SANITIZE_THREAD__ /* it has no threads in a child */
+#ifdef SANITIZED_thread /* it has no threads in a child */
     (void)thread;
     change_in_child(NULL);
 #else

@@ -200,9 +200,9 @@ static long left(void)
 
 /* ---- forks ---- */
 
-#ifdef __SANITIZE_THREAD__
+#ifdef SANITIZED_thread
 enum { FORKS = true, THREADS_IN_CHILD = false }; /* ThreadSanitizer has none */
-#elif defined __SANITIZE_ADDRESS__
+#elif defined SANITIZED_address
 enum { FORKS = false, THREADS_IN_CHILD = true }; /* of its memory a child may find a lock held by a thread that isn't there: rules.c alone forks */
 #else
 enum { FORKS = true, THREADS_IN_CHILD = true };
