@@ -1,5 +1,5 @@
 -- The sender numbers that nobody has are seen out by one step.
-use Rattle.std.proofs.Common.{◌≡◌, ℕ, zero, suc, ◌+◌, ◌-◌, ◌<◌, ◌≤◌, List, ◌≢◌, ⊎_elim, Bool, true, false, refl, sym, ap, ◌∙◌, subst, arith}
+use Rattle.std.proofs.Common.{◌≡◌, ℕ, zero, suc, ◌+◌, ◌<◌, ◌≤◌, List, ◌≢◌, ⊎_elim, Bool, true, false, refl, sym, ap, ◌∙◌, subst, arith}
 use Rattle.std.specs.Prelude.{slice_index, slice_set}
 use Rattle.std.proofs.lemmas.List.{set-set}
 use mathlib.Core.Option.{some}
@@ -18,7 +18,7 @@ use Rattle.msg_cache.specs.declared.view.View.TheVariants.{Keeper}
 use Rattle.msg_cache.specs.Keeping.{looks}
 use Rattle.msg_cache.specs.Laws.{after_looks}
 use Rattle.msg_cache.specs.Plays.{looked, rest_looked}
-use Rattle.msg_cache.specs.Rule.{Ruled, shown_by, GoesBy}
+use Rattle.msg_cache.specs.Rule.{Ruled, shown_by}
 use Rattle.msg_cache.proofs.ClearingLemmas.{same_or}
 use Rattle.msg_cache.proofs.KeeperLemmas.{out_step, idle_step}
 use Rattle.msg_cache.proofs.SeatLemmas.{at_below}

@@ -35,11 +35,10 @@ use Rattle.msg_cache.specs.Plays.{retire, flushed, installed, committed, lent, g
 use Rattle.msg_cache.proofs.LayoutLemmas.{one_place}
 use Rattle.msg_cache.proofs.OpeningLemmas.{first_tidy}
 use Rattle.msg_cache.proofs.ShownLemmas.{live_is}
-use Rattle.msg_cache.specs.Keeping.{IsGroup, standing_of, array_words, header, lowest_free, looks, CollectsBy, Collects, or_least, remember, way_in, way_by_header, way_of, OnUse, filled, grown, FillsBy, Fills, InOrder}
+use Rattle.msg_cache.specs.Keeping.{IsGroup, standing_of, array_words, header, lowest_free, looks, CollectsBy, Collects, or_least, remember, way_in, way_by_header, way_of, filled, grown, FillsBy, Fills, InOrder}
 use Rattle.msg_cache.specs.declared.answer.Filled.{Filled}
 use Rattle.msg_cache.specs.declared.answer.Filled.TheVariants.{Grown, NoArray}
-use Rattle.msg_cache.specs.declared.answer.Way.{Way}
-use Rattle.msg_cache.specs.declared.answer.Way.TheVariants.{Present, Use, Take}
+use Rattle.msg_cache.specs.declared.answer.Way.TheVariants.{Take}
 use Rattle.msg_cache.proofs.ClearingLemmas.{same_or}
 use Rattle.msg_cache.specs.Uses.{ArrayUse, live, use_of, use_at, is_free_use}
 use Rattle.msg_cache.proofs.SettledLemmas.{free_at, used_at}

@@ -1,7 +1,6 @@
 -- What stays of the keeper's view by itself, and what it gives.
-use Rattle.std.proofs.Common.{◌≡◌, ◌≢◌, ℕ, zero, suc, ◌-◌, ◌<◌, length, Bool, true, false, Some, None, refl, sym, ap, ◌∙◌, arith}
+use Rattle.std.proofs.Common.{◌≡◌, ℕ, ◌<◌, length, Bool, true, false, Some, None, refl, sym, ◌∙◌}
 use Rattle.msg_tables.specs.Origin.{class_total}
-use Rattle.std.specs.Prelude.{slice_index}
 use Rattle.std.proofs.Math.ListN.{length-set}
 use Rattle.msg_names.specs.declared.value.ClassRef.{ClassRef}
 use Rattle.msg_tables.specs.declared.change.Change.{Change}
@@ -11,10 +10,9 @@ use Rattle.msg_core.specs.declared.state.Standing.TheVariants.{Live}
 use Rattle.msg_core.specs.State.{capacity, Agrees}
 use Rattle.msg_core.specs.View.{standing_at}
 use Rattle.msg_cache.specs.declared.view.KeeperView.{KeeperView}
-use Rattle.msg_cache.specs.Layout.{SettingView, layout_of, header_at}
+use Rattle.msg_cache.specs.Layout.{SettingView, layout_of}
 use Rattle.msg_cache.specs.Plays.{lent, given_out}
-use Rattle.msg_cache.specs.Rule.{TidyBy, named, live_in, word_in}
-use Rattle.msg_cache.proofs.ShownLemmas.{live_is}
+use Rattle.msg_cache.specs.Rule.{TidyBy, live_in, word_in}
 
 -- the turn was split off
 pub tidy_lent : (look : History → ClassRef → ℕ → ℕ) (key : SettingView) (k : KeeperView) → TidyBy look key k → TidyBy look key (lent k)

@@ -22,12 +22,6 @@ use Rattle.msg_runner.specs.Serving.{AllSends, IsOneChange, IsAnswered, AreAnswe
 
 -- ---- how many
 
-pub pieces_most : (cut n : ℕ) → 0 < cut → pieces_of cut n ≤ n
-pieces_most cut n some = elim (cases_lt n cut) [
-  | inl short ↦ let d = div-eq_of_lt short in let m = mod-eq_of_lt short in omega (arith, d, m)
-  | inr long ↦ let d = div-add-mod' n cut in let w : n / cut * 1 ≤ n / cut * cut = mul-le-mul_left (n / cut) some in omega (arith, d, w)
-]
-
 -- a piece is of `cut` places, or of all that are left
 pub pieces_step : (cut n : ℕ) → 0 < cut → 0 < n → pieces_of cut n ≡ 1 + pieces_of cut (n - min n cut)
 pieces_step cut n some more = elim (cases_lt n cut) [
@@ -44,9 +38,6 @@ pieces_step cut n some more = elim (cases_lt n cut) [
       let rest : pieces_of cut (n - min n cut) ≡ pieces_of cut (n - cut) = ap (pieces_of cut) left in
       ap₂ (λ q r. q + min 1 r) d m ∙ omega (arith, rest)
 ]
-
-pub pieces_none : (cut : ℕ) → 0 < cut → pieces_of cut 0 ≡ 0
-pieces_none cut some = ap₂ (λ q r. q + min 1 r) (div-eq_of_lt some) (mod-eq_of_lt some)
 
 -- ---- how many are sends
 

@@ -22,10 +22,6 @@ pub record IsSoFar (d : DocumentParts) (tables : TablesView) (text : List ℕ) (
   pub origin : history.origin ≡ origin_of d.image
   pub whole : text ++ text_of d.image (serial_from d.image history left) ≡ output_of d
 
-pub at_start : (d : DocumentParts) (tables : TablesView) (text : List ℕ) → text ≡ [] → StandsAt tables (empty (origin_of d.image)) → IsSoFar d tables text d.items
-unfolding output_of
-at_start d tables text none stands = record { history = empty (origin_of d.image); stands = stands; origin = refl; whole = ap (λ t. t ++ text_of d.image (serial d)) none }
-
 same_origin : (h : History) (x : Change) (r : Option ChangeFault) → (longer_by h x r).origin ≡ h.origin
 same_origin h x None = refl
 same_origin h x (Some f) = refl
@@ -46,13 +42,6 @@ step d old new text more item left so_far made = record {
       ap (λ t. t ++ rest) made.0 ∙ append_assoc text line rest ∙ so_far.whole;
 }
 
--- the item at a place is the first of those left
-pub left_at : (items : List Item) (i : ℕ) (x : Item) → i < length items → x ≡ get_or items i x → map item_parts (drop i items) ≡ item_parts x ∷ map item_parts (drop (i + 1) items)
-left_at items i x inside at = rw add-one (ap (map item_parts) (drop-cons items i x inside ∙ ap (λ y. y ∷ drop (suc i) items) (sym at)))
-
 pub at_end : (d : DocumentParts) (tables : TablesView) (text : List ℕ) (items : List Item) (i : ℕ) → length items ≤ i → IsSoFar d tables text (map item_parts (drop i items)) → text ≡ output_of d
 at_end d tables text items i past so_far =
     sym (append-nil text) ∙ ap (λ rest. text ++ text_of d.image (serial_from d.image so_far.history (map item_parts rest))) (sym (drop_all i items past)) ∙ so_far.whole
-
-pub item_at : (P : ItemParts → Type 0) (items : List Item) (i : ℕ) (x : Item) → i < length items → x ≡ get_or items i x → All P (map item_parts items) → P (item_parts x)
-item_at P items i x inside at all = subst P (get_or-map item_parts items i x (item_parts x) inside ∙ ap item_parts (sym at)) (all i (item_parts x) (omega (arith, inside, length-map items item_parts)))

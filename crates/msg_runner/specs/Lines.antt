@@ -1,8 +1,9 @@
 -- The lines that a run makes.
 use Rattle.std.specs.Prelude.{◌≡◌, ℕ, List, []}
-use Rattle.msg_image.specs.Items.{ItemParts}
+use Rattle.msg_image.specs.Items.{DocumentParts, ItemParts}
+use Rattle.msg_image.specs.Opened.{origin_of}
 use Rattle.msg_image.specs.Parts.{ImageParts}
-use Rattle.msg_tables.specs.History.{History}
+use Rattle.msg_tables.specs.History.{History, empty}
 use Rattle.msg_runner.specs.Serial.{serial_from}
 use Rattle.msg_runner.specs.Serving.{AllSends, AreAnswered}
 use Rattle.msg_runner.specs.Text.{text_of}
@@ -13,3 +14,7 @@ use Rattle.msg_runner.specs.declared.changes.Changes.TheVariants.{Between, Besid
 abbrev pub AreLines : Changes → ImageParts → ℕ → ℕ → History → List ItemParts → List ℕ → Type 0
 AreLines Between image workers cut h items text = text ≡ text_of image (serial_from image h items)
 AreLines Beside image workers cut h items text = AreAnswered image workers cut h items [] text × (AllSends items → text ≡ text_of image (serial_from image h items))
+
+-- the same of a document, from its first item on
+abbrev pub AreLinesOf : Changes → ℕ → ℕ → DocumentParts → List ℕ → Type 0
+AreLinesOf changes workers cut d text = AreLines changes d.image workers cut (empty (origin_of d.image)) d.items text

@@ -1,4 +1,4 @@
-//! A sender as the finder of sends.
+//! A worker's sender as the finder of its sends.
 
 ghost use Rattle.std.specs.Prelude.{◌≡◌, All, List};
 ghost use Rattle.msg_image.specs.Opened.{origin_of};
@@ -8,20 +8,22 @@ ghost use Rattle.msg_eval.specs.Evaluation.{send_of};
 ghost use Rattle.msg_eval.specs.Points.{Rise, EndsAfter, last_of};
 
 use crate::asker::Asker;
+use crate::gate::Gate;
 use msg_dispatch::ArenaName;
 use msg_eval::{Args, Finder, Reply, send};
 use msg_image::Image;
 use msg_names::{ClassRef, ImpRef, Selector, Value};
 use std::sync::Wait;
 
-// A sender, with the handle by which its misses wait.
+// A worker: its sender, the handle by which its misses wait, and the gate that it tells of its pieces.
 #[derive(Drop)]
-pub(crate) struct Asking<'r, 'd, N: ArenaName, R: Wait> {
+pub(crate) struct Asking<'r, 'd, N: ArenaName, G: Gate, R: Wait> {
     pub(crate) rt: &'r R,
+    pub(crate) gate: &'r G,
     pub(crate) sender: Asker<'d, N>,
 }
 
-impl<'r, 'd, N: ArenaName, R: Wait> Finder for Asking<'r, 'd, N, R> {
+impl<'r, 'd, N: ArenaName, G: Gate, R: Wait> Finder for Asking<'r, 'd, N, G, R> {
     ghost use Rattle.std.specs.Prelude.{◌≡◌};
     ghost use Rattle.msg_runner.specs.Asked.{sizes_at};
     ghost use Rattle.msg_tables.specs.Origin.{OriginView};
@@ -42,7 +44,7 @@ impl<'r, 'd, N: ArenaName, R: Wait> Finder for Asking<'r, 'd, N, R> {
     }
 }
 
-impl<'r, 'd, N: ArenaName, R: Wait> Asking<'r, 'd, N, R> {
+impl<'r, 'd, N: ArenaName, G: Gate, R: Wait> Asking<'r, 'd, N, G, R> {
     // The reply to a send, at points that rise from what the sender had seen.
     pub(crate) fn reply(
         &mut self,
@@ -55,7 +57,9 @@ impl<'r, 'd, N: ArenaName, R: Wait> Asking<'r, 'd, N, R> {
         requires receiver { IsOf image.now receiver }
         requires args { All (IsOf image.now) args.now.items }
         ensures image { self.new.sender.seen.front.origin ≡ origin_of image.now }
-        ensures points { (points : List History) × Rise self.old.sender.seen.front points × EndsAfter (send_of image.now receiver sel args.now.items) points result × (self.new.sender.seen.front ≡ last_of self.old.sender.seen.front points) }
+        ensures points { (points : List History) × Rise self.old.sender.seen.front points
+            × EndsAfter (send_of image.now receiver sel args.now.items) points result
+            × (self.new.sender.seen.front ≡ last_of self.old.sender.seen.front points) }
     {
         send(self, image, receiver, sel, args)
     }
@@ -72,7 +76,9 @@ impl<'r, 'd, N: ArenaName, R: Wait> Asking<'r, 'd, N, R> {
         requires receiver { IsOf image.now receiver }
         requires args { All (IsOf image.now) args.now.items }
         ensures image { self.new.sender.seen.front.origin ≡ origin_of image.now }
-        ensures points { (points : List History) × Rise self.old.sender.seen.front points × EndsAfter (send_of image.now receiver sel args.now.items) points result × BeginsWith self.new.sender.seen.front (last_of self.old.sender.seen.front points) }
+        ensures points { (points : List History) × Rise self.old.sender.seen.front points
+            × EndsAfter (send_of image.now receiver sel args.now.items) points result
+            × BeginsWith self.new.sender.seen.front (last_of self.old.sender.seen.front points) }
     {
         let _changes = self.sender.refresh();
         self.reply(image, receiver, sel, args)

@@ -1,20 +1,21 @@
 //! Workers in threads, beside the changes.
 
-ghost use Rattle.std.specs.Prelude.{◌≡◌, ◌≤◌, ◌<◌, ◌+◌, ◌^◌, [], All, ℕ, length, map, vec_len, IfOk, OnOk};
+ghost use Rattle.std.specs.Prelude.{◌≡◌, ◌≤◌, ◌<◌, ◌+◌, ◌^◌, [], ℕ, map, vec_len, IfOk, OnOk};
 ghost use Rattle.std.specs.Thread.{IsSync};
 ghost use Rattle.msg_image.specs.Opened.{origin_of};
 ghost use Rattle.msg_image.specs.Plain.{item_parts};
-ghost use Rattle.msg_image.specs.Sound.{IsSoundItem};
-ghost use Rattle.msg_tables.specs.History.{History, BeginsWith};
-ghost use Rattle.msg_runner.specs.Serving.{Served, share_of, worker_of, sends_of, history_of, refusals_of, at_worker};
+ghost use Rattle.msg_tables.specs.History.{History};
+ghost use Rattle.msg_runner.specs.Parts.{items_of, history_past, HasAnswered, IsSoundPart, Serves};
+ghost use Rattle.msg_runner.specs.Serving.{Served, refusals_of, share_of, sends_of, worker_of};
 
 use crate::asker::Asker;
 use crate::asking::Asking;
 use crate::changes::change_all;
+use crate::context::Run;
 use crate::crew::{Crew, Done};
 use crate::gate::Gate;
 use crate::part::{Part, Share};
-use crate::work::serve;
+use crate::work::answer_share;
 use msg_dispatch::{ArenaName, Sender};
 use msg_eval::Reply;
 use msg_tables::ChangeFault;
@@ -30,32 +31,39 @@ pub(crate) struct Batch {
     pub(crate) outcomes: Vec<Option<ChangeFault>>,
 }
 
-// That a worker serves its share.
+// That a worker answers its share.
 #[derive(Drop)]
-pub(crate) struct ServesShare<'a, 'd, N: ArenaName> {
+pub(crate) struct AnswersShare<'a, 'd, N: ArenaName> {
     pub(crate) was: Snapshot<Sender<'d, N>>,
     pub(crate) share: Share<'a>,
 }
 
-impl<'a, 'd, N: ArenaName> Promise<Done<'d, N>> for ServesShare<'a, 'd, N> {
-    ghost kept_by = { λ p d. IfOk d.replies (λ rs. Served p.was.value.seen.front (share_of (worker_of p.share.part.deal.cut p.share.part.deal.workers) p.share.worker 0 (sends_of p.share.part.image.now (map item_parts p.share.part.items.now))) rs.items d.sender.seen.front) };
+impl<'a, 'd, N: ArenaName> Promise<Done<'d, N>> for AnswersShare<'a, 'd, N> {
+    ghost kept_by = { λ p d. IfOk d.replies (λ rs. Served p.was.value.seen.front
+        (share_of (worker_of p.share.part.deal.cut p.share.part.deal.workers) p.share.worker 0
+        (sends_of p.share.part.image.now (map item_parts p.share.part.items.now)))
+        rs.items d.sender.seen.front) };
 }
 
 // One worker's work, with a sender of its own, and with a memory for this work.
-pub(crate) fn serve_with<'d, N: ArenaName, G: Gate, R: Wait>(
+pub(crate) fn answer_by<'d, N: ArenaName, G: Gate, R: Wait>(
     rt: &R,
     alloc: Global,
-    sender: Sender<'d, N>,
     gate: &G,
+    sender: Sender<'d, N>,
     share: Share<'_>,
 ) -> Done<'d, N>
     requires image { sender.seen.front.origin ≡ origin_of share.part.image.now }
-    requires sound { All (IsSoundItem share.part.image.now) (map item_parts share.part.items.now) }
-    ensures { IfOk result.replies (λ rs. Served sender.entry.seen.front (share_of (worker_of share.entry.part.deal.cut share.entry.part.deal.workers) share.entry.worker 0 (sends_of share.entry.part.image.now (map item_parts share.entry.part.items.now))) rs.items result.sender.seen.front) }
+    requires sound { IsSoundPart share.part }
+    ensures { IfOk result.replies
+        (λ rs. Serves share.entry sender.entry.seen.front rs.items result.sender.seen.front) }
 {
-    let sender = Asker::of(alloc, sender, share.sends);
-    let mut asking = Asking { rt, sender };
-    let replies = serve(alloc, &mut asking, gate, share);
+    let mut asking = Asking {
+        rt,
+        gate,
+        sender: Asker::of(alloc, sender, share.sends),
+    };
+    let replies = answer_share(alloc, &mut asking, share);
     let Asking { sender, .. } = asking;
     Done {
         sender: sender.into_sender(),
@@ -65,34 +73,37 @@ pub(crate) fn serve_with<'d, N: ArenaName, G: Gate, R: Wait>(
 
 // Starts a worker.
 fn start<'s, 'e: 's, 'd: 's, N: ArenaName + Send + Sync + 's, G: Gate, R: Wait + Sync>(
-    rt: &'s R,
+    run: &Run<'s, G, R>,
     scope: &Scope<'s, &'e ()>,
-    alloc: Global,
     sender: Sender<'d, N>,
-    gate: &'s G,
     share: Share<'s>,
-) -> Result<PromisedHandle<Done<'d, N>, ServesShare<'s, 'd, N>>, AllocError>
+) -> Result<PromisedHandle<Done<'d, N>, AnswersShare<'s, 'd, N>>, AllocError>
     requires image { sender.seen.front.origin ≡ origin_of share.part.image.now }
-    requires sound { All (IsSoundItem share.part.image.now) (map item_parts share.part.items.now) }
+    requires sound { IsSoundPart share.part }
     ensures was { IfOk result (λ h. h.promise.was.value ≡ sender.entry) }
     ensures share { IfOk result (λ h. h.promise.share ≡ share.entry) }
 {
-    let promise = ServesShare {
+    let rt = run.rt;
+    let alloc = run.alloc;
+    let gate = run.gate;
+    let promise = AnswersShare {
         was: Snapshot::of(&sender),
         share,
     };
     let worker = scope.spawn_with(
         promise,
         move || -> Done<N>
-            requires { IsSync R.row × (sender.seen.front.origin ≡ origin_of share.part.image.now) × All (IsSoundItem share.part.image.now) (map item_parts share.part.items.now) }
-            ensures { IfOk result.replies (λ rs. Served sender.entry.seen.front (share_of (worker_of share.entry.part.deal.cut share.entry.part.deal.workers) share.entry.worker 0 (sends_of share.entry.part.image.now (map item_parts share.entry.part.items.now))) rs.items result.sender.seen.front) }
-        { serve_with(rt, alloc, sender, gate, share) },
+            requires { IsSync R.row × (sender.seen.front.origin ≡ origin_of share.part.image.now)
+                × IsSoundPart share.part }
+            ensures { IfOk result.replies (λ rs. Serves share.entry sender.entry.seen.front
+                rs.items result.sender.seen.front) }
+        { answer_by(rt, alloc, gate, sender, share) },
     )?;
     Ok(worker)
 }
 
 // Starts the last worker, calls itself for the others, and joins the last. The innermost call makes the changes.
-pub(crate) fn serve_beside<
+pub(crate) fn answer_beside<
     's,
     'e: 's,
     'd: 's,
@@ -100,47 +111,47 @@ pub(crate) fn serve_beside<
     G: Gate,
     R: Threads + Wait + Sync,
 >(
-    rt: &'s R,
+    run: &Run<'s, G, R>,
     scope: &'s Scope<'s, &'e ()>,
-    alloc: Global,
     crew: &mut Crew<'d, N>,
     workers: u32,
-    gate: &'s G,
     part: Part<'s>,
     sends: usize,
     batch: &mut Batch,
 ) -> Result<(), AllocError>
     requires image { crew.old.changer.origin ≡ origin_of part.image.now }
-    requires sound { All (IsSoundItem part.image.now) (map item_parts part.items.now) }
+    requires sound { IsSoundPart part }
     requires enough { workers ≤ vec_len crew.old.senders }
     requires no_shares { batch.old.shares.items ≡ [] }
     requires no_outcomes { batch.old.outcomes.items ≡ [] }
-    ensures history { OnOk result (crew.new.changer ≡ history_of crew.old.changer (map item_parts part.entry.items.now)) }
-    ensures outcomes { OnOk result (batch.new.outcomes.items ≡ refusals_of crew.old.changer (map item_parts part.entry.items.now)) }
+    ensures history { OnOk result (crew.new.changer ≡ history_past part.entry crew.old.changer) }
+    ensures outcomes { OnOk result
+        (batch.new.outcomes.items ≡ refusals_of crew.old.changer (items_of part.entry)) }
     ensures senders { OnOk result (vec_len crew.new.senders ≡ vec_len crew.old.senders) }
     ensures count { OnOk result (vec_len batch.new.shares ≡ workers) }
-    ensures each { OnOk result ((w : ℕ) → w < workers → (last : History) × Served crew.old.changer (share_of (worker_of part.entry.deal.cut part.entry.deal.workers) w 0 (sends_of part.entry.image.now (map item_parts part.entry.items.now))) (at_worker (map (λ rs. rs.items) batch.new.shares.items) w) last × BeginsWith crew.new.changer last) }
+    ensures each { OnOk result ((w : ℕ) → w < workers
+        → HasAnswered part.entry w crew.old.changer batch.new crew.new.changer) }
 {
     if workers == 0 {
         return change_all(
-            rt,
+            run.rt,
             &mut crew.changer,
-            gate,
+            run.gate,
             part.first_change,
             part.items,
             &mut batch.outcomes,
         );
     }
     let me = workers - 1;
-    let sender = crew.send_out(rt)?;
+    let sender = crew.send_out(run.rt)?;
     let share = Share {
         part,
         worker: me,
         sends,
     };
-    let worker = start(rt, scope, alloc, sender, gate, share)?;
-    let others = serve_beside(rt, scope, alloc, crew, me, gate, part, sends, batch);
-    let taken = crew.take_back(rt, worker.join(rt), &mut batch.shares);
+    let worker = start(run, scope, sender, share)?;
+    let others = answer_beside(run, scope, crew, me, part, sends, batch);
+    let taken = crew.take_back(run.rt, worker.join(run.rt), &mut batch.shares);
     others?;
     taken?;
     Ok(())

@@ -46,7 +46,8 @@ impl<'d, N: ArenaName> Crew<'d, N> {
         ensures same { self.new.changer ≡ self.old.changer }
         ensures begins { BeginsWith self.old.changer done.entry.sender.seen.front }
         ensures senders { OnOk result (vec_len self.new.senders ≡ vec_len self.old.senders + 1) }
-        ensures share { OnOk result (MatchResult done.entry.replies (λ rs. shares.new.items ≡ shares.old.items ++ rs ∷ []) (λ _. ⊥)) }
+        ensures share { OnOk result (MatchResult done.entry.replies
+            (λ rs. shares.new.items ≡ shares.old.items ++ rs ∷ []) (λ _. ⊥)) }
     {
         let mut done = done;
         self.changer.meet(rt, &mut done.sender);

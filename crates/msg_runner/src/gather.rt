@@ -1,10 +1,9 @@
 //! The lines of a batch, in the order of its items.
 
-ghost use Rattle.std.specs.Prelude.{◌≡◌, ◌<◌, ◌^◌, ◌++◌, ℕ, List, length, map, slice_get, Some, OnOk, Option};
-ghost use Rattle.msg_image.specs.Plain.{item_parts};
-ghost use Rattle.msg_eval.specs.declared.reply.Reply.{Reply};
+ghost use Rattle.std.specs.Prelude.{◌≡◌, ◌<◌, ◌^◌, ◌++◌, ℕ, length, slice_get, Some, OnOk};
+ghost use Rattle.msg_runner.specs.Parts.{part_sends, part_worker, replies_of, HasGathered};
 ghost use Rattle.msg_runner.specs.Serial.{answer_to_change};
-ghost use Rattle.msg_runner.specs.Serving.{share_of, count_of, worker_of, sends_of, at_worker, IsGathered};
+ghost use Rattle.msg_runner.specs.Serving.{count_of, at_worker};
 ghost use Rattle.msg_runner.specs.Text.{answer_line};
 
 use crate::part::Part;
@@ -17,8 +16,8 @@ use std::alloc::{AllocError, Global};
 // A reply of a worker.
 fn reply_of(shares: &[Vec<Reply>], worker: usize, at: usize) -> Reply
     requires worker { worker < length shares.now }
-    requires at { at < length (at_worker (map (λ rs. rs.items) shares.now) worker) }
-    ensures reply { slice_get (at_worker (map (λ rs. rs.items) shares.now) worker) at ≡ Some result }
+    requires at { at < length (at_worker (replies_of shares.now) worker) }
+    ensures reply { slice_get (at_worker (replies_of shares.now) worker) at ≡ Some result }
     ensures room { at < 2 ^ 63 }
 {
     shares[worker][at]
@@ -29,7 +28,8 @@ pub(crate) fn push_outcome(
     image: &Image,
     outcome: Option<ChangeFault>,
 ) -> Result<(), AllocError>
-    ensures { OnOk result (text.new.items ≡ text.old.items ++ answer_line image.now (answer_to_change outcome)) }
+    ensures { OnOk result
+        (text.new.items ≡ text.old.items ++ answer_line image.now (answer_to_change outcome)) }
 {
     match outcome {
         None => push_accepted(text),
@@ -46,8 +46,11 @@ pub(crate) fn gather(
     outcomes: &[Option<ChangeFault>],
 ) -> Result<(), AllocError>
     requires workers { length shares.now ≡ part.deal.workers }
-    requires counts { (w : ℕ) → w < part.deal.workers → length (at_worker (map (λ rs. rs.items) shares.now) w) ≡ count_of (worker_of part.deal.cut part.deal.workers) w 0 (length (sends_of part.image.now (map item_parts part.items.now))) }
-    ensures { OnOk result (IsGathered part.entry.image.now (worker_of part.entry.deal.cut part.entry.deal.workers) part.entry.deal.workers (map item_parts part.entry.items.now) (map (λ rs. rs.items) shares.now) outcomes.now text.old.items text.new.items) }
+    requires counts { (w : ℕ) → w < part.deal.workers
+        → length (at_worker (replies_of shares.now) w)
+        ≡ count_of (part_worker part) w 0 (length (part_sends part)) }
+    ensures { OnOk result (HasGathered part.entry (replies_of shares.now) outcomes.now
+        text.old.items text.new.items) }
 {
     let mut taken = vec![in alloc; 0usize; shares.len()]?;
     let mut place = 0usize;

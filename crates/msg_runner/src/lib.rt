@@ -2,6 +2,7 @@
 #![tactic(auto)]
 
 mod alone;
+mod answering;
 mod arrays;
 mod asker;
 mod asking;
@@ -10,6 +11,7 @@ mod beside;
 mod changes;
 mod command_line;
 mod complaint;
+mod context;
 mod crew;
 mod deal;
 mod decimal;
@@ -28,6 +30,7 @@ mod to_writer;
 mod work;
 mod writing;
 
+pub use answering::{answer, answer_words};
 pub use command_line::{arguments, words};
 pub use complaint::{Program, complain};
 pub use device::{Failed, Sink, Source};

@@ -1,11 +1,11 @@
 //! One worker's work.
 
-ghost use Rattle.std.specs.Prelude.{◌≡◌, ◌<◌, ◌==◌, All, length, map, IfOk, OnOk};
+ghost use Rattle.std.specs.Prelude.{◌≡◌, ◌<◌, ◌==◌, All, length, IfOk, OnOk};
 ghost use Rattle.msg_image.specs.Opened.{origin_of};
-ghost use Rattle.msg_image.specs.Plain.{item_parts};
-ghost use Rattle.msg_image.specs.Sound.{IsOf, IsSoundItem};
+ghost use Rattle.msg_image.specs.Sound.{IsOf};
 ghost use Rattle.msg_eval.specs.Evaluation.{send_of};
-ghost use Rattle.msg_runner.specs.Serving.{Goes, Served, share_of, worker_of, sends_of};
+ghost use Rattle.msg_runner.specs.Parts.{part_worker, IsSoundPart, Serves};
+ghost use Rattle.msg_runner.specs.Serving.{Goes};
 
 use crate::asking::Asking;
 use crate::gate::Gate;
@@ -18,10 +18,9 @@ use std::alloc::{AllocError, Global};
 use std::sync::Wait;
 
 // Answers a send, where its place is the worker's.
-fn serve_one<'r, 'd, N: ArenaName, R: Wait, G: Gate>(
-    asking: &mut Asking<'r, 'd, N, R>,
+fn answer_one<'r, 'd, N: ArenaName, G: Gate, R: Wait>(
+    asking: &mut Asking<'r, 'd, N, G, R>,
     replies: &mut Vec<Reply>,
-    gate: &G,
     share: Share<'_>,
     receiver: Value,
     sel: Selector,
@@ -33,7 +32,10 @@ fn serve_one<'r, 'd, N: ArenaName, R: Wait, G: Gate>(
     requires args { All (IsOf share.part.image.now) args.now.items }
     requires place { place < length share.part.items.now }
     ensures image { asking.new.sender.seen.front.origin ≡ origin_of share.entry.part.image.now }
-    ensures goes { OnOk result (Goes (worker_of share.entry.part.deal.cut share.entry.part.deal.workers place == share.entry.worker) asking.old.sender.seen.front (send_of share.entry.part.image.now receiver sel args.now.items) replies.old.items replies.new.items asking.new.sender.seen.front) }
+    ensures goes { OnOk result (Goes (part_worker share.entry.part place == share.entry.worker)
+        asking.old.sender.seen.front
+        (send_of share.entry.part.image.now receiver sel args.now.items)
+        replies.old.items replies.new.items asking.new.sender.seen.front) }
 {
     let me = share.worker;
     let deal = share.part.deal;
@@ -41,26 +43,26 @@ fn serve_one<'r, 'd, N: ArenaName, R: Wait, G: Gate>(
         return Ok(());
     }
     if deal.begins(place) {
-        gate.piece_starts(me, deal.piece(place));
+        asking.gate.piece_starts(me, deal.piece(place));
     }
     let reply = asking.reply_fresh(share.part.image, receiver, sel, args);
     replies.push(reply)?;
     if place + 1 == share.sends || deal.begins(place + 1) {
-        gate.piece_done(me, deal.piece(place));
+        asking.gate.piece_done(me, deal.piece(place));
     }
     Ok(())
 }
 
 // Answers the sends of a worker's share, in order.
-pub(crate) fn serve<'r, 'd, N: ArenaName, R: Wait, G: Gate>(
+pub(crate) fn answer_share<'r, 'd, N: ArenaName, G: Gate, R: Wait>(
     alloc: Global,
-    asking: &mut Asking<'r, 'd, N, R>,
-    gate: &G,
+    asking: &mut Asking<'r, 'd, N, G, R>,
     share: Share<'_>,
 ) -> Result<Vec<Reply>, AllocError>
     requires image { asking.old.sender.seen.front.origin ≡ origin_of share.part.image.now }
-    requires sound { All (IsSoundItem share.part.image.now) (map item_parts share.part.items.now) }
-    ensures { IfOk result (λ rs. Served asking.old.sender.seen.front (share_of (worker_of share.entry.part.deal.cut share.entry.part.deal.workers) share.entry.worker 0 (sends_of share.entry.part.image.now (map item_parts share.entry.part.items.now))) rs.items asking.new.sender.seen.front) }
+    requires sound { IsSoundPart share.part }
+    ensures { IfOk result (λ rs. Serves share.entry asking.old.sender.seen.front rs.items
+        asking.new.sender.seen.front) }
 {
     let mut replies = Vec::new(alloc);
     let mut rest = share.part.items;
@@ -72,16 +74,7 @@ pub(crate) fn serve<'r, 'd, N: ArenaName, R: Wait, G: Gate>(
                 sel,
                 args,
             } => {
-                serve_one(
-                    asking,
-                    &mut replies,
-                    gate,
-                    share,
-                    *receiver,
-                    *sel,
-                    args,
-                    place,
-                )?;
+                answer_one(asking, &mut replies, share, *receiver, *sel, args, place)?;
                 place += 1;
             }
             Item::Change(_) => {}

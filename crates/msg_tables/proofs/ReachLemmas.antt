@@ -1,5 +1,5 @@
 -- What a change would reach.
-use Rattle.std.proofs.Common.{◌≡◌, ℕ, ◌<◌, List, [], ◌∷◌, ◌++◌, Bool, true, false, Option, None, refl, sym, ap, ◌∙◌}
+use Rattle.std.proofs.Common.{◌≡◌, ℕ, ◌<◌, List, [], ◌∷◌, ◌++◌, Bool, true, false, Option, refl, sym, ap, ◌∙◌}
 use Rattle.std.specs.Prelude.{◌||◌, ◌==◌}
 use Rattle.std.specs.List.{list_any}
 use Rattle.std.proofs.lemmas.List.Folds.{list_any-append}
@@ -10,12 +10,9 @@ use Rattle.msg_names.specs.Number.{selector_number}
 use Rattle.msg_tables.specs.After.{of_class, of_meta}
 use Rattle.msg_tables.specs.Affected.{at_most_one, if_any, is_affected, written_refs}
 use Rattle.msg_tables.specs.Chain.{is_member}
-use Rattle.msg_tables.specs.declared.change.Change.{Change}
 use Rattle.msg_tables.specs.declared.change.Change.TheVariants.{Add, Replace, SetImp, Exchange, Attach, AddClass}
 use Rattle.msg_tables.specs.History.{History, chain_at, holder}
 use Rattle.msg_tables.specs.Marking.{is_marked, MarksBelow, MarksAffected}
-use Rattle.msg_tables.specs.Origin.{class_total}
-use Rattle.msg_tables.specs.Refusal.{refusal}
 
 or_none : (a : Bool) → (a || false) ≡ a
 or_none true = refl

@@ -1,5 +1,5 @@
 -- The fields of `RowLists`.
-use Rattle.std.specs.Prelude.{◌≡◌, ◌≤◌, ◌-◌, List, [], ◌++◌, length, replicate}
+use Rattle.std.specs.Prelude.{◌≤◌, ◌-◌, List, ◌++◌, length, replicate}
 use Rattle.msg_tables.specs.Kept.{no_rows}
 use Rattle.msg_tables.specs.RowList.{RowList}
 use Rattle.msg_tables.specs.declared.row_lists.RowLists.TheInside.{Inside}

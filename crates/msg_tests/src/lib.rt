@@ -14,6 +14,8 @@ mod machine;
 #[cfg(test)]
 mod names;
 #[cfg(test)]
+mod reaching;
+#[cfg(test)]
 mod readings;
 #[cfg(test)]
 mod sets;

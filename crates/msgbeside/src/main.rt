@@ -1,41 +1,13 @@
 //! Reads a document from standard input, makes its changes beside its sends, and writes the answers to standard output: `msgbeside [workers [cut]]`.
 #![tactic(auto)]
 
-use msg_runner::{
-    FromReader, OpenGate, Program, RunFault, ToWriter, arguments, complain, run_beside, words,
-};
+use msg_runner::{FromReader, Program, ToWriter, answer};
 use std::process::ExitCode;
-use std::sync::Wait;
-use std::thread::Threads;
-
-fn answered<T: Threads + Wait + Sync>(
-    threads: &T,
-    rt: &HostRuntime,
-) -> Result<(), Option<RunFault>> {
-    let words = words(rt)?;
-    let Some((workers, cut)) = arguments(&words) else {
-        return Err(None);
-    };
-    let mut source = FromReader::new(rt.stdin());
-    let mut sink = ToWriter::new(rt.stdout());
-    run_beside(
-        threads,
-        rt.alloc(),
-        &mut source,
-        &mut sink,
-        workers,
-        cut,
-        &OpenGate,
-    )
-    .map_err(Some)
-}
 
 fn main(rt: HostRuntime) -> ExitCode {
-    match answered(&rt, &rt) {
-        Ok(()) => ExitCode::SUCCESS,
-        Err(fault) => {
-            let mut errors = ToWriter::new(rt.stderr());
-            ExitCode::from(complain(&mut errors, Program::Msgbeside, fault.as_ref()))
-        }
-    }
+    let mut source = FromReader::new(rt.stdin());
+    let mut sink = ToWriter::new(rt.stdout());
+    let mut errors = ToWriter::new(rt.stderr());
+    let status = answer(&rt, Program::Msgbeside, &mut source, &mut sink, &mut errors);
+    ExitCode::from(status)
 }

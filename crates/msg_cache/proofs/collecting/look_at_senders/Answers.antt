@@ -1,11 +1,8 @@
-use Rattle.std.proofs.Common.{◌≡◌, ℕ, ◌+◌, ◌-◌, List, Bool, sym, ap, ◌∙◌, subst, arith}
+use Rattle.std.proofs.Common.{◌≡◌, ℕ, ◌+◌, ◌-◌, List, Bool, sym, ap, ◌∙◌, arith}
 use Rattle.msg_core.specs.State.{awaits}
-use Rattle.msg_tables.specs.History.{lookup}
-use Rattle.msg_cache.specs.declared.view.KeeperView.{KeeperView}
 use Rattle.msg_cache.specs.Keeping.{looks}
 use Rattle.msg_cache.specs.Layout.{SettingView}
 use Rattle.msg_cache.specs.Plays.{Sat, kept, keeper_of, rest_looked}
-use Rattle.msg_cache.specs.Rule.{TidyBy}
 use Rattle.msg_cache.proofs.NobodyLemmas.{looks_all, looks_given}
 use Rattle.msg_cache.proofs.collecting.look_at_senders.Goals as goal
 

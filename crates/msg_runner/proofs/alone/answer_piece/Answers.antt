@@ -1,4 +1,4 @@
-use Rattle.std.proofs.Common.{◌≡◌, [], map, ap}
+use Rattle.std.proofs.Common.{◌≡◌, [], map, ap, refl, ◌∙◌}
 use Rattle.std.proofs.lemmas.List.{nil_from_length}
 use Rattle.msg_image.specs.Items.{SendItem, ChangeItem}
 use Rattle.msg_image.specs.Plain.{item_parts}
@@ -11,14 +11,14 @@ use Rattle.msg_runner.proofs.alone.answer_piece.Goals as goal
 pub loop-item-init : goal.loop-item-init
 loop-item-init g c = writing_start c.args.image.now c.args.asking.now.sender.seen.front (map item_parts c.args.items.now) c.args.text.now.items c.requires.image c.requires.sound
 
-pub reply-reply-requires-clause-receiver : goal.reply-reply-requires-clause-receiver
-reply-reply-requires-clause-receiver g c =
+pub send-reply-requires-clause-receiver_of : goal.send-reply-requires-clause-receiver_of
+send-reply-requires-clause-receiver_of g c =
     let image = c.args.image.now in
     let here = writing_here image c.args.asking.now.sender.seen.front (sends_of image (map item_parts c.args.items.now)) c.args.text.now.items c.loop-item.asking.sender.seen.front c.loop-item.rest.now c.loop-item.text.items c.in-Some.item.now (SendItem c.in-Send.receiver c.in-Send.sel c.in-Send.args.items) c.in-Some.later.now c.loop-item.invariant c.in-Some.ensures.cases.0 (ap item_parts c.in-Send.is) in
     (all_head (IsSoundItem image) (SendItem c.in-Send.receiver c.in-Send.sel c.in-Send.args.items) (map item_parts c.in-Some.later.now) here.sound).0
 
-pub reply-reply-requires-clause-args : goal.reply-reply-requires-clause-args
-reply-reply-requires-clause-args g c =
+pub send-reply-requires-clause-args_of : goal.send-reply-requires-clause-args_of
+send-reply-requires-clause-args_of g c =
     let image = c.args.image.now in
     let here = writing_here image c.args.asking.now.sender.seen.front (sends_of image (map item_parts c.args.items.now)) c.args.text.now.items c.loop-item.asking.sender.seen.front c.loop-item.rest.now c.loop-item.text.items c.in-Some.item.now (SendItem c.in-Send.receiver c.in-Send.sel c.in-Send.args.items) c.in-Some.later.now c.loop-item.invariant c.in-Some.ensures.cases.0 (ap item_parts c.in-Send.is) in
     (all_head (IsSoundItem image) (SendItem c.in-Send.receiver c.in-Send.sel c.in-Send.args.items) (map item_parts c.in-Some.later.now) here.sound).1
@@ -29,8 +29,8 @@ loop-item-preserved-in_ok-push_reply-in-Send g c =
     let front = c.args.asking.now.sender.seen.front in
     let all = sends_of image (map item_parts c.args.items.now) in
     let here = writing_here image front all c.args.text.now.items c.loop-item.asking.sender.seen.front c.loop-item.rest.now c.loop-item.text.items c.in-Some.item.now (SendItem c.in-Send.receiver c.in-Send.sel c.in-Send.args.items) c.in-Some.later.now c.loop-item.invariant c.in-Some.ensures.cases.0 (ap item_parts c.in-Send.is) in
-    let (points, rise, ends, is) = c.reply-reply.ensures.points in
-    writing_send image front all c.args.text.now.items c.loop-item.asking.sender.seen.front c.reply-reply.new.self.sender.seen.front c.loop-item.text.items c.push_reply.new.text.items c.in-Send.receiver c.in-Send.sel c.in-Send.args.items (map item_parts c.in-Some.later.now) points c.reply-reply.result here c.reply-reply.ensures.image rise ends is c.in_ok-push_reply-in-Send.ensures
+    let x = c.send-reply.ensures.meaning c.loop-item.asking.sender.seen.front refl in
+    writing_send image front all c.args.text.now.items c.loop-item.asking.sender.seen.front c.send-reply.new.finder.sender.seen.front c.loop-item.text.items c.push_reply.new.text.items c.in-Send.receiver c.in-Send.sel c.in-Send.args.items (map item_parts c.in-Some.later.now) x.points c.send-reply.result here (c.send-reply.ensures.kept ∙ here.same) x.rise x.ends x.there c.in_ok-push_reply-in-Send.ensures
 
 pub loop-item-preserved : goal.loop-item-preserved
 loop-item-preserved g c =

@@ -10,7 +10,7 @@ use Rattle.msg_runner.proofs.WrittenLemmas.{writing_part}
 use Rattle.msg_runner.proofs.alone.answer_pieces.Goals as goal
 
 pub answer_piece-requires-clause-sound : goal.answer_piece-requires-clause-sound
-answer_piece-requires-clause-sound g c =
+answer_piece-requires-clause-sound g c κs within =
     let P : ItemParts → Type 0 = IsSoundItem c.args.part.image.now in
     let piece = c.split_at.result.0.now in
     let later = c.split_at.result.1.now in

@@ -1,13 +1,10 @@
 use Rattle.std.proofs.Common.{ap, sym, ◌∙◌, length}
 use Rattle.msg_names.specs.Number.{selector_number, imp_number}
 use Rattle.msg_tables.specs.Chain.{chain_of}
-use Rattle.msg_tables.specs.RowList.{own_in}
 use Rattle.msg_tables.specs.View.{kept_method}
 use Rattle.msg_tables.proofs.ChainLemmas.{chain_from, Suffices}
 use Rattle.msg_tables.proofs.OrderLemmas.{only_present-listed, suffices}
-use Rattle.msg_tables.proofs.ListedLemmas.{own_in-listed}
 use Rattle.msg_tables.proofs.LookupLemmas.{stops, goes_on, chain-begins}
-use Rattle.msg_tables.specs.Origin.{last_imp}
 use Rattle.msg_tables.proofs.tables.Tables.method.Goals as goal
 
 enough : (c : goal.After-present-at) → Suffices c.args.self.now.order (length c.args.self.now.supers) c.present-at.result

@@ -6,7 +6,7 @@ use Rattle.msg_tables.specs.History.{History, BeginsWith}
 use Rattle.msg_eval.specs.declared.reply.Reply.{Reply}
 use Rattle.msg_runner.specs.Serving.{Served, share_of, worker_of, sends_of, at_worker}
 use Rattle.msg_runner.proofs.ServingLemmas.{push_worker, map_snoc, share_taken}
-use Rattle.msg_runner.proofs.beside.+serve_beside.Goals as goal
+use Rattle.msg_runner.proofs.beside.+answer_beside.Goals as goal
 
 pub returns-clause-each : goal.returns-clause-each
 returns-clause-each g t c =
@@ -17,7 +17,7 @@ returns-clause-each g t c =
     let me : ℕ = c.args.workers - 1 in
     let done = c.join.result in
     let last = done.sender.seen.front in
-    let old = c.serve_beside-others.new.batch.shares.items in
+    let old = c.answer_beside-others.new.batch.shares.items in
     let new = c.take_back-taken.new.shares.items in
     let inner : Vec Reply Global → List Reply = λ rs. rs.items in
     let lists : List (List Reply) = map inner old in

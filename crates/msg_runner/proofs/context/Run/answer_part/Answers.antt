@@ -7,7 +7,7 @@ use Rattle.msg_runner.specs.Serving.{AllSends, is_send, pieces_of}
 use Rattle.msg_runner.proofs.AnsweredLemmas.{sends_stay}
 use Rattle.msg_runner.proofs.PartLemmas.{answered_serial, where_ok}
 use Rattle.msg_runner.proofs.PieceLemmas.{all_count}
-use Rattle.msg_runner.proofs.serving.answer_part.Goals as goal
+use Rattle.msg_runner.proofs.context.Run.answer_part.Goals as goal
 
 pub returns-then-is_shared-clause-text : goal.returns-then-is_shared-clause-text
 returns-then-is_shared-clause-text g c =
