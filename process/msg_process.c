@@ -19,8 +19,10 @@
  *  5. A fork comes while no other sender is in a call without the lock, so that the child may close them: a thread
  *     stores `asks` and then loads `forks`, and a fork stores `forks` and then loads `asks`. Both are sequentially
  *     consistent, so one of them sees the other. `asks` is cleared by a release: the call's stores are before it.
- *     The fork gives the lock while it waits, since a handler in such a call may want it.
- *  6. A thread has one try for a sender: later finds take no memory, also in handlers, and none waits for a number. */
+ *     So after the wait one that `asks` is about to see the fork, and in no call. The fork gives the lock while it waits,
+ *     since a handler in such a call may want it.
+ *  6. A thread has one try for a sender: later finds take no memory, also in handlers, and none waits for a number.
+ *  7. `started` is stored by a release, and loaded by an acquire before all else: who goes on has the key of threads. */
 #include "msg_process.h"
 #include <sched.h>
 #include <stdatomic.h>
