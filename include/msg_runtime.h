@@ -12,6 +12,8 @@
  *   - malloc, realloc and free are the C library's; there is enough stack; no call is made in a signal handler,
  *     or in the forked child of a process with threads.
  *
+ * msg_process.h does this for a whole process: it has the lock, a sender for each thread, and what forks and handlers want.
+ *
  * Not trusted, since it is refused by a number: a handle that is closed, or opened twice; numbers of classes, selectors and implementations that are nobody's.
  *
  * Every call answers MSG_DONE or the number of a fault. After a fault nothing has changed and nothing was written to what a pointer points to.
@@ -28,6 +30,12 @@
 #include <stddef.h>
 #include <stdint.h>
 #include <string.h>
+
+/* Of what one compiles by; within a major number nothing is taken away or moved, but in major number 0. As one number, for #if: 1,000,000 * major + 1,000 * minor + patch. */
+#define MSG_VERSION_MAJOR 0
+#define MSG_VERSION_MINOR 1
+#define MSG_VERSION_PATCH 0
+#define MSG_VERSION_NUMBER (1000000 * MSG_VERSION_MAJOR + 1000 * MSG_VERSION_MINOR + MSG_VERSION_PATCH)
 
 #ifdef __cplusplus
 extern "C" {
@@ -88,7 +96,8 @@ enum {
     MSG_NO_MEMORY = 69,
     MSG_NONE = 70,              /* there is none: no superclass, no method */
     MSG_MISSED = 71,            /* of msg_probe: not cached. Ask msg_fill under the lock */
-    MSG_BAD_CONFIG = 73         /* of msg_open: beyond the most that is said beside a field, or a field that the library doesn't know */
+    MSG_BAD_CONFIG = 73,        /* of msg_open: beyond the most that is said beside a field, or a field that the library doesn't know */
+    MSG_LOCK_HELD = 74          /* of msg_process.h alone: the calling thread has the runtime lock already, as where a handler of a signal interrupted it there */
 };
 
 /* ---- under the host's lock ---- */
@@ -148,6 +157,19 @@ uint32_t msg_refresh(msg_sender *sender, uint64_t *count);
 }
 #endif
 
+/* What the library has is laid out so: a machine with addresses of 64 bits, the lower byte first. A compiler for an older C isn't asked. */
+#if defined __cplusplus
+#define MSG_IS_SO(what) static_assert(what, #what)
+#elif __STDC_VERSION__ >= 201112L
+#define MSG_IS_SO(what) _Static_assert(what, #what)
+#else
+#define MSG_IS_SO(what) struct msg_is_so
+#endif
+MSG_IS_SO(sizeof(msg_note) == 24);
+MSG_IS_SO(sizeof(msg_sender) == 16 + 24 * MSG_NOTES);
+MSG_IS_SO(sizeof(msg_config) == 44);
+MSG_IS_SO(__BYTE_ORDER__ == __ORDER_LITTLE_ENDIAN__);
+
 /* ---- inline: opening ---- */
 
 /* Opens a runtime; of a NULL all is by default. Trusted: this code, which gives the config's words. */
@@ -163,6 +185,35 @@ static inline uint32_t msg_open(msg_runtime *runtime, const msg_config *config)
 static inline uint32_t msg_report(msg_runtime *runtime, struct msg_report_row *report)
 {
     return msg_report_words(runtime, (uint64_t *)report, sizeof *report / sizeof(uint64_t));
+}
+
+/* ---- inline: the text of a fault ---- */
+
+/* What an answer says, in English. It lasts as long as the program. */
+static inline const char *msg_fault_text(uint32_t fault)
+{
+    switch (fault) {
+    case MSG_DONE: return "done";
+    case MSG_NO_SUCH_CLASS: return "no such class, or it isn't made";
+    case MSG_NO_SUCH_IMP: return "an implementation's number is 0";
+    case MSG_ARGUMENT_COUNT: return "another count of arguments";
+    case MSG_METHOD_PRESENT: return "the class has the method";
+    case MSG_NO_METHOD: return "no such method";
+    case MSG_LIMIT: return "as many changes or methods as there may be";
+    case MSG_CHANGE_MEMORY: return "no memory for the change";
+    case MSG_DUPLICATE_CLASS: return "the class is made already";
+    case MSG_CLOSED: return "a handle isn't open";
+    case MSG_ALREADY_OPEN: return "the handle is open already";
+    case MSG_NO_CLASS: return "no such class number";
+    case MSG_NO_SELECTOR: return "a selector's number is 0";
+    case MSG_NO_SENDER: return "as many senders are open as the config says";
+    case MSG_NO_MEMORY: return "no memory";
+    case MSG_NONE: return "there is none";
+    case MSG_MISSED: return "not cached";
+    case MSG_BAD_CONFIG: return "the config asks for too much";
+    case MSG_LOCK_HELD: return "the thread has the lock already";
+    default: return "unknown fault";
+    }
 }
 
 /* ---- inline: recalling, and finding: a probe, and after a miss a fill under the lock ----

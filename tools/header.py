@@ -1,10 +1,11 @@
-"""Reads include/msg_runtime.h, for the tools that go by it: its calls, structures and constants, and what its comments say of them."""
+"""Reads include/msg_runtime.h and msg_process.h, for the tools that go by them: their calls, structures and constants, and what their comments say of them."""
 import os
 import re
 from typing import NamedTuple
 
 ROOT = os.path.dirname(os.path.dirname(os.path.abspath(__file__)))
 HEADER = os.path.join(ROOT, "include", "msg_runtime.h")
+PROCESS = os.path.join(ROOT, "include", "msg_process.h")
 COMMENT = re.compile(r"/\*.*?\*/", re.S)
 CALL = re.compile(r"^(static inline )?((?:const )?\w+ \**)(msg_\w+)\(([^)]*)\)", re.M)
 STRUCTURE = re.compile(r"typedef struct \{([^}]*)\} (\w+);|^struct (\w+) \{([^}]*)\};", re.M)
@@ -70,6 +71,11 @@ def constants(text):
     """The numbers of the enumerations."""
     bodies = re.findall(r"\benum \{([^}]*)\}", code(text))
     return {name: int(value) for body in bodies for name, value in CONSTANT.findall(body)}
+
+
+def version(text):
+    """As a face's manifest spells it."""
+    return ".".join(re.findall(r"^#define MSG_VERSION_(?:MAJOR|MINOR|PATCH) (\d+)$", text, re.M))
 
 
 def said_of(text):

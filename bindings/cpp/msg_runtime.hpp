@@ -17,35 +17,10 @@
 
 namespace msg {
 
-inline const char *text_of(std::uint32_t fault) noexcept
-{
-    switch (fault) {
-    case MSG_DONE: return "done";
-    case MSG_NO_SUCH_CLASS: return "no such class, or it isn't made";
-    case MSG_NO_SUCH_IMP: return "an implementation's number is 0";
-    case MSG_ARGUMENT_COUNT: return "another count of arguments";
-    case MSG_METHOD_PRESENT: return "the class has the method";
-    case MSG_NO_METHOD: return "no such method";
-    case MSG_LIMIT: return "as many changes or methods as there may be";
-    case MSG_CHANGE_MEMORY: return "no memory for the change";
-    case MSG_DUPLICATE_CLASS: return "the class is made already";
-    case MSG_CLOSED: return "a handle isn't open";
-    case MSG_ALREADY_OPEN: return "the handle is open already";
-    case MSG_NO_CLASS: return "no such class number";
-    case MSG_NO_SELECTOR: return "a selector's number is 0";
-    case MSG_NO_SENDER: return "as many senders are open as the config says";
-    case MSG_NO_MEMORY: return "no memory";
-    case MSG_NONE: return "there is none";
-    case MSG_MISSED: return "not cached";
-    case MSG_BAD_CONFIG: return "the config asks for too much";
-    default: return "unknown fault";
-    }
-}
-
 // What a call answered that isn't MSG_DONE. Nothing has changed by it.
 class fault : public std::runtime_error {
 public:
-    explicit fault(std::uint32_t number) : std::runtime_error(text_of(number)), number_(number) {}
+    explicit fault(std::uint32_t number) : std::runtime_error(msg_fault_text(number)), number_(number) {}
     std::uint32_t number() const noexcept { return number_; }
 
 private:

@@ -1,5 +1,5 @@
-/* A stand-in for those calls of the library that the shim makes: plain tables, nothing proved. For trying the shim's
- * own logic where the archive isn't built, and under sanitizers: what is seen with it says nothing of the proved
+/* A stand-in for those calls of the library that the shim and process/ make: plain tables, nothing proved. For trying
+ * their own logic where the archive isn't built, and under sanitizers: what is seen with it says nothing of the proved
  * dispatcher.
  * It goes the ways that the library goes: notes are written, so that a send hits; a shared cache is probed without a
  * lock; as many senders are given out as the config says; the faults are the header's. What would break the one
@@ -88,6 +88,13 @@ uint32_t msg_open_words(msg_runtime *runtime, const uint32_t *config, size_t wor
     return MSG_DONE;
 }
 
+uint32_t msg_change_count(msg_runtime *runtime, uint64_t *count)
+{
+    if (!runtime->open) return MSG_CLOSED;
+    *count = ((struct tables *)runtime->at)->version;
+    return MSG_DONE;
+}
+
 static uint32_t fault_of(const struct tables *tables, uint32_t number, uint32_t sel)
 {
     if (number >= tables->classes) return MSG_NO_CLASS;
@@ -146,6 +153,14 @@ uint32_t msg_replace(msg_runtime *runtime, uint32_t number, bool meta, uint32_t 
     put(tables, msg_key(2 * number + meta, sel), imp);
     atomic_fetch_add(&tables->version, 1);
     return MSG_DONE;
+}
+
+uint32_t msg_add(msg_runtime *runtime, uint32_t number, bool meta, uint32_t sel, uint32_t imp)
+{
+    if (!runtime->open) return MSG_CLOSED;
+    uint32_t fault = refusal(runtime->at, number);
+    if (!fault && sel && cell(runtime->at, msg_key(2 * number + meta, sel))->imp) return MSG_METHOD_PRESENT;
+    return msg_replace(runtime, number, meta, sel, imp);
 }
 
 uint32_t msg_exchange(msg_runtime *runtime, uint32_t number, bool meta, uint32_t sel,

@@ -62,6 +62,7 @@ FAULTS = {
     "None_": (70, "there is none"),
     "Missed": (71, "not cached"),
     "BadConfig": (73, "the config asks for too much"),
+    "LockHeld": (74, "the thread has the lock already"),
 }
 
 _runtime, _sender = c.POINTER(msg_runtime), c.POINTER(msg_sender)
@@ -101,6 +102,7 @@ CALLS = {
 INLINE = {
     "msg_open": "Runtime",
     "msg_report": "Runtime.report",
+    "msg_fault_text": "Fault",
     "msg_find": "Sender.find_seen",
     "msg_key": "Sender.recall",
     "msg_recall_key": "Sender.recall",

@@ -88,6 +88,7 @@ pub const MSG_NO_MEMORY: u32 = 69;
 pub const MSG_NONE: u32 = 70;
 pub const MSG_MISSED: u32 = 71;
 pub const MSG_BAD_CONFIG: u32 = 73;
+pub const MSG_LOCK_HELD: u32 = 74;
 
 extern "C" {
     pub fn msg_open_words(runtime: *mut msg_runtime, config: *const u32, words: usize) -> u32;

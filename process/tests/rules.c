@@ -1,0 +1,360 @@
+/* What include/msg_process.h says of each call, one after another: before the start, faults, the lock, threads beyond the senders and at their end, handlers, and forks with the lock.
+ * FAULTS are the numbers of the header's enumeration as tools/process reads them, each as F(number). */
+#define _DEFAULT_SOURCE
+#include "msg_process.h"
+#include <signal.h>
+#include <stdio.h>
+#include <stdlib.h>
+#include <sys/wait.h>
+#include <unistd.h>
+
+enum { ROOT, CHILD, UNMADE, CLASSES, SENDERS = 3 };
+enum { ONE = 1, TWO, NOBODYS };
+
+static int wrong;
+
+static void want(int line, const char *what, uint64_t found, uint64_t wanted)
+{
+    if (found == wanted) return;
+    wrong++;
+    printf("rules.c:%d: %s is %llu, not %llu\n", line, what, (unsigned long long)found, (unsigned long long)wanted);
+}
+#define WANT(found, wanted) want(__LINE__, #found, found, wanted)
+
+static msg_runtime *runtime;
+
+/* An implementation's number, or a fault behind 1,000. */
+static uint32_t find(uint32_t number, bool meta, uint32_t sel)
+{
+    uint32_t imp = 999, fault = msg_process_find(number, meta, sel, &imp);
+    if (fault) WANT(imp, 999);
+    return fault ? 1000 + fault : imp;
+}
+
+static uint32_t find_at_once(uint32_t number, bool meta, uint32_t sel)
+{
+    uint32_t imp = 999, fault = msg_process_find_at_once(number, meta, sel, &imp);
+    if (fault) WANT(imp, 999);
+    return fault ? 1000 + fault : imp;
+}
+
+static uint32_t set(uint32_t number, bool meta, uint32_t sel, uint32_t imp)
+{
+    uint32_t fault = msg_process_lock_to_change(&runtime);
+    if (fault) return 1000 + fault;
+    fault = msg_replace(runtime, number, meta, sel, imp);
+    msg_process_unlock();
+    return fault;
+}
+
+static void texts(void)
+{
+    static const uint32_t numbers[] = {
+#define F(number) number,
+        FAULTS
+#undef F
+    };
+    enum { COUNT = sizeof numbers / sizeof *numbers };
+    const char *unknown = msg_fault_text(12345);
+    for (int i = 0; i < COUNT; i++) {
+        const char *text = msg_fault_text(numbers[i]);
+        if (strlen(text) < 4 || !strcmp(text, unknown)) WANT(numbers[i], 0); /* it has no text */
+        for (int k = 0; k < i; k++)
+            if (!strcmp(text, msg_fault_text(numbers[k])) && numbers[i] != numbers[k]) WANT(numbers[i], numbers[k]);
+    }
+    WANT(COUNT >= 19, 1);
+    WANT(MSG_VERSION_NUMBER, 1000000 * MSG_VERSION_MAJOR + 1000 * MSG_VERSION_MINOR + MSG_VERSION_PATCH);
+}
+
+static void before_start(void)
+{
+    WANT(find(ROOT, false, ONE), 1000 + MSG_CLOSED);
+    WANT(find_at_once(ROOT, false, ONE), 1000 + MSG_CLOSED);
+    WANT(msg_process_lock(&runtime), MSG_CLOSED);
+    WANT(msg_process_lock_to_change(&runtime), MSG_CLOSED);
+    WANT(runtime != NULL, 0);
+    msg_process_unlock();
+    WANT(msg_process_start(&(msg_config){.classes = 1048577}), MSG_BAD_CONFIG);
+    WANT(find(ROOT, false, ONE), 1000 + MSG_CLOSED);
+    WANT(msg_process_start(&(msg_config){.classes = CLASSES, .senders = SENDERS}), MSG_DONE);
+    WANT(msg_process_start(NULL), MSG_ALREADY_OPEN);
+    WANT(msg_process_start(&(msg_config){.classes = 1048577}), MSG_ALREADY_OPEN);
+}
+
+static void finds(void)
+{
+    WANT(find(ROOT, false, ONE), 0);
+    WANT(find(ROOT, false, 0), 1000 + MSG_NO_SELECTOR);
+    WANT(msg_process_lock_to_change(&runtime), MSG_DONE);
+    WANT(msg_make_root_class(runtime, ROOT), MSG_DONE);
+    WANT(msg_make_class(runtime, CHILD, ROOT), MSG_DONE);
+    WANT(msg_process_start(NULL), MSG_LOCK_HELD);
+    msg_process_unlock();
+    msg_process_unlock(); /* what it doesn't hold */
+    WANT(set(ROOT, false, ONE, 11), MSG_DONE);
+    WANT(set(ROOT, true, ONE, 12), MSG_DONE);
+    for (int i = 0; i < 3; i++) {
+        WANT(find(CHILD, false, ONE), 11);
+        WANT(find(CHILD, true, ONE), 12);
+        WANT(find(CHILD, false, NOBODYS), 0);
+        WANT(find(UNMADE, false, ONE), 0);
+        WANT(find(CLASSES, false, ONE), 1000 + MSG_NO_CLASS);
+        WANT(find(CHILD + (1u << 31), false, ONE), 1000 + MSG_NO_CLASS); /* twice of it is twice CHILD */
+        WANT(find(CHILD, false, 0), 1000 + MSG_NO_SELECTOR);
+        WANT(find(CHILD, false, UINT32_MAX), 0);
+    }
+}
+
+/* A find is answered from what was noted after a change that was refused: the count is the old one again. */
+static void refused(void)
+{
+    WANT(set(UNMADE, false, ONE, 13), MSG_NO_SUCH_CLASS);
+    WANT(set(ROOT, false, ONE, 0), MSG_NO_SUCH_IMP);
+    uint64_t turns = msg_process_own.turns;
+    WANT(find(CHILD, false, ONE), 11);
+    WANT(msg_process_own.turns, turns);
+    WANT(set(CHILD, false, ONE, 14), MSG_DONE);
+    WANT(find(CHILD, false, ONE), 14);
+    WANT(msg_process_own.turns, turns + 1);
+    WANT(find(ROOT, false, ONE), 11);
+}
+
+/* With the lock, what is noted is found where it is held to ask, and nothing where it is held to change. */
+static void locked(void)
+{
+    uint32_t imp;
+    WANT(find(CHILD, false, ONE), 14);
+    WANT(msg_process_lock(&runtime), MSG_DONE);
+    WANT(find(CHILD, false, ONE), 14);
+    WANT(find(CHILD, true, TWO), 1000 + MSG_LOCK_HELD);
+    WANT(msg_lookup(runtime, CHILD, true, ONE, &imp) ? 0 : imp, 12);
+    WANT(msg_process_lock(&runtime), MSG_LOCK_HELD);
+    WANT(msg_process_lock_to_change(&runtime), MSG_LOCK_HELD);
+    msg_process_unlock();
+    WANT(find(CHILD, true, TWO), 0);
+    WANT(msg_process_lock_to_change(&runtime), MSG_DONE);
+    WANT(msg_replace(runtime, CHILD, false, ONE, 15), MSG_DONE);
+    uint32_t found = find(CHILD, false, ONE); /* made, and perhaps not cached yet */
+    WANT(found == 15 || found == 1000 + MSG_LOCK_HELD, 1);
+    msg_process_unlock();
+    WANT(find(CHILD, false, ONE), 15);
+}
+
+/* ---- handlers ---- */
+
+static volatile uint32_t handled[4];
+
+static void handle(int signal)
+{
+    (void)signal;
+    msg_runtime *asked;
+    handled[0] = find(CHILD, false, ONE);
+    handled[1] = find(CHILD, true, TWO + 1000);
+    handled[2] = msg_process_lock(&asked);
+    if (!handled[2]) msg_process_unlock();
+    handled[3] = find_at_once(CHILD, true, TWO + 1001);
+}
+
+static pthread_barrier_t is_locked, is_asked;
+
+static void *hold(void *none)
+{
+    msg_runtime *held;
+    WANT(msg_process_lock(&held), MSG_DONE);
+    pthread_barrier_wait(&is_locked);
+    pthread_barrier_wait(&is_asked);
+    msg_process_unlock();
+    return none;
+}
+
+/* While another thread has the lock: what is noted is found, and nothing waited for. */
+static void at_once(void)
+{
+    pthread_t thread;
+    pthread_barrier_init(&is_locked, NULL, 2);
+    pthread_barrier_init(&is_asked, NULL, 2);
+    WANT(find_at_once(CHILD, false, ONE), 15);
+    WANT(find_at_once(CHILD, false, 0), 1000 + MSG_NO_SELECTOR);
+    WANT(find_at_once(CHILD + (1u << 31), false, ONE), 1000 + MSG_NO_CLASS);
+    pthread_create(&thread, NULL, hold, NULL);
+    pthread_barrier_wait(&is_locked);
+    WANT(find_at_once(CHILD, false, ONE), 15);
+    WANT(find_at_once(CHILD, true, TWO + 1002), 1000 + MSG_LOCK_HELD);
+    pthread_barrier_wait(&is_asked);
+    pthread_join(thread, NULL);
+    WANT(find_at_once(CHILD, true, TWO + 1002), 0);
+}
+
+/* In a thread that hasn't found before, it takes no memory, and so no sender; nor does it stand in the way of one later. */
+static void *find_first_at_once(void *none)
+{
+    WANT(find_at_once(CHILD, false, ONE), 15);
+    WANT(msg_process_own.sender->open, 0);
+    WANT(find(CHILD, false, ONE), 15);
+    WANT(msg_process_own.sender->open, 1);
+    return none;
+}
+
+static void handlers(void)
+{
+    signal(SIGUSR1, handle);
+    WANT(find(CHILD, false, ONE), 15);
+    raise(SIGUSR1);
+    WANT(handled[0], 15);
+    WANT(handled[1], 0);
+    WANT(handled[2], MSG_DONE);
+    WANT(set(ROOT, true, TWO, 16), MSG_DONE);
+    WANT(find(CHILD, false, ONE), 15);
+    WANT(msg_process_lock(&runtime), MSG_DONE);
+    raise(SIGUSR1);
+    msg_process_unlock();
+    WANT(handled[0], 15);
+    WANT(handled[1], 1000 + MSG_LOCK_HELD);
+    WANT(handled[2], MSG_LOCK_HELD);
+    WANT(handled[3], 1000 + MSG_LOCK_HELD);
+    raise(SIGUSR1);
+    WANT(handled[1], 0);
+    WANT(handled[2], MSG_DONE);
+    WANT(handled[3], 0);
+    at_once();
+    pthread_t thread;
+    pthread_create(&thread, NULL, find_first_at_once, NULL);
+    pthread_join(thread, NULL);
+}
+
+/* ---- threads ---- */
+
+/* How many more senders there are: each is opened and closed. */
+static uint32_t left(void)
+{
+    static msg_sender taken[SENDERS + 1];
+    uint32_t count = 0;
+    WANT(msg_process_lock(&runtime), MSG_DONE);
+    while (count <= SENDERS && !msg_sender_open(runtime, &taken[count])) count++;
+    for (uint32_t i = 0; i < count; i++) msg_sender_close(runtime, &taken[i]);
+    msg_process_unlock();
+    return count;
+}
+
+static pthread_key_t ending;
+static pthread_barrier_t all_found;
+
+static void at_end(void *rounds)
+{
+    WANT(find(CHILD, false, ONE), 15);
+    WANT(find(ROOT, true, ONE), 12);
+    if ((size_t)rounds > 1) pthread_setspecific(ending, (char *)rounds - 1);
+}
+
+static void *find_and_end(void *has_sender)
+{
+    for (int i = 0; i < 3; i++) WANT(find(CHILD, false, ONE), 15);
+    *(bool *)has_sender = msg_process_own.sender->open;
+    pthread_setspecific(ending, (void *)3); /* in three rounds of destructors */
+    if (has_sender) pthread_barrier_wait(&all_found);
+    return NULL;
+}
+
+static void threads(void)
+{
+    enum { THREADS = SENDERS + 2 };
+    pthread_t thread[THREADS];
+    bool has[THREADS];
+    pthread_key_create(&ending, at_end);
+    pthread_barrier_init(&all_found, NULL, THREADS);
+    for (int again = 0; again < 20; again++) {
+        WANT(left(), SENDERS - 1);
+        uint32_t senders = 0;
+        for (int i = 0; i < THREADS; i++) pthread_create(&thread[i], NULL, find_and_end, &has[i]);
+        for (int i = 0; i < THREADS; i++) {
+            pthread_join(thread[i], NULL);
+            senders += has[i];
+        }
+        WANT(senders, SENDERS - 1);
+    }
+    WANT(left(), SENDERS - 1);
+}
+
+/* ---- forks ---- */
+
+static pthread_barrier_t sits, goes;
+
+static void *sit(void *none)
+{
+    WANT(find(CHILD, false, ONE), 15);
+    pthread_barrier_wait(&sits);
+    pthread_barrier_wait(&goes);
+    WANT(find(CHILD, false, ONE), 15);
+    return none;
+}
+
+static void *change_in_child(void *none)
+{
+    WANT(find(CHILD, false, ONE), 17);
+    WANT(set(CHILD, false, ONE, 18), MSG_DONE);
+    return none;
+}
+
+static void child(bool holds)
+{
+    pthread_t thread;
+    alarm(60);
+    WANT(find(CHILD, false, ONE), 15);
+    if (holds) {
+        WANT(find(CHILD, true, TWO + 2000), 1000 + MSG_LOCK_HELD);
+        WANT(msg_replace(runtime, CHILD, false, ONE, 16), MSG_DONE);
+        msg_process_unlock();
+        WANT(find(CHILD, false, ONE), 16);
+    }
+    WANT(left(), SENDERS - 1);
+    WANT(set(CHILD, false, ONE, 17), MSG_DONE);
+    WANT(find(CHILD, false, ONE), 17);
+#ifdef SANITIZED_thread /* it has no threads in a child */
+    (void)thread;
+    change_in_child(NULL);
+#else
+    pthread_create(&thread, NULL, change_in_child, NULL);
+    pthread_join(thread, NULL);
+#endif
+    WANT(find(CHILD, false, ONE), 18);
+    WANT(left(), SENDERS - 1);
+    fflush(stdout);
+    _exit(wrong != 0);
+}
+
+static void fork_and_wait(bool holds)
+{
+    pthread_t thread;
+    int status = 0;
+    pthread_create(&thread, NULL, sit, NULL);
+    pthread_barrier_wait(&sits);
+    WANT(left(), SENDERS - 2);
+    if (holds) WANT(msg_process_lock_to_change(&runtime), MSG_DONE);
+    fflush(stdout);
+    pid_t pid = fork();
+    if (!pid) child(holds);
+    if (holds) msg_process_unlock();
+    waitpid(pid, &status, 0);
+    WANT(status, 0);
+    pthread_barrier_wait(&goes);
+    pthread_join(thread, NULL);
+    WANT(find(CHILD, false, ONE), 15);
+    WANT(left(), SENDERS - 1);
+}
+
+int main(void)
+{
+    alarm(100);
+    texts();
+    before_start();
+    finds();
+    refused();
+    locked();
+    handlers();
+    threads();
+    pthread_barrier_init(&sits, NULL, 2);
+    pthread_barrier_init(&goes, NULL, 2);
+    for (int i = 0; i < 4; i++) fork_and_wait(i % 2);
+    printf("rules: %d broken\n", wrong);
+    return wrong != 0;
+}

@@ -1,0 +1,307 @@
+/* Threads that find, change, make classes, fork, begin and end at once, and handlers of signals that find, for SECONDS. Step s of the history gives method s % METHODS of the root
+ * class the implementation s. So an answer s says that the find was at a point from s until the step s + METHODS: it has to have the method's remainder, to be no later than what was
+ * begun, and METHODS + s has to be beyond each point that the thread has seen, and beyond each step that had returned. */
+#define _GNU_SOURCE
+#include "msg_process.h"
+#include <errno.h>
+#include <signal.h>
+#include <stdatomic.h>
+#include <stdio.h>
+#include <stdlib.h>
+#include <sys/wait.h>
+#include <time.h>
+#include <unistd.h>
+
+enum { FINDERS = 16, CHANGERS = 4, BEGINNERS = 6, SENDERS = 26, CLASSES = 512, METHODS = 16, PATIENCE = 60 };
+#ifndef SECONDS
+#define SECONDS 3
+#endif
+
+static atomic_bool is_over;
+static atomic_long begun, returned, made, answers, held, handled, refused, ended, without, forked, ready;
+static atomic_long wrong;
+
+static _Thread_local volatile long seen;
+static _Thread_local volatile uint32_t drawn;
+
+static void tell(const char *what, long one, long other)
+{
+    char line[128];
+    int length = snprintf(line, sizeof line, "%s: %ld, %ld\n", what, one, other);
+    if (atomic_fetch_add(&wrong, 1) < 20 && write(2, line, (size_t)length) < 0) _exit(3);
+}
+
+static uint32_t below(uint32_t limit)
+{
+    drawn = drawn * 1664525u + 1013904223u;
+    return (uint32_t)((uint64_t)drawn * limit >> 32);
+}
+
+/* Two methods of a class are noted at one place. */
+static uint32_t selector(long method) { return 1 + (uint32_t)method % 8 + MSG_NOTES * ((uint32_t)method / 8); }
+
+/* A find, and whether its answer may be. With the lock, as perhaps in a handler, it may have none. */
+static void find(uint32_t class_, long method, bool may_hold)
+{
+    uint32_t imp;
+    long least = returned;
+    if (seen > least) least = seen;
+    bool waits = !may_hold || below(2);
+    uint32_t fault = (waits ? msg_process_find : msg_process_find_at_once)(class_, false, selector(method), &imp);
+    long most = begun, step = imp;
+    if (fault == MSG_LOCK_HELD && may_hold) {
+        held++;
+        return;
+    }
+    if (fault) tell("fault, class", fault, class_);
+    else if (step % METHODS != method) tell("another method's, method", step, method);
+    else if (step + METHODS <= least) tell("older than what was seen, seen", step, least);
+    else if (step > most) tell("newer than what was begun, begun", step, most);
+    else if (step > seen) seen = step;
+}
+
+/* The same by two classes, or two methods of a place. */
+static void find_some(bool may_hold)
+{
+    long method = below(METHODS);
+    uint32_t count = (uint32_t)made;
+    find(below(count), method, may_hold);
+    find(below(8), method, may_hold);
+    find(below(8), (method + METHODS / 2) % METHODS, may_hold);
+}
+
+/* A thread's first find is outside of handlers. */
+static void begin_thread(long number)
+{
+    drawn = (uint32_t)number * 2654435761u + 1;
+    find_some(false);
+    ready++;
+}
+
+static void *find_on(void *number)
+{
+    long count = 0;
+    begin_thread((long)number);
+    for (; !is_over; count += 3) find_some(false);
+    answers += count;
+    return NULL;
+}
+
+static void want(uint32_t fault, uint32_t wanted)
+{
+    if (fault != wanted) tell("a call answers, wanted", fault, wanted);
+}
+
+/* The next steps, and a change that is refused. */
+static void change(msg_runtime *runtime, int steps)
+{
+    for (int i = 0; i < steps; i++) {
+        long step = ++begun; /* under the lock */
+        want(msg_replace(runtime, 0, false, selector(step % METHODS), (uint32_t)step), MSG_DONE);
+        seen = step; /* a thread that holds the lock has seen what it changed */
+        find(below(8), below(2) ? step % METHODS : below(METHODS), true);
+    }
+    if (below(3)) return;
+    want(msg_replace(runtime, CLASSES, false, 1, 1), MSG_NO_SUCH_CLASS);
+    refused++;
+}
+
+static void raise_to(atomic_long *at, long to)
+{
+    long was = *at;
+    while (was < to && !atomic_compare_exchange_weak(at, &was, to)) {}
+}
+
+static long change_some(void)
+{
+    msg_runtime *runtime;
+    want(msg_process_lock_to_change(&runtime), MSG_DONE);
+    change(runtime, 1 + (int)below(3));
+    long step = begun;
+    msg_process_unlock();
+    raise_to(&returned, step);
+    return step;
+}
+
+static void *change_on(void *number)
+{
+    begin_thread((long)number);
+    while (!is_over) {
+        long step = change_some();
+        find_some(false);
+        if (step % 8 == 0) usleep(50);
+    }
+    return NULL;
+}
+
+/* Each class below one before it. */
+static void *make_on(void *number)
+{
+    begin_thread((long)number);
+    while (!is_over) {
+        msg_runtime *runtime;
+        uint32_t next = (uint32_t)made, above = below(next);
+        want(msg_process_lock_to_change(&runtime), MSG_DONE);
+        if (next < CLASSES) want(msg_make_class(runtime, next, above), MSG_DONE);
+        else want(msg_make_class(runtime, 1, above), MSG_DUPLICATE_CLASS);
+        msg_process_unlock();
+        if (next < CLASSES) made++;
+        find_some(false);
+        usleep(2000);
+    }
+    return NULL;
+}
+
+/* ---- threads that come and go ---- */
+
+static pthread_key_t ending;
+
+static void at_end(void *rounds)
+{
+    find_some(false);
+    if ((size_t)rounds > 1) pthread_setspecific(ending, (char *)rounds - 1);
+}
+
+static void *find_and_end(void *number)
+{
+    begin_thread((long)number);
+    for (uint32_t i = below(30); i-- && !is_over;) find_some(false);
+    without += !msg_process_own.sender->open;
+    pthread_setspecific(ending, (void *)(size_t)(1 + below(3)));
+    ended++;
+    return NULL;
+}
+
+static void *begin_and_end(void *number)
+{
+    begin_thread((long)number);
+    for (long i = 1; !is_over; i++) {
+        pthread_t threads[BEGINNERS];
+        int count = 1 + (int)below(BEGINNERS), are = 0;
+        while (are < count && !pthread_create(&threads[are], NULL, find_and_end, (void *)(i * BEGINNERS + are))) are++;
+        if (are < count) tell("no thread", are, count);
+        while (are) pthread_join(threads[--are], NULL);
+    }
+    return NULL;
+}
+
+/* How many more senders there are. */
+static long left(void)
+{
+    static msg_sender taken[SENDERS + 1];
+    msg_runtime *runtime;
+    long count = 0;
+    want(msg_process_lock(&runtime), MSG_DONE);
+    while (count <= SENDERS && !msg_sender_open(runtime, &taken[count])) count++;
+    for (long i = 0; i < count; i++) msg_sender_close(runtime, &taken[i]);
+    msg_process_unlock();
+    return count;
+}
+
+/* ---- forks ---- */
+
+#ifdef SANITIZED_thread
+enum { FORKS = true, THREADS_IN_CHILD = false }; /* ThreadSanitizer has none */
+#elif defined SANITIZED_address
+enum { FORKS = false, THREADS_IN_CHILD = true }; /* of its memory a child may find a lock held by a thread that isn't there: rules.c alone forks */
+#else
+enum { FORKS = true, THREADS_IN_CHILD = true };
+#endif
+
+static void *in_thread_of_child(void *none)
+{
+    begin_thread(1);
+    for (int i = 0; i < 20; i++) find_some(false);
+    return none;
+}
+
+static void child(bool has_sender)
+{
+    pthread_t thread;
+    msg_runtime *runtime;
+    wrong = 0;
+    alarm(PATIENCE);
+    for (int i = 0; i < 50; i++) {
+        find_some(false);
+        change_some();
+    }
+    if (left() != SENDERS - has_sender) tell("senders that are left in a child", left(), SENDERS - has_sender);
+    want(msg_process_lock_to_change(&runtime), MSG_DONE);
+    uint32_t fault = msg_make_class(runtime, (uint32_t)made, 0); /* a class may have been made whose maker hadn't told it */
+    msg_process_unlock();
+    if (fault != MSG_DONE && fault != MSG_DUPLICATE_CLASS && made < CLASSES) tell("no class, classes", fault, made);
+    if (THREADS_IN_CHILD && !pthread_create(&thread, NULL, in_thread_of_child, NULL)) pthread_join(thread, NULL);
+    _exit(wrong ? 1 : 0);
+}
+
+static void *fork_on(void *number)
+{
+    begin_thread((long)number);
+    for (; !is_over; forked++) {
+        find_some(false);
+        bool has_sender = msg_process_own.sender->open;
+        pid_t pid = fork();
+        if (!pid) child(has_sender);
+        int status = 0;
+        while (pid > 0 && waitpid(pid, &status, 0) < 0 && errno == EINTR) {}
+        if (pid < 0 || status) tell("a child ended otherwise, status", pid, status);
+        usleep(1000 + below(4000));
+    }
+    return NULL;
+}
+
+/* ---- handlers ---- */
+
+static void handle(int signal)
+{
+    int kept = errno;
+    (void)signal;
+    find_some(true);
+    if (!below(16)) {
+        msg_runtime *runtime;
+        uint32_t fault = msg_process_lock(&runtime);
+        if (!fault) msg_process_unlock();
+        else want(fault, MSG_LOCK_HELD);
+    }
+    handled++;
+    errno = kept;
+}
+
+static bool is_little(void) { return !refused || !ended || !without || (FORKS && !forked) || !handled || !held || made < 9; }
+
+int main(void)
+{
+    enum { THREADS = FINDERS + CHANGERS + 1 };
+    static void *(*const others[])(void *) = {begin_and_end, begin_and_end, FORKS ? fork_on : find_on};
+    pthread_t threads[THREADS], beside[3];
+    msg_runtime *runtime;
+    msg_config config = {.classes = CLASSES, .senders = SENDERS};
+    alarm(PATIENCE + SECONDS);
+    pthread_key_create(&ending, at_end);
+    want(msg_process_start(&config), MSG_DONE);
+    want(msg_process_lock_to_change(&runtime), MSG_DONE);
+    want(msg_make_root_class(runtime, 0), MSG_DONE);
+    for (uint32_t i = 1; i < 8; i++) want(msg_make_class(runtime, i, i / 2), MSG_DONE);
+    made = 8;
+    while (begun < METHODS) change(runtime, 1);
+    msg_process_unlock();
+    returned = begun;
+
+    sigaction(SIGUSR1, &(struct sigaction){.sa_handler = handle, .sa_flags = SA_RESTART}, NULL);
+    for (long i = 0; i < THREADS; i++) pthread_create(&threads[i], NULL, i < FINDERS ? find_on : i < FINDERS + CHANGERS ? change_on : make_on, (void *)(i + 1));
+    while (ready < THREADS) usleep(1000);
+    for (long i = 0; i < 3; i++) pthread_create(&beside[i], NULL, others[i], (void *)(i + 100));
+    time_t end = time(NULL) + SECONDS;
+    while (time(NULL) < end || (is_little() && time(NULL) < end + PATIENCE / 2)) {
+        pthread_kill(threads[below(THREADS)], SIGUSR1);
+        usleep(20);
+    }
+    is_over = true;
+    for (int i = 0; i < THREADS; i++) pthread_join(threads[i], NULL);
+    for (int i = 0; i < 3; i++) pthread_join(beside[i], NULL);
+    if (left() != SENDERS) tell("senders that are left", left(), SENDERS); /* this thread has none */
+    fprintf(stderr, "%ld answers beside %ld steps, %ld refused changes, %ld classes, %ld threads (%ld without a sender), %ld forks; %ld signals, %ld answered that the lock is held\n",
+            (long)answers, (long)begun, (long)refused, (long)made, (long)ended, (long)without, (long)forked, (long)handled, (long)held);
+    printf("stress: %ld wrong%s\n", (long)wrong, is_little() ? ", and too little was tried" : "");
+    return wrong || is_little();
+}
