@@ -95,7 +95,8 @@ fn answer_pieces<'r, 'd, N: ArenaName, G: Gate, R: Wait>(
     Ok(pieces)
 }
 
-// Meets a changer whose whole history the sender has seen. Where there are no more changes the sender has seen no more, and no lock is taken.
+// Meets a changer whose whole history the sender has seen. Where there are no more changes the sender has seen no
+// more, and no lock is taken.
 fn meet_again<'d, N: ArenaName, R: Wait>(
     rt: &R,
     changer: &mut Changer<'d, N>,
@@ -132,8 +133,8 @@ impl<'r, G: Gate, R: Wait> Run<'r, G, R> {
         push_outcome(text, image, outcome)
     }
 
-    // Answers sends between which and beside which no change is made, on the calling thread, by a sender with a memory for this work, and says how many pieces
-    // there were. The sender meets the changer before and after.
+    // Answers sends between which and beside which no change is made, on the calling thread, and says how many
+    // pieces there were. The sender has a memory for this work, and meets the changer before and after.
     pub(crate) fn answer_sends<'d, N: ArenaName>(
         &self,
         crew: &mut Crew<'d, N>,

@@ -65,7 +65,8 @@ fn run_asked<R: Source, W: Sink, T: Threads + Wait + Sync>(
     }
 }
 
-/// Answers a document as the words of a command line ask, says in a line why where that can't be, and gives the exit status.
+/// Answers a document as the words of a command line ask, says in a line why where that can't be, and gives the
+/// exit status.
 pub fn answer_words<R: Source, W: Sink, C: Sink, T: Threads + Wait + Sync>(
     rt: &T,
     alloc: Global,
@@ -89,6 +90,8 @@ pub fn answer_words<R: Source, W: Sink, C: Sink, T: Threads + Wait + Sync>(
 }
 
 /// What a program does: it answers a document as the words that it was started with ask, and gives the exit status.
+///
+/// `whole` names no words, since no clause says what [`words`] gives.
 pub fn answer<R: Source, W: Sink, C: Sink, T: Env + Alloc<A = Global> + Threads + Wait + Sync>(
     rt: &T,
     program: Program,

@@ -3,7 +3,8 @@
 ghost use Rattle.std.specs.Prelude.{◌≡◌, ◌≤◌, ◌<◌, ◌+◌, ◌^◌, ◌⊎◌, [], true, count_by, length, map, vec_len, IfOk, OnOk};
 ghost use Rattle.msg_image.specs.Opened.{origin_of};
 ghost use Rattle.msg_image.specs.Plain.{item_parts};
-ghost use Rattle.msg_runner.specs.Parts.{history_past, HasServed, IsAnsweredBeside, IsSoundPart, PartChanges, PartPieces};
+ghost use Rattle.msg_runner.specs.Parts.{history_past, HasServed, IsAnsweredBeside, IsSoundPart};
+ghost use Rattle.msg_runner.specs.Parts.{PartChanges, PartPieces};
 ghost use Rattle.msg_runner.specs.Serving.{is_send};
 
 use crate::beside::{Batch, answer_beside, answer_by};
@@ -115,8 +116,8 @@ impl<'s, G: Gate, R: Threads + Wait + Sync> Run<'s, G, R> {
         }
     }
 
-    // Answers items, a line for each, and says how many pieces and changes there were. No more threads are started than there are pieces, and where there is one
-    // piece and no change none is.
+    // Answers items, a line for each, and says how many pieces and changes there were. No more threads are started
+    // than there are pieces, and where there is one piece and no change none is.
     pub(crate) fn answer_batch<'e: 's, 'd: 's, N: ArenaName + Send + Sync + 's>(
         &self,
         scope: &'s Scope<'s, &'e ()>,

@@ -67,6 +67,34 @@ fn judge(workers: u32, cut: u32) -> Result<(), RunFault>
     Ok(())
 }
 
+// The document of a run by so many workers and with this cut, if there can be one.
+fn admit<R: Source>(
+    alloc: Global,
+    source: &mut R,
+    workers: u32,
+    cut: u32,
+) -> Result<Document, RunFault>
+    requires { R.mark source.old ≡ false }
+    ensures some_workers { OnOk result (1 ≤ workers) }
+    ensures some_places { OnOk result (1 ≤ cut) }
+    ensures ok { IfOk result (λ d. IfSome (R.remaining source.old)
+        (λ bytes. IsAnswer bytes (Ok (document_parts d)))) }
+    ensures sound { IfOk result (λ d. IsSoundDocument (document_parts d)) }
+    ensures few { IfOk result (λ d. length d.items.items ≤ MAX_ITEMS) }
+    ensures workers { (result ≡ Err RunFault.Workers)
+        ↔ ((workers ≡ 0) ⊎ (MAX_WORKERS < workers)) }
+    ensures cut { (result ≡ Err RunFault.Cut)
+        ↔ ((cut ≡ 0) × (0 < workers) × (workers ≤ MAX_WORKERS)) }
+    ensures fault { (f : DocumentFault) → result ≡ Err (RunFault.Document f)
+        → IfSome (R.remaining source.old) (λ bytes. IsAnswer bytes (Err f)) }
+    ensures memory { result ≢ Err (RunFault.Document documents.Memory) }
+    ensures read { (result ≡ Err RunFault.Read) ↔ (R.mark source.new ≡ true) }
+    ensures write { result ≢ Err RunFault.Write }
+{
+    judge(workers, cut)?;
+    document(alloc, source)
+}
+
 // Writes the text, which is whole.
 fn write<W: Sink>(sink: &mut W, text: &[u8]) -> Result<(), RunFault>
     requires { W.mark sink.old ≡ false }
@@ -135,8 +163,7 @@ pub fn run<R: Source, W: Sink, G: Gate, T: Threads + Wait + Sync>(
     ensures read { (result ≡ Err RunFault.Read) ↔ (R.mark source.new ≡ true) }
     ensures write { (result ≡ Err RunFault.Write) ↔ (W.mark sink.new ≡ true) }
 {
-    judge(workers, cut)?;
-    let document = document(alloc, source)?;
+    let document = admit(alloc, source, workers, cut)?;
     let run = Run {
         rt,
         alloc,
@@ -180,8 +207,7 @@ pub fn run_beside<R: Source, W: Sink, G: Gate, T: Threads + Wait + Sync>(
     ensures read { (result ≡ Err RunFault.Read) ↔ (R.mark source.new ≡ true) }
     ensures write { (result ≡ Err RunFault.Write) ↔ (W.mark sink.new ≡ true) }
 {
-    judge(workers, cut)?;
-    let document = document(alloc, source)?;
+    let document = admit(alloc, source, workers, cut)?;
     let run = Run {
         rt,
         alloc,

@@ -8,7 +8,8 @@ ghost use Rattle.msg_image.specs.Plain.{item_parts};
 ghost use Rattle.msg_tables.specs.History.{empty};
 ghost use Rattle.msg_runtime.specs.Parts.{IsKeeperOf, keeper_history};
 ghost use Rattle.msg_runner.specs.Lines.{AreLinesOf};
-ghost use Rattle.msg_runner.specs.Parts.{items_of, history_past, AreLinesOfPart, HasLines, IsSoundDocument, IsSoundPart, PartChanges, PartPieces};
+ghost use Rattle.msg_runner.specs.Parts.{items_of, history_past, AreLinesOfPart, HasLines};
+ghost use Rattle.msg_runner.specs.Parts.{IsSoundDocument, IsSoundPart, PartChanges, PartPieces};
 ghost use Rattle.msg_runner.specs.Serving.{AllSends, IsOneChange};
 
 use crate::arrays::arrays_for;
@@ -105,8 +106,8 @@ pub(crate) fn arena_for(
 }
 
 impl<'s, G: Gate, R: Threads + Wait + Sync> Run<'s, G, R> {
-    // Answers a part: the sends before the next change, or one change. The calling thread does so by itself where it is a change, one worker takes part, or there
-    // is one piece.
+    // Answers a part: the sends before the next change, or one change. The calling thread does so by itself where it
+    // is a change, one worker takes part, or there is one piece.
     fn answer_part<'e: 's, 'd: 's, N: ArenaName + Send + Sync + 's>(
         &self,
         scope: &'s Scope<'s, &'e ()>,
