@@ -107,7 +107,7 @@ impl Reader {
     }
 
     // How many changes the reader has seen. Where it doesn't know, it loads how many there are.
-    #[inline]
+    #[inline(always)]
     fn seen(&mut self, arena: &Arena) -> u64
         requires reader { IsSenderOf arena.now self.old }
         ensures reader { IsSenderOf arena.now self.new }
@@ -116,8 +116,20 @@ impl Reader {
     {
         match self.count {
             Some(count) => count,
-            None => self.refresh(arena),
+            None => self.seen_anew(arena),
         }
+    }
+
+    // The same, where it doesn't know. Out of line, so that `find` is short where the notes have what is asked.
+    #[cold]
+    #[inline(never)]
+    fn seen_anew(&mut self, arena: &Arena) -> u64
+        requires reader { IsSenderOf arena.now self.old }
+        ensures reader { IsSenderOf arena.now self.new }
+        ensures begins { BeginsWith self.new.sender.front self.old.sender.front }
+        ensures length { result ≡ length self.new.sender.front.changes }
+    {
+        self.refresh(arena)
     }
 
     /// What the notes have of a lookup at what the reader has seen, where it knows how many changes that are. No shared word is loaded.
@@ -136,7 +148,7 @@ impl Reader {
     /// The implementation that the notes have, or else that the cache has, and then the notes too: what a lookup finds at what the reader has then seen. Where a
     /// change falls into a probe that hits, its answer is left. The notes are asked once, and what they have of the point at which the reader stands is found, unless it
     /// sees a change meanwhile.
-    #[inline]
+    #[inline(always)]
     pub fn find(
         &mut self,
         arena: &Arena,
