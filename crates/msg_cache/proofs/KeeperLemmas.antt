@@ -10,8 +10,7 @@ use Rattle.msg_buckets.specs.Word.{sel_of, imp_of}
 use Rattle.msg_tables.specs.Origin.{OriginView}
 use Rattle.msg_tables.specs.declared.change.Change.{Change}
 use Rattle.msg_tables.specs.History.{History, BeginsWith, and_then, empty}
-use Rattle.msg_core.specs.declared.event.Event.{Event}
-use Rattle.msg_core.specs.declared.event.Event.TheVariants.{Fill, Install, Flush, Look, Clear, Commit}
+use Rattle.msg_core.specs.Event.{Event, Fill, Install, Flush, Look, Clear, Commit}
 use Rattle.msg_core.specs.declared.state.Standing.{Standing}
 use Rattle.msg_core.specs.declared.state.Standing.TheVariants.{Free, Live, Retired}
 use Rattle.msg_core.specs.declared.state.Whereabouts.{Whereabouts}

@@ -7,8 +7,7 @@ use Rattle.atomic_table.specs.Table.{State as Table}
 use Rattle.msg_names.specs.declared.value.ClassRef.{ClassRef}
 use Rattle.msg_tables.specs.Origin.{OriginView}
 use Rattle.msg_tables.specs.History.{History, lookup}
-use Rattle.msg_core.specs.declared.event.Event.{Event}
-use Rattle.msg_core.specs.declared.event.Event.TheVariants.{Header, Read, Look}
+use Rattle.msg_core.specs.Event.{Event, Header, Read, Look}
 use Rattle.msg_core.specs.declared.event.Seen.TheVariants.{Array, Word, Out as SeenOut}
 use Rattle.msg_core.specs.declared.state.Whereabouts.{Whereabouts}
 use Rattle.msg_core.specs.declared.state.Whereabouts.TheVariants.{Out, In, Holding}

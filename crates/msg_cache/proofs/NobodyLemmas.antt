@@ -7,7 +7,7 @@ use lib.ListN.{get_elem?}
 use Rattle.atomic_table.proofs.Lists.{set_here}
 use Rattle.msg_tables.specs.Origin.{OriginView}
 use Rattle.msg_tables.specs.History.{History}
-use Rattle.msg_core.specs.declared.event.Event.TheVariants.{Look}
+use Rattle.msg_core.specs.Event.{Look}
 use Rattle.msg_core.specs.declared.event.Seen.TheVariants.{Out as SeenOut}
 use Rattle.msg_core.specs.State.{Layout, State, awaits}
 use Rattle.msg_names.specs.declared.value.ClassRef.{ClassRef}

@@ -9,8 +9,7 @@ use Rattle.msg_buckets.specs.Word.{sel_of, imp_of}
 use Rattle.msg_tables.specs.Origin.{IsSound}
 use Rattle.msg_tables.specs.declared.change.Change.{Change}
 use Rattle.msg_tables.specs.History.{History, lookup}
-use Rattle.msg_core.specs.declared.event.Event.{Event}
-use Rattle.msg_core.specs.declared.event.Event.TheVariants.{Enter, Header, Read, Leave, Fill, Install, Flush, Look, Clear, Commit}
+use Rattle.msg_core.specs.Event.{Event, Enter, Header, Read, Leave, Fill, Install, Flush, Look, Clear, Commit}
 use Rattle.msg_core.specs.declared.event.Seen.{Seen}
 use Rattle.msg_core.specs.declared.event.Seen.TheVariants.{Nothing, Array, Word, Out as SeenOut}
 use Rattle.msg_core.specs.declared.state.Standing.TheVariants.{Free, Live}

@@ -8,7 +8,7 @@ use Rattle.msg_tables.specs.Origin.{OriginView}
 use Rattle.msg_tables.specs.Origin.{IsSound}
 use Rattle.msg_tables.specs.History.{History, BeginsWith, empty}
 use Rattle.msg_tables.specs.Refusal.{IsHistory}
-use Rattle.msg_core.specs.declared.event.Event.{Event}
+use Rattle.msg_core.specs.Event.{Event}
 use Rattle.msg_core.specs.declared.state.Standing.TheVariants.{Free, Retired}
 use Rattle.msg_core.specs.declared.state.Whereabouts.{Whereabouts}
 use Rattle.msg_core.specs.declared.state.Whereabouts.TheVariants.{Out, In, Holding}

@@ -5,9 +5,9 @@ use Rattle.std.proofs.lemmas.Bool.Decides.{nat_tests}
 use Rattle.msg_names.specs.declared.value.ClassRef.{ClassRef}
 use Rattle.msg_tables.specs.declared.change.Change.{Change}
 use Rattle.msg_buckets.specs.Word.{sel_of, imp_of}
-use Rattle.msg_tables.specs.History.{History, and_then}
-use Rattle.msg_tables.specs.Refusal.{refusal as change_refusal}
-use Rattle.msg_core.specs.declared.event.Event.TheVariants.{Enter, Header, Read, Leave, Fill, Install, Flush, Look, Clear, Commit}
+use Rattle.msg_tables.specs.History.{History, and_then, log}
+use Rattle.msg_tables.specs.Several.{refusal_of_all}
+use Rattle.msg_core.specs.Event.{Enter, Header, Read, Leave, Fill, Install, Flush, Look, Clear, Commit}
 use Rattle.msg_core.specs.declared.fault.EventFault.{EventFault}
 use Rattle.msg_core.specs.declared.fault.EventFault.TheVariants.{NoSender, NoClass, NoArray, NotOut, NotIn, NotHolding, NotLive, NoPlace, NotFree, NotEmpty, Refused, Disagrees}
 use Rattle.msg_core.specs.declared.state.Standing.{Standing}
@@ -145,9 +145,9 @@ module _ (look : History → ClassRef → ℕ → ℕ) (z : Layout) (m : State) 
       let v = none_when (not (is_free (m.standing a))) NotFree [] u.1 in
       (below (length z.capacities) a t.0, below (capacity z a) p u.0, standing_free (m.standing a) v.0)
 
-  pub legal_commit : (x : Change) → Legal look z m (Commit x)
-      → (change_refusal m.history x ≡ None) × ((c : ClassRef) (b q : ℕ) → b < length z.capacities → m.standing b ≡ Live c → q < capacity z b → Agrees (look (and_then m.history x)) c (m.word b q))
-  legal_commit x e = step (change_refusal m.history x) refl e
+  pub legal_commit : (x : List Change) → Legal look z m (Commit x)
+      → (refusal_of_all (log m.history) x ≡ None) × ((c : ClassRef) (b q : ℕ) → b < length z.capacities → m.standing b ≡ Live c → q < capacity z b → Agrees (look (and_then m.history x)) c (m.word b q))
+  legal_commit x e = step (refusal_of_all (log m.history) x) refl e
     where
       agree : some_below (length z.capacities) (λ a. is_spoiled (look (and_then m.history x)) (capacity z a) (m.word a) (m.standing a)) ≡ false
           → (c : ClassRef) (b q : ℕ) → b < length z.capacities → m.standing b ≡ Live c → q < capacity z b → Agrees (look (and_then m.history x)) c (m.word b q)
@@ -157,7 +157,7 @@ module _ (look : History → ClassRef → ℕ → ℕ) (z : Layout) (m : State) 
           (some_below-false (capacity z b) q (λ p. is_entry (m.word b p) && disagrees (look (and_then m.history x)) c (m.word b p))
           (sym (ap (is_spoiled (look (and_then m.history x)) (capacity z b) (m.word b)) live) ∙ unhurt) lt)
 
-      step : (o : _) → change_refusal m.history x ≡ o → least_event_fault (option_map Refused o ∷ when (some_below (length z.capacities) (λ a. is_spoiled (look (and_then m.history x)) (capacity z a) (m.word a) (m.standing a))) Disagrees ∷ []) ≡ None
-          → (change_refusal m.history x ≡ None) × ((c : ClassRef) (b q : ℕ) → b < length z.capacities → m.standing b ≡ Live c → q < capacity z b → Agrees (look (and_then m.history x)) c (m.word b q))
+      step : (o : _) → refusal_of_all (log m.history) x ≡ o → least_event_fault (option_map Refused o ∷ when (some_below (length z.capacities) (λ a. is_spoiled (look (and_then m.history x)) (capacity z a) (m.word a) (m.standing a))) Disagrees ∷ []) ≡ None
+          → (refusal_of_all (log m.history) x ≡ None) × ((c : ClassRef) (b q : ℕ) → b < length z.capacities → m.standing b ≡ Live c → q < capacity z b → Agrees (look (and_then m.history x)) c (m.word b q))
       step None o h = (o, agree (none_when _ Disagrees [] h).0)
       step (Some f) o h = cc

@@ -6,9 +6,9 @@ use Rattle.std.proofs.lemmas.Bool.Decides.{nat_tests}
 use Rattle.msg_names.specs.declared.value.ClassRef.{ClassRef}
 use Rattle.msg_tables.specs.declared.change.Change.{Change}
 use Rattle.msg_buckets.specs.Word.{sel_of, imp_of}
-use Rattle.msg_tables.specs.History.{History, and_then}
-use Rattle.msg_tables.specs.Refusal.{refusal as change_refusal}
-use Rattle.msg_core.specs.declared.event.Event.TheVariants.{Enter, Header, Read, Leave, Fill, Install, Flush, Look, Clear, Commit}
+use Rattle.msg_tables.specs.History.{History, and_then, log}
+use Rattle.msg_tables.specs.Several.{refusal_of_all}
+use Rattle.msg_core.specs.Event.{Enter, Header, Read, Leave, Fill, Install, Flush, Look, Clear, Commit}
 use Rattle.msg_core.specs.declared.fault.EventFault.{EventFault}
 use Rattle.msg_core.specs.declared.fault.EventFault.TheVariants.{NoSender, NoClass, NoArray, NotOut, NotIn, NotHolding, NotLive, NoPlace, NotFree, NotEmpty, Refused, Disagrees}
 use Rattle.msg_core.specs.declared.state.Standing.{Standing}
@@ -93,7 +93,7 @@ module _ (look : History → ClassRef → ℕ → ℕ) (z : Layout) (m : State) 
   may_clear a p there inside free =
       unless _ NoArray _ (within (length z.capacities) a there) (unless _ NoPlace _ (within (capacity z a) p inside) (unless _ NotFree [] (ap (λ s. not (is_free s)) free) refl))
 
-  pub may_commit : (x : Change) → change_refusal m.history x ≡ None
+  pub may_commit : (x : List Change) → refusal_of_all (log m.history) x ≡ None
       → ((c : ClassRef) (b q : ℕ) → b < length z.capacities → m.standing b ≡ Live c → q < capacity z b → Agrees (look (and_then m.history x)) c (m.word b q))
       → Legal look z m (Commit x)
   may_commit x accepted good =

@@ -6,8 +6,7 @@ use Rattle.msg_names.specs.declared.value.ClassRef.{ClassRef}
 use Rattle.msg_buckets.specs.Word.{sel_of, imp_of}
 use Rattle.msg_tables.specs.Origin.{OriginView}
 use Rattle.msg_tables.specs.History.{History, and_then, empty}
-use Rattle.msg_core.specs.declared.event.Event.{Event}
-use Rattle.msg_core.specs.declared.event.Event.TheVariants.{Enter, Header, Read, Leave, Fill, Install, Flush, Look, Clear, Commit}
+use Rattle.msg_core.specs.Event.{Event, Enter, Header, Read, Leave, Fill, Install, Flush, Look, Clear, Commit}
 use Rattle.msg_core.specs.declared.state.Standing.TheVariants.{Free, Live, Retired}
 use Rattle.msg_core.specs.declared.state.Whereabouts.{Whereabouts}
 use Rattle.msg_core.specs.declared.state.Whereabouts.TheVariants.{Out, In, Holding}

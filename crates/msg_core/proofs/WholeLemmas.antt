@@ -6,7 +6,7 @@ use Rattle.msg_names.specs.ClassRef.{slot_of}
 use Rattle.msg_names.proofs.ClassRefLemmas.{slot_of-inside}
 use Rattle.msg_names.specs.declared.value.ClassRef.{ClassRef}
 use Rattle.msg_tables.specs.Origin.{class_total}
-use Rattle.msg_tables.specs.History.{History}
+use Rattle.msg_tables.specs.Log.{Log}
 use Rattle.msg_tables.specs.Stands.{StandsAt}
 use Rattle.msg_tables.specs.View.{TablesView}
 use Rattle.msg_tables.proofs.StandsLemmas.{class_count}
@@ -50,7 +50,7 @@ pub live_listed : (v : MachineView) → IsWhole v → (a : ℕ) (s : Standing) �
 live_listed v whole a s is = if_live _ s (λ c e. whole.live_classes a c (sym is ∙ e))
 
 -- a class of the origin is one of the tables
-pub class_listed : (t : TablesView) (h : History) → StandsAt t h → (k : ℕ) → k < class_total h.origin → k < length t.supers
+pub class_listed : (t : TablesView) (h : Log) → StandsAt t h → (k : ℕ) → k < class_total h.origin → k < length t.supers
 class_listed t h stands k inside = subst (λ n. k < n) (sym (class_count t h stands)) inside
 
 -- a sender's place that was read

@@ -1,7 +1,6 @@
 -- An event that happens to a machine.
 use Rattle.std.specs.Prelude.{◌≡◌, Option}
-use Rattle.msg_core.specs.declared.event.Event.{Event}
-use Rattle.msg_core.specs.declared.event.Event.TheVariants.{Enter, Header, Read, Leave, Fill, Install, Flush, Look, Clear, Commit}
+use Rattle.msg_core.specs.Event.{Event, Enter, Header, Read, Leave, Fill, Install, Flush, Look, Clear, Commit}
 use Rattle.msg_tables.specs.History.{lookup}
 use Rattle.msg_core.specs.declared.fault.EventFault.{EventFault}
 use Rattle.msg_core.specs.State.{State}
@@ -27,7 +26,7 @@ Happens old new e = Becomes old new (after (layout_of old) (state_of old) e)
 
 -- the only event that may answer Memory
 abbrev pub IsCommit : Event → Type 0
-IsCommit (Commit x) = Unit {0}
+IsCommit (Commit xs) = Unit {0}
 IsCommit (Enter n) = ⊥
 IsCommit (Header n c) = ⊥
 IsCommit (Read n p) = ⊥

@@ -1,3 +1,4 @@
+pub mod Event
 pub mod FaultNumber
 pub mod Happens
 pub mod Inside

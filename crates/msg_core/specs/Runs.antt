@@ -3,8 +3,7 @@ use Rattle.std.specs.Prelude.{◌≡◌, ◌≢◌, ◌≤◌, ℕ, List, [], �
 use Rattle.msg_names.specs.declared.value.ClassRef.{ClassRef}
 use Rattle.msg_tables.specs.Origin.{OriginView}
 use Rattle.msg_tables.specs.History.{History, empty}
-use Rattle.msg_core.specs.declared.event.Event.{Event}
-use Rattle.msg_core.specs.declared.event.Event.TheVariants.{Enter, Header, Read, Leave, Fill, Install, Flush, Look, Clear, Commit}
+use Rattle.msg_core.specs.Event.{Event, Enter, Header, Read, Leave, Fill, Install, Flush, Look, Clear, Commit}
 use Rattle.msg_core.specs.declared.state.Standing.TheVariants.{Free}
 use Rattle.msg_core.specs.declared.state.Whereabouts.TheVariants.{Out}
 use Rattle.msg_buckets.specs.Word.{sel_of, imp_of}
@@ -42,7 +41,7 @@ IsNoHeader n (Install c a) = Unit {0}
 IsNoHeader n (Flush c) = Unit {0}
 IsNoHeader n (Look j) = Unit {0}
 IsNoHeader n (Clear a p) = Unit {0}
-IsNoHeader n (Commit x) = Unit {0}
+IsNoHeader n (Commit xs) = Unit {0}
 
 -- the sender's last header load in a list of events was of this class reference
 abbrev pub HasLoaded : ℕ → ClassRef → List Event → Type 0

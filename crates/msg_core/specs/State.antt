@@ -28,11 +28,11 @@ pub record State : Type 0 where
 abbrev pub state_from : History → (ClassRef → Option ℕ) → (ℕ → ℕ → ℕ) → (ℕ → Standing) → (ℕ → Whereabouts) → State
 state_from h live word standing whereabouts = record { history = h; live = live; word = word; standing = standing; whereabouts = whereabouts }
 
--- how many changes were made
+-- how many times changes were made
 abbrev pub size : History → ℕ
 size h = length h.changes
 
--- the history after its first n changes
+-- the history as it was when it had n lists of changes
 abbrev pub first : ℕ → History → History
 first n h = record { origin = h.origin; changes = take n h.changes }
 

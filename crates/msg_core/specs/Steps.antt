@@ -5,10 +5,9 @@ use Rattle.msg_names.specs.declared.value.ClassRef.{ClassRef}
 use Rattle.msg_buckets.specs.Word.{sel_of, imp_of}
 use Rattle.msg_tables.specs.declared.change.Change.{Change}
 use Rattle.msg_names.specs.ClassRef.{same_class}
-use Rattle.msg_tables.specs.History.{History, and_then}
-use Rattle.msg_tables.specs.Refusal.{refusal as change_refusal}
-use Rattle.msg_core.specs.declared.event.Event.{Event}
-use Rattle.msg_core.specs.declared.event.Event.TheVariants.{Enter, Header, Read, Leave, Fill, Install, Flush, Look, Clear, Commit}
+use Rattle.msg_tables.specs.History.{History, and_then, log}
+use Rattle.msg_tables.specs.Several.{refusal_of_all}
+use Rattle.msg_core.specs.Event.{Event, Enter, Header, Read, Leave, Fill, Install, Flush, Look, Clear, Commit}
 use Rattle.msg_core.specs.declared.event.Seen.{Seen}
 use Rattle.msg_core.specs.declared.event.Seen.TheVariants.{Nothing, Array, Word, Out as SeenOut}
 use Rattle.msg_core.specs.declared.fault.EventFault.{EventFault}
@@ -74,7 +73,7 @@ after z m (Install c a) = record m { live = at_class m.live c (Some a); standing
 after z m (Flush c) = record m { live = at_class m.live c None; standing = retired z m c (m.live c) }
 after z m (Look n) = record m { standing = if is_out (m.whereabouts n) then (λ a. seen_out n (m.standing a)) else m.standing }
 after z m (Clear a p) = record m { word = stored m.word (Some a) p 0 }
-after z m (Commit x) = record m { history = and_then m.history x }
+after z m (Commit xs) = record m { history = and_then m.history xs }
 
 -- ---- what it shows
 
@@ -95,7 +94,7 @@ shows m (Fill c p word) = Nothing
 shows m (Install c a) = Nothing
 shows m (Flush c) = Nothing
 shows m (Clear a p) = Nothing
-shows m (Commit x) = Nothing
+shows m (Commit xs) = Nothing
 
 -- ---- when it is refused
 
@@ -177,9 +176,9 @@ module _ (look : History → ClassRef → ℕ → ℕ) (z : Layout) (m : State) 
   abbrev pub no_place : ℕ → Option ℕ → Option EventFault
   no_place p words = when (is_past p words) NoPlace
 
-  -- some live array has a word that would not agree with the method lists after the change
-  abbrev pub spoils : Change → Bool
-  spoils x = some_below (length z.capacities) (λ a. is_spoiled (look (and_then m.history x)) (capacity z a) (m.word a) (m.standing a))
+  -- some live array has a word that would not agree with the method lists after the changes
+  abbrev pub spoils : List Change → Bool
+  spoils xs = some_below (length z.capacities) (λ a. is_spoiled (look (and_then m.history xs)) (capacity z a) (m.word a) (m.standing a))
 
   -- what speaks against an event, in the order of the faults
   abbrev pub conditions : Event → List (Option EventFault)
@@ -193,7 +192,7 @@ module _ (look : History → ClassRef → ℕ → ℕ) (z : Layout) (m : State) 
   conditions (Flush c) = no_class c ∷ not_live c ∷ []
   conditions (Look n) = no_sender n ∷ []
   conditions (Clear a p) = no_array a ∷ no_place p (Some (capacity z a)) ∷ not_free a ∷ []
-  conditions (Commit x) = option_map Refused (change_refusal m.history x) ∷ when (spoils x) Disagrees ∷ []
+  conditions (Commit xs) = option_map Refused (refusal_of_all (log m.history) xs) ∷ when (spoils xs) Disagrees ∷ []
 
   -- the least fault for which an event is refused
   abbrev pub event_refusal : Event → Option EventFault

@@ -1,7 +1,8 @@
 //! What events do.
 
-ghost use Rattle.std.specs.Prelude.{◌≡◌, ◌<◌, Some, None, Ok, Err, IfOk, OnErr, IfErr, IfSome, length};
-ghost use Rattle.msg_core.specs.declared.event.Event.{Event};
+ghost use Rattle.std.specs.Prelude.{[], ◌∷◌, ◌≡◌, ◌<◌, Some, None, Ok, Err, IfOk, OnErr, IfErr, IfSome, length};
+ghost use Rattle.msg_core.specs.Event as events;
+ghost use Rattle.msg_core.specs.Event.{event_of};
 ghost use Rattle.msg_core.specs.declared.fault.EventFault.{EventFault};
 ghost use Rattle.msg_core.specs.Happens.{Becomes, Happens, IsLegal, IsCommit};
 ghost use Rattle.msg_core.specs.State.{capacity};
@@ -78,18 +79,18 @@ impl Machine {
 
 impl Machine {
     pub(crate) fn enter(&mut self, sender: u32) -> Seen
-        requires { IsLegal self.old (Event.Enter sender) }
-        ensures happens { Happens self.old self.new (Event.Enter sender) }
-        ensures seen { result ≡ shows (state_of self.old) (Event.Enter sender) }
+        requires { IsLegal self.old (events.Enter sender) }
+        ensures happens { Happens self.old self.new (events.Enter sender) }
+        ensures seen { result ≡ shows (state_of self.old) (events.Enter sender) }
     {
         self.set_whereabouts(sender, Whereabouts::In);
         Seen::Nothing
     }
 
     pub(crate) fn load_header(&mut self, sender: u32, class: ClassRef) -> Seen
-        requires { IsLegal self.old (Event.Header sender class) }
-        ensures happens { Happens self.old self.new (Event.Header sender class) }
-        ensures seen { result ≡ shows (state_of self.old) (Event.Header sender class) }
+        requires { IsLegal self.old (events.Header sender class) }
+        ensures happens { Happens self.old self.new (events.Header sender class) }
+        ensures seen { result ≡ shows (state_of self.old) (events.Header sender class) }
     {
         let live = self.live_array(class);
         if let Some(array) = live {
@@ -99,8 +100,8 @@ impl Machine {
     }
 
     pub(crate) fn read(&self, sender: u32, place: usize) -> Seen
-        requires { IsLegal self.now (Event.Read sender place) }
-        ensures { result ≡ shows (state_of self.now) (Event.Read sender place) }
+        requires { IsLegal self.now (events.Read sender place) }
+        ensures { result ≡ shows (state_of self.now) (events.Read sender place) }
     {
         match self.whereabouts_of(sender) {
             Whereabouts::Holding(_, array) => Seen::Word(self.word(array, place)),
@@ -109,18 +110,18 @@ impl Machine {
     }
 
     pub(crate) fn leave(&mut self, sender: u32) -> Seen
-        requires { IsLegal self.old (Event.Leave sender) }
-        ensures happens { Happens self.old self.new (Event.Leave sender) }
-        ensures seen { result ≡ shows (state_of self.old) (Event.Leave sender) }
+        requires { IsLegal self.old (events.Leave sender) }
+        ensures happens { Happens self.old self.new (events.Leave sender) }
+        ensures seen { result ≡ shows (state_of self.old) (events.Leave sender) }
     {
         self.set_whereabouts(sender, Whereabouts::Out);
         Seen::Nothing
     }
 
     pub(crate) fn fill(&mut self, class: ClassRef, place: usize, word: u64) -> Seen
-        requires { IsLegal self.old (Event.Fill class place word) }
-        ensures happens { Happens self.old self.new (Event.Fill class place word) }
-        ensures seen { result ≡ shows (state_of self.old) (Event.Fill class place word) }
+        requires { IsLegal self.old (events.Fill class place word) }
+        ensures happens { Happens self.old self.new (events.Fill class place word) }
+        ensures seen { result ≡ shows (state_of self.old) (events.Fill class place word) }
     {
         if let Some(array) = self.live_array(class) {
             self.store(array, place, word);
@@ -129,9 +130,9 @@ impl Machine {
     }
 
     pub(crate) fn install(&mut self, class: ClassRef, array: u32) -> Seen
-        requires { IsLegal self.old (Event.Install class array) }
-        ensures happens { Happens self.old self.new (Event.Install class array) }
-        ensures seen { result ≡ shows (state_of self.old) (Event.Install class array) }
+        requires { IsLegal self.old (events.Install class array) }
+        ensures happens { Happens self.old self.new (events.Install class array) }
+        ensures seen { result ≡ shows (state_of self.old) (events.Install class array) }
     {
         self.retire(class);
         self.set_live(class, Some(array));
@@ -140,9 +141,9 @@ impl Machine {
     }
 
     pub(crate) fn flush(&mut self, class: ClassRef) -> Seen
-        requires { IsLegal self.old (Event.Flush class) }
-        ensures happens { Happens self.old self.new (Event.Flush class) }
-        ensures seen { result ≡ shows (state_of self.old) (Event.Flush class) }
+        requires { IsLegal self.old (events.Flush class) }
+        ensures happens { Happens self.old self.new (events.Flush class) }
+        ensures seen { result ≡ shows (state_of self.old) (events.Flush class) }
     {
         self.retire(class);
         self.set_live(class, None);
@@ -150,9 +151,9 @@ impl Machine {
     }
 
     pub(crate) fn look(&mut self, sender: u32) -> Seen
-        requires { IsLegal self.old (Event.Look sender) }
-        ensures happens { Happens self.old self.new (Event.Look sender) }
-        ensures seen { result ≡ shows (state_of self.old) (Event.Look sender) }
+        requires { IsLegal self.old (events.Look sender) }
+        ensures happens { Happens self.old self.new (events.Look sender) }
+        ensures seen { result ≡ shows (state_of self.old) (events.Look sender) }
     {
         match self.whereabouts_of(sender) {
             Whereabouts::Out => {
@@ -164,9 +165,9 @@ impl Machine {
     }
 
     pub(crate) fn clear(&mut self, array: u32, place: usize) -> Seen
-        requires { IsLegal self.old (Event.Clear array place) }
-        ensures happens { Happens self.old self.new (Event.Clear array place) }
-        ensures seen { result ≡ shows (state_of self.old) (Event.Clear array place) }
+        requires { IsLegal self.old (events.Clear array place) }
+        ensures happens { Happens self.old self.new (events.Clear array place) }
+        ensures seen { result ≡ shows (state_of self.old) (events.Clear array place) }
     {
         self.store(array, place, 0);
         Seen::Nothing
@@ -176,9 +177,9 @@ impl Machine {
 impl Machine {
     // The only event that takes memory: room for the change is made before it is applied.
     pub(crate) fn commit(&mut self, change: Change) -> Result<Seen, EventFault>
-        requires { IsLegal self.old (Event.Commit change) }
-        ensures happens { IfOk result (λ _. Happens self.old self.new (Event.Commit change)) }
-        ensures seen { IfOk result (λ seen. seen ≡ shows (state_of self.old) (Event.Commit change)) }
+        requires { IsLegal self.old (events.Commit (change ∷ [])) }
+        ensures happens { IfOk result (λ _. Happens self.old self.new (events.Commit (change ∷ []))) }
+        ensures seen { IfOk result (λ seen. seen ≡ shows (state_of self.old) (events.Commit (change ∷ []))) }
         ensures err { OnErr result (self.new ≡ self.old) }
         ensures memory { IfErr result (λ fault. fault ≡ EventFault.Memory) }
     {
@@ -193,11 +194,11 @@ impl Machine {
 
     // Makes an event happen that isn't refused.
     pub(crate) fn happen(&mut self, event: Event) -> Result<Seen, EventFault>
-        requires { IsLegal self.old event }
-        ensures happens { IfOk result (λ _. Happens self.old self.new event) }
-        ensures seen { IfOk result (λ seen. seen ≡ shows (state_of self.old) event) }
+        requires { IsLegal self.old (event_of event) }
+        ensures happens { IfOk result (λ _. Happens self.old self.new (event_of event)) }
+        ensures seen { IfOk result (λ seen. seen ≡ shows (state_of self.old) (event_of event)) }
         ensures err { OnErr result (self.new ≡ self.old) }
-        ensures memory { IfErr result (λ fault. (fault ≡ EventFault.Memory) × IsCommit event) }
+        ensures memory { IfErr result (λ fault. (fault ≡ EventFault.Memory) × IsCommit (event_of event)) }
     {
         match event {
             Event::Enter(sender) => Ok(self.enter(sender)),

@@ -2,8 +2,9 @@
 //!
 //! Each condition is judged by a function of its own; what changes the machine is elsewhere.
 
-ghost use Rattle.std.specs.Prelude.{◌≡◌};
-ghost use Rattle.msg_core.specs.declared.event.Event.{Event};
+ghost use Rattle.std.specs.Prelude.{◌≡◌, [], ◌∷◌};
+ghost use Rattle.msg_core.specs.Event as events;
+ghost use Rattle.msg_core.specs.Event.{event_of};
 ghost use Rattle.msg_core.specs.Happens.{refusal_of};
 
 use crate::event::Event;
@@ -16,7 +17,7 @@ use msg_tables::Change;
 impl Machine {
     /// The fault for which an event is refused, and none where it would happen.
     pub(crate) fn refusal(&self, event: &Event) -> Option<EventFault>
-        ensures { result ≡ refusal_of self.now event.now }
+        ensures { result ≡ refusal_of self.now (event_of event.now) }
     {
         match event {
             Event::Enter(sender) => self.refuses_enter(*sender),
@@ -33,7 +34,7 @@ impl Machine {
     }
 
     fn refuses_enter(&self, sender: u32) -> Option<EventFault>
-        ensures { result ≡ refusal_of self.now (Event.Enter sender) }
+        ensures { result ≡ refusal_of self.now (events.Enter sender) }
     {
         if self.lacks_sender(sender) {
             return Some(EventFault::NoSender);
@@ -45,7 +46,7 @@ impl Machine {
     }
 
     fn refuses_header(&self, sender: u32, class: ClassRef) -> Option<EventFault>
-        ensures { result ≡ refusal_of self.now (Event.Header sender class) }
+        ensures { result ≡ refusal_of self.now (events.Header sender class) }
     {
         if self.lacks_sender(sender) {
             return Some(EventFault::NoSender);
@@ -60,7 +61,7 @@ impl Machine {
     }
 
     fn refuses_read(&self, sender: u32, place: usize) -> Option<EventFault>
-        ensures { result ≡ refusal_of self.now (Event.Read sender place) }
+        ensures { result ≡ refusal_of self.now (events.Read sender place) }
     {
         if self.lacks_sender(sender) {
             return Some(EventFault::NoSender);
@@ -75,7 +76,7 @@ impl Machine {
     }
 
     fn refuses_leave(&self, sender: u32) -> Option<EventFault>
-        ensures { result ≡ refusal_of self.now (Event.Leave sender) }
+        ensures { result ≡ refusal_of self.now (events.Leave sender) }
     {
         if self.lacks_sender(sender) {
             return Some(EventFault::NoSender);
@@ -87,7 +88,7 @@ impl Machine {
     }
 
     fn refuses_fill(&self, class: ClassRef, place: usize, word: u64) -> Option<EventFault>
-        ensures { result ≡ refusal_of self.now (Event.Fill class place word) }
+        ensures { result ≡ refusal_of self.now (events.Fill class place word) }
     {
         if self.lacks_class(class) {
             return Some(EventFault::NoClass);
@@ -108,7 +109,7 @@ impl Machine {
     }
 
     fn refuses_install(&self, class: ClassRef, array: u32) -> Option<EventFault>
-        ensures { result ≡ refusal_of self.now (Event.Install class array) }
+        ensures { result ≡ refusal_of self.now (events.Install class array) }
     {
         if self.lacks_class(class) {
             return Some(EventFault::NoClass);
@@ -126,7 +127,7 @@ impl Machine {
     }
 
     fn refuses_flush(&self, class: ClassRef) -> Option<EventFault>
-        ensures { result ≡ refusal_of self.now (Event.Flush class) }
+        ensures { result ≡ refusal_of self.now (events.Flush class) }
     {
         if self.lacks_class(class) {
             return Some(EventFault::NoClass);
@@ -138,7 +139,7 @@ impl Machine {
     }
 
     fn refuses_look(&self, sender: u32) -> Option<EventFault>
-        ensures { result ≡ refusal_of self.now (Event.Look sender) }
+        ensures { result ≡ refusal_of self.now (events.Look sender) }
     {
         if self.lacks_sender(sender) {
             return Some(EventFault::NoSender);
@@ -147,7 +148,7 @@ impl Machine {
     }
 
     fn refuses_clear(&self, array: u32, place: usize) -> Option<EventFault>
-        ensures { result ≡ refusal_of self.now (Event.Clear array place) }
+        ensures { result ≡ refusal_of self.now (events.Clear array place) }
     {
         if self.lacks_array(array) {
             return Some(EventFault::NoArray);
@@ -163,7 +164,7 @@ impl Machine {
     }
 
     fn refuses_commit(&self, change: &Change) -> Option<EventFault>
-        ensures { result ≡ refusal_of self.now (Event.Commit change.now) }
+        ensures { result ≡ refusal_of self.now (events.Commit (change.now ∷ [])) }
     {
         if let Some(fault) = self.change_refusal(change) {
             return Some(EventFault::Refused(fault));

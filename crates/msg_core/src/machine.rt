@@ -1,7 +1,7 @@
 //! The machine.
 
-ghost use Rattle.std.specs.Prelude.{◌≡◌, ◌<◌, nat_le, length, IfSome, None};
-ghost use Rattle.msg_tables.specs.History.{lookup, and_then};
+ghost use Rattle.std.specs.Prelude.{◌≡◌, ◌<◌, nat_le, length, IfSome, None, [], ◌∷◌};
+ghost use Rattle.msg_tables.specs.History.{lookup, and_then, log};
 ghost use Rattle.msg_tables.specs.Refusal.{refusal as change_refusal};
 ghost use Rattle.msg_names.specs.ClassRef.{slot_of};
 ghost use Rattle.msg_core.specs.State.{capacity};
@@ -116,7 +116,7 @@ impl Machine {
 
     // The fault for which the tables refuse the change.
     pub(crate) fn change_refusal(&self, change: &Change) -> Option<ChangeFault>
-        ensures { result ≡ change_refusal (state_of self.now).history change.now }
+        ensures { result ≡ change_refusal (log (state_of self.now).history) change.now }
     {
         self.tables.refusal(change)
     }
@@ -134,8 +134,8 @@ impl Machine {
 
     // Whether a live array has a word that would not agree with the method lists after the change.
     pub(crate) fn spoils(&self, change: &Change) -> bool
-        requires { change_refusal (state_of self.now).history change.now ≡ None }
-        ensures { result ≡ spoils lookup (layout_of self.now) (state_of self.now) change.now }
+        requires { change_refusal (log (state_of self.now).history) change.now ≡ None }
+        ensures { result ≡ spoils lookup (layout_of self.now) (state_of self.now) (change.now ∷ []) }
     {
         for array in 0..self.arrays.len() {
             if self.is_spoiled(array, change) {
@@ -148,8 +148,8 @@ impl Machine {
     // Whether an array is live and has such a word.
     fn is_spoiled(&self, array: usize, change: &Change) -> bool
         requires array { array < length (layout_of self.now).capacities }
-        requires accepted { change_refusal (state_of self.now).history change.now ≡ None }
-        ensures { result ≡ is_spoiled (lookup (and_then (state_of self.now).history change.now)) (capacity (layout_of self.now) array)
+        requires accepted { change_refusal (log (state_of self.now).history) change.now ≡ None }
+        ensures { result ≡ is_spoiled (lookup (and_then (state_of self.now).history (change.now ∷ []))) (capacity (layout_of self.now) array)
             ((state_of self.now).word array) ((state_of self.now).standing array) }
     {
         match self.standing(array) {

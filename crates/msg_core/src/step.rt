@@ -2,6 +2,7 @@
 
 ghost use Rattle.std.specs.Prelude.{◌≡◌, ◌≢◌, Some, IfOk, OnErr, IfErr, IsErrOf};
 ghost use Rattle.msg_core.specs.declared.fault.EventFault.{EventFault};
+ghost use Rattle.msg_core.specs.Event.{event_of};
 ghost use Rattle.msg_core.specs.Happens.{Happens, IsLegal, IsCommit, refusal_of};
 ghost use Rattle.msg_core.specs.Steps.{shows};
 ghost use Rattle.msg_core.specs.View.{layout_of, state_of};
@@ -16,12 +17,12 @@ impl Machine {
     /// Each event touches one word, but for `Look`, which goes over the standings of all arrays, `Install`, which looks whether
     /// the array is empty, and `Commit`, which looks over all live words. Only `Commit` takes memory.
     pub fn step(&mut self, event: Event) -> Result<Seen, EventFault>
-        ensures legal { IfOk result (λ _. IsLegal self.old event) }
-        ensures happens { IfOk result (λ _. Happens self.old self.new event) }
-        ensures seen { IfOk result (λ seen. seen ≡ shows (state_of self.old) event) }
+        ensures legal { IfOk result (λ _. IsLegal self.old (event_of event)) }
+        ensures happens { IfOk result (λ _. Happens self.old self.new (event_of event)) }
+        ensures seen { IfOk result (λ seen. seen ≡ shows (state_of self.old) (event_of event)) }
         ensures err { OnErr result (self.new ≡ self.old) }
-        ensures fault { IfErr result (λ fault. fault ≢ EventFault.Memory → refusal_of self.old event ≡ Some fault) }
-        ensures memory { IsErrOf result EventFault.Memory → IsLegal self.old event × IsCommit event }
+        ensures fault { IfErr result (λ fault. fault ≢ EventFault.Memory → refusal_of self.old (event_of event) ≡ Some fault) }
+        ensures memory { IsErrOf result EventFault.Memory → IsLegal self.old (event_of event) × IsCommit (event_of event) }
     {
         if let Some(fault) = self.refusal(&event) {
             return Err(fault);

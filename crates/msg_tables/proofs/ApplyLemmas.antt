@@ -1,4 +1,4 @@
--- Tables that stand at a longer history after a change was written.
+-- Tables that stand at a longer log after a change was written.
 use Rattle.std.proofs.Common.{◌≡◌, ◌+◌, List, [], ◌∷◌, ◌++◌, length, length-append, Some, None, Bool, true, false, cond, refl, sym, ap, ◌∙◌, subst, arith}
 use Rattle.std.specs.Prelude.{reverse, ◌||◌}
 use Rattle.std.specs.List.{list_any}
@@ -13,11 +13,11 @@ use Rattle.msg_tables.specs.declared.fault.ChangeFault.TheVariants.{NoClass, NoI
 use Rattle.msg_tables.specs.Rows.{Row}
 use Rattle.msg_tables.specs.After.{of_class, of_meta, rows_at, rows_after, supers_after, table_after}
 use Rattle.msg_tables.specs.Edits.{edited, supers_edited, added, rewritten, Writes}
-use Rattle.msg_tables.specs.History.{History, and_then, table}
+use Rattle.msg_tables.specs.Log.{Log, and_then, table}
 use Rattle.msg_tables.specs.Refusal.{refusal, least_change_fault, conditions}
 use Rattle.msg_tables.specs.Stands.{Holds, StandsAt}
 use Rattle.msg_tables.specs.View.{TablesView}
-use Rattle.msg_tables.proofs.HistoryLemmas.{table-and_then, history-and_then}
+use Rattle.msg_tables.proofs.LogLemmas.{table-and_then, log-and_then}
 use Rattle.msg_tables.proofs.HoldsLemmas.{length-set_own, length-rows_at}
 
 is_memory : ChangeFault → Bool
@@ -48,7 +48,7 @@ not_memory (f ∷ fs) others e = step f.0 f.1 others (not_memory fs) e
     step false DuplicateClass others rest e = rest others e
 
 -- no change is refused for want of memory
-pub refused-not_memory : (h : History) (x : Change) → refusal h x ≡ Some Memory → ⊥
+pub refused-not_memory : (h : Log) (x : Change) → refusal h x ≡ Some Memory → ⊥
 unfolding refusal is_memory
 refused-not_memory h (Add c s i) e = not_memory (conditions h (Add c s i)) refl e
 refused-not_memory h (Replace c s i) e = not_memory (conditions h (Replace c s i)) refl e
@@ -69,10 +69,10 @@ length-edited (edit.Attach k methods class_methods) rows =
     total
 length-edited (edit.Make k d) rows = omega arith
 
-pub stands-after : (old new : TablesView) (h : History) (x : Change) (e : Edit) → StandsAt old h → refusal h x ≡ None → rows_after (table h) x ≡ edited e (table h).rows → supers_after (table h).supers x ≡ supers_edited e (table h).supers → Writes old new e → StandsAt (record new { change_count = new.change_count + 1 }) (and_then h x)
+pub stands-after : (old new : TablesView) (h : Log) (x : Change) (e : Edit) → StandsAt old h → refusal h x ≡ None → rows_after (table h) x ≡ edited e (table h).rows → supers_after (table h).supers x ≡ supers_edited e (table h).supers → Writes old new e → StandsAt (record new { change_count = new.change_count + 1 }) (and_then h x)
 unfolding table_after
 stands-after old new h x e stands none is makes writes = record {
-  history = history-and_then h x stands.history none;
+  log = log-and_then h x stands.log none;
   supers = ap (λ t. t.supers) writes.rest ∙ ap (supers_edited e) stands.supers ∙ sym makes ∙ sym (ap (λ t. t.supers) (table-and_then h x));
   rows = subst (Holds new.lists) (sym now) (writes.rows (table h).rows stands.rows);
   row_count = writes.row_count ∙ ap (λ n. n + added e) stands.row_count ∙ sym (length-edited e (table h).rows) ∙ sym (ap length now);

@@ -14,7 +14,7 @@ use Rattle.msg_tables.specs.declared.change.Change.TheVariants.{Attach}
 use Rattle.msg_tables.specs.declared.fault.ChangeFault.{ChangeFault}
 use Rattle.msg_tables.specs.declared.fault.ChangeFault.TheVariants.{NoClass, Limit}
 use Rattle.msg_tables.specs.After.{of_class}
-use Rattle.msg_tables.specs.History.{History}
+use Rattle.msg_tables.specs.Log.{Log}
 use Rattle.msg_tables.specs.Refusal.{least_change_fault, unfit_methods, no_class, no_imp, misfits, is_full, refusal}
 use Rattle.msg_tables.specs.Stands.{StandsAt}
 use Rattle.msg_tables.specs.Origin.{last_imp, lacks_imp, misfits_in, are_listed}
@@ -29,7 +29,7 @@ list_any-same p q same (x ∷ xs) = rw (same x, list_any-same p q same xs) refl
 abbrev numbers : Selector × ImpRef → ℕ × ℕ
 numbers m = (selector_number m.0, imp_number m.1)
 
-module _ (t : TablesView) (h : History) (stands : StandsAt t h) where
+module _ (t : TablesView) (h : Log) (stands : StandsAt t h) where
   -- two lists, tested one after the other
   pub no_imp-both : (own meta : List (Selector × ImpRef)) → (list_any (λ m. lacks_imp t.counts (imp_number m.1)) own || list_any (λ m. lacks_imp t.counts (imp_number m.1)) meta) ≡ list_any (λ (m : ℕ × ℕ). no_imp h m.1) (method_numbers own ++ method_numbers meta)
   no_imp-both own meta =
@@ -62,15 +62,15 @@ listed t (m ∷ ms) e = step (imp_number m.1) (list_any (λ x. lacks_imp t.count
         inside false false g k = grind (arith, nat_tests)
 
 -- the faults of an attached category, by what each test says
-pub attach-absent : (h : History) (k : ℕ) (ms cs : List (ℕ × ℕ)) → no_class h (of_class k) ≡ true → refusal h (Attach k ms cs) ≡ Some NoClass
+pub attach-absent : (h : Log) (k : ℕ) (ms cs : List (ℕ × ℕ)) → no_class h (of_class k) ≡ true → refusal h (Attach k ms cs) ≡ Some NoClass
 unfolding refusal
 attach-absent h k ms cs e = rw e refl
 
-pub attach-unfit : (h : History) (k : ℕ) (ms cs : List (ℕ × ℕ)) (f : ChangeFault) → no_class h (of_class k) ≡ false → least_change_fault (unfit_methods h (ms ++ cs)) ≡ Some f → refusal h (Attach k ms cs) ≡ Some f
+pub attach-unfit : (h : Log) (k : ℕ) (ms cs : List (ℕ × ℕ)) (f : ChangeFault) → no_class h (of_class k) ≡ false → least_change_fault (unfit_methods h (ms ++ cs)) ≡ Some f → refusal h (Attach k ms cs) ≡ Some f
 unfolding refusal
 attach-unfit h k ms cs f e u = rw e (least-first (unfit_methods h (ms ++ cs)) ((is_full h (length (ms ++ cs)), Limit) ∷ []) f u)
 
-pub attach-fit : (h : History) (k : ℕ) (ms cs : List (ℕ × ℕ)) (full : Bool) → no_class h (of_class k) ≡ false → least_change_fault (unfit_methods h (ms ++ cs)) ≡ None → is_full h (length (ms ++ cs)) ≡ full → refusal h (Attach k ms cs) ≡ least_change_fault ((full, Limit) ∷ [])
+pub attach-fit : (h : Log) (k : ℕ) (ms cs : List (ℕ × ℕ)) (full : Bool) → no_class h (of_class k) ≡ false → least_change_fault (unfit_methods h (ms ++ cs)) ≡ None → is_full h (length (ms ++ cs)) ≡ full → refusal h (Attach k ms cs) ≡ least_change_fault ((full, Limit) ∷ [])
 unfolding refusal
 attach-fit h k ms cs full e u f = rw e (least-next (unfit_methods h (ms ++ cs)) ((is_full h (length (ms ++ cs)), Limit) ∷ []) u ∙ rw f refl)
 

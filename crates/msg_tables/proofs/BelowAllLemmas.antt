@@ -9,17 +9,17 @@ use Rattle.msg_tables.specs.declared.change.Change.{Change}
 use Rattle.msg_tables.specs.declared.change.Change.TheVariants.{Add, Replace, SetImp, Exchange, Attach, AddClass}
 use Rattle.msg_tables.specs.After.{supers_after, table_after}
 use Rattle.msg_tables.specs.Chain.{is_member, is_present, chain_of}
-use Rattle.msg_tables.specs.History.{History, and_then, table, chain_at}
-use Rattle.msg_tables.specs.Refusal.{refusal, AreAccepted, IsHistory}
-use Rattle.msg_tables.proofs.HistoryLemmas.{table-and_then, history-and_then}
+use Rattle.msg_tables.specs.Log.{Log, and_then, table, chain_at}
+use Rattle.msg_tables.specs.Refusal.{refusal, AreAccepted, IsLog}
+use Rattle.msg_tables.proofs.LogLemmas.{table-and_then, log-and_then}
 use Rattle.msg_tables.proofs.PresenceLemmas.{may_be_made, ordered, chain_of-stays}
 use Rattle.msg_tables.specs.Several.{and_all}
 
-absent-chain : (h : History) (c : ClassRef) → is_present (table h).supers c.class ≡ false → chain_at h c ≡ []
+absent-chain : (h : Log) (c : ClassRef) → is_present (table h).supers c.class ≡ false → chain_at h c ≡ []
 unfolding chain_at chain_of
 absent-chain h c e = rw e refl
 
-below-and_then : (h : History) (x : Change) (c p : ClassRef) → IsSound h.origin → IsHistory h → refusal h x ≡ None → is_member p (chain_at h c) ≡ true → is_member p (chain_at (and_then h x) c) ≡ true
+below-and_then : (h : Log) (x : Change) (c p : ClassRef) → IsSound h.origin → IsLog h → refusal h x ≡ None → is_member p (chain_at h c) ≡ true → is_member p (chain_at (and_then h x) c) ≡ true
 unfolding chain_at table_after
 below-and_then h (Add d s i) c p sound is accepted e = ap (λ t. is_member p (chain_of t.supers c)) (table-and_then h (Add d s i)) ∙ e
 below-and_then h (Replace d s i) c p sound is accepted e = ap (λ t. is_member p (chain_of t.supers c)) (table-and_then h (Replace d s i)) ∙ e
@@ -40,6 +40,6 @@ below-and_then h (AddClass k d) c p sound is accepted e =
     step absent stays false other = ap (is_member p) (stays (λ same. grind (arith, nat_tests, other, same))) ∙ e
 
 -- what is below a class reference stays there
-pub below-all : (h : History) (xs : List Change) (c p : ClassRef) → IsSound h.origin → IsHistory h → AreAccepted h xs → is_member p (chain_at h c) ≡ true → is_member p (chain_at (and_all h xs) c) ≡ true
+pub below-all : (h : Log) (xs : List Change) (c p : ClassRef) → IsSound h.origin → IsLog h → AreAccepted h xs → is_member p (chain_at h c) ≡ true → is_member p (chain_at (and_all h xs) c) ≡ true
 below-all h [] c p sound is all e = e
-below-all h (x ∷ xs) c p sound is all e = below-all (and_then h x) xs c p sound (history-and_then h x is all.0) all.1 (below-and_then h x c p sound is all.0 e)
+below-all h (x ∷ xs) c p sound is all e = below-all (and_then h x) xs c p sound (log-and_then h x is all.0) all.1 (below-and_then h x c p sound is all.0 e)

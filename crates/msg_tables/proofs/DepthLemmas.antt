@@ -1,4 +1,4 @@
--- How many superclasses stand above a listed class, at a history.
+-- How many superclasses stand above a listed class, at a log.
 use Rattle.std.proofs.Common.{◌≡◌, ◌<◌, ◌≤◌, ℕ, zero, suc, [], ◌∷◌, length, Option, Some, None, option_map, cond, refl, sym, ap, ◌∙◌, arith}
 use Rattle.std.specs.Prelude.{is_some}
 use Rattle.std.specs.Option.{option_map_or}
@@ -11,9 +11,9 @@ use Rattle.msg_tables.specs.Origin.{OriginView, IsSound}
 use Rattle.msg_tables.specs.declared.presence.Presence.{Presence}
 use Rattle.msg_tables.specs.After.{of_class, opening_table, opened_supers}
 use Rattle.msg_tables.specs.Chain.{presence_of, super_of, chain_up, chain_of}
-use Rattle.msg_tables.specs.History.{History, empty, table, chain_at}
-use Rattle.msg_tables.specs.Refusal.{IsHistory}
-use Rattle.msg_tables.proofs.HistoryLemmas.{length-supers}
+use Rattle.msg_tables.specs.Log.{Log, empty, table, chain_at}
+use Rattle.msg_tables.specs.Refusal.{IsLog}
+use Rattle.msg_tables.proofs.LogLemmas.{length-supers}
 use Rattle.msg_tables.proofs.ListedOrderLemmas.{opened-class, opened-is_present}
 use Rattle.msg_tables.proofs.PresenceLemmas.{presence-on}
 use Rattle.msg_tables.proofs.TakeLemmas.{element}
@@ -25,11 +25,11 @@ opened-presence_of o k inside =
     get_or_from_slice_get (opened_supers o) k (Some (record { superclass = order.super_of o.superclasses k })) None
     (opened-class o k (order.super_of o.superclasses k) (at ∙ ap Some (sym is)))
 
-module _ (h : History) (sound : IsSound h.origin) (history : IsHistory h) where
+module _ (h : Log) (sound : IsSound h.origin) (log : IsLog h) where
   -- a listed class stays as it was opened
   listed-presence : (k : ℕ) → k < length h.origin.superclasses → presence_of (table h).supers k ≡ Some (record { superclass = order.super_of h.origin.superclasses k })
-  unfolding table opening_table IsHistory
-  listed-presence k inside = presence-on (empty h.origin) h.changes k history (opened-is_present h.origin k inside) ∙ opened-presence_of h.origin k inside
+  unfolding table opening_table IsLog
+  listed-presence k inside = presence-on (empty h.origin) h.changes k log (opened-is_present h.origin k inside) ∙ opened-presence_of h.origin k inside
 
   up-listed : (k : ℕ) (o : Option ℕ) → k < length h.origin.superclasses → order.super_of h.origin.superclasses k ≡ o → super_of (table h).supers (of_class k) ≡ option_map of_class o
   up-listed k o inside e = ap (λ p. option_map_or (λ (q : Presence). above (of_class k) q.superclass) p None) (listed-presence k inside) ∙ ap (above (of_class k)) e ∙ at o

@@ -8,7 +8,7 @@ use Rattle.msg_names.proofs.ClassRefLemmas.{same_class-is, same_class-refl}
 use Rattle.msg_names.proofs.TestLemmas.{same_number}
 use Rattle.msg_tables.specs.Chain.{chain_up, chain_of, super_of, index_in, steps_of, is_member, is_present, presence_of, descends, is_root}
 use Rattle.msg_tables.specs.After.{of_class, of_meta}
-use Rattle.msg_tables.specs.History.{History, table, chain_at}
+use Rattle.msg_tables.specs.Log.{Log, table, chain_at}
 use Rattle.msg_tables.specs.declared.presence.Presence.{Presence}
 use Rattle.msg_tables.specs.Order.{IsOrder}
 use Rattle.msg_tables.proofs.OrderLemmas.{place-fewer, super-fewer, super-present, steps_suffice}
@@ -62,8 +62,8 @@ descends-step supers order origin c before inside = ap (is_member origin) (chain
     at None = refl
     at (Some d) = refl
 
--- descendants at a history
-pub descends-at : (h : History) (supers : List (Option Presence)) (origin c : ClassRef) → supers ≡ (table h).supers → descends supers origin c ≡ is_member origin (chain_at h c)
+-- descendants at a log
+pub descends-at : (h : Log) (supers : List (Option Presence)) (origin c : ClassRef) → supers ≡ (table h).supers → descends supers origin c ≡ is_member origin (chain_at h c)
 unfolding descends chain_at
 descends-at h supers origin c e = ap (λ ss. is_member origin (chain_of ss c)) e
 

@@ -17,7 +17,7 @@ use Rattle.msg_tables.specs.declared.presence.Presence.{Presence}
 use Rattle.msg_tables.specs.Rows.{Row, own, or_else, chain, holder_in, lookup_in, holder_at, lookup_at}
 use Rattle.msg_tables.specs.RowList.{own_in}
 use Rattle.msg_tables.specs.After.{of_class, of_meta, row, rows_at, set_own, set_method, rows_after, supers_after}
-use Rattle.msg_tables.specs.History.{History, and_then, table, lookup, holder}
+use Rattle.msg_tables.specs.Log.{Log, and_then, table, lookup, holder}
 use Rattle.msg_tables.proofs.LawLemmas.{lookup-after, some-set_method}
 use Rattle.msg_tables.proofs.OwnLemmas.{own-append, own-rows_at, own-rows_other, own-set_same, own-set_other, lookup-holder, lookup-own}
 use Rattle.msg_names.proofs.ClassRefLemmas.{same_class-is}
@@ -72,7 +72,7 @@ own_added c d ms u rows = own-append rows (rows_at c ms) d u ∙ ap (λ o. or_el
     step true e = subst (λ z. own (rows_at c ms) z u ≡ own_in u ms) (same_class-is c d e) (own-rows_at c ms u)
     step false e = own-rows_other c d ms u e
 
-pub own_written : (h : History) (x : Change) (d : ClassRef) (u : ℕ) → own (rows_after (table h) x) d u ≡ or_else (written h x d u) (own (table h).rows d u)
+pub own_written : (h : Log) (x : Change) (d : ClassRef) (u : ℕ) → own (rows_after (table h) x) d u ≡ or_else (written h x d u) (own (table h).rows d u)
 unfolding holder lookup
 own_written h (Add c s i) d u = own-append (table h).rows (row c s i ∷ []) d u
 own_written h (Replace c s i) d u = step (is_some (own (table h).rows c (selector_number s))) refl
@@ -102,16 +102,16 @@ own_written h (Attach k ms cs) d u =
 own_written h (AddClass k e) d u = refl
 
 -- where something is written it is the own row, and elsewhere the own row stays
-pub own_seen : (h : History) (x : Change) (d : ClassRef) (u i : ℕ) (o : Option ImpRef) → option_map imp_number o ≡ written h x d u → option_map imp_number o ≡ Some i → own (rows_after (table h) x) d u ≡ Some i
+pub own_seen : (h : Log) (x : Change) (d : ClassRef) (u i : ℕ) (o : Option ImpRef) → option_map imp_number o ≡ written h x d u → option_map imp_number o ≡ Some i → own (rows_after (table h) x) d u ≡ Some i
 own_seen h x d u i o is e = own_written h x d u ∙ ap (λ w. or_else w (own (table h).rows d u)) (sym is ∙ e)
 
 -- where nothing is written the own row stays
-pub own_kept : (h : History) (x : Change) (d : ClassRef) (u : ℕ) (o : Option ImpRef) (a : Option ℕ) → option_map imp_number o ≡ written h x d u → o ≡ None
+pub own_kept : (h : Log) (x : Change) (d : ClassRef) (u : ℕ) (o : Option ImpRef) (a : Option ℕ) → option_map imp_number o ≡ written h x d u → o ≡ None
     → a ≡ own (table h).rows d u → a ≡ own (rows_after (table h) x) d u
 own_kept h x d u o a is none at = at ∙ sym (own_written h x d u ∙ ap (λ w. or_else w (own (table h).rows d u)) (sym is ∙ ap (option_map imp_number) none))
 
 -- the classes after a change
-abbrev pub supers_then : History → Change → List (Option Presence)
+abbrev pub supers_then : Log → Change → List (Option Presence)
 supers_then h x = supers_after (table h).supers x
 
 -- ---- a lookup on its way
@@ -122,10 +122,10 @@ chain_rest zero supers c = []
 chain_rest (suc n) supers c = chain_up n supers c
 
 -- the lookup from c has come to a class reference, with at most m to go
-pub record Comes (h : History) (x : Change) (c : ClassRef) (s m : ℕ) (here : ClassRef) : Type 0 where
+pub record Comes (h : Log) (x : Change) (c : ClassRef) (s m : ℕ) (here : ClassRef) : Type 0 where
   pub rest : lookup (and_then h x) c s ≡ lookup_in (rows_after (table h) x) (chain_rest m (supers_then h x) here) s
 
-module _ (h : History) (x : Change) (c : ClassRef) (s : ℕ) where
+module _ (h : Log) (x : Change) (c : ClassRef) (s : ℕ) where
   -- where the class will be present
   pub comes_first : (m : ℕ) → m ≡ suc (length (supers_then h x)) → is_present (supers_then h x) c.class ≡ true → Comes h x c s m c
   unfolding chain_of

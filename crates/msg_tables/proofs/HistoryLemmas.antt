@@ -1,75 +1,54 @@
--- Histories that are longer by a change.
-use Rattle.std.proofs.Common.{◌≡◌, ℕ, List, [], ◌∷◌, ◌++◌, ◌+◌, map, replicate, length, length-append, Option, Some, None, refl, sym, ap₂, ◌∙◌, subst, append_assoc, append-nil}
-use Rattle.std.proofs.lemmas.List.{length-map, length-replicate}
-use Rattle.std.proofs.Math.ListN.{length-set}
+-- Histories, and the logs of their changes.
+use Rattle.std.proofs.Common.{◌≡◌, ◌≤◌, ◌<◌, ℕ, List, [], ◌∷◌, ◌++◌, length, length-append, None, refl, sym, ap, ◌∙◌, subst, append_assoc, append-nil, arith, All}
+use Rattle.std.proofs.lemmas.List.Elements.{All-head, All-tail}
 use Rattle.msg_tables.specs.declared.change.Change.{Change}
-use Rattle.msg_tables.specs.Origin.{class_total}
-use Rattle.msg_tables.specs.declared.presence.Presence.{Presence}
-use Rattle.msg_tables.specs.declared.change.Change.TheVariants.{Add, Replace, SetImp, Exchange, Attach, AddClass}
-use Rattle.msg_tables.specs.Rows.{ClassTable}
-use Rattle.msg_tables.specs.After.{opening_table, table_after, supers_after}
-use Rattle.msg_tables.specs.History.{History, BeginsWith, empty, and_then, table_after_all, table}
-use Rattle.msg_tables.specs.Refusal.{refusal, AreAccepted, IsHistory}
+use Rattle.msg_tables.specs.Log as logs
+use Rattle.msg_tables.specs.Log.{Log}
+use Rattle.msg_tables.specs.History.{History, BeginsWith, and_then, one_by_one, log}
+use Rattle.msg_tables.specs.Refusal.{AreAccepted, IsLog}
+use Rattle.msg_tables.specs.Several.{and_all}
+use Rattle.msg_tables.proofs.LogLemmas.{log-and_then, log-before}
 
-after_all-append : (t : ClassTable) (xs ys : List Change) → table_after_all t (xs ++ ys) ≡ table_after_all (table_after_all t xs) ys
-after_all-append t [] ys = refl
-after_all-append t (x ∷ xs) ys = after_all-append (table_after t x) xs ys
+one_by_one-append : (xs ys : List (List Change)) → one_by_one (xs ++ ys) ≡ one_by_one xs ++ one_by_one ys
+one_by_one-append [] ys = refl
+one_by_one-append (x ∷ xs) ys = ap (λ zs. x ++ zs) (one_by_one-append xs ys) ∙ sym (append_assoc x (one_by_one xs) (one_by_one ys))
 
--- the tables at a longer history
-pub table-and_then : (h : History) (x : Change) → table (and_then h x) ≡ table_after (table h) x
-unfolding table
-table-and_then h x = after_all-append (opening_table h.origin) h.changes (x ∷ [])
+-- a log that is longer by a list of changes, at once
+abbrev pub longer : Log → List Change → Log
+longer g xs = record { origin = g.origin; changes = g.changes ++ xs }
 
-pub length-supers_after : (supers : List (Option Presence)) (x : Change) → length (supers_after supers x) ≡ length supers
-length-supers_after supers (Add c s i) = refl
-length-supers_after supers (Replace c s i) = refl
-length-supers_after supers (SetImp c s i) = refl
-length-supers_after supers (Exchange c s d u) = refl
-length-supers_after supers (Attach k ms cs) = refl
-length-supers_after supers (AddClass k d) = length-set supers k (Some (record { superclass = d }))
+pub and_all-longer : (g : Log) (xs : List Change) → and_all g xs ≡ longer g xs
+and_all-longer g [] = ap (λ (cs : List Change). (let l : Log = record { origin = g.origin; changes = cs } in l)) (sym (append-nil g.changes))
+and_all-longer g (x ∷ xs) =
+    and_all-longer (logs.and_then g x) xs ∙ ap (λ (cs : List Change). (let l : Log = record { origin = g.origin; changes = cs } in l)) (append_assoc g.changes (x ∷ []) xs)
 
-length-after_all : (t : ClassTable) (xs : List Change) → length (table_after_all t xs).supers ≡ length t.supers
-unfolding table_after
-length-after_all t [] = refl
-length-after_all t (x ∷ xs) = length-after_all (table_after t x) xs ∙ length-supers_after t.supers x
+-- the log of a history that is longer by a list of changes
+pub log-all : (h : History) (xs : List Change) → log (and_then h xs) ≡ and_all (log h) xs
+log-all h xs =
+    ap (λ (cs : List Change). (let l : Log = record { origin = h.origin; changes = cs } in l))
+        (one_by_one-append h.changes (xs ∷ []) ∙ ap (λ ys. one_by_one h.changes ++ ys) (append-nil xs))
+    ∙ sym (and_all-longer (log h) xs)
 
--- no change gives a class a number
-pub length-supers : (h : History) → length (table h).supers ≡ class_total h.origin
-unfolding table opening_table
-length-supers h =
-    length-after_all (opening_table h.origin) h.changes ∙ length-append (map listed h.origin.superclasses) (replicate h.origin.made None)
-    ∙ ap₂ (λ n m. n + m) (length-map h.origin.superclasses listed) (length-replicate h.origin.made None)
-  where
-    listed : Option ℕ → Option Presence
-    listed d = Some (record { superclass = d })
+-- or by one change
+pub log-one : (h : History) (x : Change) → log (and_then h (x ∷ [])) ≡ logs.and_then (log h) x
+log-one h x = log-all h (x ∷ [])
 
-accepted-push : (h : History) (xs : List Change) (x : Change) → AreAccepted h xs → refusal (record { origin = h.origin; changes = h.changes ++ xs }) x ≡ None → AreAccepted h (xs ++ x ∷ [])
-accepted-push h [] x all none = (subst (λ cs. refusal (record { origin = h.origin; changes = cs }) x ≡ None) (append-nil h.changes) none, tt)
-accepted-push h (y ∷ ys) x all none =
-    (all.0, accepted-push (and_then h y) ys x all.1 (subst (λ cs. refusal (record { origin = h.origin; changes = cs }) x ≡ None) (sym (append_assoc h.changes (y ∷ []) ys)) none))
+pub log-begins : (p h : History) → BeginsWith p h → logs.BeginsWith (log p) (log h)
+log-begins p h b = record { same = b.same; rest = (one_by_one b.rest.0, ap one_by_one b.rest.1 ∙ one_by_one-append h.changes b.rest.0) }
 
--- a history that is longer by an accepted change is a history
-pub history-and_then : (h : History) (x : Change) → IsHistory h → refusal h x ≡ None → IsHistory (and_then h x)
-unfolding IsHistory
-history-and_then h x is none = accepted-push (empty h.origin) h.changes x is none
+pub accepted-all_then : (g : Log) (xs : List Change) → IsLog g → AreAccepted g xs → IsLog (and_all g xs)
+accepted-all_then g [] is all = is
+accepted-all_then g (x ∷ xs) is all = accepted-all_then (logs.and_then g x) xs (log-and_then g x is all.0) all.1
 
-accepted-prefix : (h : History) (xs ys : List Change) → AreAccepted h (xs ++ ys) → AreAccepted h xs
-accepted-prefix h [] ys all = tt
-accepted-prefix h (x ∷ xs) ys all = (all.0, accepted-prefix (and_then h x) xs ys all.1)
+-- a history that is longer by an accepted list
+pub is-longer : (h : History) (xs : List Change) → IsLog (log h) → AreAccepted (log h) xs → IsLog (log (and_then h xs))
+is-longer h xs is all = subst IsLog (sym (log-all h xs)) (accepted-all_then (log h) xs is all)
 
 -- a history with which another begins
-pub history-before : (h g : History) → BeginsWith h g → IsHistory h → IsHistory g
-unfolding IsHistory
-history-before h g begins is =
-    let (more, changes) = begins.rest in
-    let longer = subst (AreAccepted (empty h.origin)) changes is in
-    subst (λ o. AreAccepted (empty o) g.changes) begins.same (accepted-prefix (empty h.origin) g.changes more longer)
+pub is-before : (h g : History) → BeginsWith h g → IsLog (log h) → IsLog (log g)
+is-before h g begins is = log-before (log h) (log g) (log-begins h g begins) is
 
-pub history-empty : (h : History) → h.changes ≡ [] → IsHistory h
-unfolding IsHistory
-history-empty h e = rw e tt
-
--- what comes later is accepted where it comes
-pub accepted-suffix : (h : History) (xs ys : List Change) → AreAccepted h (xs ++ ys) → AreAccepted (record { origin = h.origin; changes = h.changes ++ xs }) ys
-accepted-suffix h [] ys all = subst (λ cs. AreAccepted (record { origin = h.origin; changes = cs }) ys) (sym (append-nil h.changes)) all
-accepted-suffix h (x ∷ xs) ys all = subst (λ cs. AreAccepted (record { origin = h.origin; changes = cs }) ys) (append_assoc h.changes (x ∷ []) xs) (accepted-suffix (and_then h x) xs ys all.1)
+-- where no list is empty, there are no more lists than changes
+pub few-lists : (xs : List (List Change)) → All (λ ys. 0 < length ys) xs → length xs ≤ length (one_by_one xs)
+few-lists [] some = omega arith
+few-lists (x ∷ xs) some = let rest = few-lists xs (All-tail (λ ys. 0 < length ys) x xs some) in omega (arith, rest, All-head (λ ys. 0 < length ys) x xs some, length-append x (one_by_one xs))

@@ -1,4 +1,4 @@
--- At a history each row's implementation is one that there is, so what a lookup finds is one.
+-- At a log each row's implementation is one that there is, so what a lookup finds is one.
 use Rattle.std.proofs.Common.{◌≡◌, ◌≤◌, ℕ, List, [], ◌∷◌, ◌++◌, Option, Some, None, Bool, true, false, cond, refl, sym, ap, ◌∙◌, subst, append_assoc, append-nil, arith}
 use Rattle.std.specs.Prelude.{◌==◌, ◌&&◌, ◌||◌, nat_le, nat_lt, unwrap_or, reverse, is_some, is_none, All}
 use Rattle.std.specs.List.{list_any, list_all}
@@ -16,10 +16,10 @@ use Rattle.msg_tables.specs.declared.change.Change.TheVariants.{Add, Replace, Se
 use Rattle.msg_tables.specs.Origin.{OriginView, IsSound, IsSoundList, are_listed, last_imp}
 use Rattle.msg_tables.specs.Methods.{MethodsOf}
 use Rattle.msg_tables.specs.After.{of_class, of_meta, rows_at, row, list_rows, opening_table, set_own, set_method, rows_after, table_after}
-use Rattle.msg_tables.specs.History.{History, empty, and_then, table, lookup}
-use Rattle.msg_tables.specs.Refusal.{refusal, AreAccepted, IsHistory, conditions, no_imp}
+use Rattle.msg_tables.specs.Log.{Log, empty, and_then, table, lookup}
+use Rattle.msg_tables.specs.Refusal.{refusal, AreAccepted, IsLog, conditions, no_imp}
 use Rattle.msg_tables.specs.Rows.{Row, is_at, or_else, own, holder_at, lookup_in, lookup_at}
-use Rattle.msg_tables.proofs.HistoryLemmas.{table-and_then}
+use Rattle.msg_tables.proofs.LogLemmas.{table-and_then}
 use Rattle.msg_tables.proofs.LimitLemmas.{none_holds}
 use Rattle.msg_tables.proofs.ListedLemmas.{and_both}
 
@@ -91,7 +91,7 @@ reversed-within n c (m ∷ ms) all =
     subst (AreWithin n) (sym turned) (within-append n (rows_at c (reverse ms)) (rows_at c (m ∷ [])) (reversed-within n c ms rest) (and_both (nat_le m.1 n) true first refl))
 
 -- an implementation that isn't lacking is listed
-not_lacking : (h : History) (i : ℕ) → no_imp h i ≡ false → i ≤ last_imp h.origin.counts
+not_lacking : (h : Log) (i : ℕ) → no_imp h i ≡ false → i ≤ last_imp h.origin.counts
 unfolding no_imp
 not_lacking h i e = step (i == 0) (nat_lt (last_imp h.origin.counts) i) refl e
   where
@@ -99,7 +99,7 @@ not_lacking h i e = step (i == 0) (nat_lt (last_imp h.origin.counts) i) refl e
     step true b is e = cc
     step false b is e = let few : nat_lt (last_imp h.origin.counts) i ≡ false = is ∙ e in grind (arith, nat_tests)
 
-none_lacking : (h : History) (c : ClassRef) (ms : List (ℕ × ℕ)) → list_any (λ m. no_imp h m.1) ms ≡ false → AreWithin (last_imp h.origin.counts) (rows_at c ms)
+none_lacking : (h : Log) (c : ClassRef) (ms : List (ℕ × ℕ)) → list_any (λ m. no_imp h m.1) ms ≡ false → AreWithin (last_imp h.origin.counts) (rows_at c ms)
 none_lacking h c [] e = refl
 none_lacking h c (m ∷ ms) e = step (no_imp h m.1) refl (none_lacking h c ms) e
   where
@@ -108,7 +108,7 @@ none_lacking h c (m ∷ ms) e = step (no_imp h m.1) refl (none_lacking h c ms) e
     step true is rest e = cc
     step false is rest e = and_both (nat_le m.1 (last_imp h.origin.counts)) (list_all (λ (r : Row). nat_le r.imp (last_imp h.origin.counts)) (rows_at c ms)) (test m.1 (last_imp h.origin.counts) (not_lacking h m.1 is)) (rest e)
 
-any-append : (h : History) (xs ys : List (ℕ × ℕ)) → list_any (λ m. no_imp h m.1) (xs ++ ys) ≡ false → (list_any (λ m. no_imp h m.1) xs ≡ false) × (list_any (λ m. no_imp h m.1) ys ≡ false)
+any-append : (h : Log) (xs ys : List (ℕ × ℕ)) → list_any (λ m. no_imp h m.1) (xs ++ ys) ≡ false → (list_any (λ m. no_imp h m.1) xs ≡ false) × (list_any (λ m. no_imp h m.1) ys ≡ false)
 any-append h [] ys e = (refl, e)
 any-append h (x ∷ xs) ys e = step (no_imp h x.1) (any-append h xs ys) e
   where
@@ -117,7 +117,7 @@ any-append h (x ∷ xs) ys e = step (no_imp h x.1) (any-append h xs ys) e
     step true rest e = cc
     step false rest e = rest e
 
-after-within : (h : History) (x : Change) → refusal h x ≡ None → AreWithin (last_imp h.origin.counts) (table h).rows → AreWithin (last_imp h.origin.counts) (rows_after (table h) x)
+after-within : (h : Log) (x : Change) → refusal h x ≡ None → AreWithin (last_imp h.origin.counts) (table h).rows → AreWithin (last_imp h.origin.counts) (rows_after (table h) x)
 unfolding refusal
 after-within h (Add c s i) e all = within-append (last_imp h.origin.counts) (table h).rows (row c s i ∷ []) all (within-one (last_imp h.origin.counts) c s i (not_lacking h (imp_number i) (none_holds (conditions h (Add c s i)) 1 e)))
 after-within h (Replace c s i) e all =
@@ -162,16 +162,16 @@ opened-within : (o : OriginView) → IsSound o → AreWithin (last_imp o.counts)
 unfolding table opening_table
 opened-within o sound = lists-within o o.lists sound.lists
 
-rows-and_then : (h : History) (x : Change) → (table (and_then h x)).rows ≡ rows_after (table h) x
+rows-and_then : (h : Log) (x : Change) → (table (and_then h x)).rows ≡ rows_after (table h) x
 unfolding table_after
 rows-and_then h x = ap (λ t. t.rows) (table-and_then h x)
 
-within-on : (h : History) (xs : List Change) → AreWithin (last_imp h.origin.counts) (table h).rows → AreAccepted h xs → AreWithin (last_imp h.origin.counts) (table (record { origin = h.origin; changes = h.changes ++ xs })).rows
+within-on : (h : Log) (xs : List Change) → AreWithin (last_imp h.origin.counts) (table h).rows → AreAccepted h xs → AreWithin (last_imp h.origin.counts) (table (record { origin = h.origin; changes = h.changes ++ xs })).rows
 within-on h [] all accepted = subst (λ cs. AreWithin (last_imp h.origin.counts) (table (record { origin = h.origin; changes = cs })).rows) (sym (append-nil h.changes)) all
 within-on h (x ∷ xs) all accepted =
     let next = subst (AreWithin (last_imp h.origin.counts)) (sym (rows-and_then h x)) (after-within h x accepted.0 all) in
     subst (λ cs. AreWithin (last_imp h.origin.counts) (table (record { origin = h.origin; changes = cs })).rows) (append_assoc h.changes (x ∷ []) xs) (within-on (and_then h x) xs next accepted.1)
 
-pub found-listed : (h : History) (c : ClassRef) (s : ℕ) → IsSound h.origin → IsHistory h → lookup h c s ≤ last_imp h.origin.counts
-unfolding lookup IsHistory
+pub found-listed : (h : Log) (c : ClassRef) (s : ℕ) → IsSound h.origin → IsLog h → lookup h c s ≤ last_imp h.origin.counts
+unfolding lookup IsLog
 found-listed h c s sound accepted = found-within (last_imp h.origin.counts) (table h).rows _ s (within-on (empty h.origin) h.changes (opened-within h.origin sound) accepted)

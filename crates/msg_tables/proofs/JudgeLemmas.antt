@@ -9,7 +9,7 @@ use Rattle.msg_tables.specs.declared.change.Change.TheVariants.{Add, Replace, Se
 use Rattle.msg_tables.specs.declared.fault.ChangeFault.{ChangeFault}
 use Rattle.msg_tables.specs.declared.fault.ChangeFault.TheVariants.{NoClass, ArgumentCount, MethodPresent, NoMethod, Limit, DuplicateClass}
 use Rattle.msg_tables.specs.After.{of_class, row, set_own, rows_after}
-use Rattle.msg_tables.specs.History.{History, table, holder, lookup}
+use Rattle.msg_tables.specs.Log.{Log, table, holder, lookup}
 use Rattle.msg_tables.specs.Refusal.{least_change_fault, unfit, no_class, no_number, no_superclass, unlike, has_own, no_method, is_full, refusal}
 
 -- the least of the first faults is the least of all
@@ -30,7 +30,7 @@ least-next (x ∷ xs) more e = at_test x.0 (least-next xs more) e
     at_test true rest h = cc
     at_test false rest h = rest h
 
-module _ (h : History) (c : ClassRef) (s : Selector) (i : ImpRef) where
+module _ (h : Log) (c : ClassRef) (s : Selector) (i : ImpRef) where
   -- where the row could not stand the fault is that
   pub unfit-add : (f : ChangeFault) → least_change_fault (unfit h c s i) ≡ Some f → refusal h (Add c s i) ≡ Some f
   unfolding refusal
@@ -66,20 +66,20 @@ module _ (h : History) (c : ClassRef) (s : Selector) (i : ImpRef) where
   rows-set found p = rw p refl
 
 -- the faults of an exchange, by what each test says
-pub refusal-exchange : (h : History) (c : ClassRef) (s : Selector) (d : ClassRef) (u : Selector) (absent odd : Bool) (first second : Option ClassRef) (full : Bool) → (no_class h c || no_class h d) ≡ absent → unlike h (selector_number s) (selector_number u) ≡ odd
+pub refusal-exchange : (h : Log) (c : ClassRef) (s : Selector) (d : ClassRef) (u : Selector) (absent odd : Bool) (first second : Option ClassRef) (full : Bool) → (no_class h c || no_class h d) ≡ absent → unlike h (selector_number s) (selector_number u) ≡ odd
     → holder h c (selector_number s) ≡ first → holder h d (selector_number u) ≡ second → is_full h 0 ≡ full
     → refusal h (Exchange c s d u) ≡ least_change_fault ((absent, NoClass) ∷ (odd, ArgumentCount) ∷ (is_none first || is_none second, NoMethod) ∷ (full, Limit) ∷ [])
 unfolding refusal no_method
 refusal-exchange h c s d u absent odd first second full a b e f g = rw (a, b, e, f, g) refl
 
-pub rows-exchange : (h : History) (c : ClassRef) (s : Selector) (d : ClassRef) (u : Selector) (first second : ClassRef) (i j : ℕ) → holder h c (selector_number s) ≡ Some first → holder h d (selector_number u) ≡ Some second
+pub rows-exchange : (h : Log) (c : ClassRef) (s : Selector) (d : ClassRef) (u : Selector) (first second : ClassRef) (i j : ℕ) → holder h c (selector_number s) ≡ Some first → holder h d (selector_number u) ≡ Some second
     → lookup h c (selector_number s) ≡ i → lookup h d (selector_number u) ≡ j
     → rows_after (table h) (Exchange c s d u) ≡ set_own first (selector_number s) j (set_own second (selector_number u) i (table h).rows)
 unfolding holder lookup
 rows-exchange h c s d u first second i j e f k l = rw (e, f, k, l) refl
 
 -- the faults of a class that is to be made, by what each test says
-pub refusal-make : (h : History) (k : ℕ) (d : Option ℕ) (lacking full absent : Bool) → (no_number h k || no_superclass h d) ≡ lacking → is_full h 0 ≡ full → no_class h (of_class k) ≡ absent
+pub refusal-make : (h : Log) (k : ℕ) (d : Option ℕ) (lacking full absent : Bool) → (no_number h k || no_superclass h d) ≡ lacking → is_full h 0 ≡ full → no_class h (of_class k) ≡ absent
     → refusal h (AddClass k d) ≡ least_change_fault ((lacking, NoClass) ∷ (full, Limit) ∷ (not absent, DuplicateClass) ∷ [])
 unfolding refusal
 refusal-make h k d lacking full absent a b e = rw (a, b, e) refl

@@ -20,10 +20,10 @@ use Rattle.msg_tables.specs.Rows.{Row, own, or_else, chain, lookup_in, holder_at
 use Rattle.msg_tables.specs.RowList.{own_in}
 use Rattle.msg_tables.specs.After.{of_class, of_meta, row, rows_at, set_own, set_method, rows_after, supers_after, table_after, list_rows, opening_table}
 use Rattle.msg_tables.specs.Affected.{at_most_one, if_any, written_refs, is_affected, is_of_made}
-use Rattle.msg_tables.specs.History.{History, empty, and_then, table, lookup, holder, chain_at}
+use Rattle.msg_tables.specs.Log.{Log, empty, and_then, table, lookup, holder, chain_at}
 use Rattle.msg_tables.specs.Opening.{Lacks}
 use Rattle.msg_tables.specs.Refusal.{no_class}
-use Rattle.msg_tables.proofs.HistoryLemmas.{table-and_then}
+use Rattle.msg_tables.proofs.LogLemmas.{table-and_then}
 use Rattle.msg_tables.proofs.HoldsLemmas.{meta-apart}
 use Rattle.msg_tables.proofs.ListedOrderLemmas.{opened-is_present}
 use Rattle.msg_tables.proofs.OwnLemmas.{own-append, own-rows_at, own-rows_other, own-set_other, own-set_same, set_own-own, some-set_own, lookup-same, lookup-own, lookup-nowhere, lookup-holder, holder-same}
@@ -31,7 +31,7 @@ use Rattle.msg_tables.proofs.OpeningLemmas.{list_rows-append}
 use Rattle.msg_names.proofs.ClassRefLemmas.{same_class-is}
 
 -- a lookup after a change goes up the chain that the change leaves
-pub lookup-after : (h : History) (x : Change) (c : ClassRef) (s : ℕ) → lookup (and_then h x) c s ≡ lookup_in (rows_after (table h) x) (chain_of (supers_after (table h).supers x) c) s
+pub lookup-after : (h : Log) (x : Change) (c : ClassRef) (s : ℕ) → lookup (and_then h x) c s ≡ lookup_in (rows_after (table h) x) (chain_of (supers_after (table h).supers x) c) s
 unfolding lookup table_after
 lookup-after h x c s = ap (λ t. lookup_at t c s) (table-and_then h x)
 
@@ -66,7 +66,7 @@ own-attached c d [] u rows apart = own-append rows [] d u
 own-attached c d (m ∷ ms) u rows apart = own-more c d (reverse (m ∷ ms)) u rows (apart-first c d [] apart)
 
 -- away from where it writes a change leaves the own rows
-own-after : (h : History) (x : Change) (d : ClassRef) (u : ℕ) → Apart d (written_refs h x) → own (rows_after (table h) x) d u ≡ own (table h).rows d u
+own-after : (h : Log) (x : Change) (d : ClassRef) (u : ℕ) → Apart d (written_refs h x) → own (rows_after (table h) x) d u ≡ own (table h).rows d u
 unfolding written_refs holder
 own-after h (Add c s i) d u apart = own-more c d ((selector_number s, imp_number i) ∷ []) u (table h).rows (apart-first c d [] apart)
 own-after h (Replace c s i) d u apart = step (is_some (own (table h).rows c (selector_number s)))
@@ -107,21 +107,21 @@ unaffected cs (p ∷ ps) d e among =
             let absurdity : true ≡ false = sym clash ∙ e in
             cc
 
-pub lookup-unaffected : (h : History) (x : Change) (c : ClassRef) (s : ℕ) → supers_after (table h).supers x ≡ (table h).supers → is_affected h x c ≡ false → lookup (and_then h x) c s ≡ lookup h c s
+pub lookup-unaffected : (h : Log) (x : Change) (c : ClassRef) (s : ℕ) → supers_after (table h).supers x ≡ (table h).supers → is_affected h x c ≡ false → lookup (and_then h x) c s ≡ lookup h c s
 unfolding is_affected chain_at lookup
 lookup-unaffected h x c s stay e =
     lookup-after h x c s ∙ ap (λ supers. lookup_in (rows_after (table h) x) (chain_of supers c) s) stay ∙ lookup-same (table h).rows (rows_after (table h) x) (chain (table h) c) s (λ d among. own-after h x d s (unaffected (chain (table h) c) (written_refs h x) d (neither (is_of_made x c) _ e).1 among))
 
 -- ---- what is found after each change
 
-found-own : (h : History) (x : Change) (c : ClassRef) (s i : ℕ) → is_present (supers_after (table h).supers x) c.class ≡ true → own (rows_after (table h) x) c s ≡ Some i → lookup (and_then h x) c s ≡ i
+found-own : (h : Log) (x : Change) (c : ClassRef) (s i : ℕ) → is_present (supers_after (table h).supers x) c.class ≡ true → own (rows_after (table h) x) c s ≡ Some i → lookup (and_then h x) c s ≡ i
 unfolding chain_of
 found-own h x c s i here e =
     let supers = supers_after (table h).supers x in
     lookup-after h x c s ∙ ap (λ b. lookup_in (rows_after (table h) x) (cond b (chain_up (length supers) supers c) []) s) here ∙ lookup-own (length supers) supers (rows_after (table h) x) c s i e
 
 -- a class that isn't lacking is present
-pub is-there : (h : History) (c : ClassRef) → no_class h c ≡ false → is_present (table h).supers c.class ≡ true
+pub is-there : (h : Log) (c : ClassRef) → no_class h c ≡ false → is_present (table h).supers c.class ≡ true
 unfolding no_class
 is-there h c e = at (is_present (table h).supers c.class) e
   where
@@ -130,7 +130,7 @@ is-there h c e = at (is_present (table h).supers c.class) e
     at false e = cc
 
 -- before a class is made its lookups forward
-pub absent-forwards : (h : History) (c : ClassRef) (s : ℕ) → no_class h c ≡ true → lookup h c s ≡ 0
+pub absent-forwards : (h : Log) (c : ClassRef) (s : ℕ) → no_class h c ≡ true → lookup h c s ≡ 0
 unfolding lookup no_class chain_of
 absent-forwards h c s e = at (is_present (table h).supers c.class) e
   where
@@ -142,10 +142,10 @@ own-one : (c : ClassRef) (s i : ℕ) (rows : List Row) → own (rows ++ rows_at 
 own-one c s i rows =
     own-append rows (rows_at c ((s, i) ∷ [])) c s ∙ ap (λ o. or_else o (own rows c s)) (own-rows_at c ((s, i) ∷ []) s ∙ ap (λ b. cond b (Some i) None) (equal s))
 
-pub found-added : (h : History) (c : ClassRef) (s : Selector) (i : ImpRef) → no_class h c ≡ false → lookup (and_then h (Add c s i)) c (selector_number s) ≡ imp_number i
+pub found-added : (h : Log) (c : ClassRef) (s : Selector) (i : ImpRef) → no_class h c ≡ false → lookup (and_then h (Add c s i)) c (selector_number s) ≡ imp_number i
 found-added h c s i here = found-own h (Add c s i) c (selector_number s) (imp_number i) (is-there h c here) (own-one c (selector_number s) (imp_number i) (table h).rows)
 
-pub found-replaced : (h : History) (c : ClassRef) (s : Selector) (i : ImpRef) → no_class h c ≡ false → lookup (and_then h (Replace c s i)) c (selector_number s) ≡ imp_number i
+pub found-replaced : (h : Log) (c : ClassRef) (s : Selector) (i : ImpRef) → no_class h c ≡ false → lookup (and_then h (Replace c s i)) c (selector_number s) ≡ imp_number i
 found-replaced h c s i here = found-own h (Replace c s i) c (selector_number s) (imp_number i) (is-there h c here) (step (is_some (own (table h).rows c (selector_number s))) refl)
   where
     step : (b : Bool) → is_some (own (table h).rows c (selector_number s)) ≡ b
@@ -154,7 +154,7 @@ found-replaced h c s i here = found-own h (Replace c s i) c (selector_number s) 
     step false e = own-one c (selector_number s) (imp_number i) (table h).rows
 
 -- a lookup that finds a method where it was, with what it now has
-found-there : (h : History) (x : Change) (e p : ClassRef) (s i : ℕ) → supers_after (table h).supers x ≡ (table h).supers → holder h e s ≡ Some p → ((d : ClassRef) → is_some (own (rows_after (table h) x) d s) ≡ is_some (own (table h).rows d s)) → own (rows_after (table h) x) p s ≡ Some i
+found-there : (h : Log) (x : Change) (e p : ClassRef) (s i : ℕ) → supers_after (table h).supers x ≡ (table h).supers → holder h e s ≡ Some p → ((d : ClassRef) → is_some (own (rows_after (table h) x) d s) ≡ is_some (own (table h).rows d s)) → own (rows_after (table h) x) p s ≡ Some i
     → lookup (and_then h x) e s ≡ i
 unfolding holder
 found-there h x e p s i stay is kept own-is =
@@ -162,14 +162,14 @@ found-there h x e p s i stay is kept own-is =
     lookup-after h x e s ∙ ap (λ supers. lookup_in (rows_after (table h) x) (chain_of supers e) s) stay ∙ same_Some (lookup_in (rows_after (table h) x) (chain (table h) e) s) i (lookup-holder (rows_after (table h) x) (chain (table h) e) s p there ∙ own-is)
 
 -- the method that a lookup finds is there
-pub held : (h : History) (c p : ClassRef) (s : ℕ) → holder h c s ≡ Some p → own (table h).rows p s ≡ Some (lookup h c s)
+pub held : (h : Log) (c p : ClassRef) (s : ℕ) → holder h c s ≡ Some p → own (table h).rows p s ≡ Some (lookup h c s)
 unfolding holder lookup
 held h c p s e = sym (lookup-holder (table h).rows (chain (table h) c) s p e)
 
-pub one-method : (h : History) (c d p : ClassRef) (s : ℕ) → holder h c s ≡ Some p → holder h d s ≡ Some p → lookup h c s ≡ lookup h d s
+pub one-method : (h : Log) (c d p : ClassRef) (s : ℕ) → holder h c s ≡ Some p → holder h d s ≡ Some p → lookup h c s ≡ lookup h d s
 one-method h c d p s first second = same_Some (lookup h c s) (lookup h d s) (sym (held h c p s first) ∙ held h d p s second)
 
-pub nowhere : (h : History) (c : ClassRef) (s : ℕ) → holder h c s ≡ None → lookup h c s ≡ 0
+pub nowhere : (h : Log) (c : ClassRef) (s : ℕ) → holder h c s ≡ None → lookup h c s ≡ 0
 unfolding holder lookup
 nowhere h c s e = lookup-nowhere (table h).rows (chain (table h) c) s e
 
@@ -177,7 +177,7 @@ pub some-set_method : (o : Option ClassRef) (s i : ℕ) (rows : List Row) (d : C
 some-set_method None s i rows d u = refl
 some-set_method (Some p) s i rows d u = some-set_own p d s u i rows
 
-pub found-set : (h : History) (c d p : ClassRef) (s : Selector) (i : ImpRef) → holder h c (selector_number s) ≡ Some p → holder h d (selector_number s) ≡ Some p → lookup (and_then h (SetImp c s i)) d (selector_number s) ≡ imp_number i
+pub found-set : (h : Log) (c d p : ClassRef) (s : Selector) (i : ImpRef) → holder h c (selector_number s) ≡ Some p → holder h d (selector_number s) ≡ Some p → lookup (and_then h (SetImp c s i)) d (selector_number s) ≡ imp_number i
 unfolding holder
 found-set h c d p s i first second =
     let n = selector_number s in
@@ -185,7 +185,7 @@ found-set h c d p s i first second =
     let written = own-set_same p n (imp_number i) (table h).rows (ap is_some (held h c p n first)) in
     found-there h (SetImp c s i) d p n (imp_number i) refl second kept (ap (λ o. own (set_method o n (imp_number i) (table h).rows) p n) first ∙ written)
 
-module _ (h : History) (c d : ClassRef) (s u : Selector) where
+module _ (h : Log) (c d : ClassRef) (s u : Selector) where
   some-exchanged : (v : ℕ) (e : ClassRef) → is_some (own (rows_after (table h) (Exchange c s d u)) e v) ≡ is_some (own (table h).rows e v)
   some-exchanged v e =
       some-set_method (holder_at (table h) c (selector_number s)) (selector_number s) (lookup_at (table h) d (selector_number u)) (set_method (holder_at (table h) d (selector_number u)) (selector_number u) (lookup_at (table h) c (selector_number s)) (table h).rows) e v
@@ -240,7 +240,7 @@ module _ (h : History) (c d : ClassRef) (s u : Selector) where
           let one-is : Some two ≡ Some one = sym held-second ∙ sym (ap₂ (λ z k. own (table h).rows z k) class sel) ∙ held h c p n first in
           ap₂ (λ z k. own (set_own z k two inner) q m) class sel ∙ own-set_same q m two inner (ap is_some here) ∙ one-is
 
-pub exchanged-with-itself : (h : History) (c d : ClassRef) (s : Selector) → holder h c (selector_number s) ≡ holder h d (selector_number s) → table (and_then h (Exchange c s d s)) ≡ table h
+pub exchanged-with-itself : (h : Log) (c d : ClassRef) (s : Selector) → holder h c (selector_number s) ≡ holder h d (selector_number s) → table (and_then h (Exchange c s d s)) ≡ table h
 unfolding table_after holder lookup
 exchanged-with-itself h c d s e =
     table-and_then h (Exchange c s d s) ∙ ap (λ rows. record { supers = (table h).supers; rows = rows }) (at (holder_at (table h) d n) refl)
@@ -257,14 +257,14 @@ exchanged-with-itself h c d s e =
 
 -- ---- attached methods
 
-pub found-attached : (h : History) (k : ℕ) (ms cs : List (ℕ × ℕ)) (s i : ℕ) → no_class h (of_class k) ≡ false → own_in s (reverse ms) ≡ Some i → lookup (and_then h (Attach k ms cs)) (of_class k) s ≡ i
+pub found-attached : (h : Log) (k : ℕ) (ms cs : List (ℕ × ℕ)) (s i : ℕ) → no_class h (of_class k) ≡ false → own_in s (reverse ms) ≡ Some i → lookup (and_then h (Attach k ms cs)) (of_class k) s ≡ i
 found-attached h k ms cs s i here e =
     let first = (table h).rows ++ rows_at (of_class k) (reverse ms) in
     found-own h (Attach k ms cs) (of_class k) s i (is-there h (of_class k) here)
     (own-more (of_meta k) (of_class k) (reverse cs) s first (meta-apart k)
     ∙ own-append (table h).rows (rows_at (of_class k) (reverse ms)) (of_class k) s ∙ ap (λ o. or_else o (own (table h).rows (of_class k) s)) (own-rows_at (of_class k) (reverse ms) s ∙ e))
 
-pub found-attached-meta : (h : History) (k : ℕ) (ms cs : List (ℕ × ℕ)) (s i : ℕ) → no_class h (of_class k) ≡ false → own_in s (reverse cs) ≡ Some i → lookup (and_then h (Attach k ms cs)) (of_meta k) s ≡ i
+pub found-attached-meta : (h : Log) (k : ℕ) (ms cs : List (ℕ × ℕ)) (s i : ℕ) → no_class h (of_class k) ≡ false → own_in s (reverse cs) ≡ Some i → lookup (and_then h (Attach k ms cs)) (of_meta k) s ≡ i
 found-attached-meta h k ms cs s i here e =
     let first = (table h).rows ++ rows_at (of_class k) (reverse ms) in
     found-own h (Attach k ms cs) (of_meta k) s i (is-there h (of_class k) here) (own-append first (rows_at (of_meta k) (reverse cs)) (of_meta k) s ∙ ap (λ o. or_else o (own first (of_meta k) s)) (own-rows_at (of_meta k) (reverse cs) s ∙ e))

@@ -3,6 +3,7 @@ pub mod AttachLemmas
 pub mod ChainLemmas
 pub mod ForeseeLemmas
 pub mod HistoryLemmas
+pub mod LogLemmas
 pub mod HoldsLemmas
 pub mod ImpLemmas
 pub mod IndexLemmas

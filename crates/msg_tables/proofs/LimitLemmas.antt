@@ -6,7 +6,7 @@ use Rattle.msg_tables.specs.declared.change.Change.{Change}
 use Rattle.msg_tables.specs.declared.change.Change.TheVariants.{Add, Replace, SetImp, Exchange, Attach, AddClass}
 use Rattle.msg_tables.specs.declared.fault.ChangeFault.{ChangeFault}
 use Rattle.msg_tables.specs.declared.fault.ChangeFault.TheVariants.{Limit}
-use Rattle.msg_tables.specs.History.{History, table}
+use Rattle.msg_tables.specs.Log.{Log, table}
 use Rattle.msg_tables.specs.Refusal.{refusal, least_change_fault, conditions, is_full}
 
 -- where no fault is found, none of the conditions holds
@@ -23,7 +23,7 @@ none_holds (f ∷ fs) (suc k) e = none_holds fs k (step f.0 e)
     step true h = cc
     step false h = h
 
-not_full : (h : History) (n : ℕ) → is_full h n ≡ false → length h.changes < h.origin.limits.changes
+not_full : (h : Log) (n : ℕ) → is_full h n ≡ false → length h.changes < h.origin.limits.changes
 unfolding is_full
 not_full h n e = step (nat_le h.origin.limits.changes (length h.changes)) refl e
   where
@@ -35,7 +35,7 @@ not_full h n e = step (nat_le h.origin.limits.changes (length h.changes)) refl e
     step false is e = below h.origin.limits.changes (length h.changes) is
 
 -- a change is accepted where fewer were than may be
-pub accepted_few : (h : History) (x : Change) → refusal h x ≡ None → length h.changes < h.origin.limits.changes
+pub accepted_few : (h : Log) (x : Change) → refusal h x ≡ None → length h.changes < h.origin.limits.changes
 unfolding refusal
 accepted_few h (Add c s i) e = not_full h _ (none_holds (conditions h (Add c s i)) 4 e)
 accepted_few h (Replace c s i) e = not_full h _ (none_holds (conditions h (Replace c s i)) 3 e)

@@ -9,7 +9,7 @@ use Rattle.msg_tables.specs.Chain.{chain_up, chain_of, super_of, steps_of, only_
 use Rattle.msg_tables.specs.declared.presence.Presence.{Presence}
 use Rattle.msg_tables.specs.Rows.{Row, own, or_else, holder_in, lookup_in}
 use Rattle.msg_tables.specs.RowList.{own_in}
-use Rattle.msg_tables.specs.History.{History, table, lookup, holder, superclass}
+use Rattle.msg_tables.specs.Log.{Log, table, lookup, holder, superclass}
 use Rattle.msg_tables.specs.Stands.{Holds, StandsAt, pairs_at}
 use Rattle.msg_tables.specs.View.{TablesView, kept, kept_method}
 use Rattle.msg_tables.proofs.ChainLemmas.{chain_from, Suffices, chain_up-step}
@@ -47,7 +47,7 @@ lookup_in-kept lists rows holds (c ∷ cs) s =
 abbrev pub method_of : TablesView → ClassRef → ℕ → Option (ClassRef × ℕ)
 method_of t c s = kept_method t.lists (chain_of t.supers c) s
 
-module _ (t : TablesView) (h : History) (stands : StandsAt t h) (c : ClassRef) where
+module _ (t : TablesView) (h : Log) (stands : StandsAt t h) (c : ClassRef) where
   pub superclass-stands : super_of t.supers c ≡ superclass h c
   unfolding superclass
   superclass-stands = ap (λ supers. super_of supers c) stands.supers

@@ -6,15 +6,15 @@ use Rattle.msg_names.specs.declared.value.ImpRef.{ImpRef}
 use Rattle.msg_names.specs.declared.value.Selector.{Selector}
 use Rattle.msg_tables.specs.After.{of_class}
 use Rattle.msg_tables.specs.declared.change.Change.TheVariants.{Add, Replace, SetImp, Exchange, Attach, AddClass}
-use Rattle.msg_tables.specs.History.{History, table}
+use Rattle.msg_tables.specs.Log.{Log, table}
 use Rattle.msg_tables.specs.Origin.{class_total}
 use Rattle.msg_tables.specs.Refusal.{refusal, conditions, no_class}
-use Rattle.msg_tables.proofs.HistoryLemmas.{length-supers}
+use Rattle.msg_tables.proofs.LogLemmas.{length-supers}
 use Rattle.msg_tables.proofs.LimitLemmas.{none_holds}
 use Rattle.msg_tables.proofs.OrderLemmas.{present-inside}
 use Rattle.msg_tables.proofs.PresenceLemmas.{may_be_made}
 
-module _ (h : History) where
+module _ (h : Log) where
   of_origin : (c : ClassRef) → no_class h c ≡ false → c.class < class_total h.origin
   unfolding no_class
   of_origin c e =

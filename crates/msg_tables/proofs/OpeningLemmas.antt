@@ -7,12 +7,12 @@ use Rattle.msg_tables.specs.Origin.{OriginView, class_total, are_listed}
 use Rattle.msg_tables.specs.Methods.{MethodsOf}
 use Rattle.msg_tables.specs.Rows.{Row}
 use Rattle.msg_tables.specs.After.{rows_at, list_rows, opening_table}
-use Rattle.msg_tables.specs.History.{empty, table}
+use Rattle.msg_tables.specs.Log.{empty, table}
 use Rattle.msg_tables.specs.Stands.{Holds, StandsAt}
 use Rattle.msg_tables.specs.Opening.{Adds, IsBlank, IsFor, size_of_list}
 use Rattle.msg_names.specs.ClassRef.{slot_of}
 use Rattle.msg_tables.specs.View.{TablesView, kept}
-use Rattle.msg_tables.proofs.HistoryLemmas.{history-empty}
+use Rattle.msg_tables.proofs.LogLemmas.{log-empty}
 use Rattle.msg_tables.proofs.HoldsLemmas.{length-rows_at}
 use Rattle.msg_tables.proofs.TakeLemmas.{take-next}
 
@@ -78,7 +78,7 @@ kept-blank (suc n) (suc k) = kept-blank n k
 pub stands-open : (o : OriginView) (a b : TablesView) → IsBlank o a → Adds a b (list_rows o.lists) → StandsAt b (empty o)
 unfolding table opening_table
 stands-open o a b blank adds = record {
-  history = history-empty (empty o) refl;
+  log = log-empty (empty o) refl;
   supers = ap (λ t. t.supers) adds.rest ∙ blank.supers;
   rows = adds.rows [] (record { at = λ k. ap (λ ls. kept ls k) blank.lists ∙ kept-blank (2 * class_total o) (slot_of k) });
   row_count = let count : b.row_count ≡ length (list_rows o.lists) = omega (arith, adds.row_count, blank.row_count) in count;

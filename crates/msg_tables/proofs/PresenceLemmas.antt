@@ -1,4 +1,4 @@
--- The classes of a history of accepted changes.
+-- The classes of a log of accepted changes.
 use Rattle.std.proofs.Common.{◌≡◌, ◌≢◌, ◌<◌, ◌≤◌, ℕ, zero, suc, List, [], ◌∷◌, ◌++◌, length, Option, Some, None, Bool, true, false, cond, drop, refl, sym, ap, ◌∙◌, subst, append_assoc, append-nil, arith}
 use Rattle.std.specs.Prelude.{◌||◌, ◌==◌, not, is_some, unwrap_or, slice_set, IfSome}
 use Rattle.std.specs.Option.{option_map_or}
@@ -17,14 +17,14 @@ use Rattle.msg_tables.specs.declared.fault.ChangeFault.TheVariants.{NoClass, Lim
 use Rattle.msg_tables.specs.declared.presence.Presence.{Presence}
 use Rattle.msg_tables.specs.After.{of_class, of_meta, opening_table, table_after, supers_after}
 use Rattle.msg_tables.specs.Chain.{presence_of, is_present, super_of, chain_up, chain_of, steps_of, is_member}
-use Rattle.msg_tables.specs.History.{History, BeginsWith, empty, and_then, table, lookup, superclass, chain_at}
+use Rattle.msg_tables.specs.Log.{Log, BeginsWith, empty, and_then, table, lookup, superclass, chain_at}
 use Rattle.msg_tables.specs.Affected.{is_affected, written_refs}
 use Rattle.msg_tables.specs.Order.{IsOrder}
 use Rattle.msg_tables.specs.Presence.{EndsAtRoot}
 use Rattle.msg_tables.specs.Rows.{own, chain, lookup_in}
-use Rattle.msg_tables.specs.Refusal.{refusal, AreAccepted, IsHistory, least_change_fault, no_class, no_number, no_superclass, is_full, has_own, conditions}
+use Rattle.msg_tables.specs.Refusal.{refusal, AreAccepted, IsLog, least_change_fault, no_class, no_number, no_superclass, is_full, has_own, conditions}
 use Rattle.msg_tables.specs.Written.{SeeksAmong}
-use Rattle.msg_tables.proofs.HistoryLemmas.{table-and_then, length-supers, accepted-suffix}
+use Rattle.msg_tables.proofs.LogLemmas.{table-and_then, length-supers, accepted-suffix}
 use Rattle.msg_tables.proofs.LawLemmas.{lookup-after, lookup-unaffected, is-there}
 use Rattle.msg_tables.proofs.ListedOrderLemmas.{order-listed}
 use Rattle.msg_tables.proofs.MadeLemmas.{made-order}
@@ -34,7 +34,7 @@ use Rattle.msg_tables.proofs.OrderLemmas.{present-inside, super-present, super-f
 -- ---- what is known of a class that is accepted
 
 -- it can be made, and its superclass is present
-pub record MayBeMade (h : History) (k : ℕ) (d : Option ℕ) : Type 0 where
+pub record MayBeMade (h : Log) (k : ℕ) (d : Option ℕ) : Type 0 where
   pub inside : k < length (table h).supers
   pub absent : is_present (table h).supers k ≡ false
   pub superclass : IfSome d (λ e. is_present (table h).supers e ≡ true)
@@ -49,7 +49,7 @@ neither_fault false true c e = cc
 neither_fault false false true e = cc
 neither_fault false false false e = (refl, refl)
 
-pub may_be_made : (h : History) (k : ℕ) (d : Option ℕ) → refusal h (AddClass k d) ≡ None → MayBeMade h k d
+pub may_be_made : (h : Log) (k : ℕ) (d : Option ℕ) → refusal h (AddClass k d) ≡ None → MayBeMade h k d
 unfolding refusal no_number no_class
 may_be_made h k d accepted =
     let none = neither_fault (no_number h k || no_superclass h d) (is_full h 0) (not (no_class h (of_class k))) accepted in
@@ -64,13 +64,13 @@ may_be_made h k d accepted =
     there None e = tt
     there (Some e') e = not_false (is_present (table h).supers e') e
 
--- ---- the order of the classes at a history
+-- ---- the order of the classes at a log
 
 pub record Ordered (supers : List (Option Presence)) : Type 0 where
   pub order : List ℕ
   pub is : IsOrder supers order
 
-ordered-after : (h : History) (x : Change) → Ordered (table h).supers → refusal h x ≡ None → Ordered (supers_after (table h).supers x)
+ordered-after : (h : Log) (x : Change) → Ordered (table h).supers → refusal h x ≡ None → Ordered (supers_after (table h).supers x)
 ordered-after h (Add c s i) o accepted = o
 ordered-after h (Replace c s i) o accepted = o
 ordered-after h (SetImp c s i) o accepted = o
@@ -80,11 +80,11 @@ ordered-after h (AddClass k d) o accepted =
     let may = may_be_made h k d accepted in
     record { order = o.order ++ k ∷ []; is = made-order (table h).supers o.order o.is k d may.inside may.absent may.superclass }
 
-supers-and_then : (h : History) (x : Change) → (table (and_then h x)).supers ≡ supers_after (table h).supers x
+supers-and_then : (h : Log) (x : Change) → (table (and_then h x)).supers ≡ supers_after (table h).supers x
 unfolding table_after
 supers-and_then h x = ap (λ t. t.supers) (table-and_then h x)
 
-ordered-on : (h : History) (xs : List Change) → Ordered (table h).supers → AreAccepted h xs → Ordered (table (record { origin = h.origin; changes = h.changes ++ xs })).supers
+ordered-on : (h : Log) (xs : List Change) → Ordered (table h).supers → AreAccepted h xs → Ordered (table (record { origin = h.origin; changes = h.changes ++ xs })).supers
 ordered-on h [] o all = subst (λ cs. Ordered (table (record { origin = h.origin; changes = cs })).supers) (sym (append-nil h.changes)) o
 ordered-on h (x ∷ xs) o all =
     let next = subst Ordered (sym (supers-and_then h x)) (ordered-after h x o all.0) in
@@ -94,8 +94,8 @@ ordered-opened : (o : OriginView) → IsSound o → Ordered (table (empty o)).su
 unfolding table opening_table
 ordered-opened o sound = let (order, is) = order_exists o.superclasses sound.classes sound.chains in record { order = order; is = order-listed o order is }
 
-pub ordered : (h : History) → IsSound h.origin → IsHistory h → Ordered (table h).supers
-unfolding IsHistory
+pub ordered : (h : Log) → IsSound h.origin → IsLog h → Ordered (table h).supers
+unfolding IsLog
 ordered h sound accepted = ordered-on (empty h.origin) h.changes (ordered-opened h.origin sound) accepted
 
 -- ---- a class that is made leaves the others as they are
@@ -132,32 +132,32 @@ module _ (supers : List (Option Presence)) (order : List ℕ) (is : IsOrder supe
       step true here = chain_up-stays (length supers) c here
       step false here = refl
 
-pub lookup-made : (h : History) (k : ℕ) (d : Option ℕ) (c : ClassRef) (s : ℕ) → IsSound h.origin → IsHistory h → refusal h (AddClass k d) ≡ None → c.class ≢ k → lookup (and_then h (AddClass k d)) c s ≡ lookup h c s
+pub lookup-made : (h : Log) (k : ℕ) (d : Option ℕ) (c : ClassRef) (s : ℕ) → IsSound h.origin → IsLog h → refusal h (AddClass k d) ≡ None → c.class ≢ k → lookup (and_then h (AddClass k d)) c s ≡ lookup h c s
 unfolding lookup
-lookup-made h k d c s sound history accepted ne =
-    let o = ordered h sound history in
+lookup-made h k d c s sound log accepted ne =
+    let o = ordered h sound log in
     let may = may_be_made h k d accepted in
     lookup-after h (AddClass k d) c s ∙ ap (λ cs. lookup_in (table h).rows cs s) (chain_of-stays (table h).supers o.order o.is k (record { superclass = d }) may.absent c ne)
 
 -- what a change doesn't affect finds what it found
-pub lookup-kept : (h : History) (x : Change) (c : ClassRef) (s : ℕ) → IsSound h.origin → IsHistory h → refusal h x ≡ None → is_affected h x c ≡ false → lookup (and_then h x) c s ≡ lookup h c s
+pub lookup-kept : (h : Log) (x : Change) (c : ClassRef) (s : ℕ) → IsSound h.origin → IsLog h → refusal h x ≡ None → is_affected h x c ≡ false → lookup (and_then h x) c s ≡ lookup h c s
 unfolding is_affected
-lookup-kept h (Add d u i) c s sound history accepted e = lookup-unaffected h (Add d u i) c s refl e
-lookup-kept h (Replace d u i) c s sound history accepted e = lookup-unaffected h (Replace d u i) c s refl e
-lookup-kept h (SetImp d u i) c s sound history accepted e = lookup-unaffected h (SetImp d u i) c s refl e
-lookup-kept h (Exchange d u f v) c s sound history accepted e = lookup-unaffected h (Exchange d u f v) c s refl e
-lookup-kept h (Attach k ms cs) c s sound history accepted e = lookup-unaffected h (Attach k ms cs) c s refl e
-lookup-kept h (AddClass k d) c s sound history accepted e =
+lookup-kept h (Add d u i) c s sound log accepted e = lookup-unaffected h (Add d u i) c s refl e
+lookup-kept h (Replace d u i) c s sound log accepted e = lookup-unaffected h (Replace d u i) c s refl e
+lookup-kept h (SetImp d u i) c s sound log accepted e = lookup-unaffected h (SetImp d u i) c s refl e
+lookup-kept h (Exchange d u f v) c s sound log accepted e = lookup-unaffected h (Exchange d u f v) c s refl e
+lookup-kept h (Attach k ms cs) c s sound log accepted e = lookup-unaffected h (Attach k ms cs) c s refl e
+lookup-kept h (AddClass k d) c s sound log accepted e =
     let other = (neither (c.class == k) (list_any (λ place. is_member place (chain_at h c)) (written_refs h (AddClass k d))) e).0 in
-    lookup-made h k d c s sound history accepted (λ same. grind (arith, nat_tests, other, same))
+    lookup-made h k d c s sound log accepted (λ same. grind (arith, nat_tests, other, same))
 
 -- ---- what a class inherits
 
-module _ (h : History) where
-  pub inherits : (c d : ClassRef) (s : ℕ) → IsSound h.origin → IsHistory h → no_class h c ≡ false → has_own h c s ≡ false → superclass h c ≡ Some d → lookup h c s ≡ lookup h d s
+module _ (h : Log) where
+  pub inherits : (c d : ClassRef) (s : ℕ) → IsSound h.origin → IsLog h → no_class h c ≡ false → has_own h c s ≡ false → superclass h c ≡ Some d → lookup h c s ≡ lookup h d s
   unfolding lookup has_own superclass
-  inherits c d s sound history listed none above' =
-      let o = ordered h sound history in
+  inherits c d s sound log listed none above' =
+      let o = ordered h sound log in
       ap (λ cs. lookup_in (table h).rows cs s) (chain_of-step (table h).supers o.order c o.is (is-there h c listed) ∙ ap (λ o. c ∷ option_map_or (chain_of (table h).supers) o []) above')
       ∙ at (own (table h).rows c s) none
     where
@@ -180,10 +180,10 @@ module _ (h : History) where
           ap (λ x. option_map_or (λ (q : Presence). above (of_meta k) q.superclass) x None) here ∙ root p.superclass up
 
   -- up to a class reference above which nothing stands
-  pub ends : (c : ClassRef) → IsSound h.origin → IsHistory h → no_class h c ≡ false → EndsAtRoot h c
+  pub ends : (c : ClassRef) → IsSound h.origin → IsLog h → no_class h c ≡ false → EndsAtRoot h c
   unfolding superclass chain_at chain_of
-  ends c sound history listed =
-      let o = ordered h sound history in
+  ends c sound log listed =
+      let o = ordered h sound log in
       let here = is-there h c listed in
       let (front, (last, (is, none))) = up o.order o.is (length (table h).supers) c here (steps_suffice (table h).supers o.order o.is c here) in
       record { front = front; last = last; is = ap (λ b. cond b (chain_up (length (table h).supers) (table h).supers c) []) here ∙ is; root = none }
@@ -207,7 +207,7 @@ module _ (h : History) where
 
 -- ---- a class that is present stays, with its superclass
 
-presence-after : (h : History) (x : Change) (k : ℕ) → refusal h x ≡ None → is_present (table h).supers k ≡ true → presence_of (supers_after (table h).supers x) k ≡ presence_of (table h).supers k
+presence-after : (h : Log) (x : Change) (k : ℕ) → refusal h x ≡ None → is_present (table h).supers k ≡ true → presence_of (supers_after (table h).supers x) k ≡ presence_of (table h).supers k
 presence-after h (Add c s i) k accepted here = refl
 presence-after h (Replace c s i) k accepted here = refl
 presence-after h (SetImp c s i) k accepted here = refl
@@ -217,7 +217,7 @@ presence-after h (AddClass j d) k accepted here =
     let may = may_be_made h j d accepted in
     get_or-set_other (table h).supers j k (Some (record { superclass = d })) None (λ same. let gone : is_present (table h).supers j ≡ true = subst (λ i. is_present (table h).supers i ≡ true) same here in let clash : true ≡ false = sym gone ∙ may.absent in cc)
 
-pub presence-on : (h : History) (xs : List Change) (k : ℕ) → AreAccepted h xs → is_present (table h).supers k ≡ true
+pub presence-on : (h : Log) (xs : List Change) (k : ℕ) → AreAccepted h xs → is_present (table h).supers k ≡ true
     → presence_of (table (record { origin = h.origin; changes = h.changes ++ xs })).supers k ≡ presence_of (table h).supers k
 presence-on h [] k all here = ap (λ cs. presence_of (table (record { origin = h.origin; changes = cs })).supers k) (append-nil h.changes)
 presence-on h (x ∷ xs) k all here =
@@ -225,25 +225,25 @@ presence-on h (x ∷ xs) k all here =
     ap (λ cs. presence_of (table (record { origin = h.origin; changes = cs })).supers k) (sym (append_assoc h.changes (x ∷ []) xs))
     ∙ presence-on (and_then h x) xs k all.1 (ap is_some first ∙ here) ∙ first
 
-pub superclass-stays : (p h : History) (c : ClassRef) → BeginsWith p h → IsHistory p → no_class h c ≡ false → superclass p c ≡ superclass h c
-unfolding superclass IsHistory
-superclass-stays p h c begins history listed =
+pub superclass-stays : (p h : Log) (c : ClassRef) → BeginsWith p h → IsLog p → no_class h c ≡ false → superclass p c ≡ superclass h c
+unfolding superclass IsLog
+superclass-stays p h c begins log listed =
     let (more, changes) = begins.rest in
-    let all = accepted-suffix (empty h.origin) h.changes more (subst (λ o. AreAccepted (empty o) (h.changes ++ more)) begins.same (subst (AreAccepted (empty p.origin)) changes history)) in
+    let all = accepted-suffix (empty h.origin) h.changes more (subst (λ o. AreAccepted (empty o) (h.changes ++ more)) begins.same (subst (AreAccepted (empty p.origin)) changes log)) in
     let same : p ≡ record { origin = h.origin; changes = h.changes ++ more } = λ i. record { origin = begins.same i; changes = changes i } in
-    ap (λ (q : History). super_of (table q).supers c) same
+    ap (λ (q : Log). super_of (table q).supers c) same
     ∙ ap (λ o. option_map_or (λ (q : Presence). above c q.superclass) o None) (presence-on h more c.class all (is-there h c listed))
 
 -- ---- the classes at which an accepted change seeks its methods
 
-there_inside : (h : History) (c : ClassRef) → no_class h c ≡ false → c.class < class_total h.origin
+there_inside : (h : Log) (c : ClassRef) → no_class h c ≡ false → c.class < class_total h.origin
 there_inside h c e = let n = length-supers h in let inside = present-inside (table h).supers c.class (is-there h c e) in omega (arith, n, inside)
 
 first_false : (b : Bool) (f : ChangeFault) (fs : List (Bool × ChangeFault)) → least_change_fault ((b, f) ∷ fs) ≡ None → b ≡ false
 first_false true f fs e = cc
 first_false false f fs e = refl
 
-pub seeks-listed : (h : History) (x : Change) → refusal h x ≡ None → SeeksAmong (class_total h.origin) x
+pub seeks-listed : (h : Log) (x : Change) → refusal h x ≡ None → SeeksAmong (class_total h.origin) x
 unfolding refusal
 seeks-listed h (Add c s i) none = tt
 seeks-listed h (Replace c s i) none = tt

@@ -11,7 +11,7 @@ use Rattle.msg_tables.specs.After.{of_class, of_meta}
 use Rattle.msg_tables.specs.Affected.{at_most_one, if_any, is_affected, written_refs}
 use Rattle.msg_tables.specs.Chain.{is_member}
 use Rattle.msg_tables.specs.declared.change.Change.TheVariants.{Add, Replace, SetImp, Exchange, Attach, AddClass}
-use Rattle.msg_tables.specs.History.{History, chain_at, holder}
+use Rattle.msg_tables.specs.Log.{Log, chain_at, holder}
 use Rattle.msg_tables.specs.Marking.{is_marked, MarksBelow, MarksAffected}
 
 or_none : (a : Bool) → (a || false) ≡ a
@@ -22,7 +22,7 @@ or_over : (a b c : Bool) → ((a || b) || c) ≡ (a || (b || c))
 or_over true b c = refl
 or_over false b c = refl
 
-module _ (n : ℕ) (h : History) where
+module _ (n : ℕ) (h : Log) where
   pub below_one : (place : ClassRef) (old new : List Bool) → ((c : ClassRef) → c.class < n → is_marked new c ≡ (is_marked old c || is_member place (chain_at h c))) → MarksBelow n h (place ∷ []) old new
   below_one place old new marks c lt = marks c lt ∙ ap (λ b. is_marked old c || b) (sym (or_none (is_member place (chain_at h c))))
 

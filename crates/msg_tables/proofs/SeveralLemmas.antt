@@ -8,17 +8,17 @@ use Rattle.msg_tables.specs.Origin.{IsSound}
 use Rattle.msg_tables.specs.declared.change.Change.{Change}
 use Rattle.msg_tables.specs.declared.fault.ChangeFault.{ChangeFault}
 use Rattle.msg_tables.specs.Affected.{is_affected}
-use Rattle.msg_tables.specs.History.{History, and_then, table, table_after_all, lookup}
-use Rattle.msg_tables.specs.Refusal.{refusal, AreAccepted, IsHistory}
-use Rattle.msg_tables.proofs.HistoryLemmas.{table-and_then, history-and_then}
+use Rattle.msg_tables.specs.Log.{Log, and_then, table, table_after_all, lookup}
+use Rattle.msg_tables.specs.Refusal.{refusal, AreAccepted, IsLog}
+use Rattle.msg_tables.proofs.LogLemmas.{table-and_then, log-and_then}
 use Rattle.msg_tables.proofs.PresenceLemmas.{lookup-kept}
-use Rattle.msg_tables.specs.Several.{and_all, refused_from, refused_at, refusal_of_all, is_affected_by_all}
+use Rattle.msg_tables.specs.Several.{and_all, refused_from, refusal_of_all, is_affected_by_all}
 
-pub table-and_all : (h : History) (xs : List Change) → table (and_all h xs) ≡ table_after_all (table h) xs
+pub table-and_all : (h : Log) (xs : List Change) → table (and_all h xs) ≡ table_after_all (table h) xs
 table-and_all h [] = refl
 table-and_all h (x ∷ xs) = table-and_all (and_then h x) xs ∙ ap (λ t. table_after_all t xs) (table-and_then h x)
 
-pub none-accepted : (h : History) (xs : List Change) (k : ℕ) → refused_from k h xs ≡ None → AreAccepted h xs
+pub none-accepted : (h : Log) (xs : List Change) (k : ℕ) → refused_from k h xs ≡ None → AreAccepted h xs
 none-accepted h [] k e = tt
 none-accepted h (x ∷ xs) k e = step (refusal h x) refl e (none-accepted (and_then h x) xs (suc k))
   where
@@ -27,15 +27,15 @@ none-accepted h (x ∷ xs) k e = step (refusal h x) refl e (none-accepted (and_t
     step None is e rest = (is, rest e)
     step (Some f) is e rest = cc
 
-pub accepted-none : (h : History) (xs : List Change) (k : ℕ) → AreAccepted h xs → refused_from k h xs ≡ None
+pub accepted-none : (h : Log) (xs : List Change) (k : ℕ) → AreAccepted h xs → refused_from k h xs ≡ None
 accepted-none h [] k all = refl
 accepted-none h (x ∷ xs) k all = rw all.0 (accepted-none (and_then h x) xs (suc k) all.1)
 
 -- the first that would be refused, at its place
-abbrev pub IsFirst : ℕ → History → List Change → ℕ → ChangeFault → Type 0
+abbrev pub IsFirst : ℕ → Log → List Change → ℕ → ChangeFault → Type 0
 IsFirst k h xs n f = (before : List Change) × (x : Change) × (later : List Change) × (xs ≡ before ++ x ∷ later) × (k + length before ≡ n) × AreAccepted h before × (refusal (and_all h before) x ≡ Some f)
 
-pub refused-first : (k : ℕ) (h : History) (xs : List Change) (n : ℕ) (f : ChangeFault) → refused_from k h xs ≡ Some (n, f) → IsFirst k h xs n f
+pub refused-first : (k : ℕ) (h : Log) (xs : List Change) (n : ℕ) (f : ChangeFault) → refused_from k h xs ≡ Some (n, f) → IsFirst k h xs n f
 refused-first k h [] n f e = cc
 refused-first k h (x ∷ xs) n f e = step (refusal h x) refl e (refused-first (suc k) (and_then h x) xs n f)
   where
@@ -49,31 +49,30 @@ refused-first k h (x ∷ xs) n f e = step (refusal h x) refl e (refused-first (s
         let place : k ≡ n = ap (λ p. p.0) same in
         ([], x, xs, refl, omega (arith, place), tt, is ∙ ap (λ p. Some p.1) same)
 
-pub refused-here : (h : History) (xs : List Change) (n : ℕ) (f : ChangeFault) → refused_from 0 h xs ≡ Some (n, f)
+pub refused-here : (h : Log) (xs : List Change) (n : ℕ) (f : ChangeFault) → refused_from 0 h xs ≡ Some (n, f)
     → (before : List Change) × (x : Change) × (later : List Change) × (xs ≡ before ++ x ∷ later) × (length before ≡ n) × AreAccepted h before × (refusal (and_all h before) x ≡ Some f)
 refused-here h xs n f e =
     let (before, x, later, parts, place, all, fault) = refused-first 0 h xs n f e in
     (before, x, later, parts, omega (arith, place), all, fault)
 
-pub refused-one : (h : History) (x : Change) → refusal_of_all h (x ∷ []) ≡ refusal h x
-unfolding refusal_of_all refused_at
+pub refused-one : (h : Log) (x : Change) → refusal_of_all h (x ∷ []) ≡ refusal h x
+unfolding refusal_of_all
 refused-one h x = step (refusal h x)
   where
     step : (o : Option ChangeFault) → option_map (λ (r : ℕ × ChangeFault). r.1) (option_map_or (λ f. Some (0, f)) o None) ≡ o
     step None = refl
     step (Some f) = refl
 
-pub accepted-all : (h : History) (xs : List Change) → refusal_of_all h xs ≡ None → AreAccepted h xs
-unfolding refusal_of_all refused_at
-accepted-all h [] e = tt
-accepted-all h (x ∷ xs) e = none-accepted h (x ∷ xs) 0 (step (refused_from 0 h (x ∷ xs)) e)
+pub accepted-all : (h : Log) (xs : List Change) → refusal_of_all h xs ≡ None → AreAccepted h xs
+unfolding refusal_of_all
+accepted-all h xs e = none-accepted h xs 0 (step (refused_from 0 h xs) e)
   where
     step : (o : Option (ℕ × ChangeFault)) → option_map (λ r. r.1) o ≡ None → o ≡ None
     step None e = refl
     step (Some r) e = cc
 
-pub kept-all : (h : History) (xs : List Change) (c : ClassRef) (s : ℕ) → IsSound h.origin → IsHistory h → AreAccepted h xs → is_affected_by_all h xs c ≡ false → lookup (and_all h xs) c s ≡ lookup h c s
+pub kept-all : (h : Log) (xs : List Change) (c : ClassRef) (s : ℕ) → IsSound h.origin → IsLog h → AreAccepted h xs → is_affected_by_all h xs c ≡ false → lookup (and_all h xs) c s ≡ lookup h c s
 kept-all h [] c s sound is all e = refl
 kept-all h (x ∷ xs) c s sound is all e =
     let apart = neither (is_affected h x c) (is_affected_by_all (and_then h x) xs c) e in
-    kept-all (and_then h x) xs c s sound (history-and_then h x is all.0) all.1 apart.1 ∙ lookup-kept h x c s sound is all.0 apart.0
+    kept-all (and_then h x) xs c s sound (log-and_then h x is all.0) all.1 apart.1 ∙ lookup-kept h x c s sound is all.0 apart.0

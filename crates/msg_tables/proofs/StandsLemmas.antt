@@ -1,13 +1,13 @@
--- What tables that stand at a history know of it.
+-- What tables that stand at a log know of it.
 use Rattle.std.proofs.Common.{◌≡◌, ℕ, length, ap, ◌∙◌}
-use Rattle.msg_tables.specs.History.{History}
+use Rattle.msg_tables.specs.Log.{Log}
 use Rattle.msg_tables.specs.Origin.{class_total, lacks_imp, misfits_in, unlike_in}
 use Rattle.msg_tables.specs.Refusal.{no_imp, misfits, unlike}
 use Rattle.msg_tables.specs.Stands.{StandsAt}
 use Rattle.msg_tables.specs.View.{TablesView}
-use Rattle.msg_tables.proofs.HistoryLemmas.{length-supers}
+use Rattle.msg_tables.proofs.LogLemmas.{length-supers}
 
-module _ (t : TablesView) (h : History) (stands : StandsAt t h) where
+module _ (t : TablesView) (h : Log) (stands : StandsAt t h) where
   pub class_count : length t.supers ≡ class_total h.origin
   class_count = ap length stands.supers ∙ length-supers h
 

@@ -12,7 +12,7 @@ use Rattle.msg_tables.specs.declared.change.Change.TheVariants.{Add, Replace, Se
 use Rattle.msg_tables.specs.Rows.{Row, ClassTable, own, holder_at, lookup_at}
 use Rattle.msg_tables.specs.After.{set_own, set_method, rows_after, row, table_after}
 use Rattle.msg_tables.specs.Chain.{chain_of}
-use Rattle.msg_tables.specs.History.{History, table, table_after_all, lookup}
+use Rattle.msg_tables.specs.Log.{Log, table, table_after_all, lookup}
 use Rattle.msg_names.proofs.TestLemmas.{equal, same_number}
 use Rattle.msg_names.proofs.ClassRefLemmas.{same_class-is, same_class-refl}
 use Rattle.msg_tables.proofs.OwnLemmas.{own-set_same, own-set_other, set_own-own, some-set_own, lookup-holder}
@@ -270,9 +270,9 @@ undone t (x ∷ xs) ys e = step (undo t x) refl (undo_all (table_after t x) xs) 
         subst (λ vs. table_after_all (table_after_all (table_after t x) xs) vs ≡ t) (same_Some (ws ++ zs) ys e)
         (after_all-append (table_after_all (table_after t x) xs) ws zs ∙ ap (λ t. table_after_all t zs) (before ws rest) ∙ undo-one t x zs is)
 
-pub undone-tables : (h : History) (xs ys : List Change) → undo_all (table h) xs ≡ Some ys → table (and_all (and_all h xs) ys) ≡ table h
+pub undone-tables : (h : Log) (xs ys : List Change) → undo_all (table h) xs ≡ Some ys → table (and_all (and_all h xs) ys) ≡ table h
 undone-tables h xs ys e = table-and_all (and_all h xs) ys ∙ ap (λ t. table_after_all t ys) (table-and_all h xs) ∙ undone (table h) xs ys e
 
-pub undone-lookups : (h : History) (xs ys : List Change) (c : ClassRef) (s : ℕ) → undo_all (table h) xs ≡ Some ys → lookup (and_all (and_all h xs) ys) c s ≡ lookup h c s
+pub undone-lookups : (h : Log) (xs ys : List Change) (c : ClassRef) (s : ℕ) → undo_all (table h) xs ≡ Some ys → lookup (and_all (and_all h xs) ys) c s ≡ lookup h c s
 unfolding lookup
 undone-lookups h xs ys c s e = ap (λ t. lookup_at t c s) (undone-tables h xs ys e)

@@ -7,7 +7,7 @@ use Rattle.msg_tables.specs.declared.change.Change.{Change}
 use Rattle.msg_tables.specs.declared.change.Change.TheVariants.{Add, Replace, SetImp, Exchange, Attach, AddClass}
 use Rattle.msg_tables.specs.Chain.{is_member}
 use Rattle.msg_tables.specs.After.{of_class, of_meta}
-use Rattle.msg_tables.specs.History.{History, holder, chain_at}
+use Rattle.msg_tables.specs.Log.{Log, holder, chain_at}
 
 abbrev pub at_most_one : Option ClassRef → List ClassRef
 at_most_one None = []
@@ -19,7 +19,7 @@ if_any [] c = []
 if_any (m ∷ ms) c = c ∷ []
 
 -- the class references at which a change adds or rewrites a row
-unfoldable pub written_refs : History → Change → List ClassRef
+unfoldable pub written_refs : Log → Change → List ClassRef
 written_refs h (Add c s i) = c ∷ []
 written_refs h (Replace c s i) = c ∷ []
 written_refs h (SetImp c s i) = at_most_one (holder h c (selector_number s))
@@ -33,5 +33,5 @@ is_of_made (AddClass k d) c = c.class == k
 is_of_made _ c = false
 
 -- the class reference is of the class that is made, or is below a place of the change, or such a place
-unfoldable pub is_affected : History → Change → ClassRef → Bool
+unfoldable pub is_affected : Log → Change → ClassRef → Bool
 is_affected h x c = is_of_made x c || list_any (λ place. is_member place (chain_at h c)) (written_refs h x)

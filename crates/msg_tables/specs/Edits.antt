@@ -11,7 +11,7 @@ use Rattle.msg_tables.specs.Chain.{is_present}
 use Rattle.msg_tables.specs.Rows.{Row}
 use Rattle.msg_tables.specs.RowList.{own_in}
 use Rattle.msg_tables.specs.After.{row, rows_at, of_class, of_meta, set_own, rows_after, supers_after}
-use Rattle.msg_tables.specs.History.{History, table}
+use Rattle.msg_tables.specs.Log.{Log, table}
 use Rattle.msg_tables.specs.Refusal.{refusal}
 use Rattle.msg_tables.specs.Stands.{Holds}
 use Rattle.msg_tables.specs.View.{TablesView, kept}
@@ -62,8 +62,8 @@ pub record Fits (t : TablesView) (e : Edit) : Type 0 where
   pub rows : t.row_count + added e ≤ t.limits.rows
   pub changes : t.change_count < t.limits.changes
 
--- a change was judged at a history
-abbrev pub Judges : History → Change → Result Edit ChangeFault → Type 0
+-- a change was judged at a log
+abbrev pub Judges : Log → Change → Result Edit ChangeFault → Type 0
 Judges h x (Ok e) = (refusal h x ≡ None) × (rows_after (table h) x ≡ edited e (table h).rows) × (supers_after (table h).supers x ≡ supers_edited e (table h).supers)
 Judges h x (Err f) = refusal h x ≡ Some f
 
@@ -74,5 +74,5 @@ pub record Writes (old new : TablesView) (e : Edit) : Type 0 where
   pub rest : new ≡ record old { supers = supers_edited e old.supers; order = new.order; lists = new.lists; row_count = new.row_count }
 
 -- more rows stand after a change than before
-abbrev pub AddsRows : History → Change → Type 0
+abbrev pub AddsRows : Log → Change → Type 0
 AddsRows h x = length (table h).rows < length (rows_after (table h) x)

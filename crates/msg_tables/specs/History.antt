@@ -1,51 +1,46 @@
--- Histories of the class tables.
+-- Histories: lists of changes, of which each list is made as one, so that nobody sees a part of it.
 use Rattle.std.specs.Prelude.{◌≡◌, ℕ, List, [], ◌∷◌, ◌++◌, Option}
 use Rattle.msg_names.specs.declared.value.ClassRef.{ClassRef}
 use Rattle.msg_tables.specs.Origin.{OriginView}
 use Rattle.msg_tables.specs.declared.change.Change.{Change}
-use Rattle.msg_tables.specs.Chain.{super_of}
-use Rattle.msg_tables.specs.Rows.{ClassTable, chain, holder_at, lookup_at}
-use Rattle.msg_tables.specs.After.{opening_table, table_after}
+use Rattle.msg_tables.specs.Log as logs
+use Rattle.msg_tables.specs.Log.{Log}
 
--- what tables were opened of, and the changes that were accepted, oldest first
+-- what tables were opened of, and the lists of changes that were accepted, oldest first
 pub record History : Type 0 where
   pub origin : OriginView
-  pub changes : List Change
+  pub changes : List (List Change)
 
 -- the history of tables that were just opened
 abbrev pub empty : OriginView → History
 empty o = record { origin = o; changes = [] }
 
--- the history longer by a change
-abbrev pub and_then : History → Change → History
-and_then h x = record { origin = h.origin; changes = h.changes ++ x ∷ [] }
+-- the history longer by changes that are made as one
+abbrev pub and_then : History → List Change → History
+and_then h xs = record { origin = h.origin; changes = h.changes ++ xs ∷ [] }
 
--- the tables after changes, one after another
-abbrev pub table_after_all : ClassTable → List Change → ClassTable
-table_after_all t [] = t
-table_after_all t (x ∷ xs) = table_after_all (table_after t x) xs
+-- the changes of all lists, one after another
+abbrev pub one_by_one : List (List Change) → List Change
+one_by_one [] = []
+one_by_one (xs ∷ more) = xs ++ one_by_one more
 
--- the tables at a history
-unfoldable pub table : History → ClassTable
-table h = table_after_all (opening_table h.origin) h.changes
+-- what the tables know of a history: its changes, one after another
+abbrev pub log : History → Log
+log h = record { origin = h.origin; changes = one_by_one h.changes }
 
 -- the implementation that a lookup finds at a history, by number, or 0 for forwarding
-unfoldable pub lookup : History → ClassRef → ℕ → ℕ
-lookup h c s = lookup_at (table h) c s
+abbrev pub lookup : History → ClassRef → ℕ → ℕ
+lookup h c s = logs.lookup (log h) c s
 
 -- the class reference at which the method that it finds stands
-unfoldable pub holder : History → ClassRef → ℕ → Option ClassRef
-holder h c s = holder_at (table h) c s
+abbrev pub holder : History → ClassRef → ℕ → Option ClassRef
+holder h c s = logs.holder (log h) c s
 
 -- the superclass of a class reference
-unfoldable pub superclass : History → ClassRef → Option ClassRef
-superclass h c = super_of (table h).supers c
-
--- a class reference and those above it
-unfoldable pub chain_at : History → ClassRef → List ClassRef
-chain_at h c = chain (table h) c
+abbrev pub superclass : History → ClassRef → Option ClassRef
+superclass h c = logs.superclass (log h) c
 
 -- p begins with g: g is a prefix of p
 pub record BeginsWith (p g : History) : Type 0 where
   pub same : p.origin ≡ g.origin
-  pub rest : (more : List Change) × (p.changes ≡ g.changes ++ more)
+  pub rest : (more : List (List Change)) × (p.changes ≡ g.changes ++ more)

@@ -10,6 +10,7 @@ pub mod History
 pub mod Indexed
 pub mod Inside
 pub mod Kept
+pub mod Log
 pub mod Marking
 pub mod Methods
 pub mod Opening

@@ -7,7 +7,7 @@ use Rattle.msg_tables.specs.declared.change.Change.{Change}
 use Rattle.msg_tables.specs.declared.marks.Marks.TheInside.{Inside}
 use Rattle.msg_tables.specs.Affected.{is_affected}
 use Rattle.msg_tables.specs.Chain.{is_member}
-use Rattle.msg_tables.specs.History.{History, chain_at}
+use Rattle.msg_tables.specs.Log.{Log, chain_at}
 
 -- whether a class reference is marked
 abbrev pub is_marked : List Bool → ClassRef → Bool
@@ -23,9 +23,9 @@ pub record AreSoundMarks (m : Inside) : Type 0 where
   pub room : length m.marked.items ≤ 2 * m.below.room
 
 -- of the class references of n classes those at and below these places are marked, beside those that were
-abbrev pub MarksBelow : ℕ → History → List ClassRef → List Bool → List Bool → Type 0
+abbrev pub MarksBelow : ℕ → Log → List ClassRef → List Bool → List Bool → Type 0
 MarksBelow n h places old new = (c : ClassRef) → c.class < n → is_marked new c ≡ (is_marked old c || list_any (λ place. is_member place (chain_at h c)) places)
 
 -- of the class references of n classes those that a change affects are marked, beside those that were
-abbrev pub MarksAffected : ℕ → History → Change → List Bool → List Bool → Type 0
+abbrev pub MarksAffected : ℕ → Log → Change → List Bool → List Bool → Type 0
 MarksAffected n h x old new = (c : ClassRef) → c.class < n → is_marked new c ≡ (is_marked old c || is_affected h x c)

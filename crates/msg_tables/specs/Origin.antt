@@ -11,7 +11,7 @@ pub record CountsView : Type 0 where
   pub colons : List ℕ
   pub args : List ℕ
 
--- what a history begins with
+-- what a log begins with
 pub record OriginView : Type 0 where
   -- the superclasses of the listed classes, which are numbered first
   pub superclasses : List (Option ℕ)

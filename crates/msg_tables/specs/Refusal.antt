@@ -1,4 +1,4 @@
--- When changes are refused, and which lists of changes are histories.
+-- When changes are refused, and which lists of changes are logs.
 use Rattle.std.specs.Prelude.{◌≡◌, ℕ, ◌+◌, ◌||◌, not, nat_lt, nat_le, Bool, false, List, [], ◌∷◌, ◌++◌, Option, Some, None, if◌then◌else◌, length, is_some, is_none}
 use Rattle.std.specs.List.{list_any}
 use Rattle.msg_names.specs.declared.value.ClassRef.{ClassRef}
@@ -13,43 +13,43 @@ use Rattle.msg_tables.specs.declared.fault.ChangeFault.TheVariants.{NoClass, NoI
 use Rattle.msg_tables.specs.Chain.{is_present}
 use Rattle.msg_tables.specs.Rows.{own}
 use Rattle.msg_tables.specs.After.{of_class}
-use Rattle.msg_tables.specs.History.{History, empty, and_then, table, holder}
+use Rattle.msg_tables.specs.Log.{Log, empty, and_then, table, holder}
 
 -- no class that is present has this number
-unfoldable pub no_class : History → ClassRef → Bool
+unfoldable pub no_class : Log → ClassRef → Bool
 no_class h c = not (is_present (table h).supers c.class)
 
 -- no class can be made with this number
-unfoldable pub no_number : History → ℕ → Bool
+unfoldable pub no_number : Log → ℕ → Bool
 no_number h k = nat_le (class_total h.origin) k
 
 -- the superclass that is named isn't present
-abbrev pub no_superclass : History → Option ℕ → Bool
+abbrev pub no_superclass : Log → Option ℕ → Bool
 no_superclass h None = false
 no_superclass h (Some d) = no_class h (of_class d)
 
 -- no implementation has this number
-unfoldable pub no_imp : History → ℕ → Bool
+unfoldable pub no_imp : Log → ℕ → Bool
 no_imp h i = lacks_imp h.origin.counts i
 
 -- a selector and an implementation that take different numbers of arguments
-unfoldable pub misfits : History → ℕ → ℕ → Bool
+unfoldable pub misfits : Log → ℕ → ℕ → Bool
 misfits h s i = misfits_in h.origin.counts s i
 
 -- two selectors that take different numbers of arguments
-unfoldable pub unlike : History → ℕ → ℕ → Bool
+unfoldable pub unlike : Log → ℕ → ℕ → Bool
 unlike h s u = unlike_in h.origin.counts s u
 
 -- the class itself has the method
-unfoldable pub has_own : History → ClassRef → ℕ → Bool
+unfoldable pub has_own : Log → ClassRef → ℕ → Bool
 has_own h c s = is_some (own (table h).rows c s)
 
 -- neither the class nor a superclass has the method
-unfoldable pub no_method : History → ClassRef → ℕ → Bool
+unfoldable pub no_method : Log → ClassRef → ℕ → Bool
 no_method h c s = is_none (holder h c s)
 
 -- no more changes are accepted, or n more rows would be too many
-unfoldable pub is_full : History → ℕ → Bool
+unfoldable pub is_full : Log → ℕ → Bool
 is_full h n = nat_le h.origin.limits.changes (length h.changes) || nat_lt h.origin.limits.rows (length (table h).rows + n)
 
 -- the first fault whose condition holds
@@ -58,15 +58,15 @@ least_change_fault [] = None
 least_change_fault (f ∷ fs) = if f.0 then Some f.1 else least_change_fault fs
 
 -- a method that could not stand at the class, whatever stands there
-abbrev pub unfit : History → ClassRef → Selector → ImpRef → List (Bool × ChangeFault)
+abbrev pub unfit : Log → ClassRef → Selector → ImpRef → List (Bool × ChangeFault)
 unfit h c s i = (no_class h c, NoClass) ∷ (no_imp h (imp_number i), NoImp) ∷ (misfits h (selector_number s) (imp_number i), ArgumentCount) ∷ []
 
 -- methods of which one could not stand anywhere
-abbrev pub unfit_methods : History → List (ℕ × ℕ) → List (Bool × ChangeFault)
+abbrev pub unfit_methods : Log → List (ℕ × ℕ) → List (Bool × ChangeFault)
 unfit_methods h methods = (list_any (λ m. no_imp h m.1) methods, NoImp) ∷ (list_any (λ m. misfits h m.0 m.1) methods, ArgumentCount) ∷ []
 
 -- what speaks against a change, in the order of the faults
-abbrev pub conditions : History → Change → List (Bool × ChangeFault)
+abbrev pub conditions : Log → Change → List (Bool × ChangeFault)
 conditions h (Add c s i) = unfit h c s i ++ (has_own h c (selector_number s), MethodPresent) ∷ (is_full h 1, Limit) ∷ []
 conditions h (Replace c s i) = unfit h c s i ++ (is_full h (if has_own h c (selector_number s) then 0 else 1), Limit) ∷ []
 conditions h (SetImp c s i) = unfit h c s i ++ (no_method h c (selector_number s), NoMethod) ∷ (is_full h 0, Limit) ∷ []
@@ -79,14 +79,14 @@ conditions h (Attach k methods class_methods) =
 conditions h (AddClass k d) = (no_number h k || no_superclass h d, NoClass) ∷ (is_full h 0, Limit) ∷ (not (no_class h (of_class k)), DuplicateClass) ∷ []
 
 -- the least fault for which a change is refused
-unfoldable pub refusal : History → Change → Option ChangeFault
+unfoldable pub refusal : Log → Change → Option ChangeFault
 refusal h x = least_change_fault (conditions h x)
 
--- each change is accepted at the history before it
-abbrev pub AreAccepted : History → List Change → Type 0
+-- each change is accepted at the log before it
+abbrev pub AreAccepted : Log → List Change → Type 0
 AreAccepted h [] = Unit {0}
 AreAccepted h (x ∷ xs) = (refusal h x ≡ None) × AreAccepted (and_then h x) xs
 
 -- changes that were accepted one after another
-unfoldable pub IsHistory : History → Type 0
-IsHistory h = AreAccepted (empty h.origin) h.changes
+unfoldable pub IsLog : Log → Type 0
+IsLog h = AreAccepted (empty h.origin) h.changes

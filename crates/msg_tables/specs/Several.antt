@@ -1,34 +1,28 @@
 -- Lists of changes, one made after another, of which others see none before all are made.
-use Rattle.std.specs.Prelude.{ℕ, suc, ◌||◌, Bool, false, List, [], ◌∷◌, Option, Some, None, option_map, if◌then◌else◌}
+use Rattle.std.specs.Prelude.{ℕ, suc, ◌||◌, Bool, false, List, [], ◌∷◌, Option, Some, None, option_map}
 use Rattle.std.specs.Option.{option_map_or}
 use Rattle.msg_names.specs.declared.value.ClassRef.{ClassRef}
 use Rattle.msg_tables.specs.declared.change.Change.{Change}
 use Rattle.msg_tables.specs.declared.fault.ChangeFault.{ChangeFault}
-use Rattle.msg_tables.specs.declared.fault.ChangeFault.TheVariants.{Limit}
 use Rattle.msg_tables.specs.Affected.{is_affected}
-use Rattle.msg_tables.specs.History.{History, and_then}
-use Rattle.msg_tables.specs.Refusal.{refusal, is_full}
+use Rattle.msg_tables.specs.Log.{Log, and_then}
+use Rattle.msg_tables.specs.Refusal.{refusal}
 
--- the history after all of a list, one after another
-abbrev pub and_all : History → List Change → History
+-- the log after all of a list, one after another
+abbrev pub and_all : Log → List Change → Log
 and_all h [] = h
 and_all h (x ∷ xs) = and_all (and_then h x) xs
 
 -- the place and the fault of the first that would be refused
-abbrev pub refused_from : ℕ → History → List Change → Option (ℕ × ChangeFault)
+abbrev pub refused_from : ℕ → Log → List Change → Option (ℕ × ChangeFault)
 refused_from k h [] = None
 refused_from k h (x ∷ xs) = option_map_or (λ f. Some (k, f)) (refusal h x) (refused_from (suc k) (and_then h x) xs)
 
--- the same of a whole list, of which one without changes is refused only where no more are accepted
-unfoldable pub refused_at : History → List Change → Option (ℕ × ChangeFault)
-refused_at h [] = if is_full h 0 then Some (0, Limit) else None
-refused_at h (x ∷ xs) = refused_from 0 h (x ∷ xs)
-
 -- the fault alone
-unfoldable pub refusal_of_all : History → List Change → Option ChangeFault
-refusal_of_all h xs = option_map (λ r. r.1) (refused_at h xs)
+unfoldable pub refusal_of_all : Log → List Change → Option ChangeFault
+refusal_of_all h xs = option_map (λ r. r.1) (refused_from 0 h xs)
 
--- some change of the list affects the class reference, at the history before that change
-abbrev pub is_affected_by_all : History → List Change → ClassRef → Bool
+-- some change of the list affects the class reference, at the log before that change
+abbrev pub is_affected_by_all : Log → List Change → ClassRef → Bool
 is_affected_by_all h [] c = false
 is_affected_by_all h (x ∷ xs) c = is_affected h x c || is_affected_by_all (and_then h x) xs c

@@ -3,8 +3,8 @@ use Rattle.std.specs.Prelude.{◌≡◌, ℕ, List, [], ◌∷◌, length, if◌
 use Rattle.msg_names.specs.declared.value.ClassRef.{ClassRef}
 use Rattle.msg_names.specs.ClassRef.{same_class}
 use Rattle.msg_tables.specs.Rows.{Row}
-use Rattle.msg_tables.specs.History.{History, table}
-use Rattle.msg_tables.specs.Refusal.{IsHistory}
+use Rattle.msg_tables.specs.Log.{Log, table}
+use Rattle.msg_tables.specs.Refusal.{IsLog}
 use Rattle.msg_tables.specs.View.{TablesView, kept}
 
 -- the rows of a class reference, as pairs
@@ -16,9 +16,9 @@ pairs_at c (r ∷ rs) = if same_class r.class c then (r.sel, r.imp) ∷ pairs_at
 pub record Holds (lists : List (List (ℕ × ℕ))) (rows : List Row) : Type 0 where
   pub at : (c : ClassRef) → kept lists c ≡ pairs_at c rows
 
--- The tables stand at a history: they hold its rows and count its changes.
-pub record StandsAt (t : TablesView) (h : History) : Type 0 where
-  pub history : IsHistory h
+-- The tables stand at a log: they hold its rows and count its changes.
+pub record StandsAt (t : TablesView) (h : Log) : Type 0 where
+  pub log : IsLog h
   pub supers : t.supers ≡ (table h).supers
   pub rows : Holds t.lists (table h).rows
   pub row_count : t.row_count ≡ length (table h).rows

@@ -8,7 +8,7 @@ use Rattle.msg_names.specs.ClassRef.{same_class}
 use Rattle.msg_tables.specs.Rows.{or_else}
 use Rattle.msg_tables.specs.RowList.{own_in}
 use Rattle.msg_tables.specs.After.{of_class, of_meta}
-use Rattle.msg_tables.specs.History.{History, lookup, holder}
+use Rattle.msg_tables.specs.Log.{Log, lookup, holder}
 
 -- the implementation of a selector, where the method is written at this class reference
 abbrev pub at_ref : Option ClassRef → ClassRef → ℕ → ℕ → ℕ → Option ℕ
@@ -16,7 +16,7 @@ at_ref None d s u i = None
 at_ref (Some c) d s u i = if same_class c d && (s == u) then Some i else None
 
 -- the implementation that a change writes at a class reference for a selector, if it writes one
-abbrev pub written : History → Change → ClassRef → ℕ → Option ℕ
+abbrev pub written : Log → Change → ClassRef → ℕ → Option ℕ
 written h (Add c s i) d u = at_ref (Some c) d (selector_number s) u (imp_number i)
 written h (Replace c s i) d u = at_ref (Some c) d (selector_number s) u (imp_number i)
 written h (SetImp c s i) d u = at_ref (holder h c (selector_number s)) d (selector_number s) u (imp_number i)

@@ -5,7 +5,7 @@ ghost use Rattle.msg_tables.specs.declared.fault.ChangeFault.{ChangeFault};
 ghost use Rattle.msg_tables.specs.declared.edit.Edit.{Edit};
 ghost use Rattle.msg_tables.specs.declared.edit.MethodRow.{MethodRow};
 ghost use Rattle.msg_tables.specs.Edits.{Fits, IsOwn, Writes, AddsRows, added};
-ghost use Rattle.msg_tables.specs.History.{History, and_then};
+ghost use Rattle.msg_tables.specs.Log.{Log, and_then};
 ghost use Rattle.msg_tables.specs.Refusal.{refusal};
 ghost use Rattle.msg_tables.specs.Stands.{StandsAt};
 
@@ -103,7 +103,7 @@ impl Tables {
 
     /// The fault for which the change would be refused, and none where it would be made. No memory is taken.
     pub fn refusal(&self, change: &Change) -> Option<ChangeFault>
-        ensures { (h : History) → StandsAt self.now h → result ≡ refusal h change.now }
+        ensures { (h : Log) → StandsAt self.now h → result ≡ refusal h change.now }
     {
         self.judge(change).err()
     }
@@ -112,12 +112,12 @@ impl Tables {
     ///
     /// A method is looked up once; a row that is rewritten is found by one hash more. All growths come first; only `Attach` goes over more than one row.
     pub fn apply(&mut self, change: &Change) -> Result<(), ChangeFault>
-        ensures ok { OnOk result ((h : History) → StandsAt self.old h → (refusal h change.now ≡ None) × StandsAt self.new (and_then h change.now)) }
+        ensures ok { OnOk result ((h : Log) → StandsAt self.old h → (refusal h change.now ≡ None) × StandsAt self.new (and_then h change.now)) }
         ensures err { OnErr result (self.new ≡ self.old) }
-        ensures fault { IfErr result (λ f. f ≢ ChangeFault.Memory → (h : History) → StandsAt self.old h → refusal h change.now ≡ Some f) }
+        ensures fault { IfErr result (λ f. f ≢ ChangeFault.Memory → (h : Log) → StandsAt self.old h → refusal h change.now ≡ Some f) }
         ensures classes { length self.new.supers ≡ length self.old.supers }
         ensures counts { self.new.counts ≡ self.old.counts }
-        ensures memory { IsErrOf result ChangeFault.Memory → (h : History) → StandsAt self.old h → (refusal h change.now ≡ None) × AddsRows h change.now }
+        ensures memory { IsErrOf result ChangeFault.Memory → (h : Log) → StandsAt self.old h → (refusal h change.now ≡ None) × AddsRows h change.now }
     {
         let edit = self.judge(change)?;
         self.write(edit)?;

@@ -5,7 +5,7 @@
 
 ghost use Rattle.std.specs.Prelude.{◌≡◌, ◌<◌, length, option_map, reverse, IfSome, true};
 ghost use Rattle.msg_names.specs.Number.{selector_number, imp_number};
-ghost use Rattle.msg_tables.specs.History.{History, lookup, and_then, table};
+ghost use Rattle.msg_tables.specs.Log.{Log, lookup, and_then, table};
 ghost use Rattle.msg_tables.specs.After.{rows_after, supers_after};
 ghost use Rattle.msg_tables.specs.Chain.{super_of, is_present};
 ghost use Rattle.msg_tables.specs.RowList.{own_in};
@@ -50,7 +50,7 @@ fn at_ref(
 // The implementation that the change writes at a class reference for a selector.
 fn written(tables: &Tables, change: &Change, here: ClassRef, sel: Selector) -> Option<ImpRef>
     requires { SeeksAmong (length tables.now.supers) change.now }
-    ensures { (h : History) → StandsAt tables.now h → option_map imp_number result ≡ written h change.now here (selector_number sel) }
+    ensures { (h : Log) → StandsAt tables.now h → option_map imp_number result ≡ written h change.now here (selector_number sel) }
 {
     match change {
         Change::Add {
@@ -117,7 +117,7 @@ fn attached(
     here: ClassRef,
     sel: Selector,
 ) -> Option<ImpRef>
-    ensures { (h : History) → option_map imp_number result ≡ written h (Change.Attach class methods.now class_methods.now) here (selector_number sel) }
+    ensures { (h : Log) → option_map imp_number result ≡ written h (Change.Attach class methods.now class_methods.now) here (selector_number sel) }
 {
     if here == (ClassRef { class, meta: true }) {
         listed(class_methods, sel)
@@ -140,7 +140,7 @@ fn exchanged(
 ) -> Option<ImpRef>
     requires class { class.class < length tables.now.supers }
     requires other { other.class < length tables.now.supers }
-    ensures { (h : History) → StandsAt tables.now h
+    ensures { (h : Log) → StandsAt tables.now h
         → option_map imp_number result ≡ written h (Change.Exchange class named other other_sel) here (selector_number sel) }
 {
     let first = tables.holder(class, named);
@@ -156,7 +156,7 @@ fn exchanged(
 fn own_after(tables: &Tables, change: &Change, here: ClassRef, sel: Selector) -> Option<ImpRef>
     requires here { here.class < length tables.now.supers }
     requires listed { SeeksAmong (length tables.now.supers) change.now }
-    ensures { (h : History) → StandsAt tables.now h → option_map imp_number result ≡ own (rows_after (table h) change.now) here (selector_number sel) }
+    ensures { (h : Log) → StandsAt tables.now h → option_map imp_number result ≡ own (rows_after (table h) change.now) here (selector_number sel) }
 {
     match written(tables, change, here, sel) {
         Some(imp) => Some(imp),
@@ -176,7 +176,7 @@ fn found_from(
     requires class { class.class < length tables.now.supers }
     requires present { is_present (supers_after tables.now.supers change.now) class.class ≡ true }
     requires listed { SeeksAmong (length tables.now.supers) change.now }
-    ensures { (h : History) → StandsAt tables.now h → imp_number result ≡ lookup (and_then h change.now) class (selector_number sel) }
+    ensures { (h : Log) → StandsAt tables.now h → imp_number result ≡ lookup (and_then h change.now) class (selector_number sel) }
 {
     let mut here = class;
     for _step in 0..classes {
@@ -201,7 +201,7 @@ impl Tables {
     pub fn lookup_after(&self, change: &Change, class: ClassRef, sel: Selector) -> ImpRef
         requires class { class.class < length self.now.supers }
         requires listed { SeeksAmong (length self.now.supers) change.now }
-        ensures { (h : History) → StandsAt self.now h → imp_number result ≡ lookup (and_then h change.now) class (selector_number sel) }
+        ensures { (h : Log) → StandsAt self.now h → imp_number result ≡ lookup (and_then h change.now) class (selector_number sel) }
     {
         if is_present_after(self, change, class) {
             found_from(self, self.supers.len(), change, class, sel)

@@ -5,7 +5,7 @@ ghost use Rattle.msg_tables.specs.Chain.{is_present};
 ghost use Rattle.std.specs.List.{list_any};
 ghost use Rattle.msg_names.specs.Number.{selector_number, imp_number};
 ghost use Rattle.msg_tables.specs.declared.change.Change.{Change};
-ghost use Rattle.msg_tables.specs.History.{History};
+ghost use Rattle.msg_tables.specs.Log.{Log};
 ghost use Rattle.msg_tables.specs.Refusal as spec;
 ghost use Rattle.msg_tables.specs.Edits.{Fits, Judges};
 ghost use Rattle.msg_tables.specs.Stands.{StandsAt};
@@ -40,7 +40,7 @@ impl Tables {
     }
 
     fn no_class(&self, class: ClassRef) -> bool
-        ensures meaning { (h : History) → StandsAt self.now h → result ≡ spec.no_class h class }
+        ensures meaning { (h : Log) → StandsAt self.now h → result ≡ spec.no_class h class }
         ensures listed { result ≡ false → class.class < length self.now.supers }
         ensures present { result ≡ not (is_present self.now.supers class.class) }
     {
@@ -49,7 +49,7 @@ impl Tables {
 
     // No class can be made with this number.
     fn no_number(&self, class: u32) -> bool
-        ensures meaning { (h : History) → StandsAt self.now h → result ≡ spec.no_number h class }
+        ensures meaning { (h : Log) → StandsAt self.now h → result ≡ spec.no_number h class }
         ensures listed { result ≡ false → class < length self.now.supers }
     {
         self.supers.len() <= class as usize
@@ -57,7 +57,7 @@ impl Tables {
 
     // The superclass that is named isn't present.
     fn no_superclass(&self, superclass: Option<u32>) -> bool
-        ensures meaning { (h : History) → StandsAt self.now h → result ≡ spec.no_superclass h superclass }
+        ensures meaning { (h : Log) → StandsAt self.now h → result ≡ spec.no_superclass h superclass }
         ensures present { result ≡ false → IfSome superclass (λ d. is_present self.now.supers d ≡ true) }
     {
         match superclass {
@@ -68,7 +68,7 @@ impl Tables {
 
     fn no_imp(&self, imp: ImpRef) -> bool
         ensures value { result ≡ lacks_imp self.now.counts (imp_number imp) }
-        ensures meaning { (h : History) → StandsAt self.now h → result ≡ spec.no_imp h (imp_number imp) }
+        ensures meaning { (h : Log) → StandsAt self.now h → result ≡ spec.no_imp h (imp_number imp) }
         ensures listed { result ≡ false → imp_number imp ≤ last_imp self.now.counts }
     {
         imp.number() == 0 || imp.number() as usize > last_imp(&self.counts)
@@ -76,20 +76,20 @@ impl Tables {
 
     fn misfits(&self, sel: Selector, imp: ImpRef) -> bool
         ensures value { result ≡ misfits_in self.now.counts (selector_number sel) (imp_number imp) }
-        ensures meaning { (h : History) → StandsAt self.now h → result ≡ spec.misfits h (selector_number sel) (imp_number imp) }
+        ensures meaning { (h : Log) → StandsAt self.now h → result ≡ spec.misfits h (selector_number sel) (imp_number imp) }
     {
         misfits(&self.counts, sel, imp)
     }
 
     fn unlike(&self, sel: Selector, other: Selector) -> bool
-        ensures { (h : History) → StandsAt self.now h → result ≡ spec.unlike h (selector_number sel) (selector_number other) }
+        ensures { (h : Log) → StandsAt self.now h → result ≡ spec.unlike h (selector_number sel) (selector_number other) }
     {
         unlike(&self.counts, sel, other)
     }
 
     fn has_own(&self, class: ClassRef, sel: Selector) -> bool
         requires { class.class < length self.now.supers }
-        ensures meaning { (h : History) → StandsAt self.now h → result ≡ spec.has_own h class (selector_number sel) }
+        ensures meaning { (h : Log) → StandsAt self.now h → result ≡ spec.has_own h class (selector_number sel) }
         ensures own { result ≡ true → IsSome (own_in (selector_number sel) (kept self.now.lists class)) }
     {
         self.own(class, sel).is_some()
@@ -97,7 +97,7 @@ impl Tables {
 
     // Whether there is no room for so many more rows, or for one more change.
     fn is_full(&self, more: usize) -> bool
-        ensures meaning { (h : History) → StandsAt self.now h → result ≡ spec.is_full h more }
+        ensures meaning { (h : Log) → StandsAt self.now h → result ≡ spec.is_full h more }
         ensures room { result ≡ false → (self.now.row_count + more ≤ self.now.limits.rows) × (self.now.change_count < self.now.limits.changes) }
     {
         self.change_count >= self.limits.changes
@@ -106,7 +106,7 @@ impl Tables {
 
     // Why the row could not stand, whatever stands there.
     fn unfit(&self, row: MethodRow) -> Option<ChangeFault>
-        ensures meaning { (h : History) → StandsAt self.now h → result ≡ spec.least_change_fault (spec.unfit h row.class row.sel row.imp) }
+        ensures meaning { (h : Log) → StandsAt self.now h → result ≡ spec.least_change_fault (spec.unfit h row.class row.sel row.imp) }
         ensures class { result ≡ None → row.class.class < length self.now.supers }
         ensures imp { result ≡ None → imp_number row.imp ≤ last_imp self.now.counts }
     {
@@ -122,7 +122,7 @@ impl Tables {
     }
 
     fn judge_add<'c>(&self, row: MethodRow) -> Result<Edit<'c>, ChangeFault>
-        ensures meaning { (h : History) → StandsAt self.now h → Judges h (Change.Add row.class row.sel row.imp) result }
+        ensures meaning { (h : Log) → StandsAt self.now h → Judges h (Change.Add row.class row.sel row.imp) result }
         ensures fits { IfOk result (Fits self.now) }
     {
         if let Some(fault) = self.unfit(row) {
@@ -138,7 +138,7 @@ impl Tables {
     }
 
     fn judge_replace<'c>(&self, row: MethodRow) -> Result<Edit<'c>, ChangeFault>
-        ensures meaning { (h : History) → StandsAt self.now h → Judges h (Change.Replace row.class row.sel row.imp) result }
+        ensures meaning { (h : Log) → StandsAt self.now h → Judges h (Change.Replace row.class row.sel row.imp) result }
         ensures fits { IfOk result (Fits self.now) }
     {
         if let Some(fault) = self.unfit(row) {
@@ -157,7 +157,7 @@ impl Tables {
     }
 
     fn judge_set<'c>(&self, row: MethodRow) -> Result<Edit<'c>, ChangeFault>
-        ensures meaning { (h : History) → StandsAt self.now h → Judges h (Change.SetImp row.class row.sel row.imp) result }
+        ensures meaning { (h : Log) → StandsAt self.now h → Judges h (Change.SetImp row.class row.sel row.imp) result }
         ensures fits { IfOk result (Fits self.now) }
     {
         if let Some(fault) = self.unfit(row) {
@@ -177,7 +177,7 @@ impl Tables {
     }
 
     fn no_class_of_two(&self, class: ClassRef, other: ClassRef) -> bool
-        ensures meaning { (h : History) → StandsAt self.now h → result ≡ (spec.no_class h class || spec.no_class h other) }
+        ensures meaning { (h : Log) → StandsAt self.now h → result ≡ (spec.no_class h class || spec.no_class h other) }
         ensures class { result ≡ false → class.class < length self.now.supers }
         ensures other { result ≡ false → other.class < length self.now.supers }
     {
@@ -191,7 +191,7 @@ impl Tables {
         other: ClassRef,
         other_sel: Selector,
     ) -> Result<Edit<'c>, ChangeFault>
-        ensures meaning { (h : History) → StandsAt self.now h → Judges h (Change.Exchange class sel other other_sel) result }
+        ensures meaning { (h : Log) → StandsAt self.now h → Judges h (Change.Exchange class sel other other_sel) result }
         ensures fits { IfOk result (Fits self.now) }
     {
         if self.no_class_of_two(class, other) {
@@ -250,7 +250,7 @@ impl Tables {
 
     // Why the methods could not be attached, whatever stands there.
     fn unfit_methods(&self, methods: &MethodList, class_methods: &MethodList) -> Option<ChangeFault>
-        ensures meaning { (h : History) → StandsAt self.now h → result ≡ spec.least_change_fault (spec.unfit_methods h (methods.now ++ class_methods.now)) }
+        ensures meaning { (h : Log) → StandsAt self.now h → result ≡ spec.least_change_fault (spec.unfit_methods h (methods.now ++ class_methods.now)) }
         ensures methods { result ≡ None → are_listed (last_imp self.now.counts) methods.now ≡ true }
         ensures class_methods { result ≡ None → are_listed (last_imp self.now.counts) class_methods.now ≡ true }
     {
@@ -271,7 +271,7 @@ impl Tables {
         methods: &'c MethodList,
         class_methods: &'c MethodList,
     ) -> Result<Edit<'c>, ChangeFault>
-        ensures meaning { (h : History) → StandsAt self.now h → Judges h (Change.Attach class methods.now class_methods.now) result }
+        ensures meaning { (h : Log) → StandsAt self.now h → Judges h (Change.Attach class methods.now class_methods.now) result }
         ensures fits { IfOk result (Fits self.now) }
     {
         if self.no_class(ClassRef { class, meta: false }) {
@@ -293,7 +293,7 @@ impl Tables {
     }
 
     fn judge_make<'c>(&self, class: u32, superclass: Option<u32>) -> Result<Edit<'c>, ChangeFault>
-        ensures meaning { (h : History) → StandsAt self.now h → Judges h (Change.AddClass class superclass) result }
+        ensures meaning { (h : Log) → StandsAt self.now h → Judges h (Change.AddClass class superclass) result }
         ensures fits { IfOk result (Fits self.now) }
     {
         if self.no_number(class) {
@@ -313,7 +313,7 @@ impl Tables {
 
     // What the change would write, or the least fault for which it is refused.
     pub(crate) fn judge<'c>(&self, change: &'c Change) -> Result<Edit<'c>, ChangeFault>
-        ensures meaning { (h : History) → StandsAt self.now h → Judges h change.now result }
+        ensures meaning { (h : Log) → StandsAt self.now h → Judges h change.now result }
         ensures fits { IfOk result (Fits self.now) }
     {
         match change {

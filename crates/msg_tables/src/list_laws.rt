@@ -5,47 +5,47 @@ ghost use Rattle.msg_names.specs.declared.value.ClassRef.{ClassRef};
 ghost use Rattle.msg_tables.specs.Origin.{IsSound};
 ghost use Rattle.msg_tables.specs.declared.change.Change.{Change};
 ghost use Rattle.msg_tables.specs.declared.fault.ChangeFault.{ChangeFault};
-ghost use Rattle.msg_tables.specs.History.{History, and_then, chain_at, table, table_after_all, lookup};
-ghost use Rattle.msg_tables.specs.Refusal.{IsHistory, AreAccepted, refusal};
-ghost use Rattle.msg_tables.specs.Several.{and_all, refused_from, refused_at, refusal_of_all, is_affected_by_all};
+ghost use Rattle.msg_tables.specs.Log.{Log, and_then, chain_at, table, table_after_all, lookup};
+ghost use Rattle.msg_tables.specs.Refusal.{IsLog, AreAccepted, refusal};
+ghost use Rattle.msg_tables.specs.Several.{and_all, refused_from, refusal_of_all, is_affected_by_all};
 ghost use Rattle.msg_tables.specs.Chain.{is_member};
 ghost use Rattle.msg_tables.specs.Undo.{undo, undo_all};
 
 /// The tables after a change are those after its parts, one after another.
 pub fn parts_come_one_after_another()
-    ensures { (h : History) (xs : List Change) → table (and_all h xs) ≡ table_after_all (table h) xs }
+    ensures { (h : Log) (xs : List Change) → table (and_all h xs) ≡ table_after_all (table h) xs }
 {}
 
 /// A change of parts is accepted just where they would be, one after another.
 pub fn parts_are_accepted_one_after_another()
-    ensures accepted { (h : History) (xs : List Change) (k : ℕ) → refused_from k h xs ≡ None → AreAccepted h xs }
-    ensures all { (h : History) (xs : List Change) (k : ℕ) → AreAccepted h xs → refused_from k h xs ≡ None }
+    ensures accepted { (h : Log) (xs : List Change) (k : ℕ) → refused_from k h xs ≡ None → AreAccepted h xs }
+    ensures all { (h : Log) (xs : List Change) (k : ℕ) → AreAccepted h xs → refused_from k h xs ≡ None }
 {}
 
 /// The part that is named is the first that would be refused, for that fault.
 pub fn a_refused_part_is_the_first()
-    ensures { (h : History) (xs : List Change) (n : ℕ) (f : ChangeFault) → refused_from 0 h xs ≡ Some (n, f)
+    ensures { (h : Log) (xs : List Change) (n : ℕ) (f : ChangeFault) → refused_from 0 h xs ≡ Some (n, f)
         → (before : List Change) × (x : Change) × (later : List Change) × (xs ≡ before ++ x ∷ later) × (length before ≡ n) × AreAccepted h before × (refusal (and_all h before) x ≡ Some f) }
 {}
 
 /// A change of one part is refused as that part.
 pub fn one_part_is_refused_as_itself()
-    ensures { (h : History) (x : Change) → refusal_of_all h (x ∷ []) ≡ refusal h x }
+    ensures { (h : Log) (x : Change) → refusal_of_all h (x ∷ []) ≡ refusal h x }
 {}
 
 /// A class reference that an accepted change affects in no part finds what it found.
 pub fn a_change_of_parts_affects_no_more()
-    ensures { (h : History) (xs : List Change) (c : ClassRef) (s : ℕ) → IsSound h.origin → IsHistory h → refusal_of_all h xs ≡ None → is_affected_by_all h xs c ≡ false
+    ensures { (h : Log) (xs : List Change) (c : ClassRef) (s : ℕ) → IsSound h.origin → IsLog h → refusal_of_all h xs ≡ None → is_affected_by_all h xs c ≡ false
         → lookup (and_all h xs) c s ≡ lookup h c s }
 {}
 
 /// What stands below a class reference stays there while parts are made: what a part affects can be sought once all are made.
 pub fn what_is_below_stays_below()
-    ensures { (h : History) (xs : List Change) (c p : ClassRef) → IsSound h.origin → IsHistory h → AreAccepted h xs → is_member p (chain_at h c) ≡ true → is_member p (chain_at (and_all h xs) c) ≡ true }
+    ensures { (h : Log) (xs : List Change) (c p : ClassRef) → IsSound h.origin → IsLog h → AreAccepted h xs → is_member p (chain_at h c) ≡ true → is_member p (chain_at (and_all h xs) c) ≡ true }
 {}
 
 /// A change and what takes it back leave the tables, and so each lookup, as they were.
 pub fn an_undone_change_is_as_before()
-    ensures tables { (h : History) (xs ys : List Change) → undo_all (table h) xs ≡ Some ys → table (and_all (and_all h xs) ys) ≡ table h }
-    ensures lookups { (h : History) (xs ys : List Change) (c : ClassRef) (s : ℕ) → undo_all (table h) xs ≡ Some ys → lookup (and_all (and_all h xs) ys) c s ≡ lookup h c s }
+    ensures tables { (h : Log) (xs ys : List Change) → undo_all (table h) xs ≡ Some ys → table (and_all (and_all h xs) ys) ≡ table h }
+    ensures lookups { (h : Log) (xs ys : List Change) (c : ClassRef) (s : ℕ) → undo_all (table h) xs ≡ Some ys → lookup (and_all (and_all h xs) ys) c s ≡ lookup h c s }
 {}

@@ -5,7 +5,7 @@ ghost use Rattle.msg_names.specs.declared.value.ClassRef.{ClassRef};
 ghost use Rattle.msg_names.specs.ClassRef.{slot_of};
 ghost use Rattle.msg_tables.specs.Below.{is_among};
 ghost use Rattle.msg_tables.specs.Chain.{is_member};
-ghost use Rattle.msg_tables.specs.History.{History, chain_at};
+ghost use Rattle.msg_tables.specs.Log.{Log, chain_at};
 ghost use Rattle.msg_tables.specs.Marking.{is_marked};
 ghost use Rattle.msg_tables.specs.Preorder.{is_in};
 ghost use Rattle.msg_tables.specs.Stands.{StandsAt};
@@ -109,7 +109,7 @@ impl Tables {
     pub fn descendants(&self, class: ClassRef, marks: &mut Marks)
         requires class { class.class < length self.now.supers }
         requires marks { length marks.old ≡ 2 * length self.now.supers }
-        ensures marks { (h : History) → StandsAt self.now h → (c : ClassRef) → c.class < length self.now.supers
+        ensures marks { (h : Log) → StandsAt self.now h → (c : ClassRef) → c.class < length self.now.supers
             → is_marked marks.new c ≡ (is_marked marks.old c || is_member class (chain_at h c)) }
         ensures room { length marks.new ≡ length marks.old }
     {

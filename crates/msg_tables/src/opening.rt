@@ -3,7 +3,7 @@
 ghost use Rattle.std.specs.Prelude.{◌≡◌, ◌<◌, ◌≤◌, ◌+◌, ◌*◌, [], Some, IfOk, OnOk, if◌then◌else◌, length, replicate, slice_get, sum_by, take, true};
 ghost use Rattle.std.specs.Vec.{vec_capacity};
 ghost use Rattle.msg_tables.specs.After.{opened_supers, rows_at, list_rows};
-ghost use Rattle.msg_tables.specs.History.{empty};
+ghost use Rattle.msg_tables.specs.Log.{empty};
 ghost use Rattle.msg_tables.specs.Methods.{method_numbers};
 ghost use Rattle.msg_tables.specs.Opening.{Adds, IsBlank, IsFor, size_of_list};
 ghost use Rattle.msg_tables.specs.Order.{IsOrder};

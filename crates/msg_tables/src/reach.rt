@@ -3,7 +3,7 @@
 ghost use Rattle.std.specs.Prelude.{◌≡◌, ◌<◌, ◌*◌, OnOk, OnErr, IfErr, None, Some, length};
 ghost use Rattle.msg_names.specs.Number.{selector_number};
 ghost use Rattle.msg_tables.specs.Affected.{at_most_one, if_any};
-ghost use Rattle.msg_tables.specs.History.{History, holder};
+ghost use Rattle.msg_tables.specs.Log.{Log, holder};
 ghost use Rattle.msg_tables.specs.Marking.{MarksBelow, MarksAffected};
 ghost use Rattle.msg_tables.specs.Refusal.{refusal};
 ghost use Rattle.msg_tables.specs.Stands.{StandsAt};
@@ -20,7 +20,7 @@ impl Tables {
     fn mark_holder(&self, class: ClassRef, sel: Selector, marks: &mut Marks)
         requires class { class.class < length self.now.supers }
         requires marks { length marks.old ≡ 2 * length self.now.supers }
-        ensures marks { (h : History) → StandsAt self.now h → MarksBelow (length self.now.supers) h (at_most_one (holder h class (selector_number sel))) marks.old marks.new }
+        ensures marks { (h : Log) → StandsAt self.now h → MarksBelow (length self.now.supers) h (at_most_one (holder h class (selector_number sel))) marks.old marks.new }
         ensures room { length marks.new ≡ length marks.old }
     {
         if let Some(place) = self.holder(class, sel) {
@@ -32,7 +32,7 @@ impl Tables {
     fn mark_attached(&self, class: ClassRef, methods: &MethodList, marks: &mut Marks)
         requires class { class.class < length self.now.supers }
         requires marks { length marks.old ≡ 2 * length self.now.supers }
-        ensures marks { (h : History) → StandsAt self.now h → MarksBelow (length self.now.supers) h (if_any methods.now class) marks.old marks.new }
+        ensures marks { (h : Log) → StandsAt self.now h → MarksBelow (length self.now.supers) h (if_any methods.now class) marks.old marks.new }
         ensures room { length marks.new ≡ length marks.old }
     {
         if !methods.as_slice().is_empty() {
@@ -42,9 +42,9 @@ impl Tables {
 
     // Marks what an accepted change affects, beside what is marked.
     fn mark_affected(&self, change: &Change, marks: &mut Marks)
-        requires accepted { (h : History) × StandsAt self.now h × (refusal h change.now ≡ None) }
+        requires accepted { (h : Log) × StandsAt self.now h × (refusal h change.now ≡ None) }
         requires marks { length marks.old ≡ 2 * length self.now.supers }
-        ensures marks { (h : History) → StandsAt self.now h → MarksAffected (length self.now.supers) h change.now marks.old marks.new }
+        ensures marks { (h : Log) → StandsAt self.now h → MarksAffected (length self.now.supers) h change.now marks.old marks.new }
         ensures room { length marks.new ≡ length marks.old }
     {
         match change {
@@ -84,11 +84,11 @@ impl Tables {
     ///
     /// It looks at the classes that it marks and at one or two more, and takes no memory. No lookup of a class reference that it doesn't mark is altered by the change.
     pub fn reach(&self, change: &Change, marks: &mut Marks) -> Result<(), ChangeFault>
-        requires stands { (h : History) × StandsAt self.now h }
+        requires stands { (h : Log) × StandsAt self.now h }
         requires marks { length marks.old ≡ 2 * length self.now.supers }
-        ensures ok { OnOk result ((h : History) → StandsAt self.now h → (refusal h change.now ≡ None) × MarksAffected (length self.now.supers) h change.now marks.old marks.new) }
+        ensures ok { OnOk result ((h : Log) → StandsAt self.now h → (refusal h change.now ≡ None) × MarksAffected (length self.now.supers) h change.now marks.old marks.new) }
         ensures err { OnErr result (marks.new ≡ marks.old) }
-        ensures fault { IfErr result (λ f. (h : History) → StandsAt self.now h → refusal h change.now ≡ Some f) }
+        ensures fault { IfErr result (λ f. (h : Log) → StandsAt self.now h → refusal h change.now ≡ Some f) }
         ensures room { length marks.new ≡ length marks.old }
     {
         self.judge(change)?;

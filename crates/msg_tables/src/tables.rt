@@ -4,7 +4,7 @@ ghost use Rattle.std.specs.Prelude.{◌≡◌, ◌<◌, ◌≤◌, length, optio
 ghost use Rattle.msg_names.specs.Number.{selector_number, imp_number};
 ghost use Rattle.msg_names.specs.ClassRef.{above, slot_of};
 ghost use Rattle.msg_tables.specs.Chain.{super_of, chain_of, steps_of, is_present, only_present};
-ghost use Rattle.msg_tables.specs.History.{History, lookup, holder, superclass};
+ghost use Rattle.msg_tables.specs.Log.{Log, lookup, holder, superclass};
 ghost use Rattle.msg_tables.specs.RowList.{own_in};
 ghost use Rattle.msg_tables.specs.Stands.{StandsAt};
 ghost use Rattle.msg_tables.specs.View.{kept, kept_method};
@@ -19,7 +19,7 @@ use crate::rows::MethodRows;
 use msg_names::{ClassRef, ImpRef, Selector};
 use std::marker::Model;
 
-/// The class tables at a point of their history.
+/// The class tables at a point of their log.
 ///
 /// A lookup goes up the superclasses, and at each hashes the selector once, however many methods the class has.
 #[derive(Drop)]
@@ -60,7 +60,7 @@ impl Tables {
     pub fn superclass(&self, class: ClassRef) -> Option<ClassRef>
         requires { class.class < length self.now.supers }
         ensures listed { IfSome result (λ above. above.class < length self.now.supers) }
-        ensures meaning { (h : History) → StandsAt self.now h → result ≡ superclass h class }
+        ensures meaning { (h : Log) → StandsAt self.now h → result ≡ superclass h class }
     {
         self.above(class)
     }
@@ -132,7 +132,7 @@ impl Tables {
     pub fn lookup(&self, class: ClassRef, sel: Selector) -> ImpRef
         requires { class.class < length self.now.supers }
         ensures listed { imp_number result ≤ last_imp self.now.counts }
-        ensures meaning { (h : History) → StandsAt self.now h → imp_number result ≡ lookup h class (selector_number sel) }
+        ensures meaning { (h : Log) → StandsAt self.now h → imp_number result ≡ lookup h class (selector_number sel) }
     {
         match self.method(class, sel) {
             Some(method) => method.imp,
@@ -144,7 +144,7 @@ impl Tables {
     pub fn holder(&self, class: ClassRef, sel: Selector) -> Option<ClassRef>
         requires { class.class < length self.now.supers }
         ensures listed { IfSome result (λ holder. holder.class < length self.now.supers) }
-        ensures meaning { (h : History) → StandsAt self.now h → result ≡ holder h class (selector_number sel) }
+        ensures meaning { (h : Log) → StandsAt self.now h → result ≡ holder h class (selector_number sel) }
     {
         Some(self.method(class, sel)?.holder)
     }

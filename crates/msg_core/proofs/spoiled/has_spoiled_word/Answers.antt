@@ -1,7 +1,7 @@
 -- a word that will not agree is some word that will not
 use Rattle.std.proofs.Common.{◌<◌, ◌∙◌, sym, ap, subst, slice_index, length}
 use Rattle.std.specs.Prelude.{◌&&◌}
-use Rattle.msg_tables.specs.History.{lookup, and_then}
+use Rattle.msg_tables.specs.Log.{lookup, and_then}
 use Rattle.msg_core.specs.Steps.{is_entry, disagrees}
 use Rattle.msg_core.proofs.BelowLemmas.{some_below-true}
 use Rattle.msg_core.proofs.spoiled.has_spoiled_word.Goals as goal

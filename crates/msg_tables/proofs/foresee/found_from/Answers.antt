@@ -3,8 +3,8 @@ use Rattle.std.proofs.Common.{◌≡◌, ◌<◌, ◌≤◌, ℕ, suc, length, o
 use Rattle.msg_names.specs.Number.{selector_number, imp_number}
 use Rattle.msg_tables.specs.After.{supers_after}
 use Rattle.msg_tables.specs.Chain.{is_present, super_of}
-use Rattle.msg_tables.specs.History.{table}
-use Rattle.msg_tables.proofs.HistoryLemmas.{length-supers_after}
+use Rattle.msg_tables.specs.Log.{table}
+use Rattle.msg_tables.proofs.LogLemmas.{length-supers_after}
 use Rattle.msg_tables.proofs.ForeseeLemmas.{supers_then, comes_first, way_stop, way_end, way_up}
 use Rattle.msg_tables.proofs.foresee.found_from.Goals as goal
 

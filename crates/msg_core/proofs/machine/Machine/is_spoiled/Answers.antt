@@ -1,8 +1,10 @@
 -- the array's words, and the tables' classes
-use Rattle.std.proofs.Common.{◌≡◌, ◌<◌, length, map, sym, ◌∙◌, ap, subst}
+use Rattle.std.proofs.Common.{[], ◌∷◌, ◌≡◌, ◌<◌, length, map, sym, ◌∙◌, ap, subst}
 use Rattle.std.specs.Prelude.{None, slice_index}
 use Rattle.msg_tables.specs.Origin.{class_total}
-use Rattle.msg_tables.specs.History.{lookup, and_then}
+use Rattle.msg_tables.specs.Log as logs
+use Rattle.msg_tables.specs.History.{lookup, and_then, log}
+use Rattle.msg_tables.proofs.HistoryLemmas.{log-one}
 use Rattle.msg_tables.specs.Refusal.{refusal}
 use Rattle.msg_tables.proofs.StandsLemmas.{class_count}
 use Rattle.msg_core.specs.declared.state.Standing.TheVariants.{Live}
@@ -21,15 +23,16 @@ has_spoiled_word-requires-clause-class c = class_listed c.self.inside.tables _ c
 pub has_spoiled_word-requires-clause-listed : goal.has_spoiled_word-requires-clause-listed
 has_spoiled_word-requires-clause-listed c =
     subst (λ n. SeeksAmong n c.args.change.now) (sym (class_count c.self.inside.tables _ c.self.invariant.tables))
-    (seeks-listed _ c.args.change.now (subst (λ v. refusal v.history c.args.change.now ≡ None) (sym c.self.view_is) c.requires.accepted))
+    (seeks-listed _ c.args.change.now (subst (λ v. refusal (log v.history) c.args.change.now ≡ None) (sym c.self.view_is) c.requires.accepted))
 
 pub returns-in-Live : goal.returns-in-Live
 returns-in-Live c =
     let a = c.args.array in
     let x = c.args.change.now in
     let standing = subst (λ v. Live c.in-Live.class ≡ standing_at v.standings a) (sym c.self.view_is) c.in-Live.ensures.standing in
-    subst (λ (v : MachineView). c.has_spoiled_word.result ≡ is_spoiled (lookup (and_then v.history x)) (slice_index (map length v.arrays) a) (word_at v.arrays a) (standing_at v.standings a)) c.self.view_is
-    (c.has_spoiled_word.ensures (view_of c.self.inside).history c.self.invariant.tables
-    ∙ spoiled_as (lookup (and_then (view_of c.self.inside).history x)) c.self.inside.arrays.items a c.index.result.now (Live c.in-Live.class)
+    subst (λ (v : MachineView). c.has_spoiled_word.result ≡ is_spoiled (lookup (and_then v.history (x ∷ []))) (slice_index (map length v.arrays) a) (word_at v.arrays a) (standing_at v.standings a)) c.self.view_is
+    (c.has_spoiled_word.ensures (log (view_of c.self.inside).history) c.self.invariant.tables
+    ∙ ap (λ g. is_spoiled (logs.lookup g) (length c.index.result.now) (slice_index c.index.result.now) (Live c.in-Live.class)) (sym (log-one (view_of c.self.inside).history x))
+    ∙ spoiled_as (lookup (and_then (view_of c.self.inside).history (x ∷ []))) c.self.inside.arrays.items a c.index.result.now (Live c.in-Live.class)
     (subst (λ (v : MachineView). a < length (map length v.arrays)) (sym c.self.view_is) c.requires.array) c.index.ensures
-    ∙ ap (is_spoiled (lookup (and_then (view_of c.self.inside).history x)) (slice_index (map length c.self.inside.arrays.items) a) (word_at c.self.inside.arrays.items a)) standing)
+    ∙ ap (is_spoiled (lookup (and_then (view_of c.self.inside).history (x ∷ []))) (slice_index (map length c.self.inside.arrays.items) a) (word_at c.self.inside.arrays.items a)) standing)

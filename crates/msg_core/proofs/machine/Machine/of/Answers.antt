@@ -1,6 +1,7 @@
 -- each list is as it is made
-use Rattle.std.proofs.Common.{◌≡◌, ◌*◌, rules, replicate, length, sym, ap, ◌∙◌, subst}
+use Rattle.std.proofs.Common.{[], ◌∷◌, map, ◌≡◌, ◌*◌, rules, replicate, length, sym, ap, ◌∙◌, subst}
 use Rattle.std.specs.Prelude.{None}
+use Rattle.msg_tables.specs.History.{log}
 use Rattle.msg_tables.specs.Stands.{StandsAt}
 use Rattle.msg_core.specs.declared.state.Standing.TheVariants.{Free}
 use Rattle.msg_core.specs.declared.state.Whereabouts.TheVariants.{Out}
@@ -14,7 +15,7 @@ is_new c =
     let standings : c.in_ok-vec-2.field-0.items ≡ replicate (length c.args.arrays.now) Free = search rules in
     let whereabouts : c.in_ok-vec-3.field-0.items ≡ replicate c.args.senders Out = search rules in
     record {
-      history = λ i. record { origin = c.of.ensures i; changes = c.new.ensures.items i };
+      history = λ i. record { origin = c.of.ensures i; changes = map (λ x. x ∷ []) (c.new.ensures.items i) };
       live = live ∙ ap (λ n. replicate (2 * n) None) c.class_count-classes.ensures.count;
       arrays = c.in_ok-empty_arrays.ensures;
       standings = standings;
@@ -24,7 +25,7 @@ is_new c =
 pub invariant_of-result : goal.invariant_of-result
 invariant_of-result c = record {
   whole = new_whole c.args.origin.now c.args.senders c.args.arrays.now _ (is_new c) c.requires.few_senders;
-  tables = subst (λ h. StandsAt c.in_ok-open.field-0 h) (sym (is_new c).history) c.in_ok-open.ensures.stands;
+  tables = subst (λ h. StandsAt c.in_ok-open.field-0 (log h)) (sym (is_new c).history) c.in_ok-open.ensures.stands;
 }
 
 pub returns-clause-layout : goal.returns-clause-layout

@@ -1,5 +1,5 @@
 -- no array so far is spoiled
-use Rattle.std.proofs.Common.{◌≡◌, false}
+use Rattle.std.proofs.Common.{[], ◌∷◌, ◌≡◌, false}
 use Rattle.msg_tables.specs.History.{lookup, and_then}
 use Rattle.msg_core.specs.State.{capacity}
 use Rattle.msg_core.specs.Steps.{some_below, is_spoiled}
@@ -8,4 +8,4 @@ use Rattle.msg_core.proofs.machine.Machine.spoils.Given as goal
 
 abbrev pub invariant-loop-array : goal.invariant-loop-array
 invariant-loop-array l =
-    some_below l.array (λ a. is_spoiled (lookup (and_then l.fn.self.history l.change)) (capacity (layout_of l.fn.self) a) ((state_of l.fn.self).word a) ((state_of l.fn.self).standing a)) ≡ false
+    some_below l.array (λ a. is_spoiled (lookup (and_then l.fn.self.history (l.change ∷ []))) (capacity (layout_of l.fn.self) a) ((state_of l.fn.self).word a) ((state_of l.fn.self).standing a)) ≡ false

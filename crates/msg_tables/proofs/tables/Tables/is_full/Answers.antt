@@ -1,7 +1,7 @@
 use Rattle.std.proofs.Common.{◌≡◌, ◌∙◌, ap, refl, length, arith, true, false}
 use Rattle.std.specs.Prelude.{nat_le}
 use Rattle.std.proofs.lemmas.Bool.Decides.{nat_tests}
-use Rattle.msg_tables.specs.History.{table}
+use Rattle.msg_tables.specs.Log.{table}
 use Rattle.msg_tables.specs.Refusal.{is_full}
 use Rattle.msg_tables.proofs.tables.Tables.is_full.Goals as goal
 

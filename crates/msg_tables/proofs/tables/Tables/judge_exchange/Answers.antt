@@ -2,7 +2,7 @@ use Rattle.std.proofs.Common.{◌≡◌, ◌∙◌, ap, ℕ, sym, refl, true, fa
 use Rattle.std.specs.Option.{option_map_or}
 use Rattle.msg_names.specs.declared.value.ClassRef.{ClassRef}
 use Rattle.msg_names.specs.Number.{selector_number, imp_number}
-use Rattle.msg_tables.specs.History.{holder, lookup}
+use Rattle.msg_tables.specs.Log.{holder, lookup}
 use Rattle.msg_tables.specs.Refusal.{unlike, is_full}
 use Rattle.msg_tables.proofs.JudgeLemmas.{refusal-exchange, rows-exchange}
 use Rattle.msg_tables.proofs.LookupLemmas.{holder-stands, lookup-stands}

@@ -1,7 +1,7 @@
 use Rattle.std.proofs.Common.{◌≡◌, ◌∙◌, ap, ℕ, sym, refl, true, false, None, Some, option_map}
 use Rattle.msg_names.specs.declared.value.ClassRef.{ClassRef}
 use Rattle.msg_names.specs.Number.{selector_number}
-use Rattle.msg_tables.specs.History.{holder}
+use Rattle.msg_tables.specs.Log.{holder}
 use Rattle.msg_tables.specs.Refusal.{is_full}
 use Rattle.msg_tables.proofs.JudgeLemmas.{unfit-set, fit-set, rows-set}
 use Rattle.msg_tables.proofs.LookupLemmas.{holder-stands}

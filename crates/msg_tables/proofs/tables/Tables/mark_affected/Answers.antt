@@ -2,7 +2,7 @@ use Rattle.std.proofs.Common.{ap, sym, ◌∙◌, subst, length, arith}
 use Rattle.msg_tables.specs.declared.change.Change.{Change}
 use Rattle.msg_tables.specs.Affected.{at_most_one, if_any}
 use Rattle.msg_tables.specs.After.{of_class, of_meta}
-use Rattle.msg_tables.specs.History.{holder}
+use Rattle.msg_tables.specs.Log.{holder}
 use Rattle.msg_names.specs.Number.{selector_number}
 use Rattle.msg_tables.specs.Marking.{MarksAffected}
 use Rattle.msg_tables.specs.Refusal.{refusal}

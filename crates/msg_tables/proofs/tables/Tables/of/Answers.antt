@@ -1,4 +1,4 @@
-use Rattle.msg_tables.specs.History.{empty}
+use Rattle.msg_tables.specs.Log.{empty}
 use Rattle.msg_tables.specs.Stands.{StandsAt}
 use Rattle.msg_tables.proofs.OpeningLemmas.{stands-open}
 use Rattle.msg_tables.proofs.StandsLemmas.{class_count}
