@@ -9,8 +9,8 @@ use Rattle.msg_names.specs.declared.value.ClassRef.{ClassRef}
 use Rattle.msg_buckets.specs.Word.{sel_of, imp_of}
 use Rattle.msg_tables.specs.Origin.{OriginView, class_total}
 use Rattle.msg_tables.specs.declared.change.Change.{Change}
-use Rattle.msg_tables.specs.History.{History, and_then}
-use Rattle.msg_tables.specs.Refusal.{refusal as change_refusal}
+use Rattle.msg_tables.specs.History.{History, and_then, log}
+use Rattle.msg_tables.specs.Several.{refusal_of_all}
 use Rattle.msg_core.specs.declared.state.Standing.TheVariants.{Free, Live}
 use Rattle.msg_core.specs.declared.state.Whereabouts.TheVariants.{Out}
 use Rattle.msg_core.specs.State.{Layout, capacity, size, awaits, Agrees}
@@ -82,21 +82,21 @@ module _ (look : History → ClassRef → ℕ → ℕ) (key : SettingView) (slot
         sat_is (stored i 0 (keeper_of m.0)),
       )
 
-  pub commit_allowed : (x : Change) (g : History) → (keeper_of m.0).turn ≡ Home g → change_refusal (keeper_of m.0).history x ≡ None
+  pub commit_allowed : (x : List Change) (g : History) → 0 < length x → (keeper_of m.0).turn ≡ Home g → refusal_of_all (log (keeper_of m.0).history) x ≡ None
       → ((c : ClassRef) (b q : ℕ) → b < length key.capacities → standing_at (keeper_of m.0).standings b ≡ Live c → q < capacity (layout_of key) b
       → Agrees (look (and_then (keeper_of m.0).history x)) c (word_in (layout_of key) (keeper_of m.0).words b q))
       → (w : ℕ) → w ≡ size (keeper_of m.0).history + 1
       → Allows (holds look key) slots id m 0 (λ _. w) (λ _. Commits x (step slots 0 w 0 none) m w)
-  commit_allowed x g home accepted good w is_w st r homes at bound =
+  commit_allowed x g filled home accepted good w is_w st r homes at bound =
       let e : r.keeper ≡ keeper_of m.0 = own st r at in
-      let legal = may_commit look (layout_of key) (shown_by look (layout_of key) key.origin r) x (ap (λ (y : KeeperView). change_refusal y.history x) e ∙ accepted)
+      let legal = may_commit look (layout_of key) (shown_by look (layout_of key) key.origin r) x (ap (λ (y : KeeperView). refusal_of_all (log y.history) x) e ∙ accepted)
       (subst (λ (y : KeeperView). (c : ClassRef) (b q : ℕ) → b < length key.capacities → standing_at y.standings b ≡ Live c → q < capacity (layout_of key) b
       → Agrees (look (and_then y.history x)) c (word_in (layout_of key) y.words b q)) (sym e) good) in (
         Keeper (committed x (keeper_of m.0)),
         keeps,
         tt,
         subst (λ (y : ℕ × KeeperView). RuledBy look key (slice_set st.words 0 y.0) (slice_set st.views id (Keeper (committed x y.1)))) (λ i. ((ap (λ (y : KeeperView). size y.history + 1) e ∙ sym is_w) i, e i))
-            (commit_step look (layout_of key) key.origin st.words st.views r id (at_own st r at) x g (ap (λ (y : KeeperView). y.turn) e ∙ home) legal).1.0,
+            (commit_step look (layout_of key) key.origin st.words st.views r id (at_own st r at) x g filled (ap (λ (y : KeeperView). y.turn) e ∙ home) legal).1.0,
         (sat_is (committed x (keeper_of m.0)), is_told st r e),
       )
 

@@ -9,7 +9,8 @@ use Rattle.msg_names.specs.declared.value.ClassRef.{ClassRef}
 use Rattle.msg_buckets.specs.Word.{sel_of, imp_of}
 use Rattle.msg_tables.specs.Origin.{OriginView}
 use Rattle.msg_tables.specs.declared.change.Change.{Change}
-use Rattle.msg_tables.specs.History.{History, BeginsWith, and_then, empty}
+use Rattle.msg_tables.specs.History.{History, BeginsWith, and_then, empty, log}
+use Rattle.msg_tables.proofs.SeveralLemmas.{accepted-all}
 use Rattle.msg_core.specs.Event.{Event, Fill, Install, Flush, Look, Clear, Commit}
 use Rattle.msg_core.specs.declared.state.Standing.{Standing}
 use Rattle.msg_core.specs.declared.state.Standing.TheVariants.{Free, Live, Retired}
@@ -163,9 +164,9 @@ module _ (look : History → ClassRef → ℕ → ℕ) (z : Layout) (origin : Or
       refl (begins_refl k.history) (λ d b n aw e. inl (aw, e)) (inl (refl, refl))
 
   -- the version word is stored, with the turn at home
-  pub commit_step : (x : Change) (g : History) → r.keeper.turn ≡ Home g → Legal look z (shown_by look z origin r) (Commit x)
+  pub commit_step : (x : List Change) (g : History) → 0 < length x → r.keeper.turn ≡ Home g → Legal look z (shown_by look z origin r) (Commit x)
       → GoesBy look z origin r (Commit x) (slice_set words 0 (size r.keeper.history + 1)) (slice_set views id (Keeper (committed x r.keeper)))
-  commit_step x g home legal =
+  commit_step x g filled home legal =
       let k = r.keeper in
       let w : ℕ = size k.history + 1 in
       let k' = committed x k in
@@ -177,7 +178,7 @@ module _ (look : History → ClassRef → ℕ → ℕ) (z : Layout) (origin : Or
         given = r.kept.given;
         version = get_or-set_same k.words 0 w 0 (let t = r.kept.words in omega arith) ∙ sym (length-append k.history.changes (x ∷ []));
         begins = begins_trans k'.history k.history (empty origin) more r.kept.begins;
-        accepted = accepted_next k.history x r.kept.accepted (legal_commit look z (shown_by look z origin r) x legal).0;
+        accepted = accepted_next k.history x r.kept.accepted filled (accepted-all (log k.history) x (legal_commit look z (shown_by look z origin r) x legal).0);
         told = begins_trans k'.history k.history k.told more r.kept.told;
         home = λ g' e. home_is g' k'.history e;
         never = λ e. absurd (cc);

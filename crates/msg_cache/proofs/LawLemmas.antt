@@ -124,7 +124,7 @@ pub store_is_clear : StoreIsClear
 store_is_clear key s r id k at = of_keeper key s r id (Clears key s r id) (λ own a p free lt. event key s _ r _ 0 refl (clear_step lookup (layout_of key) key.origin s.words s.views r id own a p free lt)) k at
 
 pub store_is_commit : StoreIsCommit
-store_is_commit key s r id k at = of_keeper key s r id (Commits key s r id) (λ own x g home legal. event key s _ r _ (size r.keeper.history + 1) refl (commit_step lookup (layout_of key) key.origin s.words s.views r id own x g home legal)) k at
+store_is_commit key s r id k at = of_keeper key s r id (Commits key s r id) (λ own x g filled home legal. event key s _ r _ (size r.keeper.history + 1) refl (commit_step lookup (layout_of key) key.origin s.words s.views r id own x g filled home legal)) k at
 
 pub witness_is_none : WitnessIsNone
 witness_is_none key s r id k at = of_keeper key s r id (Witnesses key s r id) (λ own. none key s _ r (idle_step lookup (layout_of key) key.origin s.words s.views r id own 0)) k at

@@ -335,7 +335,7 @@ module _ (look : History → ClassRef → ℕ → ℕ) (key : SettingView) (k : 
   pub kept_lent : TidyBy look key (lent k) → InOrder look key (lent k) rem has
   kept_lent tidy = record { tidy = tidy; cleared = kept.cleared; counted = kept.counted; counts = kept.counts; within = kept.within; capacities = kept.capacities; classes = kept.classes }
 
-  pub kept_committed : (x : Change) → TidyBy look key (lent (committed x k)) → InOrder look key (lent (committed x k)) rem has
+  pub kept_committed : (x : List Change) → TidyBy look key (lent (committed x k)) → InOrder look key (lent (committed x k)) rem has
   kept_committed x tidy =
       let z = layout_of key in
       let w : ℕ = size k.history + 1 in record {

@@ -1,13 +1,20 @@
 -- Histories with which others begin.
-use Rattle.std.proofs.Common.{◌≡◌, ℕ, ◌+◌, ◌-◌, ◌≤◌, [], ◌∷◌, ◌++◌, length, take, drop, None, subst, refl, sym, ap, ◌∙◌, arith, length-append, append_assoc}
+use Rattle.std.proofs.lemmas.List.Elements.{All-head, All-tail, All-nil, All-cons}
+use Rattle.std.proofs.Common.{◌≡◌, ℕ, List, All, ◌<◌, ◌+◌, ◌-◌, ◌≤◌, [], ◌∷◌, ◌++◌, length, take, drop, None, false, subst, refl, sym, ap, ◌∙◌, arith, length-append, append_assoc}
 use Rattle.std.proofs.lemmas.List.{append-nil, take-append-drop}
 use Rattle.std.proofs.Math.Seq.{take-append-add}
 use Rattle.msg_tables.specs.declared.change.Change.{Change}
 use Rattle.msg_tables.specs.Origin.{OriginView}
 use Rattle.msg_tables.specs.Origin.{IsSound}
-use Rattle.msg_tables.specs.History.{History, BeginsWith, and_then, empty}
-use Rattle.msg_tables.specs.Refusal.{refusal}
-use Rattle.msg_tables.proofs.HistoryLemmas.{history-and_then, history-before, history-empty}
+use Rattle.msg_tables.specs.History.{History, BeginsWith, and_then, empty, log, lookup}
+use Rattle.msg_names.specs.declared.value.ClassRef.{ClassRef}
+use Rattle.msg_tables.specs.Log as logs
+use Rattle.msg_tables.specs.Refusal.{AreAccepted}
+use Rattle.msg_tables.specs.Several.{refusal_of_all, is_affected_by_all}
+use Rattle.msg_tables.proofs.LimitLemmas.{accepted_few}
+use Rattle.msg_tables.proofs.SeveralLemmas.{accepted-all, kept-all}
+use Rattle.msg_tables.proofs.LogLemmas.{log-empty}
+use Rattle.msg_tables.proofs.HistoryLemmas.{is-longer, is-before, few-lists, log-all}
 use Rattle.msg_core.specs.State.{size, first}
 use Rattle.msg_cache.specs.Rule.{IsAccepted}
 
@@ -23,7 +30,7 @@ begins_trans h g f p q = record {
 pub begins_size : (h g : History) → BeginsWith h g → size g ≤ size h
 begins_size h g p = omega (arith, ap length p.rest.1, length-append g.changes p.rest.0)
 
-pub begins_next : (h : History) (x : Change) → BeginsWith (and_then h x) h
+pub begins_next : (h : History) (x : List Change) → BeginsWith (and_then h x) h
 begins_next h x = record { same = refl; rest = (x ∷ [], refl) }
 
 pub first_begins : (r : ℕ) (h : History) → BeginsWith h (first r h)
@@ -41,11 +48,40 @@ begins_first h g r p le =
 
 -- ---- accepted histories
 
-pub accepted_empty : (origin : OriginView) → IsSound origin → IsAccepted (empty origin)
-accepted_empty origin sound = record { origin = sound; changes = history-empty (empty origin) refl }
+some-push : (all : List (List Change)) (xs : List Change) → All (λ ys. 0 < length ys) all → 0 < length xs → All (λ ys. 0 < length ys) (all ++ xs ∷ [])
+some-push [] xs some one = All-cons (λ ys. 0 < length ys) xs [] one (All-nil (λ ys. 0 < length ys))
+some-push (x ∷ all) xs some one = All-cons (λ ys. 0 < length ys) x (all ++ xs ∷ []) (All-head (λ ys. 0 < length ys) x all some) (some-push all xs (All-tail (λ ys. 0 < length ys) x all some) one)
 
-pub accepted_next : (h : History) (x : Change) → IsAccepted h → refusal h x ≡ None → IsAccepted (and_then h x)
-accepted_next h x old none = record { origin = old.origin; changes = history-and_then h x old.changes none }
+some-before : (all more : List (List Change)) → All (λ ys. 0 < length ys) (all ++ more) → All (λ ys. 0 < length ys) all
+some-before [] more some = All-nil (λ ys. 0 < length ys)
+some-before (x ∷ all) more some = All-cons (λ ys. 0 < length ys) x all (All-head (λ ys. 0 < length ys) x (all ++ more) some) (some-before all more (All-tail (λ ys. 0 < length ys) x (all ++ more) some))
+
+pub accepted_empty : (origin : OriginView) → IsSound origin → IsAccepted (empty origin)
+accepted_empty origin sound = record { origin = sound; changes = log-empty (log (empty origin)) refl; some = All-nil (λ xs. 0 < length xs) }
+
+pub accepted_next : (h : History) (xs : List Change) → IsAccepted h → 0 < length xs → AreAccepted (log h) xs → IsAccepted (and_then h xs)
+accepted_next h xs old some all = record {
+  origin = old.origin;
+  changes = is-longer h xs old.changes all;
+  some = some-push h.changes xs old.some some;
+}
+
+-- a history has no more lists than changes, so the limit of changes is one of lists
+pub few_changes : (h : History) → IsAccepted h → size h ≤ length (log h).changes
+few_changes h accepted = few-lists h.changes accepted.some
+
+-- where changes are accepted, there is room for them
+pub few_more : (h : History) (xs : List Change) → IsAccepted h → 0 < length xs → refusal_of_all (log h) xs ≡ None → size h < h.origin.limits.changes
+few_more h [] accepted some none = absurd (omega arith)
+few_more h (x ∷ xs) accepted some none =
+    let all = accepted-all (log h) (x ∷ xs) none in
+    let few = accepted_few (log h) x all.0 in
+    let lists = few_changes h accepted in omega arith
+
+-- what no change of a list affects finds what it found
+pub lookup-kept_by_all : (h : History) (xs : List Change) (c : ClassRef) (s : ℕ) → IsAccepted h → refusal_of_all (log h) xs ≡ None → is_affected_by_all (log h) xs c ≡ false → lookup (and_then h xs) c s ≡ lookup h c s
+lookup-kept_by_all h xs c s accepted none e =
+    ap (λ g. logs.lookup g c s) (log-all h xs) ∙ kept-all (log h) xs c s accepted.origin accepted.changes (accepted-all (log h) xs none) e
 
 pub accepted_before : (h g : History) → BeginsWith h g → IsAccepted h → IsAccepted g
-accepted_before h g begins later = record { origin = subst IsSound begins.same later.origin; changes = history-before h g begins later.changes }
+accepted_before h g begins later = record { origin = subst IsSound begins.same later.origin; changes = is-before h g begins later.changes; some = some-before g.changes begins.rest.0 (subst (All (λ ys. 0 < length ys)) begins.rest.1 later.some) }

@@ -1,11 +1,11 @@
 -- What stays of the keeper's view by itself, and what it gives.
-use Rattle.std.proofs.Common.{◌≡◌, ℕ, ◌<◌, length, Bool, true, false, Some, None, refl, sym, ◌∙◌}
+use Rattle.std.proofs.Common.{List, ◌≡◌, ℕ, ◌<◌, length, Bool, true, false, Some, None, refl, sym, ◌∙◌}
 use Rattle.msg_tables.specs.Origin.{class_total}
 use Rattle.std.proofs.Math.ListN.{length-set}
 use Rattle.msg_names.specs.declared.value.ClassRef.{ClassRef}
 use Rattle.msg_tables.specs.declared.change.Change.{Change}
-use Rattle.msg_tables.specs.Affected.{is_affected}
-use Rattle.msg_tables.specs.History.{History, and_then}
+use Rattle.msg_tables.specs.Several.{is_affected_by_all}
+use Rattle.msg_tables.specs.History.{History, and_then, log}
 use Rattle.msg_core.specs.declared.state.Standing.TheVariants.{Live}
 use Rattle.msg_core.specs.State.{capacity, Agrees}
 use Rattle.msg_core.specs.View.{standing_at}
@@ -51,14 +51,14 @@ tidy_given look key k n t = record {
 }
 
 -- Where a change affects no class reference that has a live array, words of live arrays agree after it as before.
-pub agrees_after : (look : History → ClassRef → ℕ → ℕ) (key : SettingView) (k : KeeperView) (x : Change) → ((c : ClassRef) (s : ℕ) → is_affected k.history x c ≡ false → look (and_then k.history x) c s ≡ look k.history c s) → TidyBy look key k
-    → ((c : ClassRef) → c.class < class_total key.origin → is_affected k.history x c ≡ true → live_in (layout_of key) k.words c ≡ None)
+pub agrees_after : (look : History → ClassRef → ℕ → ℕ) (key : SettingView) (k : KeeperView) (x : List Change) → ((c : ClassRef) (s : ℕ) → is_affected_by_all (log k.history) x c ≡ false → look (and_then k.history x) c s ≡ look k.history c s) → TidyBy look key k
+    → ((c : ClassRef) → c.class < class_total key.origin → is_affected_by_all (log k.history) x c ≡ true → live_in (layout_of key) k.words c ≡ None)
     → (c : ClassRef) (b q : ℕ) → b < length key.capacities → standing_at k.standings b ≡ Live c → q < capacity (layout_of key) b → Agrees (look (and_then k.history x)) c (word_in (layout_of key) k.words b q)
 agrees_after look key k x unchanged t flushed c b q there live lt entry =
     let before = t.sound.lawful.live_words c b q live lt entry in
-    (before.0, before.1 ∙ sym (unchanged c _ (step (is_affected k.history x c) refl)))
+    (before.0, before.1 ∙ sym (unchanged c _ (step (is_affected_by_all (log k.history) x c) refl)))
   where
-    step : (b' : Bool) → is_affected k.history x c ≡ b' → is_affected k.history x c ≡ false
+    step : (b' : Bool) → is_affected_by_all (log k.history) x c ≡ b' → is_affected_by_all (log k.history) x c ≡ false
     step false e = e
     step true e =
         let none = flushed c (t.sound.in_range.live_class c b live) e in

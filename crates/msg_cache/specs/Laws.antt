@@ -1,5 +1,5 @@
 -- What the steps on a table are to the machine of events.
-use Rattle.std.specs.Prelude.{◌≡◌, ◌≢◌, ℕ, zero, suc, ◌+◌, ◌-◌, ◌==◌, ◌<◌, ◌≤◌, [], ◌∷◌, ◌++◌, length, true, false, slice_index, slice_set, replicate}
+use Rattle.std.specs.Prelude.{List, ◌≡◌, ◌≢◌, ℕ, zero, suc, ◌+◌, ◌-◌, ◌==◌, ◌<◌, ◌≤◌, [], ◌∷◌, ◌++◌, length, true, false, slice_index, slice_set, replicate}
 use Rattle.msg_tables.specs.Origin.{class_total}
 use mathlib.Core.Option.{some}
 use lib.ListN.{get_elem?}
@@ -180,8 +180,8 @@ abbrev pub StoreIsClear : Type 0
 StoreIsClear = OfKeeper Clears
 
 abbrev pub Commits : OfAKeeper
-Commits key s r id k = (x : Change) (g : History) → k.turn ≡ Home g → Legal lookup (layout_of key) (shown_at key s r) (Commit x)
-    → IsEvent key s r (Commit x) (size k.history + 1) (stepped s 0 (size k.history + 1) id [] (Keeper (committed x k)) keeps)
+Commits key s r id k = (xs : List Change) (g : History) → 0 < length xs → k.turn ≡ Home g → Legal lookup (layout_of key) (shown_at key s r) (Commit xs)
+    → IsEvent key s r (Commit xs) (size k.history + 1) (stepped s 0 (size k.history + 1) id [] (Keeper (committed xs k)) keeps)
 
 -- the store of the count of changes, one higher, while the turn is joined, where no live entry would disagree, is Commit
 abbrev pub StoreIsCommit : Type 0

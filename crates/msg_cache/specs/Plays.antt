@@ -3,7 +3,6 @@ use Rattle.std.specs.Prelude.{◌≡◌, ◌≢◌, ℕ, zero, suc, ◌+◌, ◌
 use Rattle.atomic_table.specs.Table.{Me, Step}
 use Rattle.msg_names.specs.declared.value.ClassRef.{ClassRef}
 use Rattle.msg_tables.specs.declared.change.Change.{Change}
-use Rattle.msg_tables.specs.declared.change.Change.TheVariants.{Attach}
 use Rattle.msg_tables.specs.History.{History, BeginsWith, and_then}
 use Rattle.msg_core.specs.declared.state.Standing.{Standing}
 use Rattle.msg_core.specs.declared.state.Standing.TheVariants.{Live, Retired}
@@ -46,9 +45,9 @@ no_keeper = record { history = no_history; words = []; standings = []; given = [
 abbrev pub no_setting : SettingView
 no_setting = record { origin = no_history.origin; senders = 0; capacities = [] }
 
--- a change
-abbrev pub no_change : Change
-no_change = Attach 0 [] []
+-- changes
+abbrev pub no_changes : List Change
+no_changes = []
 
 abbrev pub sender_of : View → SenderView
 sender_of (Sender v) = v
@@ -150,9 +149,9 @@ flushed c k = record k { words = slice_set k.words (header_at c) 0; standings = 
 abbrev pub installed : ClassRef → ℕ → KeeperView → KeeperView
 installed c a k = record k { words = slice_set k.words (header_at c) (suc a); standings = slice_set (retire c (named (slice_index k.words (header_at c))) k) a (Live c); stores = k.stores ++ (header_at c, suc a) ∷ [] }
 
--- the history is longer by a change, and word 0 counts it
-abbrev pub committed : Change → KeeperView → KeeperView
-committed x k = record k { history = and_then k.history x; words = slice_set k.words 0 (size k.history + 1); turn = Home (and_then k.history x); stores = k.stores ++ (0, size k.history + 1) ∷ [] }
+-- the history is longer by changes that are made as one, and word 0 counts them
+abbrev pub committed : List Change → KeeperView → KeeperView
+committed xs k = record k { history = and_then k.history xs; words = slice_set k.words 0 (size k.history + 1); turn = Home (and_then k.history xs); stores = k.stores ++ (0, size k.history + 1) ∷ [] }
 
 -- a sender number was looked at, and its sender is out or not
 abbrev pub looked : ℕ → Bool → KeeperView → KeeperView
@@ -200,9 +199,9 @@ Flushes st m n m' = (c : ClassRef) → st.word ≡ header_at c → m' ≡ kept (
 abbrev pub Installs : Telling
 Installs st m n m' = (c : ClassRef) (a : ℕ) → st.word ≡ header_at c → st.first ≡ suc a → m' ≡ kept (installed c a (keeper_of m.0))
 
--- the change is committed
-abbrev pub Commits : Change → Telling
-Commits x st m n m' = (m' ≡ kept (committed x (keeper_of m.0))) × IsTold (keeper_of m.0)
+-- the changes are committed
+abbrev pub Commits : List Change → Telling
+Commits xs st m n m' = (m' ≡ kept (committed xs (keeper_of m.0))) × IsTold (keeper_of m.0)
 
 -- the sender number was looked at, and is awaited no more if its probe word was 0
 abbrev pub Looks : ℕ → Telling

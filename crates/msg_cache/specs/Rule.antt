@@ -1,13 +1,13 @@
 -- The rule of a table: what its words, the keeper's view and the senders' views have to do with one another, and the state that it shows.
-use Rattle.std.specs.Prelude.{◌≡◌, ℕ, zero, suc, ◌+◌, ◌<◌, ◌≤◌, List, [], length, Bool, true, false, nat_lt, Option, Some, None, slice_index, replicate, if◌then◌else◌}
+use Rattle.std.specs.Prelude.{◌≡◌, ℕ, zero, suc, ◌+◌, ◌<◌, ◌≤◌, List, [], length, Bool, true, false, nat_lt, Option, Some, None, slice_index, replicate, if◌then◌else◌, All}
 use mathlib.Core.Option.{some}
 use lib.ListN.{get_elem?}
 use Rattle.atomic_table.specs.Table.{State as Table}
 use Rattle.msg_names.specs.declared.value.ClassRef.{ClassRef}
 use Rattle.msg_tables.specs.Origin.{OriginView}
 use Rattle.msg_tables.specs.Origin.{IsSound}
-use Rattle.msg_tables.specs.History.{History, BeginsWith, empty}
-use Rattle.msg_tables.specs.Refusal.{IsHistory}
+use Rattle.msg_tables.specs.History.{History, BeginsWith, empty, log}
+use Rattle.msg_tables.specs.Refusal.{IsLog}
 use Rattle.msg_core.specs.Event.{Event}
 use Rattle.msg_core.specs.declared.state.Standing.TheVariants.{Free, Retired}
 use Rattle.msg_core.specs.declared.state.Whereabouts.{Whereabouts}
@@ -43,10 +43,11 @@ shown z k whereabouts = state_from k.history (live_in z k.words) (word_in z k.wo
 
 -- ---- the rule
 
--- changes of a sound origin that were accepted one after another
+-- changes of a sound origin that were accepted one after another, in lists of which none is empty
 pub record IsAccepted (h : History) : Type 0 where
   pub origin : IsSound h.origin
-  pub changes : IsHistory h
+  pub changes : IsLog (log h)
+  pub some : All (λ xs. 0 < length xs) h.changes
 
 -- a probe word
 abbrev pub in_word : Whereabouts → ℕ

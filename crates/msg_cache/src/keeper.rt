@@ -7,9 +7,10 @@ ghost use Rattle.msg_buckets.specs.Capacity.{IsCapacity, fill_limit};
 ghost use Rattle.msg_buckets.specs.Probing.{empty as empty_end};
 ghost use Rattle.msg_buckets.specs.Array.{find_in, occupied_in};
 ghost use Rattle.msg_names.specs.declared.value.ClassRef.{ClassRef};
-ghost use Rattle.msg_tables.specs.History.{lookup, and_then, empty, BeginsWith};
+ghost use Rattle.msg_tables.specs.History.{lookup, empty, log, BeginsWith};
 ghost use Rattle.msg_tables.specs.Affected.{is_affected};
 ghost use Rattle.msg_tables.specs.Refusal.{refusal};
+ghost use Rattle.msg_tables.specs.Several.{refusal_of_all, is_affected_by_all};
 ghost use Rattle.msg_core.specs.State.{capacity as capacity_of, size, awaits};
 ghost use Rattle.msg_core.specs.Steps.{is_free};
 ghost use Rattle.msg_core.specs.declared.state.Standing.TheVariants.{Free, Live};
@@ -41,6 +42,7 @@ use msg_tables::{Change, MOST_SENDERS};
 use std::alloc::{AllocError, Global};
 use std::marker::Model;
 use std::mem::replace;
+use std::slice::from_ref;
 
 /// The keeper, with its own copy of all words but the probe words.
 #[derive(Drop)]
@@ -410,18 +412,38 @@ impl Keeper {
         true
     }
 
-    /// Adds a change to the history, and answers how many there are.
+    /// Adds a change to the history, and answers how many times changes were made.
     pub fn commit(&mut self, arena: &Arena, turn: &mut Turn, change: &Change) -> u64
         requires arena { IsOf arena.now self.old }
         requires turn { turn.old.table ≡ arena.now.table }
-        requires accepted { refusal (view self.old).history change.now ≡ None }
-        requires flushed { (c : ClassRef) → c.class < classes arena.now → is_affected (view self.old).history change.now c ≡ true
+        requires accepted { refusal (log (view self.old).history) change.now ≡ None }
+        requires flushed { (c : ClassRef) → c.class < classes arena.now → is_affected (log (view self.old).history) change.now c ≡ true
             → live_in (layout arena.now) (view self.old).words c ≡ None }
         ensures arena { IsOf arena.now self.new }
         ensures remembered { self.new.remembered.items ≡ self.old.remembered.items }
         ensures report { self.new.report ≡ self.old.report }
         ensures turn { turn.new.table ≡ turn.old.table }
-        ensures committed { view self.new ≡ lent (committed change.now (view self.old)) }
+        ensures committed { view self.new ≡ lent (committed (change.now ∷ []) (view self.old)) }
+        ensures turn_was { turn.old.history ≡ (view self.old).history }
+        ensures turn_is { turn.new.history ≡ (view self.new).history }
+        ensures count { result ≡ size (view self.new).history }
+    {
+        self.commit_all(arena, turn, from_ref(change))
+    }
+
+    /// Adds changes to the history that are made as one, and answers how many times changes were made. The count is stored once: no sender sees some of them alone.
+    pub fn commit_all(&mut self, arena: &Arena, turn: &mut Turn, changes: &[Change]) -> u64
+        requires arena { IsOf arena.now self.old }
+        requires turn { turn.old.table ≡ arena.now.table }
+        requires some { 0 < length changes.now }
+        requires accepted { refusal_of_all (log (view self.old).history) changes.now ≡ None }
+        requires flushed { (c : ClassRef) → c.class < classes arena.now → is_affected_by_all (log (view self.old).history) changes.now c ≡ true
+            → live_in (layout arena.now) (view self.old).words c ≡ None }
+        ensures arena { IsOf arena.now self.new }
+        ensures remembered { self.new.remembered.items ≡ self.old.remembered.items }
+        ensures report { self.new.report ≡ self.old.report }
+        ensures turn { turn.new.table ≡ turn.old.table }
+        ensures committed { view self.new ≡ lent (committed changes.now (view self.old)) }
         ensures turn_was { turn.old.history ≡ (view self.old).history }
         ensures turn_is { turn.new.history ≡ (view self.new).history }
         ensures count { result ≡ size (view self.new).history }
@@ -430,7 +452,7 @@ impl Keeper {
         let badge = replace(&mut turn.badge, Badge::blank());
         join_turn(shared, &mut self.seat, badge.into_seat());
         let count = self.count + 1;
-        store_count(shared, &mut self.seat, count, change);
+        store_count(shared, &mut self.seat, count, changes);
         self.words[0] = count;
         self.count = count;
         turn.badge = split_turn(shared, &mut self.seat).into_badge();

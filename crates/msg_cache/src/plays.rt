@@ -69,22 +69,23 @@ impl Play<u8, View> for Leave {
 
 /// What a table was made for, and what a step is about. Each call picks it.
 pub(crate) trait About {
+    ghost use Rattle.std.specs.Prelude.{List};
     ghost use Rattle.msg_tables.specs.declared.change.Change.{Change};
     ghost use Rattle.msg_cache.specs.Layout.{SettingView};
 
     ghost key: { SettingView };
 
-    ghost change: { Change };
+    ghost changes: { List Change };
 
     ghost number: { ℕ };
 }
 
 impl About for Brand {
-    ghost use Rattle.msg_cache.specs.Plays.{no_setting, no_change};
+    ghost use Rattle.msg_cache.specs.Plays.{no_setting, no_changes};
 
     ghost key = { no_setting };
 
-    ghost change = { no_change };
+    ghost changes = { no_changes };
 
     ghost number = { 0 };
 }
@@ -121,7 +122,7 @@ pub(crate) struct Commit<Q> {
 }
 
 impl<Q: About> Play<u8, View> for Commit<Q> {
-    ghost then = { Commits Q.change };
+    ghost then = { Commits Q.changes };
 }
 
 pub(crate) struct Look<Q> {

@@ -8,8 +8,8 @@ ghost use Rattle.msg_names.specs.declared.value.ClassRef.{ClassRef};
 ghost use Rattle.msg_tables.specs.Origin.{class_total};
 ghost use Rattle.msg_tables.specs.declared.change.Change.{Change};
 ghost use Rattle.msg_buckets.specs.Word.{sel_of, imp_of};
-ghost use Rattle.msg_tables.specs.History.{History, lookup, and_then};
-ghost use Rattle.msg_tables.specs.Refusal.{refusal};
+ghost use Rattle.msg_tables.specs.History.{History, lookup, and_then, log};
+ghost use Rattle.msg_tables.specs.Several.{refusal_of_all};
 ghost use Rattle.msg_core.specs.declared.state.Standing.TheVariants.{Free, Live};
 ghost use Rattle.msg_core.specs.declared.state.Whereabouts.TheVariants.{In, Out, Holding};
 ghost use Rattle.msg_core.specs.State.{capacity, size, awaits, Agrees};
@@ -243,36 +243,38 @@ pub(crate) fn store_array(words: &Words, seat: &mut Seat, class: ClassRef, array
     install_as::<Brand>(words, seat, class, array);
 }
 
-fn commit_as<Q: About>(words: &Words, seat: &mut Seat, count: u64, change: &Change)
+fn commit_as<Q: About>(words: &Words, seat: &mut Seat, count: u64, changes: &[Change])
     requires table { (seat.old.table_id ≡ words.now.table_id) × (0 < words.now.table_id.words) }
-    requires about { (Q.key ≡ words.now.key) × (Q.change ≡ change.now) }
+    requires about { (Q.key ≡ words.now.key) × (Q.changes ≡ changes.now) }
     requires keeper { seat.old.me ≡ kept (keeper_of seat.old.me.0) }
     requires turn { (g : History) × ((keeper_of seat.old.me.0).turn ≡ Home g) }
     requires count { count ≡ size (keeper_of seat.old.me.0).history + 1 }
-    requires accepted { refusal (keeper_of seat.old.me.0).history change.now ≡ None }
+    requires some { 0 < length changes.now }
+    requires accepted { refusal_of_all (log (keeper_of seat.old.me.0).history) changes.now ≡ None }
     requires agrees { (c : ClassRef) (b q : ℕ) → b < length words.now.key.capacities → standing_at (keeper_of seat.old.me.0).standings b ≡ Live c → q < capacity (layout_of words.now.key) b
-        → Agrees (lookup (and_then (keeper_of seat.old.me.0).history change.now)) c (word_in (layout_of words.now.key) (keeper_of seat.old.me.0).words b q) }
+        → Agrees (lookup (and_then (keeper_of seat.old.me.0).history changes.now)) c (word_in (layout_of words.now.key) (keeper_of seat.old.me.0).words b q) }
     ensures seat { (seat.new.table_id ≡ seat.old.table_id) × (seat.new.id ≡ seat.old.id) }
-    ensures told { (seat.new.me ≡ kept (committed change.now (keeper_of seat.old.me.0))) × IsTold (keeper_of seat.old.me.0) }
+    ensures told { (seat.new.me ≡ kept (committed changes.now (keeper_of seat.old.me.0))) × IsTold (keeper_of seat.old.me.0) }
     ensures tidy { TidyBy lookup words.now.key (keeper_of seat.new.me.0) }
 {
     words.store::<Tidied<Commit<Q>, Q>>(seat, 0, count);
 }
 
 // Commit: the count of changes is stored, while the turn is joined.
-pub(crate) fn store_count(words: &Words, seat: &mut Seat, count: u64, change: &Change)
+pub(crate) fn store_count(words: &Words, seat: &mut Seat, count: u64, changes: &[Change])
     requires table { (seat.old.table_id ≡ words.now.table_id) × (0 < words.now.table_id.words) }
     requires keeper { seat.old.me ≡ kept (keeper_of seat.old.me.0) }
     requires turn { (g : History) × ((keeper_of seat.old.me.0).turn ≡ Home g) }
     requires count { count ≡ size (keeper_of seat.old.me.0).history + 1 }
-    requires accepted { refusal (keeper_of seat.old.me.0).history change.now ≡ None }
+    requires some { 0 < length changes.now }
+    requires accepted { refusal_of_all (log (keeper_of seat.old.me.0).history) changes.now ≡ None }
     requires agrees { (c : ClassRef) (b q : ℕ) → b < length words.now.key.capacities → standing_at (keeper_of seat.old.me.0).standings b ≡ Live c → q < capacity (layout_of words.now.key) b
-        → Agrees (lookup (and_then (keeper_of seat.old.me.0).history change.now)) c (word_in (layout_of words.now.key) (keeper_of seat.old.me.0).words b q) }
+        → Agrees (lookup (and_then (keeper_of seat.old.me.0).history changes.now)) c (word_in (layout_of words.now.key) (keeper_of seat.old.me.0).words b q) }
     ensures seat { (seat.new.table_id ≡ seat.old.table_id) × (seat.new.id ≡ seat.old.id) }
-    ensures told { (seat.new.me ≡ kept (committed change.now (keeper_of seat.old.me.0))) × IsTold (keeper_of seat.old.me.0) }
+    ensures told { (seat.new.me ≡ kept (committed changes.now (keeper_of seat.old.me.0))) × IsTold (keeper_of seat.old.me.0) }
     ensures tidy { TidyBy lookup words.now.key (keeper_of seat.new.me.0) }
 {
-    commit_as::<Brand>(words, seat, count, change);
+    commit_as::<Brand>(words, seat, count, changes);
 }
 
 fn look_as<Q: About>(words: &Words, seat: &mut Seat, word: usize, number: u32) -> bool

@@ -9,7 +9,7 @@ use std::marker::Model;
 /// A history: contracts see it as that of the class tables.
 pub struct Past {
     origin: Origin,
-    changes: LinkedList<Change>,
+    changes: LinkedList<LinkedList<Change>>,
 }
 
 impl Model for Past {

@@ -1,12 +1,20 @@
 -- What a whole machine's lists give.
-use Rattle.std.proofs.Common.{◌≡◌, ◌<◌, ℕ, List, length, map, Option, Some, None, sym, subst, ap, ◌∙◌, []}
+use Rattle.std.proofs.Common.{◌≡◌, ◌<◌, ℕ, List, length, map, Option, Some, None, sym, subst, ap, ◌∙◌, [], ◌∷◌, ◌++◌, refl}
 use Rattle.std.specs.Prelude.{IfSome, slice_index_or, slice_index}
 use Rattle.std.proofs.lemmas.List.{length-map, get_or_default, get_or-map}
 use Rattle.msg_names.specs.ClassRef.{slot_of}
 use Rattle.msg_names.proofs.ClassRefLemmas.{slot_of-inside}
 use Rattle.msg_names.specs.declared.value.ClassRef.{ClassRef}
 use Rattle.msg_tables.specs.Origin.{class_total}
+use Rattle.msg_tables.specs.Log as logs
 use Rattle.msg_tables.specs.Log.{Log}
+use Rattle.msg_tables.specs.declared.change.Change.{Change}
+use Rattle.msg_tables.specs.History.{History, and_then, log}
+use Rattle.msg_tables.specs.Origin.{OriginView}
+use Rattle.msg_tables.specs.Refusal.{refusal}
+use Rattle.msg_tables.specs.Several.{refusal_of_all}
+use Rattle.msg_tables.proofs.HistoryLemmas.{log-one}
+use Rattle.msg_tables.proofs.SeveralLemmas.{refused-one}
 use Rattle.msg_tables.specs.Stands.{StandsAt}
 use Rattle.msg_tables.specs.View.{TablesView}
 use Rattle.msg_tables.proofs.StandsLemmas.{class_count}
@@ -73,3 +81,22 @@ pub spoiled_as : (look : ClassRef → ℕ → ℕ) (arrays : List (List ℕ)) (a
 spoiled_as look arrays a words s inside read =
     let is = words_read arrays a words inside read in
     ap (λ ws. is_spoiled look (length ws) (slice_index ws) s) is ∙ ap (λ n. is_spoiled look n (word_at arrays a) s) (sym (capacity_is arrays a inside))
+
+-- a change that is made by itself is refused as it is
+pub refused_alone : (g : Log) (x : Change) → refusal_of_all g (x ∷ []) ≡ refusal g x
+refused_alone g x = refused-one g x
+
+-- the history of changes of which each was made by itself
+abbrev pub alone : OriginView → List Change → History
+alone o xs = record { origin = o; changes = map (λ x. x ∷ []) xs }
+
+alone-push : (o : OriginView) (xs : List Change) (x : Change) → alone o (xs ++ x ∷ []) ≡ and_then (alone o xs) (x ∷ [])
+alone-push o xs x = ap (λ cs. (let h : History = record { origin = o; changes = cs } in h)) (push xs)
+  where
+    push : (ys : List Change) → map (λ (y : Change). y ∷ []) (ys ++ x ∷ []) ≡ map (λ (y : Change). y ∷ []) ys ++ (x ∷ []) ∷ []
+    push [] = refl
+    push (y ∷ ys) = ap (λ cs. (y ∷ []) ∷ cs) (push ys)
+
+-- tables that stand at it, and then at one change more
+pub stands_longer : (t : TablesView) (o : OriginView) (xs : List Change) (x : Change) → StandsAt t (logs.and_then (log (alone o xs)) x) → StandsAt t (log (alone o (xs ++ x ∷ [])))
+stands_longer t o xs x stands = subst (λ g. StandsAt t g) (sym (log-one (alone o xs) x) ∙ ap log (sym (alone-push o xs x))) stands

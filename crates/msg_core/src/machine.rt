@@ -2,7 +2,7 @@
 
 ghost use Rattle.std.specs.Prelude.{◌≡◌, ◌<◌, nat_le, length, IfSome, None, [], ◌∷◌};
 ghost use Rattle.msg_tables.specs.History.{lookup, and_then, log};
-ghost use Rattle.msg_tables.specs.Refusal.{refusal as change_refusal};
+ghost use Rattle.msg_tables.specs.Several.{refusal_of_all};
 ghost use Rattle.msg_names.specs.ClassRef.{slot_of};
 ghost use Rattle.msg_core.specs.State.{capacity};
 ghost use Rattle.msg_core.specs.Steps.{is_free, some_below, is_entry, disagrees, spoils, is_spoiled};
@@ -115,8 +115,9 @@ impl Machine {
     }
 
     // The fault for which the tables refuse the change.
+    #[tactic(auto, using(crate::proofs::WholeLemmas::refused_alone))]
     pub(crate) fn change_refusal(&self, change: &Change) -> Option<ChangeFault>
-        ensures { result ≡ change_refusal (log (state_of self.now).history) change.now }
+        ensures { result ≡ refusal_of_all (log (state_of self.now).history) (change.now ∷ []) }
     {
         self.tables.refusal(change)
     }
@@ -134,7 +135,7 @@ impl Machine {
 
     // Whether a live array has a word that would not agree with the method lists after the change.
     pub(crate) fn spoils(&self, change: &Change) -> bool
-        requires { change_refusal (log (state_of self.now).history) change.now ≡ None }
+        requires { refusal_of_all (log (state_of self.now).history) (change.now ∷ []) ≡ None }
         ensures { result ≡ spoils lookup (layout_of self.now) (state_of self.now) (change.now ∷ []) }
     {
         for array in 0..self.arrays.len() {
@@ -148,7 +149,7 @@ impl Machine {
     // Whether an array is live and has such a word.
     fn is_spoiled(&self, array: usize, change: &Change) -> bool
         requires array { array < length (layout_of self.now).capacities }
-        requires accepted { change_refusal (log (state_of self.now).history) change.now ≡ None }
+        requires accepted { refusal_of_all (log (state_of self.now).history) (change.now ∷ []) ≡ None }
         ensures { result ≡ is_spoiled (lookup (and_then (state_of self.now).history (change.now ∷ []))) (capacity (layout_of self.now) array)
             ((state_of self.now).word array) ((state_of self.now).standing array) }
     {

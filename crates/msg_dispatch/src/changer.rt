@@ -1,7 +1,7 @@
 //! The changer.
 
-ghost use Rattle.std.specs.Prelude.{◌≡◌, ◌≢◌, length, IfOk, IfErr, IsErrOf, OnErr, None, Some};
-ghost use Rattle.msg_tables.specs.History.{BeginsWith, and_then};
+ghost use Rattle.std.specs.Prelude.{[], ◌∷◌, ◌≡◌, ◌≢◌, length, IfOk, IfErr, IsErrOf, OnErr, None, Some};
+ghost use Rattle.msg_tables.specs.History.{BeginsWith, and_then, log};
 ghost use Rattle.msg_tables.specs.Refusal.{refusal};
 ghost use Rattle.msg_tables.specs.declared.fault.ChangeFault.{ChangeFault};
 
@@ -46,10 +46,10 @@ impl<'d, N: ArenaName> Model for Changer<'d, N> {
 impl<'d, N: ArenaName> Changer<'d, N> {
     /// Makes a change, or says why not. Senders see the change and the flushes of caches that it takes as one.
     pub fn change<R: Wait>(&mut self, rt: &R, change: &Change) -> Result<Receipt, ChangeFault>
-        ensures ok { IfOk result (λ r. (refusal self.old change.now ≡ None) × (self.new ≡ and_then self.old change.now) × (r.count ≡ length self.new.changes)) }
+        ensures ok { IfOk result (λ r. (refusal (log self.old) change.now ≡ None) × (self.new ≡ and_then self.old (change.now ∷ [])) × (r.count ≡ length self.new.changes)) }
         ensures err { OnErr result (self.new ≡ self.old) }
-        ensures fault { IfErr result (λ f. f ≢ ChangeFault.Memory → refusal self.old change.now ≡ Some f) }
-        ensures memory { IsErrOf result ChangeFault.Memory → refusal self.old change.now ≡ None }
+        ensures fault { IfErr result (λ f. f ≢ ChangeFault.Memory → refusal (log self.old) change.now ≡ Some f) }
+        ensures memory { IsErrOf result ChangeFault.Memory → refusal (log self.old) change.now ≡ None }
     {
         let dispatcher = self.dispatcher;
         let count = dispatcher

@@ -1,9 +1,9 @@
 //! What stands behind the runtime lock.
 
-ghost use Rattle.std.specs.Prelude.{◌≡◌, ◌≢◌, ◌<◌, ◌≤◌, length, IfOk, IfErr, IfSome, IsErrOf, IsNone, OnErr, None, Some};
+ghost use Rattle.std.specs.Prelude.{[], ◌∷◌, ◌≡◌, ◌≢◌, ◌<◌, ◌≤◌, length, IfOk, IfErr, IfSome, IsErrOf, IsNone, OnErr, None, Some};
 ghost use Rattle.msg_tables.specs.Origin.{last_imp};
 ghost use Rattle.msg_names.specs.Number.{selector_number, imp_number};
-ghost use Rattle.msg_tables.specs.History.{BeginsWith, and_then, empty, lookup};
+ghost use Rattle.msg_tables.specs.History.{BeginsWith, and_then, empty, lookup, log};
 ghost use Rattle.msg_tables.specs.Refusal.{refusal};
 ghost use Rattle.msg_tables.specs.declared.fault.ChangeFault.{ChangeFault};
 ghost use Rattle.msg_cache.specs.Counts.{AreCounts, after_refusal};
@@ -95,10 +95,10 @@ impl<N: ArenaName> Desk<N> {
         requires arena { arena.now ≡ N.arena }
         requires turn { turn.old.table ≡ N.arena.table }
         ensures turn { turn.new.table ≡ N.arena.table }
-        ensures ok { IfOk result (λ count. (refusal turn.old.history change.now ≡ None) × (turn.new.history ≡ and_then turn.old.history change.now) × (count ≡ length turn.new.history.changes)) }
+        ensures ok { IfOk result (λ count. (refusal (log turn.old.history) change.now ≡ None) × (turn.new.history ≡ and_then turn.old.history (change.now ∷ [])) × (count ≡ length turn.new.history.changes)) }
         ensures err { OnErr result (turn.new.history ≡ turn.old.history) }
-        ensures fault { IfErr result (λ f. f ≢ ChangeFault.Memory → refusal turn.old.history change.now ≡ Some f) }
-        ensures memory { IsErrOf result ChangeFault.Memory → refusal turn.old.history change.now ≡ None }
+        ensures fault { IfErr result (λ f. f ≢ ChangeFault.Memory → refusal (log turn.old.history) change.now ≡ Some f) }
+        ensures memory { IsErrOf result ChangeFault.Memory → refusal (log turn.old.history) change.now ≡ None }
     {
         self.runtime.change(arena, turn, change)
     }

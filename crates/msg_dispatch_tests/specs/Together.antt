@@ -1,7 +1,7 @@
 -- The keeper of an arena, with class tables at its history.
 use Rattle.std.specs.Prelude.{◌≡◌, None, length}
 use Rattle.msg_names.specs.declared.value.ClassRef.{ClassRef}
-use Rattle.msg_tables.specs.History.{History, empty}
+use Rattle.msg_tables.specs.History.{History, empty, log}
 use Rattle.msg_tables.specs.Stands.{StandsAt}
 use Rattle.msg_tables.specs.View.{TablesView}
 use Rattle.msg_cache.specs.Ours.{view, IsOf}
@@ -19,7 +19,7 @@ HasNoArray a k c = live_in (layout a) (view k).words c ≡ None
 -- the keeper is of the arena, which has two classes, and the tables stand at this history
 pub record Together (a : ArenaView) (k : Keeper) (t : TablesView) (h : History) : Type 0 where
   pub keeper : IsOf a k
-  pub tables : StandsAt t h
+  pub tables : StandsAt t (log h)
   pub supers : length t.supers ≡ 2
   pub two : classes a ≡ 2
 

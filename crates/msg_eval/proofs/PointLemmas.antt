@@ -1,7 +1,10 @@
 -- Points, plain replies and lists of answers.
-use Rattle.std.proofs.Common.{◌≡◌, ◌≤◌, ◌+◌, ℕ, zero, suc, List, [], ◌∷◌, ◌++◌, length, take, Some, slice_get, refl, sym, ap, ◌∙◌, subst, arith, length-append}
+use Rattle.std.proofs.Common.{◌≡◌, ◌≤◌, ◌+◌, ℕ, zero, suc, List, [], ◌∷◌, ◌++◌, length, take, Some, slice_get, refl, sym, ap, ◌∙◌, subst, arith, length-append, append-nil}
 use Rattle.msg_names.specs.declared.value.ClassRef.{ClassRef}
-use Rattle.msg_tables.specs.History.{History, lookup, BeginsWith}
+use Rattle.msg_tables.specs.Log as logs
+use Rattle.msg_tables.specs.Log.{Log}
+use Rattle.msg_tables.specs.History.{History, lookup, log, BeginsWith}
+use Rattle.msg_tables.proofs.HistoryLemmas.{log-begins}
 use Rattle.msg_tables.specs.declared.change.Change.{Change}
 use Rattle.msg_tables.specs.Origin.{OriginView}
 use Rattle.msg_eval.specs.declared.reply.Reply.{Reply}
@@ -40,14 +43,10 @@ one_reply h m = record { exists = plain_exists h m; only = plain_only h m }
 -- ---- points that rise no further
 
 -- no change of the longer one is more
-no_more : (p h : History) (more : List Change) → p.origin ≡ h.origin → p.changes ≡ h.changes ++ more → length p.changes ≤ length h.changes → p ≡ h
+no_more : (p h : History) (more : List (List Change)) → p.origin ≡ h.origin → p.changes ≡ h.changes ++ more → length p.changes ≤ length h.changes → p ≡ h
 no_more p h [] same rest le =
     let is : p.changes ≡ h.changes = rest ∙ append-nil h.changes in
-    ap (λ (i : OriginView). (let x : History = record { origin = i; changes = p.changes } in x)) same ∙ ap (λ (xs : List Change). (let x : History = record { origin = h.origin; changes = xs } in x)) is
-  where
-    append-nil : (xs : List Change) → xs ++ [] ≡ xs
-    append-nil [] = refl
-    append-nil (x ∷ xs) = ap (λ ys. x ∷ ys) (append-nil xs)
+    ap (λ (i : OriginView). (let x : History = record { origin = i; changes = p.changes } in x)) same ∙ ap (λ (xs : List (List Change)). (let x : History = record { origin = h.origin; changes = xs } in x)) is
 no_more p h (x ∷ more) same rest le =
     let n : length p.changes ≡ length (h.changes ++ x ∷ more) = ap length rest in
     let k : length (h.changes ++ x ∷ more) ≡ length h.changes + suc (length more) = length-append h.changes (x ∷ more) in
@@ -70,6 +69,51 @@ all_one h (p ∷ ps) rise le =
     let up = last_no_shorter p ps rise.1 in
     let is : p ≡ h = no_more p h rise.0.rest.0 rise.0.same rise.0.rest.1 (omega (arith, up, le)) in
     (is, subst (λ q. AllAre q ps) is (all_one p ps rise.1 (let n = no_shorter p h rise.0 in omega (arith, n, le))))
+
+-- ---- points at which tables stand that stay
+
+-- each point has the changes of h, one after another
+abbrev pub AllLike : History → List History → Type 0
+AllLike h [] = Unit {0}
+AllLike h (p ∷ ps) = (log p ≡ log h) × AllLike h ps
+
+pub plain_like : (h : History) (m : Meaning) (points : List History) (r : Reply) → AllLike h points → EndsAfter m points r → r ≡ plain_reply h m
+plain_like h (Ends e) [] r all ends = sym ends
+plain_like h (Ends e) (p ∷ ps) r all ends = absurd ends
+plain_like h (Asks c s go) [] r all ends = absurd ends
+plain_like h (Asks c s go) (p ∷ ps) r all ends =
+    plain_like h (go (lookup h c s)) ps r all.1 (subst (λ q. EndsAfter (go (logs.lookup q c s)) ps r) all.0 ends)
+
+steps_of : History → ℕ
+steps_of h = length (log h).changes
+
+begins_steps : (p h : History) → BeginsWith p h → steps_of h ≤ steps_of p
+unfolding steps_of
+begins_steps p h b = let l = log-begins p h b in omega (arith, ap length l.rest.1, length-append (log h).changes l.rest.0)
+
+last_steps : (h : History) (points : List History) → Rise h points → steps_of h ≤ steps_of (last_of h points)
+last_steps h [] rise = omega arith
+last_steps h (p ∷ ps) rise = let a = begins_steps p h rise.0 in let b = last_steps p ps rise.1 in omega (arith, a, b)
+
+-- a log that begins with another and is no longer is that one
+same_log : (p h : Log) (more : List Change) → p.origin ≡ h.origin → p.changes ≡ h.changes ++ more → length p.changes ≤ length h.changes → p ≡ h
+same_log p h [] same rest le =
+    ap (λ (i : OriginView). (let x : Log = record { origin = i; changes = p.changes } in x)) same
+    ∙ ap (λ (xs : List Change). (let x : Log = record { origin = h.origin; changes = xs } in x)) (rest ∙ append-nil h.changes)
+same_log p h (x ∷ more) same rest le = absurd (omega (arith, ap length rest, length-append h.changes (x ∷ more), le))
+
+pub all_like : (h : History) (points : List History) → Rise h points → length (log (last_of h points)).changes ≤ length (log h).changes → AllLike h points
+unfolding steps_of
+all_like h [] rise le = tt
+all_like h (p ∷ ps) rise le =
+    let l = log-begins p h rise.0 in
+    let up = last_steps p ps rise.1 in
+    let is : log p ≡ log h = same_log (log p) (log h) l.rest.0 l.same l.rest.1 (omega (arith, up, le)) in
+    (is, like_other ps is (all_like p ps rise.1 (let n = begins_steps p h rise.0 in omega (arith, n, le))))
+  where
+    like_other : (qs : List History) → log p ≡ log h → AllLike p qs → AllLike h qs
+    like_other [] is all = tt
+    like_other (q ∷ qs) is all = (all.0 ∙ is, like_other qs is all.1)
 
 -- ---- lists of answers
 

@@ -38,6 +38,7 @@ pub struct Tabled<'t> {
 
 impl Finder for Tabled<'_> {
     ghost use Rattle.msg_eval.specs.Finder.{table_sizes};
+    ghost use Rattle.msg_tables.specs.History.{log};
     ghost use Rattle.msg_tables.specs.Stands.{StandsAt};
     ghost use Rattle.msg_tables.specs.View.{TablesView};
 
@@ -47,7 +48,7 @@ impl Finder for Tabled<'_> {
 
     ghost sizes = { table_sizes };
 
-    ghost stands = { λ s h. StandsAt s.tables.now h };
+    ghost stands = { λ s h. StandsAt s.tables.now (log h) };
 
     fn find(&mut self, class: ClassRef, sel: Selector) -> ImpRef {
         self.tables.lookup(class, sel)

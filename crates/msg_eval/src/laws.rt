@@ -4,7 +4,7 @@ ghost use Rattle.std.specs.Prelude.{◌≡◌, ◌≤◌, ◌↔◌, ℕ, List, 
 ghost use Rattle.msg_names.specs.declared.value.Selector.{Selector};
 ghost use Rattle.msg_names.specs.declared.value.Value.{Value};
 ghost use Rattle.msg_image.specs.Parts.{ImageParts};
-ghost use Rattle.msg_tables.specs.History.{History};
+ghost use Rattle.msg_tables.specs.History.{History, log};
 ghost use Rattle.msg_tables.specs.Stands.{StandsAt};
 ghost use Rattle.msg_tables.specs.View.{TablesView};
 ghost use Rattle.msg_eval.specs.Meaning.{Meaning};
@@ -32,7 +32,7 @@ pub fn points_have_answers()
 /// Tables that stay where they stand give the plain reply at their history.
 pub fn tables_reply_plainly()
     ensures { (tables : TablesView) (h : History) (send : Meaning) (reply : Reply)
-        → StandsAt tables h → RepliesFrom (StandsAt tables) h send reply → reply ≡ plain_reply h send }
+        → StandsAt tables (log h) → RepliesFrom (λ p. StandsAt tables (log p)) h send reply → reply ≡ plain_reply h send }
 {}
 
 /// A finder that stands no further than where it stood gave the plain reply there.

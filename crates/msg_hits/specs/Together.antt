@@ -1,6 +1,6 @@
 -- The keeper of an arena, with class tables at its history.
 use Rattle.std.specs.Prelude.{◌≡◌, length}
-use Rattle.msg_tables.specs.History.{History, empty}
+use Rattle.msg_tables.specs.History.{History, empty, log}
 use Rattle.msg_tables.specs.Stands.{StandsAt}
 use Rattle.msg_tables.specs.View.{TablesView}
 use Rattle.msg_cache.specs.Ours.{IsOf}
@@ -10,7 +10,7 @@ use Rattle.msg_cache.specs.declared.keeper.Keeper.{Keeper}
 -- the keeper is of the arena, which has 32 classes, and the tables stand at this history
 pub record Together (a : ArenaView) (k : Keeper) (t : TablesView) (h : History) : Type 0 where
   pub keeper : IsOf a k
-  pub tables : StandsAt t h
+  pub tables : StandsAt t (log h)
   pub supers : length t.supers ≡ 32
   pub all : classes a ≡ 32
 

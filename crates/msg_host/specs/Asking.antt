@@ -1,8 +1,8 @@
 -- Which numbers mean something, and what changes in numbers do.
-use Rattle.std.specs.Prelude.{◌≡◌, ◌≢◌, ℕ, ◌==◌, nat_lt, if◌then◌else◌, List, map, Option, Some, None, option_map, ◌⊎◌, Contains}
+use Rattle.std.specs.Prelude.{◌≡◌, ◌≢◌, ℕ, ◌==◌, nat_lt, if◌then◌else◌, List, [], ◌∷◌, map, Option, Some, None, option_map, ◌⊎◌, Contains}
 use Rattle.msg_tables.specs.declared.change.Change.{Change}
 use Rattle.msg_tables.specs.FaultNumber.{change_fault_number}
-use Rattle.msg_tables.specs.History.{and_then}
+use Rattle.msg_tables.specs.History.{and_then, log}
 use Rattle.msg_tables.specs.Refusal.{refusal}
 use Rattle.msg_host.specs.View.{RuntimeView}
 use Rattle.msg_host.specs.declared.changing.MethodRow.{MethodRow}
@@ -25,11 +25,11 @@ want_of_memory = 7
 -- A change took a runtime from v to w with the answer n: 0 where it was made, and else its fault's number, and nothing has changed.
 pub record ChangesBy (v w : RuntimeView) (x : Change) (n : ℕ) : Type 0 where
   pub arena : w.arena ≡ v.arena
-  pub made : n ≡ 0 → (refusal v.history x ≡ None) × (w.history ≡ and_then v.history x)
+  pub made : n ≡ 0 → (refusal (log v.history) x ≡ None) × (w.history ≡ and_then v.history (x ∷ []))
   pub left : n ≢ 0 → w ≡ v
-  pub fault : n ≢ 0 → n ≢ want_of_memory → option_map change_fault_number (refusal v.history x) ≡ Some n
+  pub fault : n ≢ 0 → n ≢ want_of_memory → option_map change_fault_number (refusal (log v.history) x) ≡ Some n
   -- want of memory is answered only where nothing else speaks against it
-  pub memory : n ≡ want_of_memory → refusal v.history x ≡ None
+  pub memory : n ≡ want_of_memory → refusal (log v.history) x ≡ None
 
 -- the rows of a method list, as pairs of numbers
 abbrev pub pairs_of : List MethodRow → List (ℕ × ℕ)

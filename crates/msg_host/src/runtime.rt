@@ -1,9 +1,9 @@
 //! The runtime.
 
-ghost use Rattle.std.specs.Prelude.{◌≡◌, ◌≢◌, ◌<◌, ◌≤◌, ◌*◌, length, replicate, None, Some, IfOk, IfErr, IsErrOf, OnErr, OnOk, false, true};
+ghost use Rattle.std.specs.Prelude.{[], ◌∷◌, ◌≡◌, ◌≢◌, ◌<◌, ◌≤◌, ◌*◌, length, replicate, None, Some, IfOk, IfErr, IsErrOf, OnErr, OnOk, false, true};
 ghost use Rattle.msg_names.specs.Number.{selector_number, imp_number};
 ghost use Rattle.msg_tables.specs.Origin.{last_imp};
-ghost use Rattle.msg_tables.specs.History.{BeginsWith, and_then, lookup};
+ghost use Rattle.msg_tables.specs.History.{BeginsWith, and_then, lookup, log};
 ghost use Rattle.msg_tables.specs.Marking.{MarksAffected};
 ghost use Rattle.msg_tables.specs.Refusal.{refusal};
 ghost use Rattle.msg_tables.specs.declared.fault.ChangeFault.{ChangeFault};
@@ -100,9 +100,9 @@ impl HostedRuntime {
     /// It looks at the classes that it marks and at one or two more, and takes no memory. Outside what is marked the change alters no lookup.
     pub fn reach(&self, change: &Change, marks: &mut Marks) -> Result<(), ChangeFault>
         requires { length marks.old ≡ 2 * classes self.now.arena }
-        ensures ok { OnOk result ((refusal self.now.history change.now ≡ None) × MarksAffected (classes self.now.arena) self.now.history change.now marks.old marks.new) }
+        ensures ok { OnOk result ((refusal (log self.now.history) change.now ≡ None) × MarksAffected (classes self.now.arena) (log self.now.history) change.now marks.old marks.new) }
         ensures err { OnErr result (marks.new ≡ marks.old) }
-        ensures fault { IfErr result (λ f. refusal self.now.history change.now ≡ Some f) }
+        ensures fault { IfErr result (λ f. refusal (log self.now.history) change.now ≡ Some f) }
         ensures room { length marks.new ≡ length marks.old }
     {
         self.runtime.reach(change, marks)
@@ -111,10 +111,10 @@ impl HostedRuntime {
     /// Makes a change, flushes the caches that it reaches, and answers how many changes there are. After an error nothing was changed or flushed.
     pub fn change(&mut self, change: &Change) -> Result<u64, ChangeFault>
         ensures arena { self.new.arena ≡ self.old.arena }
-        ensures ok { IfOk result (λ count. (refusal self.old.history change.now ≡ None) × (self.new.history ≡ and_then self.old.history change.now) × (count ≡ length self.new.history.changes)) }
+        ensures ok { IfOk result (λ count. (refusal (log self.old.history) change.now ≡ None) × (self.new.history ≡ and_then self.old.history (change.now ∷ [])) × (count ≡ length self.new.history.changes)) }
         ensures err { OnErr result (self.new ≡ self.old) }
-        ensures fault { IfErr result (λ f. f ≢ ChangeFault.Memory → refusal self.old.history change.now ≡ Some f) }
-        ensures memory { IsErrOf result ChangeFault.Memory → refusal self.old.history change.now ≡ None }
+        ensures fault { IfErr result (λ f. f ≢ ChangeFault.Memory → refusal (log self.old.history) change.now ≡ Some f) }
+        ensures memory { IsErrOf result ChangeFault.Memory → refusal (log self.old.history) change.now ≡ None }
     {
         self.runtime.change(&self.arena, &mut self.turn, change)
     }

@@ -31,7 +31,7 @@ method_noted h n count slot sel e f g some is = as_noted h n count slot sel e f 
     positive k not = omega (arith, not)
 
 whole : (h : History) (n : ℕ) → n ≡ length h.changes → point_at n h ≡ h
-whole h n e = ap (λ (cs : List Change). record { origin = h.origin; changes = cs }) (take_all n h.changes (omega (arith, e)))
+whole h n e = ap (λ (cs : List (List Change)). record { origin = h.origin; changes = cs }) (take_all n h.changes (omega (arith, e)))
 
 -- what is recalled at all changes is the lookup at the history
 pub recalled_whole : (h : History) (c : ClassRef) (n sel imp : ℕ) → n ≡ length h.changes → IsRecalled h n (slot_of c) sel imp → imp ≡ lookup h c sel
@@ -45,7 +45,7 @@ recalled_now h c n sel imp e found listed = record {
   found = λ d same. found ∙ ap (λ q. lookup q c sel) (sym (whole h n e)) ∙ ap (λ x. lookup (point_at n h) x sel) (sym (slot_of-same d c same));
 }
 
-same_point : (h : History) (origin : OriginView) (more : List Change) (n : ℕ) → n ≤ length h.changes → origin ≡ h.origin
+same_point : (h : History) (origin : OriginView) (more : List (List Change)) (n : ℕ) → n ≤ length h.changes → origin ≡ h.origin
     → point_at n (record { origin = origin; changes = h.changes ++ more }) ≡ point_at n h
 same_point h origin more n le same = rw (same, take-append-le n h.changes more le) refl
 
@@ -57,7 +57,7 @@ point-begins p h n b le = ap (λ cs. point_at n (record { origin = p.origin; cha
 pub begins_same : (p h : History) → BeginsWith p h → length p.changes ≡ length h.changes → p ≡ h
 begins_same p h b e = at p.origin p.changes b.rest.0 b.same b.rest.1 e
   where
-    at : (origin : OriginView) (changes more : List Change) → origin ≡ h.origin → changes ≡ h.changes ++ more → length changes ≡ length h.changes
+    at : (origin : OriginView) (changes more : List (List Change)) → origin ≡ h.origin → changes ≡ h.changes ++ more → length changes ≡ length h.changes
         → record { origin = origin; changes = changes } ≡ h
     at origin changes [] same is e = rw (same, is, append-nil h.changes) refl
     at origin changes (x ∷ xs) same is e = absurd (omega (arith, length-append h.changes (x ∷ xs), ap length is, e))

@@ -10,7 +10,7 @@ use Rattle.msg_image.specs.Items.{ItemParts, SendItem, ChangeItem}
 use Rattle.msg_image.specs.Parts.{ImageParts}
 use Rattle.msg_image.specs.Plain.{item_parts}
 use Rattle.msg_image.specs.declared.change.Item.{Item}
-use Rattle.msg_tables.specs.History.{History, BeginsWith}
+use Rattle.msg_tables.specs.History.{History, BeginsWith, log}
 use Rattle.msg_tables.specs.Refusal.{refusal}
 use Rattle.msg_tables.specs.declared.change.Change.{Change}
 use Rattle.msg_tables.specs.declared.fault.ChangeFault.{ChangeFault}
@@ -59,14 +59,14 @@ all_count image items all = sym (send_count image items) ∙ sends_length image 
 -- ---- the history after them
 
 longer_begins : (h : History) (x : Change) (r : Option ChangeFault) → BeginsWith (longer_by h x r) h
-longer_begins h x None = begins_next h x
+longer_begins h x None = begins_next h (x ∷ [])
 longer_begins h x (Some f) = begins_refl h
 
 items_begin : (h : History) (items : List ItemParts) → BeginsWith (history_of h items) h
 items_begin h [] = begins_refl h
 items_begin h (SendItem r s args ∷ items) = items_begin h items
 items_begin h (ChangeItem x ∷ items) =
-    let now = longer_by h x (refusal h x) in begins_trans (history_of now items) now h (items_begin now items) (longer_begins h x (refusal h x))
+    let now = longer_by h x (refusal (log h) x) in begins_trans (history_of now items) now h (items_begin now items) (longer_begins h x (refusal (log h) x))
 
 -- ---- whose they are
 

@@ -7,7 +7,7 @@ use Rattle.msg_image.specs.declared.change.Item.{Item}
 use Rattle.msg_image.specs.Items.{ItemParts, SendItem, ChangeItem, DocumentParts}
 use Rattle.msg_image.specs.Opened.{origin_of}
 use Rattle.msg_image.specs.Plain.{item_parts}
-use Rattle.msg_tables.specs.History.{History, empty}
+use Rattle.msg_tables.specs.History.{History, empty, log}
 use Rattle.msg_tables.specs.Refusal.{refusal}
 use Rattle.msg_tables.specs.Stands.{StandsAt}
 use Rattle.msg_tables.specs.View.{TablesView}
@@ -18,7 +18,7 @@ use Rattle.msg_runner.specs.Text.{answer_line, text_of, output_of}
 -- the tables stand at the history after the items before, and the text with the lines of those left is the whole
 pub record IsSoFar (d : DocumentParts) (tables : TablesView) (text : List ℕ) (left : List ItemParts) : Type 0 where
   pub history : History
-  pub stands : StandsAt tables history
+  pub stands : StandsAt tables (log history)
   pub origin : history.origin ≡ origin_of d.image
   pub whole : text ++ text_of d.image (serial_from d.image history left) ≡ output_of d
 
@@ -28,10 +28,10 @@ same_origin h x (Some f) = refl
 
 pub origin_after : (h : History) (item : ItemParts) → (history_after h item).origin ≡ h.origin
 origin_after h (SendItem r s args) = refl
-origin_after h (ChangeItem x) = same_origin h x (refusal h x)
+origin_after h (ChangeItem x) = same_origin h x (refusal (log h) x)
 
 pub step : (d : DocumentParts) (old new : TablesView) (text more : List ℕ) (item : ItemParts) (left : List ItemParts) (so_far : IsSoFar d old text (item ∷ left))
-    → (more ≡ text ++ answer_line d.image (answer_at d.image so_far.history item)) × StandsAt new (history_after so_far.history item) → IsSoFar d new more left
+    → (more ≡ text ++ answer_line d.image (answer_at d.image so_far.history item)) × StandsAt new (log (history_after so_far.history item)) → IsSoFar d new more left
 step d old new text more item left so_far made = record {
   history = history_after so_far.history item;
   stands = made.1;

@@ -2,7 +2,7 @@
 use Rattle.std.specs.Prelude.{◌≡◌, ℕ, zero, suc, ◌+◌, Bool, true, false, ◌/◌, ◌%◌, ◌<◌, ◌≤◌, ◌==◌, if◌then◌else◌, List, [], ◌∷◌, ◌++◌, length, min, count_by, slice_index_or, Option}
 use Rattle.msg_image.specs.Items.{ItemParts, SendItem, ChangeItem}
 use Rattle.msg_image.specs.Parts.{ImageParts}
-use Rattle.msg_tables.specs.History.{History, BeginsWith}
+use Rattle.msg_tables.specs.History.{History, BeginsWith, log}
 use Rattle.msg_tables.specs.Refusal.{refusal}
 use Rattle.msg_tables.specs.declared.fault.ChangeFault.{ChangeFault}
 use Rattle.msg_eval.specs.declared.reply.Reply.{Reply}
@@ -27,7 +27,7 @@ history_of h (item ∷ items) = history_of (history_after h item) items
 abbrev pub refusals_of : History → List ItemParts → List (Option ChangeFault)
 refusals_of h [] = []
 refusals_of h (SendItem r s args ∷ items) = refusals_of h items
-refusals_of h (ChangeItem x ∷ items) = refusal h x ∷ refusals_of (history_after h (ChangeItem x)) items
+refusals_of h (ChangeItem x ∷ items) = refusal (log h) x ∷ refusals_of (history_after h (ChangeItem x)) items
 
 -- the answers to items, given those to the sends and to the changes among them
 abbrev pub woven : List ItemParts → List Reply → List (Option ChangeFault) → List Answer

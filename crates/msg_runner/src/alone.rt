@@ -4,7 +4,7 @@ ghost use Rattle.std.specs.Prelude.{◌≡◌, ◌<◌, ◌≤◌, ◌++◌, All
 ghost use Rattle.msg_image.specs.Opened.{origin_of};
 ghost use Rattle.msg_image.specs.Plain.{item_parts};
 ghost use Rattle.msg_image.specs.Sound.{IsSoundItem};
-ghost use Rattle.msg_tables.specs.History.{BeginsWith};
+ghost use Rattle.msg_tables.specs.History.{BeginsWith, log};
 ghost use Rattle.msg_tables.specs.Refusal.{refusal};
 ghost use Rattle.msg_runner.specs.Parts.{items_of, IsSoundPart, HasLines, HasWritten};
 ghost use Rattle.msg_runner.specs.Serial.{answer_to_change, longer_by};
@@ -123,9 +123,9 @@ impl<'r, G: Gate, R: Wait> Run<'r, G, R> {
         text: &mut Vec<u8>,
     ) -> Result<(), AllocError>
         ensures history { OnOk result
-            (changer.new ≡ longer_by changer.old change.now (refusal changer.old change.now)) }
+            (changer.new ≡ longer_by changer.old change.now (refusal (log changer.old) change.now)) }
         ensures line { OnOk result (text.new.items ≡ text.old.items
-            ++ answer_line image.now (answer_to_change (refusal changer.old change.now))) }
+            ++ answer_line image.now (answer_to_change (refusal (log changer.old) change.now))) }
     {
         self.gate.change_starts(number);
         let outcome = change_one(self.rt, changer, change)?;

@@ -2,6 +2,7 @@
 
 ghost use Rattle.std.specs.Prelude.{◌≡◌, ◌<◌, ◌+◌, ◌^◌, ◌++◌, length, map, IfOk, OnOk};
 ghost use Rattle.msg_image.specs.Plain.{item_parts};
+ghost use Rattle.msg_tables.specs.History.{log};
 ghost use Rattle.msg_tables.specs.Refusal.{refusal};
 ghost use Rattle.msg_runner.specs.Serial.{longer_by};
 ghost use Rattle.msg_runner.specs.Serving.{history_of, refusals_of};
@@ -28,8 +29,8 @@ pub(crate) fn change_one<'d, N: ArenaName, R: Wait>(
     changer: &mut Changer<'d, N>,
     change: &Change,
 ) -> Result<Option<ChangeFault>, AllocError>
-    ensures outcome { IfOk result (λ outcome. outcome ≡ refusal changer.old change.now) }
-    ensures history { OnOk result (changer.new ≡ longer_by changer.old change.now (refusal changer.old change.now)) }
+    ensures outcome { IfOk result (λ outcome. outcome ≡ refusal (log changer.old) change.now) }
+    ensures history { OnOk result (changer.new ≡ longer_by changer.old change.now (refusal (log changer.old) change.now)) }
 {
     match changer.change(rt, change) {
         Ok(_) => Ok(None),

@@ -13,10 +13,10 @@ use Rattle.msg_tables.specs.declared.change.Change.TheVariants.{Add, Replace, Se
 use Rattle.msg_tables.specs.After.{of_class, of_meta, rows_after, set_method, supers_after, table_after}
 use Rattle.msg_tables.specs.Affected.{at_most_one, if_any, is_affected, written_refs}
 use Rattle.msg_tables.specs.Chain.{is_member, chain_of}
-use Rattle.msg_tables.specs.History.{History, and_then, table, chain_at, holder}
+use Rattle.msg_tables.specs.Log.{Log, and_then, table, chain_at, holder}
 use Rattle.msg_tables.specs.Rows.{own, holder_at, holder_in, lookup_at}
 use Rattle.msg_tables.specs.Refusal.{refusal, conditions, no_class}
-use Rattle.msg_tables.proofs.HistoryLemmas.{table-and_then, length-supers}
+use Rattle.msg_tables.proofs.LogLemmas.{table-and_then, length-supers}
 use Rattle.msg_tables.proofs.LawLemmas.{some-set_method}
 use Rattle.msg_tables.proofs.LimitLemmas.{none_holds}
 use Rattle.msg_tables.proofs.OrderLemmas.{present-inside}
@@ -26,7 +26,7 @@ use Rattle.msg_runtime.specs.Reach.{are_reached, is_below, is_flushed, unless_co
 
 -- ---- below a place
 
-module _ (h : History) (x : Change) (c : ClassRef) where
+module _ (h : Log) (x : Change) (c : ClassRef) where
   -- a change that makes no class leaves the chains
   chain-kept : supers_after (table h).supers x ≡ (table h).supers → chain_at (and_then h x) c ≡ chain_at h c
   unfolding chain_at table_after
@@ -37,7 +37,7 @@ module _ (h : History) (x : Change) (c : ClassRef) where
 
 -- ---- where a method stands that is set or exchanged
 
-module _ (h : History) where
+module _ (h : Log) where
   holder-kept : (x : Change) (c : ClassRef) (s : ℕ) → supers_after (table h).supers x ≡ (table h).supers → ((d : ClassRef) → is_some (own (rows_after (table h) x) d s) ≡ is_some (own (table h).rows d s)) → holder (and_then h x) c s ≡ holder h c s
   unfolding holder table_after
   holder-kept x c s same kept = ap (λ t. holder_in t.rows (chain_of t.supers c) s) (table-and_then h x) ∙ ap (λ supers. holder_in (rows_after (table h) x) (chain_of supers c) s) same
@@ -61,11 +61,11 @@ module _ (h : History) where
         ∙ some-set_method (holder_at (table h) d m) m (lookup_at (table h) c n) (table h).rows f v)
 
 -- where all are flushed one is, and else those below the places
-unless_counted-flushed : (h : History) (c : ClassRef) (counts : Option CountsView) (places : List ClassRef) → is_below h c places ≡ true → are_reached h c (unless_counted counts places) ≡ true
+unless_counted-flushed : (h : Log) (c : ClassRef) (counts : Option CountsView) (places : List ClassRef) → is_below h c places ≡ true → are_reached h c (unless_counted counts places) ≡ true
 unless_counted-flushed h c None places below = below
 unless_counted-flushed h c (Some counts) places below = refl
 
-pub affected-flushed : (h : History) (x : Change) (c : ClassRef) → refusal h x ≡ None → is_affected h x c ≡ true → is_flushed (and_then h x) x c ≡ true
+pub affected-flushed : (h : Log) (x : Change) (c : ClassRef) → refusal h x ≡ None → is_affected h x c ≡ true → is_flushed (and_then h x) x c ≡ true
 unfolding is_affected written_refs
 affected-flushed h (Add d s i) c accepted e = below-kept h (Add d s i) c (d ∷ []) refl e
 affected-flushed h (Replace d s i) c accepted e = below-kept h (Replace d s i) c (d ∷ []) refl e

@@ -1,6 +1,7 @@
 -- The fields of a runtime.
 use Rattle.std.specs.Prelude.{◌≡◌, ◌≤◌}
 use Rattle.msg_tables.specs.Origin.{class_total}
+use Rattle.msg_tables.specs.History.{log}
 use Rattle.msg_tables.specs.Stands.{StandsAt}
 use Rattle.msg_runtime.specs.Parts.{IsKeeperOf, keeper_history, keeper_view, keeper_remembered, keeper_report}
 use Rattle.msg_runtime.specs.View.{RuntimeView}
@@ -14,7 +15,7 @@ view_of r = record { arena = r.arena.value; keeper = keeper_view r.keeper; remem
 pub record AreTogether (r : Inside) : Type 0 where
   pub keeper : IsKeeperOf r.arena.value r.keeper
   -- the tables stand at the keeper's history, which is of the arena's origin
-  pub tables : StandsAt r.tables (keeper_history r.keeper)
+  pub tables : StandsAt r.tables (log (keeper_history r.keeper))
   pub origin : (keeper_history r.keeper).origin ≡ r.arena.value.key.origin
   pub classes : r.classes ≡ class_total (keeper_history r.keeper).origin
   pub room : r.classes ≤ r.below.room

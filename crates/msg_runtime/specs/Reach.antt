@@ -9,7 +9,7 @@ use Rattle.msg_tables.specs.After.{of_class, of_meta}
 use Rattle.msg_names.specs.Number.{selector_number}
 use Rattle.msg_tables.specs.Affected.{at_most_one, if_any, is_of_made}
 use Rattle.msg_tables.specs.Chain.{is_member}
-use Rattle.msg_tables.specs.History.{History, chain_at, holder}
+use Rattle.msg_tables.specs.Log.{Log, chain_at, holder}
 use Rattle.msg_tables.specs.Origin.{CountsView}
 
 -- where methods that are set or exchanged stand, of a host's classes: of a document's all caches are flushed
@@ -17,8 +17,8 @@ abbrev pub unless_counted : Option CountsView → List ClassRef → Option (List
 unless_counted None places = Some places
 unless_counted (Some counts) places = None
 
--- The class references that are flushed with all below them after a change, where this is then the history; none where all caches are flushed.
-abbrev pub flushed_places : History → Change → Option (List ClassRef)
+-- The class references that are flushed with all below them after a change, where this is then the log; none where all caches are flushed.
+abbrev pub flushed_places : Log → Change → Option (List ClassRef)
 flushed_places h (Add c s i) = Some (c ∷ [])
 flushed_places h (Replace c s i) = Some (c ∷ [])
 flushed_places h (SetImp c s i) = unless_counted h.origin.counts (at_most_one (holder h c (selector_number s)))
@@ -27,13 +27,13 @@ flushed_places h (Attach k methods class_methods) = Some (if_any methods (of_cla
 flushed_places h (AddClass k d) = Some []
 
 -- one of the places, or below one
-abbrev pub is_below : History → ClassRef → List ClassRef → Bool
+abbrev pub is_below : Log → ClassRef → List ClassRef → Bool
 is_below h c places = list_any (λ place. is_member place (chain_at h c)) places
 
 -- all caches are meant, or the class reference is one of the places or below one
-abbrev pub are_reached : History → ClassRef → Option (List ClassRef) → Bool
+abbrev pub are_reached : Log → ClassRef → Option (List ClassRef) → Bool
 are_reached h c places = option_map_or (is_below h c) places true
 
--- a change after which this is the history flushes the cache of a class reference: it is of the class that is made, or one that is flushed, or below such a one
-abbrev pub is_flushed : History → Change → ClassRef → Bool
+-- a change after which this is the log flushes the cache of a class reference: it is of the class that is made, or one that is flushed, or below such a one
+abbrev pub is_flushed : Log → Change → ClassRef → Bool
 is_flushed h x c = is_of_made x c || are_reached h c (flushed_places h x)

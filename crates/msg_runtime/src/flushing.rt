@@ -7,7 +7,7 @@ ghost use Rattle.msg_tables.specs.Origin.{class_total};
 ghost use Rattle.msg_tables.specs.Affected.{at_most_one, if_any};
 ghost use Rattle.msg_tables.specs.Below.{is_among};
 ghost use Rattle.msg_tables.specs.Chain.{is_member};
-ghost use Rattle.msg_tables.specs.History.{History, and_then, chain_at, holder};
+ghost use Rattle.msg_tables.specs.Log.{Log, and_then, chain_at, holder};
 ghost use Rattle.msg_tables.specs.Preorder.{is_in};
 ghost use Rattle.msg_tables.specs.Refusal.{refusal};
 ghost use Rattle.msg_tables.specs.Stands.{StandsAt};
@@ -70,7 +70,7 @@ fn flush_below(
     requires room { length tables.now.supers ≤ below.old.room }
     ensures arena { IsKeeperOf arena.now keeper.new }
     ensures history { keeper_history keeper.new ≡ keeper_history keeper.old }
-    ensures flushed { (h : History) → StandsAt tables.now h → (c : ClassRef) → is_member class (chain_at h c) ≡ true → HasNoArray arena.now keeper.new c }
+    ensures flushed { (h : Log) → StandsAt tables.now h → (c : ClassRef) → is_member class (chain_at h c) ≡ true → HasNoArray arena.now keeper.new c }
     ensures others { (c : ClassRef) → HasNoArray arena.now keeper.old c → HasNoArray arena.now keeper.new c }
     ensures room { length tables.now.supers ≤ below.new.room }
 {
@@ -93,7 +93,7 @@ fn flush_methods(
     requires room { length tables.now.supers ≤ below.old.room }
     ensures arena { IsKeeperOf arena.now keeper.new }
     ensures history { keeper_history keeper.new ≡ keeper_history keeper.old }
-    ensures flushed { (h : History) → StandsAt tables.now h → (c : ClassRef) → is_below h c (if_any methods.now class) ≡ true → HasNoArray arena.now keeper.new c }
+    ensures flushed { (h : Log) → StandsAt tables.now h → (c : ClassRef) → is_below h c (if_any methods.now class) ≡ true → HasNoArray arena.now keeper.new c }
     ensures others { (c : ClassRef) → HasNoArray arena.now keeper.old c → HasNoArray arena.now keeper.new c }
     ensures room { length tables.now.supers ≤ below.new.room }
 {
@@ -130,7 +130,7 @@ fn flush_holder(
     requires room { length tables.now.supers ≤ below.old.room }
     ensures arena { IsKeeperOf arena.now keeper.new }
     ensures history { keeper_history keeper.new ≡ keeper_history keeper.old }
-    ensures flushed { (h : History) → StandsAt tables.now h → (c : ClassRef) → is_below h c (at_most_one (holder h class (selector_number sel))) ≡ true → HasNoArray arena.now keeper.new c }
+    ensures flushed { (h : Log) → StandsAt tables.now h → (c : ClassRef) → is_below h c (at_most_one (holder h class (selector_number sel))) ≡ true → HasNoArray arena.now keeper.new c }
     ensures others { (c : ClassRef) → HasNoArray arena.now keeper.old c → HasNoArray arena.now keeper.new c }
     ensures room { length tables.now.supers ≤ below.new.room }
 {
@@ -156,7 +156,7 @@ fn flush_set(
     requires room { classes ≤ below.old.room }
     ensures arena { IsKeeperOf arena.now keeper.new }
     ensures history { keeper_history keeper.new ≡ keeper_history keeper.old }
-    ensures flushed { (h : History) → StandsAt tables.now h → (c : ClassRef) → c.class < classes
+    ensures flushed { (h : Log) → StandsAt tables.now h → (c : ClassRef) → c.class < classes
         → are_reached h c (unless_counted h.origin.counts (at_most_one (holder h class (selector_number sel)))) ≡ true → HasNoArray arena.now keeper.new c }
     ensures room { classes ≤ below.new.room }
 {
@@ -185,7 +185,7 @@ fn flush_exchanged(
     requires room { classes ≤ below.old.room }
     ensures arena { IsKeeperOf arena.now keeper.new }
     ensures history { keeper_history keeper.new ≡ keeper_history keeper.old }
-    ensures flushed { (h : History) → StandsAt tables.now h → (c : ClassRef) → c.class < classes
+    ensures flushed { (h : Log) → StandsAt tables.now h → (c : ClassRef) → c.class < classes
         → are_reached h c (unless_counted h.origin.counts (at_most_one (holder h first.0 (selector_number first.1)) ++ at_most_one (holder h second.0 (selector_number second.1)))) ≡ true
         → HasNoArray arena.now keeper.new c }
     ensures room { classes ≤ below.new.room }
@@ -212,13 +212,13 @@ pub(crate) fn flush_reached(
     below: &mut Below,
 )
     requires arena { IsKeeperOf arena.now keeper.old }
-    requires made { (h : History) × StandsAt tables.now (and_then h change.now) × (refusal h change.now ≡ None) }
+    requires made { (h : Log) × StandsAt tables.now (and_then h change.now) × (refusal h change.now ≡ None) }
     requires classes { classes ≡ class_total (keeper_history keeper.old).origin }
     requires tables { length tables.now.supers ≡ classes }
     requires room { classes ≤ below.old.room }
     ensures arena { IsKeeperOf arena.now keeper.new }
     ensures history { keeper_history keeper.new ≡ keeper_history keeper.old }
-    ensures flushed { (h : History) → StandsAt tables.now h → (c : ClassRef) → c.class < classes → is_flushed h change.now c ≡ true → HasNoArray arena.now keeper.new c }
+    ensures flushed { (h : Log) → StandsAt tables.now h → (c : ClassRef) → c.class < classes → is_flushed h change.now c ≡ true → HasNoArray arena.now keeper.new c }
     ensures room { classes ≤ below.new.room }
 {
     match change {

@@ -1,9 +1,9 @@
 //! The runtime behind a lock.
 
-ghost use Rattle.std.specs.Prelude.{◌≡◌, ◌≢◌, ◌<◌, ◌≤◌, ◌*◌, length, cond, not, is_some, replicate, false, IfOk, IfErr, IfSome, IsErrOf, IsNone, OnErr, OnOk, None, Some};
+ghost use Rattle.std.specs.Prelude.{[], ◌∷◌, ◌≡◌, ◌≢◌, ◌<◌, ◌≤◌, ◌*◌, length, cond, not, is_some, replicate, false, IfOk, IfErr, IfSome, IsErrOf, IsNone, OnErr, OnOk, None, Some};
 ghost use Rattle.msg_names.specs.Number.{selector_number, imp_number};
 ghost use Rattle.msg_tables.specs.Origin.{last_imp};
-ghost use Rattle.msg_tables.specs.History.{BeginsWith, and_then, empty, holder, lookup, superclass};
+ghost use Rattle.msg_tables.specs.History.{BeginsWith, and_then, empty, holder, log, lookup, superclass};
 ghost use Rattle.msg_tables.specs.Marking.{MarksAffected};
 ghost use Rattle.msg_tables.specs.Refusal.{refusal};
 ghost use Rattle.msg_tables.specs.declared.fault.ChangeFault.{ChangeFault};
@@ -200,16 +200,16 @@ impl Runtime {
     /// It looks at the classes that it marks and at one or two more, and takes no memory.
     pub fn reach(&self, change: &Change, marks: &mut Marks) -> Result<(), ChangeFault>
         requires { length marks.old ≡ 2 * classes self.now.arena }
-        ensures ok { OnOk result ((refusal self.now.keeper.history change.now ≡ None) × MarksAffected (classes self.now.arena) self.now.keeper.history change.now marks.old marks.new) }
+        ensures ok { OnOk result ((refusal (log self.now.keeper.history) change.now ≡ None) × MarksAffected (classes self.now.arena) (log self.now.keeper.history) change.now marks.old marks.new) }
         ensures err { OnErr result (marks.new ≡ marks.old) }
-        ensures fault { IfErr result (λ f. refusal self.now.keeper.history change.now ≡ Some f) }
+        ensures fault { IfErr result (λ f. refusal (log self.now.keeper.history) change.now ≡ Some f) }
         ensures room { length marks.new ≡ length marks.old }
     {
         tables_are_of_their_origin();
         self.tables.reach(change, marks)
     }
 
-    /// Makes a change, flushes the caches that it reaches, and answers how many changes there are. After an error nothing was changed or flushed.
+    /// Makes a change, flushes the caches that it reaches, and answers how many times changes were made. After an error nothing was changed or flushed.
     ///
     /// The turn's history is the runtime's, before and after.
     pub fn change(
@@ -224,12 +224,12 @@ impl Runtime {
         ensures turn { turn.new.table ≡ self.old.arena.table }
         ensures was { turn.old.history ≡ self.old.keeper.history }
         ensures is { turn.new.history ≡ self.new.keeper.history }
-        ensures ok { IfOk result (λ count. (refusal self.old.keeper.history change.now ≡ None) × (self.new.keeper.history ≡ and_then self.old.keeper.history change.now) × (count ≡ length self.new.keeper.history.changes)) }
+        ensures ok { IfOk result (λ count. (refusal (log self.old.keeper.history) change.now ≡ None) × (self.new.keeper.history ≡ and_then self.old.keeper.history (change.now ∷ [])) × (count ≡ length self.new.keeper.history.changes)) }
         ensures err { OnErr result (self.new.keeper.history ≡ self.old.keeper.history) }
         ensures caches { OnErr result ((self.new.keeper ≡ lent self.old.keeper) × (self.new.remembered ≡ self.old.remembered)) }
         ensures report { OnErr result (self.new.report ≡ self.old.report) }
-        ensures fault { IfErr result (λ f. f ≢ ChangeFault.Memory → refusal self.old.keeper.history change.now ≡ Some f) }
-        ensures memory { IsErrOf result ChangeFault.Memory → refusal self.old.keeper.history change.now ≡ None }
+        ensures fault { IfErr result (λ f. f ≢ ChangeFault.Memory → refusal (log self.old.keeper.history) change.now ≡ Some f) }
+        ensures memory { IsErrOf result ChangeFault.Memory → refusal (log self.old.keeper.history) change.now ≡ None }
     {
         tables_are_of_their_origin();
         an_accepted_change_is_within_the_limit();
@@ -318,7 +318,7 @@ impl Runtime {
         reader.renew(arena, &mut self.keeper);
     }
 
-    /// How many changes were made.
+    /// How many times changes were made.
     #[inline]
     pub fn count(&self) -> u64
         ensures { result ≡ length self.now.keeper.history.changes }

@@ -2,7 +2,7 @@
 
 ghost use Rattle.std.specs.Prelude.{◌≡◌, ◌*◌, length};
 ghost use Rattle.msg_image.specs.Opened.{origin_of};
-ghost use Rattle.msg_tables.specs.History.{History, empty};
+ghost use Rattle.msg_tables.specs.Log.{Log, empty};
 ghost use Rattle.msg_tables.specs.Stands.{StandsAt};
 
 use crate::same::same;
@@ -49,7 +49,7 @@ fn selector(rt: &impl Abort, number: u32) -> Selector {
 
 // The change would be made, and alter lookups of so many class references at most.
 fn reaches(rt: &impl Abort, tables: &Tables, marks: &mut Marks, change: &Change, count: usize)
-    requires stands { (h : History) × StandsAt tables.now h }
+    requires stands { (h : Log) × StandsAt tables.now h }
     requires marks { length marks.old ≡ 2 * length tables.now.supers }
     ensures { length marks.new ≡ length marks.old }
 {
@@ -66,7 +66,7 @@ fn is_refused(
     change: &Change,
     fault: ChangeFault,
 )
-    requires stands { (h : History) × StandsAt tables.now h }
+    requires stands { (h : Log) × StandsAt tables.now h }
     requires marks { length marks.old ≡ 2 * length tables.now.supers }
     ensures { length marks.new ≡ length marks.old }
 {
@@ -85,7 +85,7 @@ fn added(class: ClassRef, sel: Selector) -> Change {
 
 // A method reaches its class and what is below; a root class's also the metaclasses, which stand below it.
 fn methods_reach_what_is_below(rt: &impl Abort, tables: &Tables, marks: &mut Marks)
-    requires stands { (h : History) × StandsAt tables.now h }
+    requires stands { (h : Log) × StandsAt tables.now h }
     requires marks { length marks.old ≡ 2 * length tables.now.supers }
     ensures { length marks.new ≡ length marks.old }
 {
@@ -129,7 +129,7 @@ fn categories_reach_where_they_have_methods(
     tables: &Tables,
     marks: &mut Marks,
 )
-    requires stands { (h : History) × StandsAt tables.now h }
+    requires stands { (h : Log) × StandsAt tables.now h }
     requires marks { length marks.old ≡ 2 * length tables.now.supers }
     ensures { length marks.new ≡ length marks.old }
 {

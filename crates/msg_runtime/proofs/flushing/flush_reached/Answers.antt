@@ -1,6 +1,6 @@
 use Rattle.std.proofs.Common.{◌<◌, ⊎_elim, ap, sym, ◌∙◌, arith}
 use Rattle.msg_tables.specs.Origin.{class_total}
-use Rattle.msg_tables.specs.History.{and_then}
+use Rattle.msg_tables.specs.Log.{and_then}
 use Rattle.msg_tables.specs.Refusal.{refusal}
 use Rattle.msg_tables.proofs.StandsLemmas.{class_count}
 use Rattle.msg_tables.proofs.NamedLemmas.{of_origin-add, of_origin-replace, of_origin-attach, of_origin-make, of_origin-set, of_origin-exchange}

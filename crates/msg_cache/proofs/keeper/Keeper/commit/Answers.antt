@@ -1,53 +1,9 @@
-use Rattle.std.proofs.Common.{◌≡◌, ℕ, ◌<◌, length, sym, ap, ◌∙◌, subst, arith}
-use Rattle.msg_names.specs.declared.value.ClassRef.{ClassRef}
-use Rattle.msg_core.specs.declared.state.Standing.TheVariants.{Live}
-use Rattle.msg_core.specs.State.{capacity}
-use Rattle.msg_cache.specs.declared.view.KeeperView.{KeeperView}
-use Rattle.msg_cache.specs.Layout.{layout_of, SettingView}
-use Rattle.msg_cache.specs.Rule.{TidyBy}
-use Rattle.msg_cache.specs.Plays.{committed, lent}
-use Rattle.msg_cache.specs.Keeping.{InOrder}
-use Rattle.msg_tables.specs.History.{lookup}
-use Rattle.msg_core.specs.View.{standing_at}
-use Rattle.msg_cache.specs.Plays.{Sat, keeper_of}
-use Rattle.msg_cache.proofs.OrderLemmas.{kept_committed}
-use Rattle.msg_tables.specs.History.{and_then}
-use Rattle.msg_tables.proofs.PresenceLemmas.{lookup-kept}
-use Rattle.msg_tables.proofs.LimitLemmas.{accepted_few}
-use Rattle.msg_core.specs.State.{Agrees}
-use Rattle.msg_cache.specs.Plays.{turn_of}
-use Rattle.msg_cache.specs.Rule.{word_in}
-use Rattle.msg_cache.proofs.TidyLemmas.{tidy_lent, agrees_after}
+-- one change is a list of it
+use Rattle.std.proofs.Common.{◌∙◌}
+use Rattle.msg_tables.specs.History.{log}
+use Rattle.msg_tables.proofs.SeveralLemmas.{refused-one}
+use Rattle.msg_cache.specs.Plays.{keeper_of}
 use Rattle.msg_cache.proofs.keeper.Keeper.commit.Goals as goal
 
-pub overflow_add-count : goal.overflow_add-count
-overflow_add-count c =
-    let me = c.args.self.now in
-    let few = accepted_few (keeper_of me.seat.me.0).history c.args.change.now c.requires.accepted in
-    let most = c.requires.arena.1.tidy.kept.accepted.origin.few_changes in
-    let is = me.count_is in omega arith
-
-pub store_count-requires-clause-turn : goal.store_count-requires-clause-turn
-store_count-requires-clause-turn c = (turn_of c.into_seat.result.me.0, ap (λ (x : Sat). (keeper_of x.0).turn) c.join_turn.ensures.2)
-
-pub store_count-requires-clause-agrees : goal.store_count-requires-clause-agrees
-store_count-requires-clause-agrees c =
-    let key = c.args.arena.now.key in
-    let k = keeper_of c.args.self.now.seat.me.0 in
-    rw c.shared-shared.ensures.key (
-    subst (λ (k : KeeperView). (d : ClassRef) (b q : ℕ) → b < length key.capacities → standing_at k.standings b ≡ Live d → q < capacity (layout_of key) b → Agrees (lookup (and_then k.history c.args.change.now)) d (word_in (layout_of key) k.words b q))
-    (sym (ap (λ (x : Sat). keeper_of x.0) c.join_turn.ensures.2)) (agrees_after lookup key k c.args.change.now (λ d s e. lookup-kept k.history c.args.change.now d s c.requires.arena.1.tidy.kept.accepted.origin c.requires.arena.1.tidy.kept.accepted.changes c.requires.accepted e) c.requires.arena.1.tidy c.requires.flushed))
-
-pub returns-clause-arena : goal.returns-clause-arena
-returns-clause-arena c =
-    let key = c.args.arena.now.key in
-    let s = c.args.self.now in
-    let k = keeper_of s.seat.me.0 in
-    let x = c.args.change.now in
-    let one : keeper_of c.store_count.new.seat.me.0 ≡ committed x k = ap (λ (y : Sat). keeper_of y.0) c.store_count.ensures.told.0 ∙ ap (λ (y : Sat). committed x (keeper_of y.0)) c.join_turn.ensures.2 in
-    let two : keeper_of c.split_turn.new.seat.me.0 ≡ lent (committed x k) = ap (λ (y : Sat). keeper_of y.0) c.split_turn.ensures.seat.2 ∙ ap lent one in (
-      c.split_turn.ensures.seat.0 ∙ c.store_count.ensures.seat.0 ∙ c.join_turn.ensures.0 ∙ c.requires.arena.0,
-      subst (λ (y : KeeperView). InOrder lookup key y s.remembered.items s.occupied.items) (sym two)
-          (kept_committed lookup key k s.remembered.items s.occupied.items c.requires.arena.1 x (tidy_lent lookup key (committed x k) (subst (λ (x : SettingView × KeeperView). TidyBy lookup x.0 x.1) (λ i. (c.shared-shared.ensures.key i, one i)) c.store_count.ensures.tidy))),
-      c.requires.arena.2,
-    )
+pub commit_all-requires-clause-accepted : goal.commit_all-requires-clause-accepted
+commit_all-requires-clause-accepted c = rw c.from_ref.ensures.value (refused-one (log (keeper_of c.args.self.now.seat.me.0).history) c.args.change.now ∙ c.requires.accepted)

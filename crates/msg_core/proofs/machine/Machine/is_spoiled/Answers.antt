@@ -5,14 +5,14 @@ use Rattle.msg_tables.specs.Origin.{class_total}
 use Rattle.msg_tables.specs.Log as logs
 use Rattle.msg_tables.specs.History.{lookup, and_then, log}
 use Rattle.msg_tables.proofs.HistoryLemmas.{log-one}
-use Rattle.msg_tables.specs.Refusal.{refusal}
+use Rattle.msg_tables.specs.Several.{refusal_of_all}
 use Rattle.msg_tables.proofs.StandsLemmas.{class_count}
 use Rattle.msg_core.specs.declared.state.Standing.TheVariants.{Live}
 use Rattle.msg_core.specs.Inside.{view_of}
 use Rattle.msg_core.specs.Steps.{is_spoiled}
 use Rattle.msg_core.specs.View.{MachineView, word_at, standing_at}
 use Rattle.msg_tables.specs.Written.{SeeksAmong}
-use Rattle.msg_core.proofs.WholeLemmas.{class_listed, spoiled_as}
+use Rattle.msg_core.proofs.WholeLemmas.{refused_alone, class_listed, spoiled_as}
 use Rattle.msg_tables.proofs.PresenceLemmas.{seeks-listed}
 use Rattle.msg_core.proofs.machine.Machine.is_spoiled.Goals as goal
 
@@ -23,7 +23,7 @@ has_spoiled_word-requires-clause-class c = class_listed c.self.inside.tables _ c
 pub has_spoiled_word-requires-clause-listed : goal.has_spoiled_word-requires-clause-listed
 has_spoiled_word-requires-clause-listed c =
     subst (λ n. SeeksAmong n c.args.change.now) (sym (class_count c.self.inside.tables _ c.self.invariant.tables))
-    (seeks-listed _ c.args.change.now (subst (λ v. refusal (log v.history) c.args.change.now ≡ None) (sym c.self.view_is) c.requires.accepted))
+    (seeks-listed _ c.args.change.now (sym (refused_alone _ c.args.change.now) ∙ subst (λ v. refusal_of_all (log v.history) (c.args.change.now ∷ []) ≡ None) (sym c.self.view_is) c.requires.accepted))
 
 pub returns-in-Live : goal.returns-in-Live
 returns-in-Live c =

@@ -1,6 +1,6 @@
 use Rattle.std.proofs.Common.{◌≡◌, ◌+◌, ◌<◌, ◌≤◌, ◌⊎◌, ℕ, true, ap, sym, ◌∙◌, refl, subst, arith}
 use Rattle.msg_tables.specs.Origin.{class_total}
-use Rattle.msg_tables.specs.History.{History}
+use Rattle.msg_tables.specs.History.{History, log}
 use Rattle.msg_tables.specs.Stands.{StandsAt}
 use Rattle.msg_core.specs.State.{awaits}
 use Rattle.msg_cache.specs.declared.view.KeeperView.{KeeperView}
@@ -32,7 +32,7 @@ loop-number-preserved c =
     let here = is_out (keeper_view c.loop-number.self-inside.keeper) c.args.arena.now.key.senders c.loop-number.number (omega (arith, c.loop-number-test.true, c.senders-number-end.ensures.senders)) (e.none.0 refl) in record {
       together = record {
         keeper = subst (λ a. IsKeeperOf a c.give_out.new.self) (c.requires.arena ∙ sym inv.arena) e.arena;
-        tables = subst (λ (h : History). StandsAt c.loop-number.self-inside.tables h) (sym history) inv.together.tables;
+        tables = subst (λ (h : History). StandsAt c.loop-number.self-inside.tables (log h)) (sym history) inv.together.tables;
         origin = ap (λ (h : History). h.origin) history ∙ inv.together.origin;
         classes = inv.together.classes ∙ ap (λ (h : History). class_total h.origin) (sym history);
         room = inv.together.room;
