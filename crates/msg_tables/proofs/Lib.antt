@@ -29,6 +29,7 @@ pub mod StandsLemmas
 pub mod TakeLemmas
 pub mod DepthLemmas
 pub mod PreorderLemmas
+pub mod WrittenLemmas
 pub mod WalkLemmas
 pub mod PlacedLemmas
 pub mod BelowAllLemmas
