@@ -27,6 +27,7 @@ pub mod RowLemmas
 pub mod StandsLemmas
 pub mod TakeLemmas
 pub mod DepthLemmas
+pub mod PopLemmas
 pub mod PreorderLemmas
 pub mod WalkLemmas
 pub mod PlacedLemmas
