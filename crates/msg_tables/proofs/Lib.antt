@@ -1,5 +1,6 @@
 pub mod ApplyLemmas
 pub mod AttachLemmas
+pub mod BackLemmas
 pub mod ChainLemmas
 pub mod ForeseeLemmas
 pub mod HistoryLemmas
@@ -12,10 +13,12 @@ pub mod LimitLemmas
 pub mod ListLemmas
 pub mod ListedLemmas
 pub mod ListedOrderLemmas
+pub mod LogLemmas
 pub mod LookupLemmas
 pub mod DescentLemmas
 pub mod OpeningLemmas
 pub mod MadeLemmas
+pub mod MakingLemmas
 pub mod OrElseLemmas
 pub mod OrderLemmas
 pub mod OriginLemmas
@@ -27,6 +30,8 @@ pub mod RowLemmas
 pub mod StandsLemmas
 pub mod TakeLemmas
 pub mod DepthLemmas
+pub mod NoteLemmas
+pub mod PlaceLemmas
 pub mod PopLemmas
 pub mod PreorderLemmas
 pub mod WalkLemmas

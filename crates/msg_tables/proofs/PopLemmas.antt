@@ -1,9 +1,8 @@
 -- Rows of which the last ones are taken away.
-use Rattle.std.proofs.Common.{◌≡◌, ◌<◌, ◌≤◌, ◌-◌, ◌+◌, ℕ, zero, suc, List, [], ◌∷◌, ◌++◌, length, length-append, take, take_all, cond, Bool, true, false, Option, Some, None, refl, sym, ap, ◌∙◌, subst, arith}
+use Rattle.std.proofs.Common.{◌≡◌, ◌<◌, ◌-◌, ◌+◌, ℕ, List, [], ◌∷◌, ◌++◌, length, length-append, take, take_all, cond, Bool, true, false, Option, Some, None, refl, sym, ap, ◌∙◌, arith}
 use Rattle.std.specs.Prelude.{nat_eq, ◌==◌, is_some, IsSome, IsOk, OnErr, Result, Ok, Err}
-use Rattle.std.specs.Option.{option_to_list}
 use Rattle.std.specs.HashMap.{HashMap, get}
-use Rattle.std.proofs.lemmas.List.{length-map, map-append, take-take, length-take-le, take_more}
+use Rattle.std.proofs.lemmas.List.{length-map, map-append, take-take, length-take-le}
 use Rattle.std.proofs.Math.Seq.{take-append_seam}
 use Rattle.msg_names.proofs.TestLemmas.{same_number}
 use Rattle.msg_names.specs.declared.value.Selector.{Selector}

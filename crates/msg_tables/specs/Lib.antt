@@ -10,6 +10,8 @@ pub mod History
 pub mod Indexed
 pub mod Inside
 pub mod Kept
+pub mod Log
+pub mod Making
 pub mod Marking
 pub mod Methods
 pub mod Opening

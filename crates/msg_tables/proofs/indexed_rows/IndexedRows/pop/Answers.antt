@@ -1,11 +1,11 @@
-use Rattle.std.proofs.Common.{◌≡◌, ◌++◌, ◌∷◌, [], ap, sym, ◌∙◌, Some, None, cond, ℕ, subst, arith}
+use Rattle.std.proofs.Common.{◌≡◌, ◌++◌, ◌∷◌, [], ap, sym, ◌∙◌, Some, None, cond, subst}
 use Rattle.std.specs.Prelude.{nat_eq, IsSome}
 use Rattle.std.specs.Option.{option_to_list}
 use Rattle.std.specs.HashMap.{get}
 use Rattle.msg_names.specs.Number.{selector_number}
 use Rattle.msg_tables.specs.Methods.{method_numbers}
-use Rattle.msg_tables.specs.RowList.{RowList, last_index}
-use Rattle.msg_tables.proofs.PopLemmas.{left, indexes-pop, indexed-last, known-ok}
+use Rattle.msg_tables.specs.RowList.{last_index}
+use Rattle.msg_tables.proofs.PopLemmas.{indexes-pop, indexed-last, known-ok}
 use Rattle.msg_tables.proofs.indexed_rows.IndexedRows.pop.Goals as goal
 
 pub unwrap-requires : goal.unwrap-requires

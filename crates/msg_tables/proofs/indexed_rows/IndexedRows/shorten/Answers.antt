@@ -1,4 +1,4 @@
-use Rattle.std.proofs.Common.{ap, sym, ◌∙◌, ◌+◌, arith}
+use Rattle.std.proofs.Common.{ap, sym, ◌∙◌}
 use Rattle.msg_tables.specs.RowList.{without_last}
 use Rattle.msg_tables.proofs.PopLemmas.{without-next, without-none}
 use Rattle.msg_tables.proofs.indexed_rows.IndexedRows.shorten.Goals as goal

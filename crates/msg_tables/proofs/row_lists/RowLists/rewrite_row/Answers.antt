@@ -1,4 +1,4 @@
-use Rattle.std.proofs.Common.{List, [], ℕ, refl, sym, ap, ◌∙◌, arith}
+use Rattle.std.proofs.Common.{List, [], refl, sym, ap, ◌∙◌, arith}
 use Rattle.std.specs.Prelude.{slice_index_or, slice_set}
 use Rattle.msg_names.specs.Number.{selector_number, imp_number}
 use Rattle.msg_tables.specs.RowList.{RowList, rows_of, set_last}

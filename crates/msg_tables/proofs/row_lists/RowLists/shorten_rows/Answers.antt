@@ -1,4 +1,4 @@
-use Rattle.std.proofs.Common.{List, [], ℕ, sym, ap, ◌∙◌, arith}
+use Rattle.std.proofs.Common.{List, [], sym, ap, ◌∙◌, arith}
 use Rattle.std.specs.Prelude.{slice_index_or, slice_set}
 use Rattle.msg_tables.specs.RowList.{RowList, rows_of, without_last}
 use Rattle.msg_tables.proofs.PopLemmas.{without-empty}
