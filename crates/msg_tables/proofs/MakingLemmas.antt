@@ -12,7 +12,7 @@ use Rattle.msg_tables.specs.Affected.{written_refs}
 use Rattle.msg_tables.specs.Chain.{is_member}
 use Rattle.msg_tables.specs.Edits.{supers_edited}
 use Rattle.msg_tables.specs.History.{History, and_then}
-use Rattle.msg_tables.specs.Log.{Logs, IsWrittenAt, IsLogOf, entry_count, places_of, classes_of}
+use Rattle.msg_tables.specs.Log.{Logs, edit_made, WritesAt, IsLogOf, entry_count, places_of, classes_of}
 use Rattle.msg_tables.specs.Making.{IsBeside, IsPart, IsMade}
 use Rattle.msg_tables.specs.Refusal.{refusal, AreAccepted}
 use Rattle.msg_tables.specs.Several.{and_all, refused_from, made_by, made_by_all, written_by_all}
@@ -39,17 +39,17 @@ length-edited_supers (Attach k ms cs) t = refl
 length-edited_supers (Make k d) t = length-set t.supers k (Some (record { superclass = d }))
 
 -- an edit was made and noted, and the change is counted
-pub part-made : (x : Change) (e : Edit) (log longer : List Entry) (old new : TablesView) → ((h : History) → StandsAt old h → IsWrittenAt h x e) → Logs e log longer old new
+pub part-made : (x : Change) (e : Edit) (log longer : List Entry) (old new : TablesView) → ((h : History) → StandsAt old h → WritesAt h x e) → edit_made e ≡ made_by x → Logs e log longer old new
     → IsPart x log longer old (record new { change_count = new.change_count + 1 })
-part-made x e log longer old new written logs =
+part-made x e log longer old new written makes logs =
     let few = few-entries e in
     record {
       entries = logs.entries;
       is = logs.is;
       few = omega (arith, few, logs.few);
       back = record { lists = logs.back.lists; supers = logs.back.supers; order = logs.back.order };
-      places = λ h stands c. logs.places c ∙ ap (is_member c) (written h stands).places;
-      made = λ h stands. logs.made ∙ (written h stands).made;
+      places = λ h stands c. logs.places c ∙ ap (is_member c) (written h stands);
+      made = logs.made ∙ makes;
       beside = record {
         count = ap (λ (t : TablesView). length t.supers) logs.writes.rest ∙ length-edited_supers e old;
         rest = sym (ap (λ (t : TablesView). record t { supers = old.supers; order = old.order; lists = old.lists; row_count = old.row_count; change_count = old.change_count }) logs.writes.rest);
@@ -98,7 +98,7 @@ made-none t [] e = record {
   back = record { lists = refl; supers = refl; order = refl };
   stands = λ h stands. (tt, stands);
   places = λ h stands c. refl;
-  made = λ h stands. refl;
+  made = refl;
   beside = record { count = refl; rest = refl };
 }
 made-none t (x ∷ log) e = cc
@@ -118,11 +118,7 @@ made-next xs i x log longer old between new inside is so-far ok part =
           ap (λ es. is_member c (places_of es)) part.is ∙ member-places c log part.entries
           ∙ ap₂ (λ a b. a || b) (so-far.places h stands c) (part.places (and_all h (take i xs)) now c)
           ∙ sym (member-snoc h (take i xs) x c);
-      made = λ h stands.
-          let now = (so-far.stands h stands).1 in
-          ap classes_of part.is ∙ classes-append log part.entries
-          ∙ ap₂ (λ a b. a ++ b) (so-far.made h stands) (part.made (and_all h (take i xs)) now)
-          ∙ sym (made-snoc (take i xs) x);
+      made = ap classes_of part.is ∙ classes-append log part.entries ∙ ap₂ (λ a b. a ++ b) so-far.made part.made ∙ sym (made-snoc (take i xs) x);
       beside = beside-on old between new so-far.beside part.beside;
     }
 

@@ -19,7 +19,6 @@ use Rattle.msg_tables.specs.History.{History}
 use Rattle.msg_tables.specs.Order.{IsOrder}
 use Rattle.msg_tables.specs.Origin.{last_imp, are_listed}
 use Rattle.msg_tables.specs.RowList.{set_last, without_last}
-use Rattle.msg_tables.specs.Several.{made_by}
 use Rattle.msg_tables.specs.View.{TablesView, kept}
 
 -- the class reference at which rows were added or rewritten
@@ -92,9 +91,8 @@ entry_count (Attach k methods class_methods) = 2
 entry_count _ = 1
 
 -- an edit writes where the change does
-pub record IsWrittenAt (h : History) (x : Change) (e : Edit) : Type 0 where
-  pub places : edit_places e ≡ written_refs h x
-  pub made : edit_made e ≡ made_by x
+abbrev pub WritesAt : History → Change → Edit → Type 0
+WritesAt h x e = edit_places e ≡ written_refs h x
 
 -- an edit was made, and the log is longer by what it wrote
 pub record Logs (e : Edit) (log longer : List Entry) (old new : TablesView) : Type 0 where
