@@ -61,7 +61,7 @@ holds-append lists rows c ms inside holds =
     (λ d e. pairs_at-append d rows (rows_at c ms) ∙ ap (λ ps. pairs_at d rows ++ ps) (pairs_at-rows_at c d false ms e) ∙ append-nil (pairs_at d rows))
 
 -- a class and its metaclass are two
-class-apart : (k : ℕ) → same_class (of_class k) (of_meta k) ≡ false
+pub class-apart : (k : ℕ) → same_class (of_class k) (of_meta k) ≡ false
 class-apart k = step (k == k)
   where
     step : (b : Bool) → (b && false) ≡ false

@@ -1,6 +1,6 @@
 -- Rows with the index of their last places.
-use Rattle.std.proofs.Common.{◌≡◌, ◌<◌, ℕ, List, [], ◌∷◌, ◌++◌, length, get_or, cond, Option, Some, None, Bor, refl, sym, ap, ◌∙◌, arith}
-use Rattle.std.specs.Prelude.{nat_eq, slice_set, IsSome, is_some}
+use Rattle.std.proofs.Common.{◌≡◌, ◌<◌, ℕ, List, [], ◌∷◌, ◌++◌, length, get_or, cond, Option, Some, None, Bor, sym, ap, ◌∙◌, arith}
+use Rattle.std.specs.Prelude.{nat_eq, slice_set}
 use Rattle.std.specs.Option.{option_copied}
 use Rattle.std.specs.HashMap.{HashMap, get, get_by}
 use Rattle.std.proofs.lemmas.List.{length-map, map-append, map-set}
@@ -10,7 +10,7 @@ use Rattle.msg_names.specs.declared.value.ImpRef.{ImpRef}
 use Rattle.msg_names.specs.Number.{selector_number, imp_number}
 use Rattle.msg_tables.specs.Methods.{method_numbers}
 use Rattle.msg_tables.specs.RowList.{own_in, last_index, set_last}
-use Rattle.msg_tables.proofs.RowLemmas.{last_none, last_some, last_place-push, set-last_place, last_place-set_last}
+use Rattle.msg_tables.proofs.RowLemmas.{set_last-none, last_none, last_some, last_place-push, set-last_place, last_place-set_last}
 
 abbrev numbers : Selector × ImpRef → ℕ × ℕ
 numbers m = (selector_number m.0, imp_number m.1)
@@ -33,12 +33,9 @@ module _ {S : Type 0} (own : HashMap ℕ ℕ S) (rows : List (Selector × ImpRef
   own_found place m e read =
       sym ((last_some s (method_numbers rows) place.now (numbers m) (place_found place e)).1 ∙ ap (λ (x : ℕ × ℕ). Some x.1) (get_or-map numbers rows place.now m ∙ ap numbers (sym read)))
 
-  pub is_found : IsSome (own_in s (method_numbers rows)) → IsSome found
-  is_found some = at_result found refl
-    where
-      at_result : (o : Option (Bor ℕ)) → found ≡ o → IsSome o
-      at_result None e = let none = ap is_some (none_found e) in cc
-      at_result (Some p) e = refl
+  -- where none is found, none is rewritten
+  pub none_kept : found ≡ None → (i : ℕ) → method_numbers rows ≡ set_last s i (method_numbers rows)
+  none_kept e i = set_last-none s i (method_numbers rows) (sym (index s) ∙ sym is ∙ ap option_copied e)
 
   -- the last row gets another implementation
   pub rows-set : (place : Bor ℕ) (sel : Selector) (imp : ImpRef) → selector_number sel ≡ s → found ≡ Some place → method_numbers (slice_set rows place.now (sel, imp)) ≡ set_last s (imp_number imp) (method_numbers rows)

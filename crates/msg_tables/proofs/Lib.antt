@@ -1,5 +1,6 @@
 pub mod ApplyLemmas
 pub mod AttachLemmas
+pub mod BackLemmas
 pub mod ChainLemmas
 pub mod ForeseeLemmas
 pub mod HistoryLemmas
@@ -13,10 +14,12 @@ pub mod LimitLemmas
 pub mod ListLemmas
 pub mod ListedLemmas
 pub mod ListedOrderLemmas
+pub mod JournalLemmas
 pub mod LookupLemmas
 pub mod DescentLemmas
 pub mod OpeningLemmas
 pub mod MadeLemmas
+pub mod MakingLemmas
 pub mod OrElseLemmas
 pub mod OrderLemmas
 pub mod OriginLemmas
@@ -28,6 +31,9 @@ pub mod RowLemmas
 pub mod StandsLemmas
 pub mod TakeLemmas
 pub mod DepthLemmas
+pub mod NoteLemmas
+pub mod PlaceLemmas
+pub mod PopLemmas
 pub mod PreorderLemmas
 pub mod WrittenLemmas
 pub mod WalkLemmas

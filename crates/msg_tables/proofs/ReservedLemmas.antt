@@ -152,3 +152,19 @@ if_err (Err e) err f = f err
 pub on_err : {A B P : Type 0} (r : Result A B) → P → OnErr r P
 on_err (Ok a) p = tt
 on_err (Err e) p = p
+
+-- a list that is written as it was
+pub set-kept : (xs : List (List (ℕ × ℕ))) (k : ℕ) → slice_set xs k (slice_index_or xs k []) ≡ xs
+set-kept [] k = refl
+set-kept (x ∷ xs) zero = refl
+set-kept (x ∷ xs) (suc k) = ap (λ ys. x ∷ ys) (set-kept xs k)
+
+-- one of those that are written
+pub put-written : (xs ys : List RowList) (n at : ℕ) (f : List (ℕ × ℕ) → List (ℕ × ℕ)) → at < length xs → rows_of ys ≡ slice_set (rows_of xs) at (f (slice_index_or (rows_of xs) at [])) → rows_of (all ys n) ≡ slice_set (rows_of (all xs n)) at (f (slice_index_or (rows_of (all xs n)) at []))
+put-written xs ys n at f inside e = all-set xs ys n at (f (slice_index_or (rows_of xs) at [])) inside e ∙ ap (λ rs. slice_set (rows_of (all xs n)) at (f rs)) (sym (all-read xs n at inside))
+
+-- and one that isn't, of which no rows give none
+pub put-unwritten : (xs : List RowList) (n at : ℕ) (f : List (ℕ × ℕ) → List (ℕ × ℕ)) → length xs ≤ at → f [] ≡ [] → rows_of (all xs n) ≡ slice_set (rows_of (all xs n)) at (f (slice_index_or (rows_of (all xs n)) at []))
+put-unwritten xs n at f past none =
+    let empty = all-none xs n at past in
+    sym (ap (slice_set (rows_of (all xs n)) at) (ap f empty ∙ none ∙ sym empty) ∙ set-kept (rows_of (all xs n)) at)

@@ -56,7 +56,7 @@ is_none-own_in s (m ∷ ms) = step (own_in s ms) (last_index s ms) (m.0 == s) (i
     step (Some x) None b e = cc
 
 -- where no row is last none is rewritten
-set_last-none : (s i : ℕ) (ms : List (ℕ × ℕ)) → last_index s ms ≡ None → ms ≡ set_last s i ms
+pub set_last-none : (s i : ℕ) (ms : List (ℕ × ℕ)) → last_index s ms ≡ None → ms ≡ set_last s i ms
 set_last-none s i [] e = refl
 set_last-none s i (m ∷ ms) e = step (last_index s ms) (m.0 == s) (set_last-none s i ms) e
   where

@@ -9,8 +9,10 @@ pub mod Given
 pub mod History
 pub mod Indexed
 pub mod Inside
+pub mod Journal
 pub mod Kept
 pub mod Log
+pub mod Making
 pub mod Marking
 pub mod Methods
 pub mod Opening

@@ -1,5 +1,5 @@
 -- The rows of one class reference, as pairs of a selector and an implementation.
-use Rattle.std.specs.Prelude.{ℕ, suc, ◌==◌, ◌&&◌, List, [], ◌∷◌, Option, Some, None, option_map, map, if◌then◌else◌, is_none}
+use Rattle.std.specs.Prelude.{ℕ, suc, ◌-◌, ◌==◌, ◌&&◌, List, [], ◌∷◌, Option, Some, None, option_map, map, if◌then◌else◌, is_none, length, take}
 use Rattle.msg_tables.specs.Rows.{or_else}
 
 -- the rows, oldest first, and how many more there is room for
@@ -20,6 +20,10 @@ own_in s (m ∷ ms) = or_else (own_in s ms) (if m.0 == s then Some m.1 else None
 abbrev pub last_index : ℕ → List (ℕ × ℕ) → Option ℕ
 last_index s [] = None
 last_index s (m ∷ ms) = or_else (option_map suc (last_index s ms)) (if m.0 == s then Some 0 else None)
+
+-- without so many rows at the end
+abbrev pub without_last : ℕ → List (ℕ × ℕ) → List (ℕ × ℕ)
+without_last n ms = take (length ms - n) ms
 
 -- another implementation in the last row of a selector
 abbrev pub set_last : ℕ → ℕ → List (ℕ × ℕ) → List (ℕ × ℕ)

@@ -1,10 +1,11 @@
 -- Lists of changes, one made after another, of which others see none before all are made.
-use Rattle.std.specs.Prelude.{ℕ, suc, ◌||◌, Bool, false, List, [], ◌∷◌, Option, Some, None, option_map}
+use Rattle.std.specs.Prelude.{ℕ, suc, ◌||◌, Bool, false, List, [], ◌∷◌, ◌++◌, Option, Some, None, option_map}
 use Rattle.std.specs.Option.{option_map_or}
 use Rattle.msg_names.specs.declared.value.ClassRef.{ClassRef}
 use Rattle.msg_tables.specs.declared.change.Change.{Change}
 use Rattle.msg_tables.specs.declared.fault.ChangeFault.{ChangeFault}
-use Rattle.msg_tables.specs.Affected.{is_affected}
+use Rattle.msg_tables.specs.declared.change.Change.TheVariants.{AddClass}
+use Rattle.msg_tables.specs.Affected.{is_affected, written_refs}
 use Rattle.msg_tables.specs.Log.{Log, and_then}
 use Rattle.msg_tables.specs.Refusal.{refusal}
 
@@ -26,3 +27,18 @@ refusal_of_all h xs = option_map (λ r. r.1) (refused_from 0 h xs)
 abbrev pub is_affected_by_all : Log → List Change → ClassRef → Bool
 is_affected_by_all h [] c = false
 is_affected_by_all h (x ∷ xs) c = is_affected h x c || is_affected_by_all (and_then h x) xs c
+
+-- the class references at which the changes of a list add or rewrite rows, each at the log before it
+abbrev pub written_by_all : Log → List Change → List ClassRef
+written_by_all h [] = []
+written_by_all h (x ∷ xs) = written_refs h x ++ written_by_all (and_then h x) xs
+
+-- the class that a change makes
+abbrev pub made_by : Change → List ℕ
+made_by (AddClass k d) = k ∷ []
+made_by _ = []
+
+-- the classes that the changes of a list make
+abbrev pub made_by_all : List Change → List ℕ
+made_by_all [] = []
+made_by_all (x ∷ xs) = made_by x ++ made_by_all xs

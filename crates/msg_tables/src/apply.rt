@@ -1,13 +1,20 @@
 //! Making changes.
 
-ghost use Rattle.std.specs.Prelude.{◌≡◌, ◌≢◌, ◌<◌, ◌≤◌, Option, Some, None, OnOk, OnErr, IfErr, IsErrOf, length, ◌+◌};
+ghost use Rattle.std.specs.Prelude.{◌≡◌, ◌≢◌, ◌<◌, ◌≤◌, Option, Some, None, OnOk, OnErr, IfErr, IsErrOf, length, ◌+◌, [], ◌∷◌};
+ghost use Rattle.msg_names.specs.declared.value.ImpRef.{ImpRef};
+ghost use Rattle.msg_names.specs.Number.{selector_number, imp_number};
+ghost use Rattle.msg_tables.specs.After.{of_class, of_meta};
+ghost use Rattle.msg_tables.specs.declared.entry.Entry.{Entry};
 ghost use Rattle.msg_tables.specs.declared.fault.ChangeFault.{ChangeFault};
 ghost use Rattle.msg_tables.specs.declared.edit.Edit.{Edit};
 ghost use Rattle.msg_tables.specs.declared.edit.MethodRow.{MethodRow};
 ghost use Rattle.msg_tables.specs.Edits.{Fits, IsOwn, Writes, AddsRows, added};
 ghost use Rattle.msg_tables.specs.Log.{Log, and_then};
+ghost use Rattle.msg_tables.specs.Journal.{IsJournalOf};
 ghost use Rattle.msg_tables.specs.Refusal.{refusal};
+ghost use Rattle.msg_tables.specs.RowList.{own_in};
 ghost use Rattle.msg_tables.specs.Stands.{StandsAt};
+ghost use Rattle.msg_tables.specs.View.{kept};
 
 use crate::change::Change;
 use crate::edit::{Edit, MethodRow};
@@ -19,20 +26,22 @@ use msg_names::ClassRef;
 use std::alloc::AllocError;
 
 impl Tables {
-    fn append(&mut self, row: MethodRow) -> Result<(), AllocError>
+    pub(crate) fn append(&mut self, row: MethodRow) -> Result<(), AllocError>
         requires { Fits self.old (Edit.Append row) }
         ensures ok { OnOk result (Writes self.old self.new (Edit.Append row)) }
         ensures err { OnErr result (self.new ≡ self.old) }
+        ensures back { OnOk result (IsJournalOf (Entry.Added row.class 1 ∷ []) self.old self.new) }
     {
         self.lists.append_row(row.class.slot(), row.sel, row.imp)?;
         self.row_count += 1;
         Ok(())
     }
 
-    fn rewrite(&mut self, row: MethodRow)
+    pub(crate) fn rewrite(&mut self, row: MethodRow)
         requires { IsOwn self.old row }
         ensures writes { Writes self.old self.new (Edit.Rewrite row) }
         ensures own { (other : MethodRow) → IsOwn self.old other → IsOwn self.new other }
+        ensures back { (was : ImpRef) → own_in (selector_number row.sel) (kept self.old.lists row.class) ≡ Some (imp_number was) → IsJournalOf (Entry.Rewrote row.class row.sel was ∷ []) self.old self.new }
     {
         self.lists.rewrite_row(row.class.slot(), row.sel, row.imp);
     }
@@ -46,7 +55,7 @@ impl Tables {
         self.rewrite(first);
     }
 
-    fn attach(
+    pub(crate) fn attach(
         &mut self,
         class: u32,
         methods: &MethodList,
@@ -55,6 +64,7 @@ impl Tables {
         requires { Fits self.old (Edit.Attach class methods class_methods) }
         ensures ok { OnOk result (Writes self.old self.new (Edit.Attach class methods.entry class_methods.entry)) }
         ensures err { OnErr result ((self.new ≡ self.old) × (0 < length methods.now + length class_methods.now)) }
+        ensures back { OnOk result (IsJournalOf (Entry.Added (of_class class) (length methods.now) ∷ Entry.Added (of_meta class) (length class_methods.now) ∷ []) self.old self.new) }
     {
         let own = methods.as_slice();
         let meta = class_methods.as_slice();
@@ -64,9 +74,10 @@ impl Tables {
         Ok(())
     }
 
-    fn make(&mut self, class: u32, superclass: Option<u32>)
+    pub(crate) fn make(&mut self, class: u32, superclass: Option<u32>)
         requires { Fits self.old (Edit.Make class superclass) }
-        ensures { Writes self.old self.new (Edit.Make class superclass) }
+        ensures writes { Writes self.old self.new (Edit.Make class superclass) }
+        ensures back { IsJournalOf (Entry.Made class ∷ []) self.old self.new }
     {
         let pushed: Result<_, _> = self.order.push(class);
         pushed.unwrap();

@@ -1,8 +1,9 @@
 //! The rows of one class reference, with their index.
 
-ghost use Rattle.std.specs.Prelude.{◌≡◌, ◌+◌, ◌<◌, ◌≤◌, [], ◌∷◌, ◌++◌, OnOk, OnErr, IsSome, option_map};
+ghost use Rattle.std.specs.Prelude.{◌≡◌, ◌+◌, ◌<◌, ◌≤◌, [], ◌∷◌, ◌++◌, OnOk, OnErr, option_map};
 ghost use Rattle.msg_names.specs.Number.{selector_number, imp_number};
-ghost use Rattle.msg_tables.specs.RowList.{own_in, set_last};
+ghost use Rattle.msg_tables.specs.Methods.{method_numbers};
+ghost use Rattle.msg_tables.specs.RowList.{own_in, last_index, set_last, without_last};
 
 use msg_names::{ImpRef, Selector};
 use std::alloc::{AllocError, Global};
@@ -27,6 +28,19 @@ impl Model for IndexedRows {
     ghost view = { row_list };
 
     ghost invariant = { IsIndexed };
+}
+
+// The place of a selector's last row.
+fn last_place(rows: &[(Selector, ImpRef)], sel: Selector) -> Option<usize>
+    ensures { result ≡ last_index (selector_number sel) (method_numbers rows.now) }
+{
+    let mut last = None;
+    for (at, row) in rows.iter().enumerate() {
+        if row.0.number() == sel.number() {
+            last = Some(at);
+        }
+    }
+    last
 }
 
 impl IndexedRows {
@@ -70,12 +84,40 @@ impl IndexedRows {
         pushed.unwrap();
     }
 
-    // Writes another implementation into a selector's last row.
+    // Writes another implementation into a selector's last row, where it has one.
     pub(crate) fn set(&mut self, sel: Selector, imp: ImpRef)
-        requires { IsSome (own_in (selector_number sel) self.old.rows) }
         ensures { self.new.rows ≡ set_last (selector_number sel) (imp_number imp) self.old.rows }
     {
-        let place = *self.own.get(&sel.number()).unwrap();
-        self.rows[place] = (sel, imp);
+        if let Some(found) = self.own.get(&sel.number()) {
+            let place = *found;
+            self.rows[place] = (sel, imp);
+        }
+    }
+
+    // Takes the last row away, where there is one. The index gets the selector's row before it, for which the rows are gone over.
+    fn pop(&mut self)
+        ensures { self.new.rows ≡ without_last 1 self.old.rows }
+    {
+        let Some((sel, _)) = self.rows.pop() else {
+            return;
+        };
+        match last_place(&self.rows, sel) {
+            Some(place) => {
+                let known: Result<_, _> = self.own.insert(sel.number(), place);
+                known.unwrap();
+            }
+            None => {
+                self.own.remove(&sel.number());
+            }
+        }
+    }
+
+    // Takes so many rows at the end away.
+    pub(crate) fn shorten(&mut self, count: usize)
+        ensures { self.new.rows ≡ without_last count self.old.rows }
+    {
+        for _step in 0..count {
+            self.pop();
+        }
     }
 }

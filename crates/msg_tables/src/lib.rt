@@ -2,10 +2,12 @@
 #![tactic(auto)]
 
 mod apply;
+mod apply_all;
 mod below;
 mod change;
 mod counts;
 mod edit;
+mod entry;
 mod fault;
 mod foresee;
 mod indexed_rows;
@@ -16,6 +18,7 @@ pub mod list_laws;
 mod lists;
 mod marks;
 mod methods;
+mod noting;
 mod opening;
 mod origin;
 mod preorder;
@@ -24,10 +27,13 @@ mod reach;
 mod row_lists;
 mod rows;
 mod tables;
+mod take_back;
 
+pub use apply_all::Refused;
 pub use below::Below;
 pub use change::Change;
 pub use counts::Counts;
+pub use entry::{Entry, Written};
 pub use fault::ChangeFault;
 pub use limits::{Limits, MAX_CLASSES, MOST_CHANGES, MOST_SENDERS, MOST_WORDS};
 pub use marks::Marks;

@@ -1,9 +1,9 @@
 //! The lists of rows, one for each class reference.
 
-ghost use Rattle.std.specs.Prelude.{◌≡◌, ◌<◌, ◌≤◌, ◌+◌, [], ◌∷◌, ◌++◌, length, reverse, OnOk, OnErr, IsSome, slice_set, slice_index_or};
+ghost use Rattle.std.specs.Prelude.{◌≡◌, ◌<◌, ◌≤◌, ◌+◌, [], ◌∷◌, ◌++◌, length, reverse, OnOk, OnErr, slice_set, slice_index_or};
 ghost use Rattle.msg_names.specs.Number.{selector_number, imp_number};
 ghost use Rattle.msg_tables.specs.Methods.{method_numbers};
-ghost use Rattle.msg_tables.specs.RowList.{rows_of, own_in, set_last};
+ghost use Rattle.msg_tables.specs.RowList.{rows_of, set_last, without_last};
 
 use crate::rows::MethodRows;
 use msg_names::{ImpRef, Selector};
@@ -26,14 +26,22 @@ pub(crate) fn append_row(
     Ok(())
 }
 
-// Another implementation in the last row of a selector in one of the lists.
+// Another implementation in the last row of a selector in one of the lists, where it has one.
 pub(crate) fn rewrite_row(lists: &mut Vec<MethodRows>, at: usize, sel: Selector, imp: ImpRef)
-    requires at { at < length lists.old.items }
-    requires own { IsSome (own_in (selector_number sel) (slice_index_or (rows_of lists.old.items) at [])) }
+    requires { at < length lists.old.items }
     ensures { rows_of lists.new.items ≡ slice_set (rows_of lists.old.items) at (set_last (selector_number sel) (imp_number imp) (slice_index_or (rows_of lists.old.items) at [])) }
 {
     let rows = &mut lists[at];
     rows.set(sel, imp);
+}
+
+// So many rows fewer at the end of one of the lists.
+pub(crate) fn shorten_rows(lists: &mut Vec<MethodRows>, at: usize, count: usize)
+    requires { at < length lists.old.items }
+    ensures { rows_of lists.new.items ≡ slice_set (rows_of lists.old.items) at (without_last count (slice_index_or (rows_of lists.old.items) at [])) }
+{
+    let rows = &mut lists[at];
+    rows.shorten(count);
 }
 
 // Methods at the end of one of the lists.

@@ -52,6 +52,19 @@ impl Preorder {
         }
     }
 
+    // Places the classes of an order anew, in the room that there is.
+    pub(crate) fn rebuild(&mut self, supers: &[Option<Presence>], order: &[u32])
+        requires order { IsOrder supers.now order.now }
+        requires few { length supers.now ≤ MAX_CLASSES }
+        requires depths { length self.old.depths.items ≡ length supers.now }
+        requires nexts { length self.old.nexts.items ≡ length supers.now }
+        ensures { HavePreorder supers.now self.new.depths.items self.new.nexts.items }
+    {
+        self.depths.fill(0);
+        self.nexts.fill(None);
+        place_all(self, supers, order);
+    }
+
     // Gathers a class and those below it, each after its superclass. It looks at just these, and at one more.
     pub(crate) fn gather(&self, class: u32, classes: &mut Vec<u32>)
         requires preorder { (supers : List (Option Presence)) × HavePreorder supers self.now.depths.items self.now.nexts.items × (is_present supers class ≡ true) × (length supers ≤ vec_capacity classes.old) }
@@ -80,6 +93,19 @@ fn superclass_in(supers: &[Option<Presence>], class: u32) -> Option<u32>
     supers[class as usize].unwrap().superclass
 }
 
+// Places the classes of an order one by one, where none is placed yet.
+fn place_all(preorder: &mut Preorder, supers: &[Option<Presence>], order: &[u32])
+    requires order { IsOrder supers.now order.now }
+    requires few { length supers.now ≤ MAX_CLASSES }
+    requires depths { preorder.old.depths.items ≡ replicate (length supers.now) 0 }
+    requires nexts { preorder.old.nexts.items ≡ replicate (length supers.now) None }
+    ensures { HavePreorder supers.now preorder.new.depths.items preorder.new.nexts.items }
+{
+    for class in order {
+        preorder.place(*class, superclass_in(supers, *class));
+    }
+}
+
 // The classes of an order, those below a class right after it.
 pub(crate) fn preorder_of(
     alloc: Global,
@@ -91,9 +117,7 @@ pub(crate) fn preorder_of(
     ensures { IfOk result (λ t. HavePreorder supers.now t.depths.items t.nexts.items) }
 {
     let mut preorder = Preorder::new(alloc, supers.len())?;
-    for class in order {
-        preorder.place(*class, superclass_in(supers, *class));
-    }
+    place_all(&mut preorder, supers, order);
     Ok(preorder)
 }
 

@@ -1,11 +1,11 @@
 //! The lists of rows of all class references.
 
-ghost use Rattle.std.specs.Prelude.{◌≡◌, ◌<◌, ◌≤◌, ◌+◌, ◌-◌, [], ◌∷◌, ◌++◌, ℕ, IfOk, IsSome, OnErr, OnOk, length, option_map, replicate, reverse, slice_index_or, slice_set};
+ghost use Rattle.std.specs.Prelude.{◌≡◌, ◌<◌, ◌≤◌, ◌+◌, ◌-◌, [], ◌∷◌, ◌++◌, ℕ, IfOk, OnErr, OnOk, length, option_map, replicate, reverse, slice_index_or, slice_set};
 ghost use Rattle.msg_names.specs.Number.{selector_number, imp_number};
 ghost use Rattle.msg_tables.specs.Methods.{method_numbers};
-ghost use Rattle.msg_tables.specs.RowList.{rows_of, own_in, set_last};
+ghost use Rattle.msg_tables.specs.RowList.{rows_of, own_in, set_last, without_last};
 
-use crate::lists::{append_row, append_rows, attach_rows, rewrite_row};
+use crate::lists::{append_row, append_rows, attach_rows, rewrite_row, shorten_rows};
 use crate::rows::MethodRows;
 use msg_names::{ImpRef, Selector};
 use std::alloc::{AllocError, Global};
@@ -88,12 +88,22 @@ impl RowLists {
         append_row(&mut self.written, at, sel, imp)
     }
 
-    // Another implementation in the last row of a selector in one of the lists.
+    // Another implementation in the last row of a selector in one of the lists, where it has one.
     pub(crate) fn rewrite_row(&mut self, at: usize, sel: Selector, imp: ImpRef)
-        requires { IsSome (own_in (selector_number sel) (slice_index_or (rows_of self.old) at [])) }
         ensures { rows_of self.new ≡ slice_set (rows_of self.old) at (set_last (selector_number sel) (imp_number imp) (slice_index_or (rows_of self.old) at [])) }
     {
-        rewrite_row(&mut self.written, at, sel, imp);
+        if at < self.written.len() {
+            rewrite_row(&mut self.written, at, sel, imp);
+        }
+    }
+
+    // So many rows fewer at the end of one of the lists.
+    pub(crate) fn shorten_rows(&mut self, at: usize, count: usize)
+        ensures { rows_of self.new ≡ slice_set (rows_of self.old) at (without_last count (slice_index_or (rows_of self.old) at [])) }
+    {
+        if at < self.written.len() {
+            shorten_rows(&mut self.written, at, count);
+        }
     }
 
     // Methods at the end of one of the lists.

@@ -1,9 +1,9 @@
 //! The rows of one class reference.
 
-ghost use Rattle.std.specs.Prelude.{◌≡◌, ◌+◌, ◌<◌, ◌≤◌, [], ◌∷◌, ◌++◌, IfOk, length, reverse, OnOk, OnErr, IsSome, option_map};
+ghost use Rattle.std.specs.Prelude.{◌≡◌, ◌+◌, ◌<◌, ◌≤◌, [], ◌∷◌, ◌++◌, IfOk, length, reverse, OnOk, OnErr, option_map};
 ghost use Rattle.msg_tables.specs.Methods.{method_numbers};
 ghost use Rattle.msg_names.specs.Number.{selector_number, imp_number};
-ghost use Rattle.msg_tables.specs.RowList.{own_in, set_last};
+ghost use Rattle.msg_tables.specs.RowList.{own_in, set_last, without_last};
 
 use crate::indexed_rows::IndexedRows;
 use msg_names::{ImpRef, Selector};
@@ -84,12 +84,22 @@ impl MethodRows {
         self.indexed.as_mut().unwrap().push(sel, imp);
     }
 
-    // Writes another implementation into a selector's last row.
+    // Writes another implementation into a selector's last row, where it has one.
     pub(crate) fn set(&mut self, sel: Selector, imp: ImpRef)
-        requires { IsSome (own_in (selector_number sel) self.old.rows) }
         ensures { self.new.rows ≡ set_last (selector_number sel) (imp_number imp) self.old.rows }
     {
-        self.indexed.as_mut().unwrap().set(sel, imp);
+        if let Some(rows) = &mut self.indexed {
+            rows.set(sel, imp);
+        }
+    }
+
+    // Takes so many rows at the end away.
+    pub(crate) fn shorten(&mut self, count: usize)
+        ensures { self.new.rows ≡ without_last count self.old.rows }
+    {
+        if let Some(rows) = &mut self.indexed {
+            rows.shorten(count);
+        }
     }
 
     pub(crate) fn append(&mut self, methods: &[(Selector, ImpRef)])

@@ -4,4 +4,4 @@ use Rattle.msg_tables.proofs.ListLemmas.{rows_of-set}
 use Rattle.msg_tables.proofs.lists.rewrite_row.Goals as goal
 
 pub returns : goal.returns
-returns c = rows_of-set c.args.lists.now.items c.args.at c.index_mut-rows.result.now c.set.new.self (set_last (selector_number c.args.sel) (imp_number c.args.imp)) c.requires.at c.index_mut-rows.ensures.value c.set.ensures
+returns c = rows_of-set c.args.lists.now.items c.args.at c.index_mut-rows.result.now c.set.new.self (set_last (selector_number c.args.sel) (imp_number c.args.imp)) c.requires c.index_mut-rows.ensures.value c.set.ensures

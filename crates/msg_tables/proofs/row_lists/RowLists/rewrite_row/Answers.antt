@@ -1,25 +1,21 @@
-use Rattle.std.proofs.Common.{List, [], sym, ap, ◌∙◌, subst}
-use Rattle.std.specs.Prelude.{IsSome, slice_index_or, slice_set}
+use Rattle.std.proofs.Common.{List, [], refl, sym, ap, ◌∙◌, arith}
+use Rattle.std.specs.Prelude.{slice_index_or, slice_set}
 use Rattle.msg_names.specs.Number.{selector_number, imp_number}
-use Rattle.msg_tables.specs.RowList.{RowList, rows_of, own_in, set_last}
-use Rattle.msg_tables.proofs.ReservedLemmas.{all, all-read, all-set, all-some}
+use Rattle.msg_tables.specs.RowList.{RowList, rows_of, set_last}
+use Rattle.msg_tables.proofs.ReservedLemmas.{put-few, put-written, put-unwritten}
 use Rattle.msg_tables.proofs.row_lists.RowLists.rewrite_row.Goals as goal
 
-pub rewrite_row-requires-clause-at : goal.rewrite_row-requires-clause-at
-rewrite_row-requires-clause-at c = all-some c.self.inside.written.items c.self.inside.count c.args.at (selector_number c.args.sel) (rw (← c.self.view_is) at c.requires)
+pub invariant_of-self : goal.invariant_of-self
+invariant_of-self c = record { few = put-few c.self.inside.written.items c.rewrite_row.new.lists.items c.self.inside.count c.args.at _ c.self.invariant.few c.rewrite_row.ensures }
 
-pub rewrite_row-requires-clause-own : goal.rewrite_row-requires-clause-own
-rewrite_row-requires-clause-own c =
-    let own = rw (← c.self.view_is) at c.requires in
-    let inside = all-some c.self.inside.written.items c.self.inside.count c.args.at (selector_number c.args.sel) own in
-    subst (λ rs. IsSome (own_in (selector_number c.args.sel) rs)) (all-read c.self.inside.written.items c.self.inside.count c.args.at inside) own
-
-pub returns : goal.returns
-returns c =
-    let written = c.self.inside.written.items in
-    let count = c.self.inside.count in
-    let inside = all-some written count c.args.at (selector_number c.args.sel) (rw (← c.self.view_is) at c.requires) in
+pub returns-then-at-len : goal.returns-then-at-len
+returns-then-at-len c =
     let put = set_last (selector_number c.args.sel) (imp_number c.args.imp) in
-    let set = all-set written c.rewrite_row.new.lists.items count c.args.at (put (slice_index_or (rows_of written) c.args.at [])) inside c.rewrite_row.ensures in
-    set ∙ ap (λ rs. slice_set (rows_of (all written count)) c.args.at (put rs)) (sym (all-read written count c.args.at inside))
+    put-written c.self.inside.written.items c.rewrite_row.new.lists.items c.self.inside.count c.args.at put (omega (arith, c.if-at-len.true, c.len.ensures, c.self.inside.written.ok.0)) c.rewrite_row.ensures
+    ∙ ap (λ (ls : List RowList). slice_set (rows_of ls) c.args.at (put (slice_index_or (rows_of ls) c.args.at []))) c.self.view_is
+
+pub returns-else-at-len : goal.returns-else-at-len
+returns-else-at-len c =
+    let put = set_last (selector_number c.args.sel) (imp_number c.args.imp) in
+    ap rows_of (sym c.self.view_is) ∙ put-unwritten c.self.inside.written.items c.self.inside.count c.args.at put (omega (arith, c.if-at-len.false, c.len.ensures, c.self.inside.written.ok.0)) refl
     ∙ ap (λ (ls : List RowList). slice_set (rows_of ls) c.args.at (put (slice_index_or (rows_of ls) c.args.at []))) c.self.view_is

@@ -12,6 +12,9 @@ use Rattle.msg_names.proofs.ClassRefLemmas.{slot_of-inside}
 use Rattle.msg_tables.proofs.PutLemmas.{put-length, put-listed, length-rows_of}
 use Rattle.msg_tables.proofs.HoldsLemmas.{holds-append}
 use Rattle.msg_tables.specs.Origin.{last_imp}
+use Rattle.msg_tables.specs.declared.entry.Entry.TheVariants.{Added}
+use Rattle.msg_tables.specs.Journal.{lists_before}
+use Rattle.msg_tables.proofs.JournalLemmas.{back-added}
 use Rattle.msg_tables.proofs.tables.Tables.append.Goals as goal
 
 pub invariant_of-self-2 : goal.invariant_of-self-2
@@ -45,4 +48,20 @@ returns-clause-ok c =
       rows = λ rows holds. subst (λ lists. Holds lists (rows ++ rows_at class row)) (sym is) (holds-append (rows_of was) rows class row room holds);
       row_count = refl;
       rest = refl;
+    }
+
+pub returns-clause-back : goal.returns-clause-back
+returns-clause-back c =
+    let fits = rw (← c.self.view_is) at c.requires in
+    let was = c.self.inside.lists in
+    let class = c.args.row.class in
+    let row : List (ℕ × ℕ) = (selector_number c.args.row.sel, imp_number c.args.row.imp) ∷ [] in
+    let is : rows_of c.append_row.new.self ≡ slice_set (rows_of was) (slot_of class) (kept (rows_of was) class ++ row) =
+    c.in_ok-append_row.ensures.ok ∙ ap (λ p. slice_set (rows_of was) p (slice_index_or (rows_of was) p [] ++ row)) c.slot.ensures in
+    let inside = slot_of-inside class (length c.self.inside.supers.items) (length was) c.self.invariant.lists fits.named.0 in
+    let room : slot_of class < length (rows_of was) = omega (arith, length-rows_of was, inside) in
+    rw (← c.self.view_is) record {
+      lists = ap (lists_before (Added class 1)) is ∙ back-added (rows_of was) class row room;
+      supers = refl;
+      order = refl;
     }

@@ -9,6 +9,10 @@ use Rattle.msg_names.proofs.ClassRefLemmas.{slot_of-inside}
 use Rattle.msg_tables.proofs.PutLemmas.{put_two-length, put_two-listed, length-rows_of}
 use Rattle.msg_tables.proofs.HoldsLemmas.{holds-attach, length-method_numbers}
 use Rattle.msg_tables.specs.Origin.{last_imp}
+use Rattle.msg_tables.specs.declared.entry.Entry.TheVariants.{Added}
+use Rattle.msg_tables.specs.Journal.{lists_before}
+use Rattle.msg_tables.proofs.JournalLemmas.{back-attached}
+use Rattle.std.proofs.lemmas.List.{length-reverse}
 use Rattle.msg_tables.proofs.tables.Tables.attach.Goals as goal
 
 pub invariant_of-self-2 : goal.invariant_of-self-2
@@ -54,4 +58,24 @@ returns-clause-ok c =
           rw (← own, ← meta) after;
       row_count = rw (counted, counted-meta) refl;
       rest = refl;
+    }
+
+pub returns-clause-back : goal.returns-clause-back
+returns-clause-back c =
+    let fits = rw (← c.self.view_is) at c.requires in
+    let was = c.self.inside.lists in
+    let k = c.args.class in
+    let at = c.slot-at.result in
+    let ms = reverse (method_numbers c.as_slice-own.result.now) in
+    let cs = reverse (method_numbers c.as_slice-meta.result.now) in
+    let is : rows_of c.attach_rows.new.self ≡ slice_set (slice_set (rows_of was) at (slice_index_or (rows_of was) at [] ++ ms)) (at + 1) (slice_index_or (rows_of was) (at + 1) [] ++ cs) = c.in_ok-attach_rows.ensures.ok in
+    let inside = slot_of-inside (of_meta k) (length c.self.inside.supers.items) (length was) c.self.invariant.lists fits.named.0 in
+    let room : at + 1 < length (rows_of was) = omega (arith, length-rows_of was, inside, c.slot-at.ensures) in
+    let own : length ms ≡ length c.args.methods.now = length-reverse (method_numbers c.as_slice-own.result.now) ∙ ap length c.as_slice-own.ensures in
+    let meta : length cs ≡ length c.args.class_methods.now = length-reverse (method_numbers c.as_slice-meta.result.now) ∙ ap length c.as_slice-meta.ensures in
+    let back = back-attached (rows_of was) k at ms cs c.slot-at.ensures room in
+    rw (← c.self.view_is) record {
+      lists = ap (λ ls. lists_before (Added (of_class k) (length c.args.methods.now)) (lists_before (Added (of_meta k) (length c.args.class_methods.now)) ls)) is ∙ (rw (← own, ← meta) back);
+      supers = refl;
+      order = refl;
     }

@@ -1,6 +1,7 @@
 use Rattle.std.proofs.Common.{ap, sym, ◌∙◌, refl, true, false}
 use Rattle.msg_tables.specs.Refusal.{is_full}
 use Rattle.msg_tables.proofs.AttachLemmas.{attach-absent, attach-unfit, attach-fit, count-both}
+use Rattle.msg_tables.proofs.PlaceLemmas.{places-attach}
 use Rattle.msg_tables.proofs.tables.Tables.judge_attach.Goals as goal
 
 pub returns-then-no_class-clause-meaning : goal.returns-then-no_class-clause-meaning
@@ -22,3 +23,6 @@ returns-clause-meaning c = λ h stands.
     let none = attach-fit h c.args.class c.args.methods.now c.args.class_methods.now false (sym (c.no_class.ensures.meaning h stands) ∙ c.if-no_class.false) (sym (c.unfit_methods.ensures.meaning h stands) ∙ c.in_default.is)
     (ap (is_full h) count ∙ sym (c.is_full.ensures.meaning h stands) ∙ c.if-is_full.false) in
     (none, refl, refl)
+
+pub returns-clause-places : goal.returns-clause-places
+returns-clause-places c = λ h stands. places-attach h c.args.class c.args.methods c.args.class_methods

@@ -6,6 +6,7 @@ use Rattle.msg_tables.specs.Log.{holder, lookup}
 use Rattle.msg_tables.specs.Refusal.{unlike, is_full}
 use Rattle.msg_tables.proofs.JudgeLemmas.{refusal-exchange, rows-exchange}
 use Rattle.msg_tables.proofs.LookupLemmas.{holder-stands, lookup-stands}
+use Rattle.msg_tables.proofs.PlaceLemmas.{places-exchange}
 use Rattle.msg_tables.proofs.tables.Tables.judge_exchange.Goals as goal
 
 pub returns-then-no_class_of_two-clause-meaning : goal.returns-then-no_class_of_two-clause-meaning
@@ -47,3 +48,9 @@ returns-clause-meaning c = λ h stands.
     let none = refusal-exchange h c.args.class c.args.sel c.args.other c.args.other_sel false false (Some c.in-Some.first.holder) (Some c.in-Some-method.second.holder) false
     (sym (c.no_class_of_two.ensures.meaning h stands) ∙ c.if-no_class_of_two.false) (sym (c.unlike.ensures h stands) ∙ c.if-unlike.false) first second (sym (c.is_full.ensures.meaning h stands) ∙ c.if-is_full.false) in
     (none, rows-exchange h c.args.class c.args.sel c.args.other c.args.other_sel c.in-Some.first.holder c.in-Some-method.second.holder (imp_number c.in-Some.first.imp) (imp_number c.in-Some-method.second.imp) first second i j, refl)
+
+pub returns-clause-places : goal.returns-clause-places
+returns-clause-places c = λ h stands.
+    let first : holder h c.args.class (selector_number c.args.sel) ≡ Some c.in-Some.first.holder = holder-stands c.args.self.now h stands c.args.class (selector_number c.args.sel) ∙ ap (λ o. option_map (λ (m : ClassRef × ℕ). m.0) o) (sym c.in-Some.ensures.method) in
+    let second : holder h c.args.other (selector_number c.args.other_sel) ≡ Some c.in-Some-method.second.holder = holder-stands c.args.self.now h stands c.args.other (selector_number c.args.other_sel) ∙ ap (λ o. option_map (λ (m : ClassRef × ℕ). m.0) o) (sym c.in-Some-method.ensures.method) in
+    places-exchange h c.args.class c.args.other c.args.sel c.args.other_sel _ _ first second

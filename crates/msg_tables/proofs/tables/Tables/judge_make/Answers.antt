@@ -3,6 +3,7 @@ use Rattle.std.specs.Prelude.{◌||◌}
 use Rattle.msg_tables.specs.After.{of_class}
 use Rattle.msg_tables.specs.Refusal.{no_number, no_superclass, no_class, is_full}
 use Rattle.msg_tables.proofs.JudgeLemmas.{refusal-make}
+use Rattle.msg_tables.proofs.PlaceLemmas.{places-make}
 use Rattle.msg_tables.proofs.tables.Tables.judge_make.Goals as goal
 
 pub returns-then-no_number-clause-meaning : goal.returns-then-no_number-clause-meaning
@@ -39,3 +40,6 @@ returns-clause-meaning c = λ h stands.
     let absent : no_class h (of_class c.args.class) ≡ true = sym (c.no_class.ensures.meaning h stands) ∙ c.if-not-no_class.false in
     let none = refusal-make h c.args.class c.args.superclass false false true (ap (λ b. b || no_superclass h c.args.superclass) number ∙ up) full absent in
     (none, refl, refl)
+
+pub returns-clause-places : goal.returns-clause-places
+returns-clause-places c = λ h stands. places-make h c.args.class c.args.superclass

@@ -1,5 +1,6 @@
 use Rattle.std.proofs.Common.{refl, ◌∙◌, sym, true, false}
 use Rattle.msg_tables.proofs.JudgeLemmas.{unfit-replace, fit-replace, rows-replace}
+use Rattle.msg_tables.proofs.PlaceLemmas.{places-replace, places-replace-add}
 use Rattle.msg_tables.proofs.tables.Tables.judge_replace.Goals as goal
 
 pub returns-in-Some-clause-meaning : goal.returns-in-Some-clause-meaning
@@ -24,3 +25,9 @@ returns-clause-meaning c = λ h stands.
     let absent = sym (c.has_own.ensures.meaning h stands) ∙ c.if-has_own.false in
     let none = fit-replace h c.args.row.class c.args.row.sel c.args.row.imp false false (sym (c.unfit.ensures.meaning h stands) ∙ c.in_default.is) absent (sym (c.is_full-2.ensures.meaning h stands) ∙ c.if-is_full-2.false) in
     (none, rows-replace h c.args.row.class c.args.row.sel c.args.row.imp false absent, refl)
+
+pub returns-then-has_own-clause-places : goal.returns-then-has_own-clause-places
+returns-then-has_own-clause-places c = λ h stands. places-replace h c.args.row
+
+pub returns-clause-places : goal.returns-clause-places
+returns-clause-places c = λ h stands. places-replace-add h c.args.row

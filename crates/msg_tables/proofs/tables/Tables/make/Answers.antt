@@ -1,4 +1,4 @@
-use Rattle.std.proofs.Common.{◌≡◌, ◌<◌, ◌≤◌, ◌++◌, ℕ, List, [], ◌∷◌, Option, Some, None, length, cond, is_ok, ap, ◌∙◌, sym, subst, arith}
+use Rattle.std.proofs.Common.{refl, ◌≡◌, ◌<◌, ◌≤◌, ◌++◌, ℕ, List, [], ◌∷◌, Option, Some, None, length, cond, is_ok, ap, ◌∙◌, sym, subst, arith}
 use Rattle.std.specs.Prelude.{IfSome, slice_set}
 use Rattle.std.proofs.lemmas.List.{length-set}
 use Rattle.msg_tables.specs.declared.presence.Presence.{Presence}
@@ -7,6 +7,9 @@ use Rattle.msg_tables.specs.Order.{IsOrder}
 use Rattle.msg_tables.specs.Preorder.{HavePreorder, depth_at, depths_with}
 use Rattle.msg_tables.proofs.MadeLemmas.{made-order, order-room}
 use Rattle.msg_tables.proofs.PlacedLemmas.{made-ready, made-preorder}
+use Rattle.msg_tables.specs.declared.entry.Entry.TheVariants.{Made}
+use Rattle.msg_tables.specs.Journal.{order_before}
+use Rattle.msg_tables.proofs.JournalLemmas.{back-supers, back-order}
 use Rattle.msg_tables.proofs.tables.Tables.make.Goals as goal
 
 pub unwrap-requires : goal.unwrap-requires
@@ -49,4 +52,17 @@ invariant_of-self c =
       few_classes = omega (arith, grown, c.self.invariant.few_classes);
       few_rows = c.self.invariant.few_rows;
       few_changes = c.self.invariant.few_changes;
+    }
+
+pub returns-clause-back : goal.returns-clause-back
+returns-clause-back c =
+    let fits = rw (← c.self.view_is) at c.requires in
+    let was = c.self.inside.supers.items in
+    let order = c.self.inside.order.items in
+    let pushed : c.push-pushed.new.self.items ≡ order ++ c.args.class ∷ [] =
+    c.push-pushed.ensures.items ∙ ap (λ r. cond (is_ok r) (order ++ c.args.class ∷ []) order) c.unwrap.ensures in
+    rw (← c.self.view_is) record {
+      lists = refl;
+      supers = back-supers was c.args.class (record { superclass = c.args.superclass }) fits.named.1;
+      order = ap (order_before (Made c.args.class)) pushed ∙ back-order order c.args.class;
     }

@@ -11,6 +11,9 @@ use Rattle.msg_names.proofs.ClassRefLemmas.{slot_of-inside}
 use Rattle.msg_tables.proofs.PutLemmas.{put-length, put-listed, length-rows_of}
 use Rattle.msg_tables.proofs.HoldsLemmas.{holds-rewrite, own-rewritten}
 use Rattle.msg_tables.specs.Origin.{last_imp}
+use Rattle.msg_tables.specs.declared.entry.Entry.TheVariants.{Rewrote}
+use Rattle.msg_tables.specs.Journal.{lists_before}
+use Rattle.msg_tables.proofs.JournalLemmas.{back-rewrote}
 use Rattle.msg_tables.proofs.tables.Tables.rewrite.Goals as goal
 
 pub invariant_of-self : goal.invariant_of-self
@@ -64,4 +67,22 @@ returns-clause-own c other known =
       class = old.class;
       own = rw is (own-rewritten (rows_of was) class other.class (selector_number other.sel) s i room ∙ old.own);
       imp = old.imp;
+    }
+
+pub returns-clause-back : goal.returns-clause-back
+returns-clause-back c old known =
+    let own = rw (← c.self.view_is) at c.requires in
+    let known = rw (← c.self.view_is) at known in
+    let was = c.self.inside.lists in
+    let class = c.args.row.class in
+    let s = selector_number c.args.row.sel in
+    let i = imp_number c.args.row.imp in
+    let is : rows_of c.rewrite_row.new.self ≡ slice_set (rows_of was) (slot_of class) (set_last s i (kept (rows_of was) class)) =
+    c.rewrite_row.ensures ∙ ap (λ p. slice_set (rows_of was) p (set_last s i (slice_index_or (rows_of was) p []))) c.slot.ensures in
+    let inside = slot_of-inside class (length c.self.inside.supers.items) (length was) c.self.invariant.lists own.class in
+    let room : slot_of class < length (rows_of was) = omega (arith, length-rows_of was, inside) in
+    rw (← c.self.view_is) record {
+      lists = ap (lists_before (Rewrote class c.args.row.sel old)) is ∙ back-rewrote (rows_of was) class c.args.row.sel old i room known;
+      supers = refl;
+      order = refl;
     }

@@ -6,14 +6,14 @@ use Rattle.msg_tables.specs.Preorder.{depth_at, depths_with}
 use Rattle.msg_tables.proofs.OrderLemmas.{present-inside}
 use Rattle.msg_tables.proofs.PreorderLemmas.{element-at}
 use Rattle.msg_tables.proofs.PlacedLemmas.{PlacedTo, placed-begin, placed-on, placed-end, above-ready}
-use Rattle.msg_tables.proofs.preorder.preorder_of.Goals as goal
+use Rattle.msg_tables.proofs.preorder.place_all.Goals as goal
 
 within : (depths : List ℕ) (nexts : List (Option ℕ)) (n : ℕ) (o : Option ℕ) → n ≤ MAX_CLASSES → IfSome o (λ d. (d < length depths) × (d < length nexts) × (depth_at depths d < n)) → IfSome o (λ d. (d < length depths) × (d < length nexts) × (depth_at depths d < MAX_CLASSES))
 within depths nexts n None few ready = tt
 within depths nexts n (Some d) few ready = (ready.0, ready.1, omega (arith, ready.2, few))
 
 pub loop-class-init : goal.loop-class-init
-loop-class-init c = placed-begin c.args.supers.now c.args.order.now c.in_ok-preorder.preorder.depths.items c.in_ok-preorder.preorder.nexts.items c.in_ok-preorder.ensures.depths c.in_ok-preorder.ensures.nexts
+loop-class-init c = placed-begin c.args.supers.now c.args.order.now c.args.preorder.now.depths.items c.args.preorder.now.nexts.items c.requires.depths c.requires.nexts
 
 pub place-requires-clause-depths : goal.place-requires-clause-depths
 place-requires-clause-depths c =

@@ -1,0 +1,140 @@
+-- Changes of a list that are made one after another.
+use Rattle.std.proofs.Common.{◌≡◌, ◌<◌, ◌≤◌, ◌+◌, ℕ, zero, suc, List, [], ◌∷◌, ◌++◌, take, length, length-append, append_assoc, append-nil, Bool, true, false, Some, None, refl, sym, ap, ap₂, ◌∙◌, subst, slice_index_or, arith}
+use Rattle.std.specs.Prelude.{◌||◌}
+use Rattle.std.proofs.lemmas.List.{take_more}
+use Rattle.msg_names.specs.declared.value.ClassRef.{ClassRef}
+use Rattle.msg_tables.specs.declared.change.Change.{Change}
+use Rattle.msg_tables.specs.declared.edit.Edit.{Edit}
+use Rattle.msg_tables.specs.declared.edit.Edit.TheVariants.{Append, Rewrite, RewriteBoth, Attach, Make}
+use Rattle.msg_tables.specs.declared.entry.Entry.{Entry}
+use Rattle.msg_tables.specs.declared.fault.ChangeFault.{ChangeFault}
+use Rattle.msg_tables.specs.Affected.{written_refs}
+use Rattle.msg_tables.specs.Chain.{is_member}
+use Rattle.msg_tables.specs.Edits.{supers_edited}
+use Rattle.msg_tables.specs.Log.{Log, and_then}
+use Rattle.msg_tables.specs.Journal.{Journals, IsWrittenAt, IsJournalOf, entry_count, places_of, classes_of}
+use Rattle.msg_tables.specs.Making.{IsBeside, IsPart, IsMade}
+use Rattle.msg_tables.specs.Refusal.{refusal, AreAccepted}
+use Rattle.msg_tables.specs.Several.{and_all, refused_from, made_by, made_by_all, written_by_all}
+use Rattle.msg_tables.specs.Stands.{StandsAt}
+use Rattle.msg_tables.specs.View.{TablesView}
+use Rattle.msg_tables.proofs.JournalLemmas.{journal-append}
+use Rattle.msg_tables.proofs.NoteLemmas.{member-append, member-places, classes-append}
+use Rattle.std.proofs.Math.ListN.{length-set}
+
+-- ---- one change
+
+few-entries : (e : Edit) → entry_count e ≤ 2
+few-entries (Append r) = omega arith
+few-entries (Rewrite r) = omega arith
+few-entries (RewriteBoth a b) = omega arith
+few-entries (Attach k ms cs) = omega arith
+few-entries (Make k d) = omega arith
+
+length-edited_supers : (e : Edit) (t : TablesView) → length (supers_edited e t.supers) ≡ length t.supers
+length-edited_supers (Append r) t = refl
+length-edited_supers (Rewrite r) t = refl
+length-edited_supers (RewriteBoth a b) t = refl
+length-edited_supers (Attach k ms cs) t = refl
+length-edited_supers (Make k d) t = length-set t.supers k (Some (record { superclass = d }))
+
+-- an edit was made and noted, and the change is counted
+pub part-made : (x : Change) (e : Edit) (journal longer : List Entry) (old new : TablesView) → ((h : Log) → StandsAt old h → IsWrittenAt h x e) → Journals e journal longer old new
+    → IsPart x journal longer old (record new { change_count = new.change_count + 1 })
+part-made x e journal longer old new written journals =
+    let few = few-entries e in
+    record {
+      entries = journals.entries;
+      is = journals.is;
+      few = omega (arith, few, journals.few);
+      back = record { lists = journals.back.lists; supers = journals.back.supers; order = journals.back.order };
+      places = λ h stands c. journals.places c ∙ ap (is_member c) (written h stands).places;
+      made = λ h stands. journals.made ∙ (written h stands).made;
+      beside = record {
+        count = ap (λ (t : TablesView). length t.supers) journals.writes.rest ∙ length-edited_supers e old;
+        rest = sym (ap (λ (t : TablesView). record t { supers = old.supers; order = old.order; lists = old.lists; row_count = old.row_count; change_count = old.change_count }) journals.writes.rest);
+      };
+    }
+
+-- ---- one change more
+
+accepted-snoc : (h : Log) (xs : List Change) (x : Change) → AreAccepted h xs → refusal (and_all h xs) x ≡ None → AreAccepted h (xs ++ x ∷ [])
+accepted-snoc h [] x all none = (none, tt)
+accepted-snoc h (y ∷ ys) x all none = (all.0, accepted-snoc (and_then h y) ys x all.1 none)
+
+and_all-snoc : (h : Log) (xs : List Change) (x : Change) → and_all h (xs ++ x ∷ []) ≡ and_then (and_all h xs) x
+and_all-snoc h [] x = refl
+and_all-snoc h (y ∷ ys) x = and_all-snoc (and_then h y) ys x
+
+member-snoc : (h : Log) (xs : List Change) (x : Change) (c : ClassRef) → is_member c (written_by_all h (xs ++ x ∷ [])) ≡ (is_member c (written_by_all h xs) || is_member c (written_refs (and_all h xs) x))
+member-snoc h [] x c = member-append c (written_refs h x) [] ∙ or-none (is_member c (written_refs h x))
+  where
+    or-none : (b : Bool) → (b || false) ≡ b
+    or-none true = refl
+    or-none false = refl
+member-snoc h (y ∷ ys) x c =
+    member-append c (written_refs h y) (written_by_all (and_then h y) (ys ++ x ∷ []))
+    ∙ ap (λ b. is_member c (written_refs h y) || b) (member-snoc (and_then h y) ys x c)
+    ∙ or-assoc (is_member c (written_refs h y)) (is_member c (written_by_all (and_then h y) ys)) (is_member c (written_refs (and_all h (y ∷ ys)) x))
+    ∙ sym (ap (λ b. b || is_member c (written_refs (and_all h (y ∷ ys)) x)) (member-append c (written_refs h y) (written_by_all (and_then h y) ys)))
+  where
+    or-assoc : (a b d : Bool) → (a || (b || d)) ≡ ((a || b) || d)
+    or-assoc true b d = refl
+    or-assoc false b d = refl
+
+made-snoc : (xs : List Change) (x : Change) → made_by_all (xs ++ x ∷ []) ≡ made_by_all xs ++ made_by x
+made-snoc [] x = append-nil (made_by x)
+made-snoc (y ∷ ys) x = ap (λ ks. made_by y ++ ks) (made-snoc ys x) ∙ sym (append_assoc (made_by y) (made_by_all ys) (made_by x))
+
+beside-on : (old between new : TablesView) → IsBeside old between → IsBeside between new → IsBeside old new
+beside-on old between new a b = record {
+  count = b.count ∙ a.count;
+  rest = a.rest ∙ ap (λ (t : TablesView). record t { supers = old.supers; order = old.order; lists = old.lists; row_count = old.row_count; change_count = old.change_count }) b.rest;
+}
+
+pub made-none : (t : TablesView) (journal : List Entry) → journal ≡ [] → IsMade [] journal t t
+made-none t [] e = record {
+  few = omega arith;
+  back = record { lists = refl; supers = refl; order = refl };
+  stands = λ h stands. (tt, stands);
+  places = λ h stands c. refl;
+  made = λ h stands. refl;
+  beside = record { count = refl; rest = refl };
+}
+made-none t (x ∷ journal) e = cc
+
+pub made-next : (xs : List Change) (i : ℕ) (x : Change) (journal longer : List Entry) (old between new : TablesView) → i < length xs → x ≡ slice_index_or xs i x → IsMade (take i xs) journal old between
+    → ((h : Log) → StandsAt between h → (refusal h x ≡ None) × StandsAt new (and_then h x)) → IsPart x journal longer between new → IsMade (take (i + 1) xs) longer old new
+made-next xs i x journal longer old between new inside is so-far ok part =
+    subst (λ ys. IsMade ys longer old new) (sym (take_more xs i x inside ∙ ap (λ y. take i xs ++ y ∷ []) (sym is))) record {
+      few = omega (arith, so-far.few, part.few, ap length part.is, length-append journal part.entries, length-append (take i xs) (x ∷ []));
+      back = subst (λ es. IsJournalOf es old new) (sym part.is) (journal-append journal part.entries old between new so-far.back part.back);
+      stands = λ h stands.
+          let (all, now) = so-far.stands h stands in
+          let (none, after) = ok (and_all h (take i xs)) now in
+          (accepted-snoc h (take i xs) x all none, subst (StandsAt new) (sym (and_all-snoc h (take i xs) x)) after);
+      places = λ h stands c.
+          let now = (so-far.stands h stands).1 in
+          ap (λ es. is_member c (places_of es)) part.is ∙ member-places c journal part.entries
+          ∙ ap₂ (λ a b. a || b) (so-far.places h stands c) (part.places (and_all h (take i xs)) now c)
+          ∙ sym (member-snoc h (take i xs) x c);
+      made = λ h stands.
+          let now = (so-far.stands h stands).1 in
+          ap classes_of part.is ∙ classes-append journal part.entries
+          ∙ ap₂ (λ a b. a ++ b) (so-far.made h stands) (part.made (and_all h (take i xs)) now)
+          ∙ sym (made-snoc (take i xs) x);
+      beside = beside-on old between new so-far.beside part.beside;
+    }
+
+-- ---- the one that is refused
+
+pub refused-place : (k : ℕ) (h : Log) (xs : List Change) (i : ℕ) (x : Change) (f : ChangeFault) → i < length xs → x ≡ slice_index_or xs i x → AreAccepted h (take i xs) → refusal (and_all h (take i xs)) x ≡ Some f
+    → refused_from k h xs ≡ Some (k + i, f)
+refused-place k h [] i x f inside is all fault = absurd (omega (arith, inside))
+refused-place k h (y ∷ ys) zero x f inside is all fault =
+    let here : refusal h y ≡ Some f = subst (λ z. refusal h z ≡ Some f) is fault in
+    let place : k ≡ k + 0 = omega arith in
+    rw here (ap (λ n. Some (n, f)) place)
+refused-place k h (y ∷ ys) (suc i) x f inside is all fault =
+    let place : suc k + i ≡ k + suc i = omega arith in
+    rw all.0 (refused-place (suc k) (and_then h y) ys i x f (omega (arith, inside)) is all.1 fault ∙ ap (λ n. Some (n, f)) place)

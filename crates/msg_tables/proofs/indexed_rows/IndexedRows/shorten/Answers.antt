@@ -1,0 +1,10 @@
+use Rattle.std.proofs.Common.{ap, sym, ◌∙◌}
+use Rattle.msg_tables.specs.RowList.{without_last}
+use Rattle.msg_tables.proofs.PopLemmas.{without-next, without-none}
+use Rattle.msg_tables.proofs.indexed_rows.IndexedRows.shorten.Goals as goal
+
+pub loop-step-init : goal.loop-step-init
+loop-step-init c = sym (without-none c.args.self.now.rows)
+
+pub loop-step-preserved : goal.loop-step-preserved
+loop-step-preserved c = c.pop.ensures ∙ ap (without_last 1) c.loop-step.invariant ∙ without-next c.args.self.now.rows c.loop-step._step

@@ -1,0 +1,13 @@
+use Rattle.std.proofs.Common.{take}
+use Rattle.msg_tables.proofs.SeveralLemmas.{accepted-none}
+use Rattle.msg_tables.proofs.tables.Tables.apply_all.Goals as goal
+
+pub returns-in-Ok-apply_each-clause-ok : goal.returns-in-Ok-apply_each-clause-ok
+returns-in-Ok-apply_each-clause-ok c = λ h stands.
+    let (all, now) = c.in-Ok-apply_each.ensures.ok.stands h stands in
+    (accepted-none h c.args.changes.now 0 all, now)
+
+pub returns-in-Err-clause-before : goal.returns-in-Err-clause-before
+returns-in-Err-clause-before c = λ h stands.
+    let (within, made) = c.in-Err.ensures.err in
+    accepted-none h (take c.in-Err.refused.place c.args.changes.now) 0 (made.stands h stands).0

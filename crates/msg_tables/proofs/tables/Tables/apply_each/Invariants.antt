@@ -1,0 +1,10 @@
+use Rattle.std.proofs.Common.{◌≤◌, ◌*◌, length, take}
+use Rattle.std.specs.Vec.{vec_capacity}
+use Rattle.msg_tables.specs.Making.{IsMade}
+use Rattle.msg_tables.proofs.tables.Tables.apply_each.Given as goal
+
+abbrev pub invariant-loop-place : goal.invariant-loop-place
+invariant-loop-place l = record {
+  made : IsMade (take l.place l.changes) l.journal.items l.initial.self l.self;
+  room : 2 * length l.changes ≤ vec_capacity l.journal;
+}

@@ -1,0 +1,14 @@
+use Rattle.msg_tables.proofs.ApplyLemmas.{stands-after}
+use Rattle.msg_tables.proofs.MakingLemmas.{part-made}
+use Rattle.msg_tables.proofs.tables.Tables.apply_part.Goals as goal
+
+pub returns-clause-ok : goal.returns-clause-ok
+returns-clause-ok c h stands =
+    let (none, same, makes) = rw (c.in_ok-edit.was) at (c.judge.ensures.meaning h stands) in
+    let after = stands-after c.args.self.now c.write_noted.new.self h c.args.change.now c.in_ok-edit.edit stands none same makes c.in_ok-write_noted.ensures.ok.writes in
+    (none, rw (← c.self.view_is) at after)
+
+pub returns-clause-part : goal.returns-clause-part
+returns-clause-part c =
+    let part = part-made c.args.change.now c.in_ok-edit.edit c.args.journal.now.items c.write_noted.new.journal.items c.args.self.now c.write_noted.new.self (λ h stands. rw (c.in_ok-edit.was) at (c.judge.ensures.places h stands)) c.in_ok-write_noted.ensures.ok in
+    rw (← c.self.view_is) at part

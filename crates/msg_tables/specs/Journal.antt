@@ -1,0 +1,122 @@
+-- What a list of changes wrote, from the first entry to the last, and how it is taken back.
+use Rattle.std.specs.Prelude.{◌≡◌, ◌≤◌, ◌*◌, ◌-◌, ℕ, zero, suc, Bool, true, false, List, [], ◌∷◌, ◌++◌, Option, Some, None, length, slice_set, take}
+use Rattle.std.specs.List.{list_all}
+use Rattle.msg_names.specs.declared.value.ClassRef.{ClassRef}
+use Rattle.msg_names.specs.ClassRef.{slot_of}
+use Rattle.msg_names.specs.Number.{selector_number, imp_number}
+use Rattle.msg_tables.specs.declared.change.Change.{Change}
+use Rattle.msg_tables.specs.declared.edit.Edit.{Edit}
+use Rattle.msg_tables.specs.declared.edit.Edit.TheVariants.{Append, Rewrite, RewriteBoth, Attach, Make}
+use Rattle.msg_tables.specs.declared.entry.Entry.{Entry}
+use Rattle.msg_tables.specs.declared.entry.Entry.TheVariants.{Added, Rewrote, Made}
+use Rattle.msg_tables.specs.declared.limits.TheConstants.{MAX_CLASSES}
+use Rattle.msg_tables.specs.declared.presence.Presence.{Presence}
+use Rattle.msg_tables.specs.Affected.{at_most_one, if_any, written_refs}
+use Rattle.msg_tables.specs.After.{of_class, of_meta}
+use Rattle.msg_tables.specs.Chain.{is_member}
+use Rattle.msg_tables.specs.Edits.{Writes}
+use Rattle.msg_tables.specs.Log.{Log}
+use Rattle.msg_tables.specs.Order.{IsOrder}
+use Rattle.msg_tables.specs.Origin.{last_imp, are_listed}
+use Rattle.msg_tables.specs.RowList.{set_last, without_last}
+use Rattle.msg_tables.specs.Several.{made_by}
+use Rattle.msg_tables.specs.View.{TablesView, kept}
+
+-- the class reference at which rows were added or rewritten
+abbrev pub place_of : Entry → Option ClassRef
+place_of (Added c zero) = None
+place_of (Added c (suc n)) = Some c
+place_of (Rewrote c s i) = Some c
+place_of (Made k) = None
+
+-- of all entries
+abbrev pub places_of : List Entry → List ClassRef
+places_of [] = []
+places_of (e ∷ es) = at_most_one (place_of e) ++ places_of es
+
+-- the classes that were made
+abbrev pub classes_of : List Entry → List ℕ
+classes_of [] = []
+classes_of (Made k ∷ es) = k ∷ classes_of es
+classes_of (_ ∷ es) = classes_of es
+
+-- the lists of rows before an entry
+abbrev pub lists_before : Entry → List (List (ℕ × ℕ)) → List (List (ℕ × ℕ))
+lists_before (Added c n) lists = slice_set lists (slot_of c) (without_last n (kept lists c))
+lists_before (Rewrote c s i) lists = slice_set lists (slot_of c) (set_last (selector_number s) (imp_number i) (kept lists c))
+lists_before (Made k) lists = lists
+
+-- the classes before it
+abbrev pub supers_before : Entry → List (Option Presence) → List (Option Presence)
+supers_before (Made k) supers = slice_set supers k None
+supers_before _ supers = supers
+
+-- and their order
+abbrev pub order_before : Entry → List ℕ → List ℕ
+order_before (Made k) order = take (length order - 1) order
+order_before _ order = order
+
+-- the entries are taken back, the last first
+abbrev pub before_all : {A : Type 0} → (Entry → A → A) → List Entry → A → A
+before_all f [] a = a
+before_all f (e ∷ es) a = f e (before_all f es a)
+
+-- an entry of a class that was made
+abbrev pub makes : Entry → Bool
+makes (Made k) = true
+makes _ = false
+
+-- once all entries are taken back, what is there now is what was there
+pub record IsJournalOf (journal : List Entry) (old new : TablesView) : Type 0 where
+  pub lists : before_all lists_before journal new.lists ≡ old.lists
+  pub supers : before_all supers_before journal new.supers ≡ old.supers
+  pub order : before_all order_before journal new.order ≡ old.order
+
+-- the class references at which an edit adds or rewrites rows
+abbrev pub edit_places : Edit → List ClassRef
+edit_places (Append r) = r.class ∷ []
+edit_places (Rewrite r) = r.class ∷ []
+edit_places (RewriteBoth first second) = first.class ∷ second.class ∷ []
+edit_places (Attach k methods class_methods) = if_any methods.now (of_class k) ++ if_any class_methods.now (of_meta k)
+edit_places (Make k d) = []
+
+-- the class that it makes
+abbrev pub edit_made : Edit → List ℕ
+edit_made (Make k d) = k ∷ []
+edit_made _ = []
+
+-- how many entries tell of it
+abbrev pub entry_count : Edit → ℕ
+entry_count (RewriteBoth first second) = 2
+entry_count (Attach k methods class_methods) = 2
+entry_count _ = 1
+
+-- an edit writes where the change does
+pub record IsWrittenAt (h : Log) (x : Change) (e : Edit) : Type 0 where
+  pub places : edit_places e ≡ written_refs h x
+  pub made : edit_made e ≡ made_by x
+
+-- an edit was made, and the journal is longer by what it wrote
+pub record Journals (e : Edit) (journal longer : List Entry) (old new : TablesView) : Type 0 where
+  pub writes : Writes old new e
+  pub entries : List Entry
+  pub is : longer ≡ journal ++ entries
+  pub few : length entries ≤ entry_count e
+  pub back : IsJournalOf entries old new
+  pub places : (c : ClassRef) → is_member c (places_of entries) ≡ is_member c (edit_places e)
+  pub made : classes_of entries ≡ edit_made e
+
+-- what tables keep, as far as contracts see it
+pub record IsSoundView (t : TablesView) : Type 0 where
+  pub order : IsOrder t.supers t.order
+  pub lists : length t.lists ≡ 2 * length t.supers
+  pub listed : list_all (are_listed (last_imp t.counts)) t.lists ≡ true
+  pub few_classes : length t.supers ≤ MAX_CLASSES
+  pub few_rows : t.row_count ≤ t.limits.rows
+  pub few_changes : t.change_count ≤ t.limits.changes
+
+-- what was there before the journal, with its counts of rows and of changes
+pub record GoesBack (journal : List Entry) (rows changes : ℕ) (old now : TablesView) : Type 0 where
+  pub sound : IsSoundView old
+  pub back : IsJournalOf journal old now
+  pub rest : old ≡ record now { supers = old.supers; order = old.order; lists = old.lists; row_count = rows; change_count = changes }

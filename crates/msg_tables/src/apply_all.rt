@@ -1,0 +1,90 @@
+//! Making a list of changes as one.
+
+ghost use Rattle.std.specs.Prelude.{◌≡◌, ◌≢◌, ◌<◌, ◌≤◌, ◌+◌, ◌*◌, [], IfErr, IfOk, None, OnErr, OnOk, Some, length, take};
+ghost use Rattle.std.specs.Vec.{vec_capacity};
+ghost use Rattle.msg_names.specs.declared.value.ClassRef.{ClassRef};
+ghost use Rattle.msg_tables.specs.declared.fault.ChangeFault.{ChangeFault};
+ghost use Rattle.msg_tables.specs.Chain.{is_member};
+ghost use Rattle.msg_tables.specs.Log.{Log, and_then};
+ghost use Rattle.msg_tables.specs.Journal.{classes_of, places_of};
+ghost use Rattle.msg_tables.specs.Making.{IsMade, IsPart};
+ghost use Rattle.msg_tables.specs.Refusal.{refusal};
+ghost use Rattle.msg_tables.specs.Several.{and_all, made_by_all, refused_from, written_by_all};
+ghost use Rattle.msg_tables.specs.Stands.{StandsAt};
+
+use crate::change::Change;
+use crate::entry::{Entry, Written};
+use crate::fault::ChangeFault;
+use crate::tables::Tables;
+use std::alloc::Global;
+
+/// Why a list of changes was not made: the place of the first that was refused, from 0, and its fault.
+#[derive(Clone, Copy, Debug, PartialEq, Eq)]
+pub struct Refused {
+    pub place: usize,
+    pub fault: ChangeFault,
+}
+
+impl Tables {
+    // Makes a change of a list, and notes what it wrote.
+    fn apply_part(&mut self, change: &Change, journal: &mut Vec<Entry>) -> Result<(), ChangeFault>
+        requires { length journal.old.items + 2 ≤ vec_capacity journal.old }
+        ensures ok { OnOk result ((h : Log) → StandsAt self.old h → (refusal h change.now ≡ None) × StandsAt self.new (and_then h change.now)) }
+        ensures part { OnOk result (IsPart change.now journal.old.items journal.new.items self.old self.new) }
+        ensures err { OnErr result ((self.new ≡ self.old) × (journal.new.items ≡ journal.old.items)) }
+        ensures fault { IfErr result (λ f. f ≢ ChangeFault.Memory → (h : Log) → StandsAt self.old h → refusal h change.now ≡ Some f) }
+        ensures room { vec_capacity journal.old ≤ vec_capacity journal.new }
+    {
+        let edit = self.judge(change)?;
+        self.write_noted(edit, journal)?;
+        self.change_count += 1;
+        Ok(())
+    }
+
+    // Makes changes one after another, as far as one that is refused.
+    fn apply_each(&mut self, changes: &[Change], journal: &mut Vec<Entry>) -> Result<(), Refused>
+        requires none { journal.old.items ≡ [] }
+        requires room { 2 * length changes.now ≤ vec_capacity journal.old }
+        ensures ok { OnOk result (IsMade changes.now journal.new.items self.old self.new) }
+        ensures err { IfErr result (λ r. (r.place < length changes.now) × IsMade (take r.place changes.now) journal.new.items self.old self.new) }
+        ensures fault { IfErr result (λ r. r.fault ≢ ChangeFault.Memory → (h : Log) → StandsAt self.old h → refused_from 0 h changes.now ≡ Some (r.place, r.fault)) }
+    {
+        for (place, change) in changes.iter().enumerate() {
+            if let Err(fault) = self.apply_part(change, journal) {
+                return Err(Refused { place, fault });
+            }
+        }
+        Ok(())
+    }
+
+    /// Makes a list of changes as one, or says which would be refused and changes nothing.
+    ///
+    /// Each is judged and made after those before it, as by [`apply`](Tables::apply). The room for what they write to the journal comes first, of two entries for each. Where one is refused, or memory is wanting,
+    /// those before it are taken back, from the last to the first; that takes no memory, and goes over the rows of the lists that rows are taken from, for each of these rows, and over all classes where one was made.
+    pub fn apply_all(&mut self, alloc: Global, changes: &[Change]) -> Result<Written, Refused>
+        ensures ok { OnOk result ((h : Log) → StandsAt self.old h → (refused_from 0 h changes.now ≡ None) × StandsAt self.new (and_all h changes.now)) }
+        ensures err { OnErr result (self.new ≡ self.old) }
+        ensures fault { IfErr result (λ r. r.fault ≢ ChangeFault.Memory → (h : Log) → StandsAt self.old h → refused_from 0 h changes.now ≡ Some (r.place, r.fault)) }
+        ensures before { IfErr result (λ r. (h : Log) → StandsAt self.old h → refused_from 0 h (take r.place changes.now) ≡ None) }
+        ensures within { IfErr result (λ r. r.place < length changes.now) }
+        ensures places { IfOk result (λ w. (h : Log) → StandsAt self.old h → (c : ClassRef) → is_member c (places_of w) ≡ is_member c (written_by_all h changes.now)) }
+        ensures made { IfOk result (λ w. (h : Log) → StandsAt self.old h → classes_of w ≡ made_by_all changes.now) }
+        ensures classes { length self.new.supers ≡ length self.old.supers }
+        ensures counts { self.new.counts ≡ self.old.counts }
+    {
+        let start = self.start();
+        let Ok(mut entries) = Vec::with_capacity(alloc, 2 * changes.len()) else {
+            return Err(Refused {
+                place: 0,
+                fault: ChangeFault::Memory,
+            });
+        };
+        match self.apply_each(changes, &mut entries) {
+            Ok(()) => Ok(Written { entries }),
+            Err(refused) => {
+                self.take_back(start, &mut entries);
+                Err(refused)
+            }
+        }
+    }
+}

@@ -1,0 +1,148 @@
+//! Making changes and noting what they write, so that it can be taken back.
+
+ghost use Rattle.std.specs.Prelude.{◌≡◌, ◌<◌, ◌≤◌, ◌+◌, [], ◌∷◌, ◌++◌, OnOk, OnErr, length};
+ghost use Rattle.std.specs.Vec.{vec_capacity};
+ghost use Rattle.msg_tables.specs.declared.edit.Edit.{Edit};
+ghost use Rattle.msg_tables.specs.declared.edit.MethodRow.{MethodRow};
+ghost use Rattle.msg_tables.specs.Edits.{Fits, IsOwn};
+ghost use Rattle.msg_tables.specs.Journal.{Journals};
+
+use crate::edit::{Edit, MethodRow};
+use crate::entry::Entry;
+use crate::methods::MethodList;
+use crate::tables::Tables;
+use msg_names::ClassRef;
+use std::alloc::AllocError;
+
+// One more entry, for which there is room.
+fn note(journal: &mut Vec<Entry>, entry: Entry)
+    requires { length journal.old.items < vec_capacity journal.old }
+    ensures items { journal.new.items ≡ journal.old.items ++ entry ∷ [] }
+    ensures room { vec_capacity journal.old ≤ vec_capacity journal.new }
+{
+    let pushed: Result<_, _> = journal.push(entry);
+    pushed.unwrap();
+}
+
+impl Tables {
+    fn append_noted(&mut self, row: MethodRow, journal: &mut Vec<Entry>) -> Result<(), AllocError>
+        requires fits { Fits self.old (Edit.Append row) }
+        requires room { length journal.old.items < vec_capacity journal.old }
+        ensures ok { OnOk result (Journals (Edit.Append row) journal.old.items journal.new.items self.old self.new) }
+        ensures err { OnErr result ((self.new ≡ self.old) × (journal.new.items ≡ journal.old.items)) }
+        ensures room { vec_capacity journal.old ≤ vec_capacity journal.new }
+    {
+        self.append(row)?;
+        note(
+            journal,
+            Entry::Added {
+                class: row.class,
+                count: 1,
+            },
+        );
+        Ok(())
+    }
+
+    fn rewrite_noted(&mut self, row: MethodRow, journal: &mut Vec<Entry>)
+        requires own { IsOwn self.old row }
+        requires room { length journal.old.items < vec_capacity journal.old }
+        ensures journals { Journals (Edit.Rewrite row) journal.old.items journal.new.items self.old self.new }
+        ensures own { (other : MethodRow) → IsOwn self.old other → IsOwn self.new other }
+        ensures room { vec_capacity journal.old ≤ vec_capacity journal.new }
+    {
+        let was = self.own(row.class, row.sel).unwrap();
+        self.rewrite(row);
+        note(
+            journal,
+            Entry::Rewrote {
+                class: row.class,
+                sel: row.sel,
+                imp: was,
+            },
+        );
+    }
+
+    fn rewrite_both_noted(&mut self, first: MethodRow, second: MethodRow, journal: &mut Vec<Entry>)
+        requires first { IsOwn self.old first }
+        requires second { IsOwn self.old second }
+        requires room { length journal.old.items + 2 ≤ vec_capacity journal.old }
+        ensures journals { Journals (Edit.RewriteBoth first second) journal.old.items journal.new.items self.old self.new }
+        ensures room { vec_capacity journal.old ≤ vec_capacity journal.new }
+    {
+        self.rewrite_noted(second, journal);
+        self.rewrite_noted(first, journal);
+    }
+
+    fn attach_noted(
+        &mut self,
+        class: u32,
+        methods: &MethodList,
+        class_methods: &MethodList,
+        journal: &mut Vec<Entry>,
+    ) -> Result<(), AllocError>
+        requires fits { Fits self.old (Edit.Attach class methods class_methods) }
+        requires room { length journal.old.items + 2 ≤ vec_capacity journal.old }
+        ensures ok { OnOk result (Journals (Edit.Attach class methods.entry class_methods.entry) journal.old.items journal.new.items self.old self.new) }
+        ensures err { OnErr result ((self.new ≡ self.old) × (journal.new.items ≡ journal.old.items)) }
+        ensures room { vec_capacity journal.old ≤ vec_capacity journal.new }
+    {
+        self.attach(class, methods, class_methods)?;
+        let own = ClassRef { class, meta: false };
+        let meta = ClassRef { class, meta: true };
+        note(
+            journal,
+            Entry::Added {
+                class: own,
+                count: methods.as_slice().len(),
+            },
+        );
+        note(
+            journal,
+            Entry::Added {
+                class: meta,
+                count: class_methods.as_slice().len(),
+            },
+        );
+        Ok(())
+    }
+
+    fn make_noted(&mut self, class: u32, superclass: Option<u32>, journal: &mut Vec<Entry>)
+        requires fits { Fits self.old (Edit.Make class superclass) }
+        requires room { length journal.old.items < vec_capacity journal.old }
+        ensures journals { Journals (Edit.Make class superclass) journal.old.items journal.new.items self.old self.new }
+        ensures room { vec_capacity journal.old ≤ vec_capacity journal.new }
+    {
+        self.make(class, superclass);
+        note(journal, Entry::Made { class });
+    }
+
+    // Writes what an edit says, and notes it.
+    pub(crate) fn write_noted(&mut self, edit: Edit, journal: &mut Vec<Entry>) -> Result<(), AllocError>
+        requires fits { Fits self.old edit }
+        requires room { length journal.old.items + 2 ≤ vec_capacity journal.old }
+        ensures ok { OnOk result (Journals edit.entry journal.old.items journal.new.items self.old self.new) }
+        ensures err { OnErr result ((self.new ≡ self.old) × (journal.new.items ≡ journal.old.items)) }
+        ensures room { vec_capacity journal.old ≤ vec_capacity journal.new }
+    {
+        match edit {
+            Edit::Append(row) => self.append_noted(row, journal),
+            Edit::Rewrite(row) => {
+                self.rewrite_noted(row, journal);
+                Ok(())
+            }
+            Edit::RewriteBoth(first, second) => {
+                self.rewrite_both_noted(first, second, journal);
+                Ok(())
+            }
+            Edit::Attach {
+                class,
+                methods,
+                class_methods,
+            } => self.attach_noted(class, methods, class_methods, journal),
+            Edit::Make(class, superclass) => {
+                self.make_noted(class, superclass, journal);
+                Ok(())
+            }
+        }
+    }
+}
