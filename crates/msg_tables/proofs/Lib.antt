@@ -1,3 +1,4 @@
+pub mod AffectedAllLemmas
 pub mod ApplyLemmas
 pub mod AttachLemmas
 pub mod BackLemmas

@@ -12,7 +12,7 @@ use Rattle.msg_tables.specs.Affected.{written_refs}
 use Rattle.msg_tables.specs.Chain.{is_member}
 use Rattle.msg_tables.specs.Edits.{supers_edited}
 use Rattle.msg_tables.specs.Log.{Log, and_then}
-use Rattle.msg_tables.specs.Journal.{Journals, IsWrittenAt, IsJournalOf, entry_count, places_of, classes_of}
+use Rattle.msg_tables.specs.Journal.{Journals, edit_made, WritesAt, IsJournalOf, entry_count, places_of, classes_of}
 use Rattle.msg_tables.specs.Making.{IsBeside, IsPart, IsMade}
 use Rattle.msg_tables.specs.Refusal.{refusal, AreAccepted}
 use Rattle.msg_tables.specs.Several.{and_all, refused_from, made_by, made_by_all, written_by_all}
@@ -39,17 +39,17 @@ length-edited_supers (Attach k ms cs) t = refl
 length-edited_supers (Make k d) t = length-set t.supers k (Some (record { superclass = d }))
 
 -- an edit was made and noted, and the change is counted
-pub part-made : (x : Change) (e : Edit) (journal longer : List Entry) (old new : TablesView) → ((h : Log) → StandsAt old h → IsWrittenAt h x e) → Journals e journal longer old new
+pub part-made : (x : Change) (e : Edit) (journal longer : List Entry) (old new : TablesView) → ((h : Log) → StandsAt old h → WritesAt h x e) → edit_made e ≡ made_by x → Journals e journal longer old new
     → IsPart x journal longer old (record new { change_count = new.change_count + 1 })
-part-made x e journal longer old new written journals =
+part-made x e journal longer old new written makes journals =
     let few = few-entries e in
     record {
       entries = journals.entries;
       is = journals.is;
       few = omega (arith, few, journals.few);
       back = record { lists = journals.back.lists; supers = journals.back.supers; order = journals.back.order };
-      places = λ h stands c. journals.places c ∙ ap (is_member c) (written h stands).places;
-      made = λ h stands. journals.made ∙ (written h stands).made;
+      places = λ h stands c. journals.places c ∙ ap (is_member c) (written h stands);
+      made = journals.made ∙ makes;
       beside = record {
         count = ap (λ (t : TablesView). length t.supers) journals.writes.rest ∙ length-edited_supers e old;
         rest = sym (ap (λ (t : TablesView). record t { supers = old.supers; order = old.order; lists = old.lists; row_count = old.row_count; change_count = old.change_count }) journals.writes.rest);
@@ -98,7 +98,7 @@ made-none t [] e = record {
   back = record { lists = refl; supers = refl; order = refl };
   stands = λ h stands. (tt, stands);
   places = λ h stands c. refl;
-  made = λ h stands. refl;
+  made = refl;
   beside = record { count = refl; rest = refl };
 }
 made-none t (x ∷ journal) e = cc
@@ -118,11 +118,7 @@ made-next xs i x journal longer old between new inside is so-far ok part =
           ap (λ es. is_member c (places_of es)) part.is ∙ member-places c journal part.entries
           ∙ ap₂ (λ a b. a || b) (so-far.places h stands c) (part.places (and_all h (take i xs)) now c)
           ∙ sym (member-snoc h (take i xs) x c);
-      made = λ h stands.
-          let now = (so-far.stands h stands).1 in
-          ap classes_of part.is ∙ classes-append journal part.entries
-          ∙ ap₂ (λ a b. a ++ b) (so-far.made h stands) (part.made (and_all h (take i xs)) now)
-          ∙ sym (made-snoc (take i xs) x);
+      made = ap classes_of part.is ∙ classes-append journal part.entries ∙ ap₂ (λ a b. a ++ b) so-far.made part.made ∙ sym (made-snoc (take i xs) x);
       beside = beside-on old between new so-far.beside part.beside;
     }
 

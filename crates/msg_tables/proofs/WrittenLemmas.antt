@@ -1,7 +1,8 @@
 -- The class references at which an accepted change writes are of the origin's classes.
 use Rattle.std.proofs.Common.{◌≡◌, ◌<◌, ◌⊎◌, ℕ, zero, suc, List, [], ◌∷◌, ◌++◌, length, Bool, cond, true, false, Option, Some, None, refl, sym, ap, ◌∙◌, subst, inl, inr, ⊎_elim, arith}
-use Rattle.std.specs.Prelude.{◌||◌, is_some, IfSome}
+use Rattle.std.specs.Prelude.{◌||◌, is_some, IfSome, All}
 use Rattle.std.specs.Option.{option_map_or}
+use Rattle.std.proofs.lemmas.List.Elements.{All-head, All-tail, All-nil, All-cons}
 use Rattle.std.proofs.lemmas.List.Folds.{list_any-append}
 use Rattle.msg_names.specs.ClassRef.{same_class}
 use Rattle.msg_names.specs.declared.value.ClassRef.{ClassRef}
@@ -14,13 +15,17 @@ use Rattle.msg_tables.specs.Chain.{chain_of, chain_up, super_of, is_member, is_p
 use Rattle.msg_tables.specs.declared.change.Change.{Change}
 use Rattle.msg_tables.specs.declared.change.Change.TheVariants.{Add, Replace, SetImp, Exchange, Attach, AddClass}
 use Rattle.msg_tables.specs.declared.presence.Presence.{Presence}
-use Rattle.msg_tables.specs.Log.{Log, table, holder}
+use Rattle.msg_tables.specs.declared.entry.Entry.{Entry}
+use Rattle.msg_tables.specs.declared.entry.Entry.TheVariants.{Added, Rewrote, Made}
+use Rattle.msg_tables.specs.Journal.{places_of, classes_of, IsOfFirst}
+use Rattle.msg_tables.specs.Log.{Log, and_then, table, holder}
+use Rattle.msg_tables.specs.Several.{made_by_all, written_by_all}
 use Rattle.msg_tables.specs.Order.{IsOrder}
 use Rattle.msg_tables.specs.Origin.{IsSound, class_total}
-use Rattle.msg_tables.specs.Refusal.{refusal, IsLog}
+use Rattle.msg_tables.specs.Refusal.{refusal, AreAccepted, IsLog}
 use Rattle.msg_tables.specs.Rows.{Row, own, holder_in}
-use Rattle.msg_tables.proofs.LogLemmas.{length-supers}
-use Rattle.msg_tables.proofs.NamedLemmas.{of_origin-add, of_origin-replace, of_origin-attach}
+use Rattle.msg_tables.proofs.LogLemmas.{length-supers, log-and_then}
+use Rattle.msg_tables.proofs.NamedLemmas.{of_origin-add, of_origin-replace, of_origin-attach, of_origin-make}
 use Rattle.msg_tables.proofs.OrderLemmas.{present-inside, above-listed}
 use Rattle.msg_tables.proofs.PresenceLemmas.{ordered}
 
@@ -64,6 +69,16 @@ holder-among rows (c ∷ cs) s p e = step (is_some (own rows c s)) e (holder-amo
     step true is on = let same : c ≡ p = cc in ap (λ d. same_class d c || is_member p cs) (sym same) ∙ ap (λ b. b || is_member p cs) (same_class-refl c)
     step false is on = over (same_class p c) (is_member p cs) (on is)
 
+here : (c : ClassRef) (cs : List ClassRef) → is_member c (c ∷ cs) ≡ true
+here c cs = ap (λ b. b || is_member c cs) (same_class-refl c)
+
+later : (c d : ClassRef) (cs : List ClassRef) → is_member c cs ≡ true → is_member c (d ∷ cs) ≡ true
+later c d cs among = over (same_class c d) (is_member c cs) among
+  where
+    over : (a b : Bool) → b ≡ true → (a || b) ≡ true
+    over true b is = refl
+    over false b is = is
+
 module _ (h : Log) (sound : IsSound h.origin) (made : IsLog h) where
   pub holder-inside : (c : ClassRef) (s : ℕ) (p : ClassRef) → is_member p (at_most_one (holder h c s)) ≡ true → p.class < class_total h.origin
   unfolding holder
@@ -99,3 +114,33 @@ module _ (h : Log) (sound : IsSound h.origin) (made : IsLog h) where
           let same : p.class ≡ d.class = ap (λ (e : ClassRef). e.class) (member-one p d among) in
           omega (arith, inside, same, is)
   written-inside (AddClass k d) p none among = absurd (cc)
+
+-- ---- lists of changes
+
+pub written_all-inside : (h : Log) (xs : List Change) (p : ClassRef) → IsSound h.origin → IsLog h → AreAccepted h xs → is_member p (written_by_all h xs) ≡ true → p.class < class_total h.origin
+written_all-inside h [] p sound made all among = absurd (cc)
+written_all-inside h (x ∷ xs) p sound made all among =
+    ⊎_elim (λ (one : is_member p (written_refs h x) ≡ true). written-inside h sound made x p all.0 one)
+    (λ (rest : is_member p (written_by_all (and_then h x) xs) ≡ true). written_all-inside (and_then h x) xs p sound (log-and_then h x made all.0) all.1 rest)
+    (either _ _ (sym (list_any-append (same_class p) (written_refs h x) (written_by_all (and_then h x) xs)) ∙ among))
+
+-- the classes that are made are among the first n
+pub made_all-inside : (h : Log) (xs : List Change) → AreAccepted h xs → All (λ k. k < class_total h.origin) (made_by_all xs)
+made_all-inside h [] all = All-nil (λ k. k < class_total h.origin)
+made_all-inside h (Add c s i ∷ xs) all = made_all-inside (and_then h (Add c s i)) xs all.1
+made_all-inside h (Replace c s i ∷ xs) all = made_all-inside (and_then h (Replace c s i)) xs all.1
+made_all-inside h (SetImp c s i ∷ xs) all = made_all-inside (and_then h (SetImp c s i)) xs all.1
+made_all-inside h (Exchange c s d u ∷ xs) all = made_all-inside (and_then h (Exchange c s d u)) xs all.1
+made_all-inside h (Attach k ms cs ∷ xs) all = made_all-inside (and_then h (Attach k ms cs)) xs all.1
+made_all-inside h (AddClass k d ∷ xs) all = All-cons (λ k. k < class_total h.origin) k (made_by_all xs) (of_origin-make h k d all.0) (made_all-inside (and_then h (AddClass k d)) xs all.1)
+
+-- so the entries of a journal are of the first n classes
+pub entries-inside : (n : ℕ) (es : List Entry) → ((c : ClassRef) → is_member c (places_of es) ≡ true → c.class < n) → All (λ k. k < n) (classes_of es) → All (IsOfFirst n) es
+entries-inside n [] places classes = All-nil (IsOfFirst n)
+entries-inside n (Made k ∷ es) places classes =
+    All-cons (IsOfFirst n) (Made k) es (All-head (λ j. j < n) k (classes_of es) classes) (entries-inside n es places (All-tail (λ j. j < n) k (classes_of es) classes))
+entries-inside n (Added c zero ∷ es) places classes = All-cons (IsOfFirst n) (Added c zero) es tt (entries-inside n es places classes)
+entries-inside n (Added c (suc m) ∷ es) places classes =
+    All-cons (IsOfFirst n) (Added c (suc m)) es (places c (here c (places_of es))) (entries-inside n es (λ d among. places d (later d c (places_of es) among)) classes)
+entries-inside n (Rewrote c s i ∷ es) places classes =
+    All-cons (IsOfFirst n) (Rewrote c s i) es (places c (here c (places_of es))) (entries-inside n es (λ d among. places d (later d c (places_of es) among)) classes)

@@ -1,5 +1,5 @@
 -- What a list of changes wrote, from the first entry to the last, and how it is taken back.
-use Rattle.std.specs.Prelude.{◌≡◌, ◌≤◌, ◌*◌, ◌-◌, ℕ, zero, suc, Bool, true, false, List, [], ◌∷◌, ◌++◌, Option, Some, None, length, slice_set, take}
+use Rattle.std.specs.Prelude.{◌≡◌, ◌<◌, ◌≤◌, ◌*◌, ◌-◌, ℕ, zero, suc, Bool, true, false, List, [], ◌∷◌, ◌++◌, Option, Some, None, length, slice_set, take}
 use Rattle.std.specs.List.{list_all}
 use Rattle.msg_names.specs.declared.value.ClassRef.{ClassRef}
 use Rattle.msg_names.specs.ClassRef.{slot_of}
@@ -19,7 +19,6 @@ use Rattle.msg_tables.specs.Log.{Log}
 use Rattle.msg_tables.specs.Order.{IsOrder}
 use Rattle.msg_tables.specs.Origin.{last_imp, are_listed}
 use Rattle.msg_tables.specs.RowList.{set_last, without_last}
-use Rattle.msg_tables.specs.Several.{made_by}
 use Rattle.msg_tables.specs.View.{TablesView, kept}
 
 -- the class reference at which rows were added or rewritten
@@ -39,6 +38,13 @@ abbrev pub classes_of : List Entry → List ℕ
 classes_of [] = []
 classes_of (Made k ∷ es) = k ∷ classes_of es
 classes_of (_ ∷ es) = classes_of es
+
+-- what an entry tells of is of one of the first n classes
+abbrev pub IsOfFirst : ℕ → Entry → Type 0
+IsOfFirst n (Added c zero) = Unit {0}
+IsOfFirst n (Added c (suc m)) = c.class < n
+IsOfFirst n (Rewrote c s i) = c.class < n
+IsOfFirst n (Made k) = k < n
 
 -- the lists of rows before an entry
 abbrev pub lists_before : Entry → List (List (ℕ × ℕ)) → List (List (ℕ × ℕ))
@@ -92,9 +98,8 @@ entry_count (Attach k methods class_methods) = 2
 entry_count _ = 1
 
 -- an edit writes where the change does
-pub record IsWrittenAt (h : Log) (x : Change) (e : Edit) : Type 0 where
-  pub places : edit_places e ≡ written_refs h x
-  pub made : edit_made e ≡ made_by x
+abbrev pub WritesAt : Log → Change → Edit → Type 0
+WritesAt h x e = edit_places e ≡ written_refs h x
 
 -- an edit was made, and the journal is longer by what it wrote
 pub record Journals (e : Edit) (journal longer : List Entry) (old new : TablesView) : Type 0 where

@@ -1,14 +1,16 @@
 -- Changes of a list that were made, and the journal of what they wrote.
-use Rattle.std.specs.Prelude.{◌≡◌, ◌≤◌, ◌*◌, List, ◌++◌, length}
+use Rattle.std.specs.Prelude.{◌≡◌, ◌≤◌, ◌*◌, ◌||◌, Bool, true, List, ◌++◌, Some, None, length, take}
 use Rattle.msg_names.specs.declared.value.ClassRef.{ClassRef}
 use Rattle.msg_tables.specs.declared.change.Change.{Change}
+use Rattle.msg_tables.specs.declared.apply_all.Refused.{Refused}
 use Rattle.msg_tables.specs.declared.entry.Entry.{Entry}
 use Rattle.msg_tables.specs.Affected.{written_refs}
 use Rattle.msg_tables.specs.Chain.{is_member}
 use Rattle.msg_tables.specs.Log.{Log}
 use Rattle.msg_tables.specs.Journal.{IsJournalOf, classes_of, places_of}
+use Rattle.msg_tables.specs.Origin.{IsSound}
 use Rattle.msg_tables.specs.Refusal.{AreAccepted}
-use Rattle.msg_tables.specs.Several.{and_all, made_by, made_by_all, written_by_all}
+use Rattle.msg_tables.specs.Several.{and_all, is_affected_by_all, is_below, is_of_one, made_by, made_by_all, refused_from, written_by_all}
 use Rattle.msg_tables.specs.Stands.{StandsAt}
 use Rattle.msg_tables.specs.View.{TablesView}
 
@@ -24,14 +26,38 @@ pub record IsPart (x : Change) (journal longer : List Entry) (old new : TablesVi
   pub few : length entries ≤ 2
   pub back : IsJournalOf entries old new
   pub places : (h : Log) → StandsAt old h → (c : ClassRef) → is_member c (places_of entries) ≡ is_member c (written_refs h x)
-  pub made : (h : Log) → StandsAt old h → classes_of entries ≡ made_by x
+  pub made : classes_of entries ≡ made_by x
   pub beside : IsBeside old new
+
+-- a journal has the class references at which a list adds or rewrites rows
+abbrev pub HasPlaces : List Change → TablesView → List Entry → Type 0
+HasPlaces xs old journal = (h : Log) → StandsAt old h → (c : ClassRef) → is_member c (places_of journal) ≡ is_member c (written_by_all h xs)
 
 -- changes were made, and the journal tells what they wrote
 pub record IsMade (xs : List Change) (journal : List Entry) (old new : TablesView) : Type 0 where
   pub few : length journal ≤ 2 * length xs
   pub back : IsJournalOf journal old new
   pub stands : (h : Log) → StandsAt old h → AreAccepted h xs × StandsAt new (and_all h xs)
-  pub places : (h : Log) → StandsAt old h → (c : ClassRef) → is_member c (places_of journal) ≡ is_member c (written_by_all h xs)
-  pub made : (h : Log) → StandsAt old h → classes_of journal ≡ made_by_all xs
+  pub places : HasPlaces xs old journal
+  pub made : classes_of journal ≡ made_by_all xs
   pub beside : IsBeside old new
+
+-- the tables stood at a log, and stand at the one after a list, of which none was refused
+abbrev pub StandAfter : List Change → TablesView → TablesView → Type 0
+StandAfter xs old new = (h : Log) → StandsAt old h → (refused_from 0 h xs ≡ None) × StandsAt new (and_all h xs)
+
+-- this is the first of a list that would be refused, and its fault
+abbrev pub IsRefused : List Change → TablesView → Refused → Type 0
+IsRefused xs old r = (h : Log) → StandsAt old h → refused_from 0 h xs ≡ Some (r.place, r.fault)
+
+-- those before it would be made
+abbrev pub AreMadeBefore : List Change → TablesView → Refused → Type 0
+AreMadeBefore xs old r = (h : Log) → StandsAt old h → refused_from 0 h (take r.place xs) ≡ None
+
+-- the class reference is of a class that a journal tells of, or is one of its places or below one
+abbrev pub is_told : Log → List Entry → ClassRef → Bool
+is_told h journal c = is_of_one (classes_of journal) c || is_below h (places_of journal) c
+
+-- what a list affects is found by its journal, once all is made
+abbrev pub TellsAll : List Change → TablesView → List Entry → Type 0
+TellsAll xs old journal = (h : Log) → IsSound h.origin → StandsAt old h → (c : ClassRef) → is_affected_by_all h xs c ≡ true → is_told (and_all h xs) journal c ≡ true

@@ -1,12 +1,14 @@
 -- Lists of changes, one made after another, of which others see none before all are made.
-use Rattle.std.specs.Prelude.{ℕ, suc, ◌||◌, Bool, false, List, [], ◌∷◌, ◌++◌, Option, Some, None, option_map}
+use Rattle.std.specs.Prelude.{ℕ, suc, ◌==◌, ◌||◌, Bool, false, List, [], ◌∷◌, ◌++◌, Option, Some, None, option_map}
+use Rattle.std.specs.List.{list_any}
 use Rattle.std.specs.Option.{option_map_or}
 use Rattle.msg_names.specs.declared.value.ClassRef.{ClassRef}
 use Rattle.msg_tables.specs.declared.change.Change.{Change}
 use Rattle.msg_tables.specs.declared.fault.ChangeFault.{ChangeFault}
 use Rattle.msg_tables.specs.declared.change.Change.TheVariants.{AddClass}
 use Rattle.msg_tables.specs.Affected.{is_affected, written_refs}
-use Rattle.msg_tables.specs.Log.{Log, and_then}
+use Rattle.msg_tables.specs.Chain.{is_member}
+use Rattle.msg_tables.specs.Log.{Log, and_then, chain_at}
 use Rattle.msg_tables.specs.Refusal.{refusal}
 
 -- the log after all of a list, one after another
@@ -42,3 +44,11 @@ made_by _ = []
 abbrev pub made_by_all : List Change → List ℕ
 made_by_all [] = []
 made_by_all (x ∷ xs) = made_by x ++ made_by_all xs
+
+-- the class reference is of one of these classes
+abbrev pub is_of_one : List ℕ → ClassRef → Bool
+is_of_one ks c = list_any (λ k. c.class == k) ks
+
+-- the class reference is one of these, or stands below one
+abbrev pub is_below : Log → List ClassRef → ClassRef → Bool
+is_below h places c = list_any (λ place. is_member place (chain_at h c)) places

@@ -2,14 +2,12 @@
 
 ghost use Rattle.std.specs.Prelude.{◌≡◌, ◌≢◌, ◌<◌, ◌≤◌, ◌+◌, ◌*◌, [], IfErr, IfOk, None, OnErr, OnOk, Some, length, take};
 ghost use Rattle.std.specs.Vec.{vec_capacity};
-ghost use Rattle.msg_names.specs.declared.value.ClassRef.{ClassRef};
 ghost use Rattle.msg_tables.specs.declared.fault.ChangeFault.{ChangeFault};
-ghost use Rattle.msg_tables.specs.Chain.{is_member};
 ghost use Rattle.msg_tables.specs.Log.{Log, and_then};
-ghost use Rattle.msg_tables.specs.Journal.{classes_of, places_of};
-ghost use Rattle.msg_tables.specs.Making.{IsMade, IsPart};
+ghost use Rattle.msg_tables.specs.Journal.{classes_of};
+ghost use Rattle.msg_tables.specs.Making.{AreMadeBefore, HasPlaces, IsMade, IsPart, IsRefused, StandAfter, TellsAll};
 ghost use Rattle.msg_tables.specs.Refusal.{refusal};
-ghost use Rattle.msg_tables.specs.Several.{and_all, made_by_all, refused_from, written_by_all};
+ghost use Rattle.msg_tables.specs.Several.{made_by_all};
 ghost use Rattle.msg_tables.specs.Stands.{StandsAt};
 
 use crate::change::Change;
@@ -47,7 +45,7 @@ impl Tables {
         requires room { 2 * length changes.now ≤ vec_capacity journal.old }
         ensures ok { OnOk result (IsMade changes.now journal.new.items self.old self.new) }
         ensures err { IfErr result (λ r. (r.place < length changes.now) × IsMade (take r.place changes.now) journal.new.items self.old self.new) }
-        ensures fault { IfErr result (λ r. r.fault ≢ ChangeFault.Memory → (h : Log) → StandsAt self.old h → refused_from 0 h changes.now ≡ Some (r.place, r.fault)) }
+        ensures fault { IfErr result (λ r. r.fault ≢ ChangeFault.Memory → IsRefused changes.now self.old r) }
     {
         for (place, change) in changes.iter().enumerate() {
             if let Err(fault) = self.apply_part(change, journal) {
@@ -62,13 +60,14 @@ impl Tables {
     /// Each is judged and made after those before it, as by [`apply`](Tables::apply). The room for what they write to the journal comes first, of two entries for each. Where one is refused, or memory is wanting,
     /// those before it are taken back, from the last to the first; that takes no memory, and goes over the rows of the lists that rows are taken from, for each of these rows, and over all classes where one was made.
     pub fn apply_all(&mut self, alloc: Global, changes: &[Change]) -> Result<Written, Refused>
-        ensures ok { OnOk result ((h : Log) → StandsAt self.old h → (refused_from 0 h changes.now ≡ None) × StandsAt self.new (and_all h changes.now)) }
+        ensures ok { OnOk result (StandAfter changes.now self.old self.new) }
         ensures err { OnErr result (self.new ≡ self.old) }
-        ensures fault { IfErr result (λ r. r.fault ≢ ChangeFault.Memory → (h : Log) → StandsAt self.old h → refused_from 0 h changes.now ≡ Some (r.place, r.fault)) }
-        ensures before { IfErr result (λ r. (h : Log) → StandsAt self.old h → refused_from 0 h (take r.place changes.now) ≡ None) }
+        ensures fault { IfErr result (λ r. r.fault ≢ ChangeFault.Memory → IsRefused changes.now self.old r) }
+        ensures before { IfErr result (AreMadeBefore changes.now self.old) }
         ensures within { IfErr result (λ r. r.place < length changes.now) }
-        ensures places { IfOk result (λ w. (h : Log) → StandsAt self.old h → (c : ClassRef) → is_member c (places_of w) ≡ is_member c (written_by_all h changes.now)) }
-        ensures made { IfOk result (λ w. (h : Log) → StandsAt self.old h → classes_of w ≡ made_by_all changes.now) }
+        ensures places { IfOk result (HasPlaces changes.now self.old) }
+        ensures made { IfOk result (λ w. classes_of w ≡ made_by_all changes.now) }
+        ensures affected { IfOk result (TellsAll changes.now self.old) }
         ensures classes { length self.new.supers ≡ length self.old.supers }
         ensures counts { self.new.counts ≡ self.old.counts }
     {

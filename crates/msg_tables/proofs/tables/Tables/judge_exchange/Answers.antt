@@ -53,4 +53,4 @@ pub returns-clause-places : goal.returns-clause-places
 returns-clause-places c = λ h stands.
     let first : holder h c.args.class (selector_number c.args.sel) ≡ Some c.in-Some.first.holder = holder-stands c.args.self.now h stands c.args.class (selector_number c.args.sel) ∙ ap (λ o. option_map (λ (m : ClassRef × ℕ). m.0) o) (sym c.in-Some.ensures.method) in
     let second : holder h c.args.other (selector_number c.args.other_sel) ≡ Some c.in-Some-method.second.holder = holder-stands c.args.self.now h stands c.args.other (selector_number c.args.other_sel) ∙ ap (λ o. option_map (λ (m : ClassRef × ℕ). m.0) o) (sym c.in-Some-method.ensures.method) in
-    places-exchange h c.args.class c.args.other c.args.sel c.args.other_sel _ _ first second
+    places-exchange h c.args.class c.args.other c.args.sel c.args.other_sel c.in-Some.first.holder c.in-Some-method.second.holder first second

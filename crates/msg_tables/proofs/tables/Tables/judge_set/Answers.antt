@@ -30,4 +30,4 @@ returns-clause-meaning c = λ h stands.
 pub returns-clause-places : goal.returns-clause-places
 returns-clause-places c = λ h stands.
     let found : holder h c.args.row.class (selector_number c.args.row.sel) ≡ Some c.in-Some-method.found.holder = holder-stands c.args.self.now h stands c.args.row.class (selector_number c.args.row.sel) ∙ ap (λ o. option_map (λ (m : ClassRef × ℕ). m.0) o) (sym c.in-Some-method.ensures.method) in
-    places-set h c.args.row.class c.args.row.sel c.args.row.imp _ found
+    places-set h c.args.row.class c.args.row.sel c.args.row.imp c.in-Some-method.found.holder found
