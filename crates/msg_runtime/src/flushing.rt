@@ -20,7 +20,7 @@ use msg_tables::{Below, Change, MethodList, Tables};
 
 // Flushes the cache of a class, of its metaclass, or of both.
 #[inline(always)]
-fn flush_class(keeper: &mut Keeper, arena: &Arena, class: u32, own: bool, meta: bool)
+pub(crate) fn flush_class(keeper: &mut Keeper, arena: &Arena, class: u32, own: bool, meta: bool)
     requires arena { IsKeeperOf arena.now keeper.old }
     requires class { class < class_total (keeper_history keeper.old).origin }
     ensures arena { IsKeeperOf arena.now keeper.new }
@@ -57,7 +57,7 @@ fn flush_each(keeper: &mut Keeper, arena: &Arena, below: &Below)
 }
 
 // Flushes the caches of a class reference and of all below it.
-fn flush_below(
+pub(crate) fn flush_below(
     keeper: &mut Keeper,
     arena: &Arena,
     tables: &Tables,

@@ -3,6 +3,7 @@
 
 mod caching;
 mod flushing;
+mod flushing_all;
 mod runtime;
 
 pub use runtime::Runtime;

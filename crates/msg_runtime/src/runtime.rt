@@ -5,6 +5,7 @@ ghost use Rattle.msg_names.specs.Number.{selector_number, imp_number};
 ghost use Rattle.msg_tables.specs.Origin.{last_imp};
 ghost use Rattle.msg_tables.specs.History.{BeginsWith, and_then, empty, holder, log, lookup, superclass};
 ghost use Rattle.msg_tables.specs.Marking.{MarksAffected};
+ghost use Rattle.msg_tables.specs.Made.{AreMade, AreRefused};
 ghost use Rattle.msg_tables.specs.Refusal.{refusal};
 ghost use Rattle.msg_tables.specs.declared.fault.ChangeFault.{ChangeFault};
 ghost use Rattle.msg_cache.specs.Counts.{AreCounts, after_refusal};
@@ -15,12 +16,13 @@ ghost use Rattle.msg_runtime.specs.Parts.{IsKeeperOf, AnswersMiss, IsNew, AreOut
 
 use crate::caching::cache_found;
 use crate::flushing::flush_reached;
+use crate::flushing_all::flush_written;
 use msg_cache::{Arena, Keeper, Report, Turn};
 use msg_names::{ClassRef, ImpRef, Selector};
 use msg_reader::laws::notes_are_of_longer_histories;
 use msg_reader::{Notes, Reader};
 use msg_tables::laws::{an_accepted_change_is_within_the_limit, tables_are_of_their_origin};
-use msg_tables::{Below, Change, ChangeFault, HasOrigin, Marks, Origin, Tables};
+use msg_tables::{Below, Change, ChangeFault, HasOrigin, Marks, Origin, Refused, Tables};
 use std::alloc::{AllocError, Global};
 use std::marker::Model;
 use std::snapshot::Snapshot;
@@ -244,6 +246,46 @@ impl Runtime {
             &mut self.below,
         );
         Ok(self.keeper.commit(arena, turn, change))
+    }
+
+    /// Makes a list of changes as one, flushes the caches that it reaches, and answers how many times changes were made; or says which of them would be refused. After an
+    /// error nothing was changed or flushed. An empty list changes nothing and isn't counted.
+    ///
+    /// The turn's history is the runtime's, before and after. It costs what its changes cost, and the room for what they write, but for one count that is stored.
+    pub fn change_all(
+        &mut self,
+        alloc: Global,
+        arena: &Arena,
+        turn: &mut Turn,
+        changes: &[Change],
+    ) -> Result<u64, Refused>
+        requires arena { arena.now ≡ self.old.arena }
+        requires turn { turn.old.table ≡ self.old.arena.table }
+        ensures arena { self.new.arena ≡ self.old.arena }
+        ensures turn { turn.new.table ≡ self.old.arena.table }
+        ensures was { turn.old.history ≡ self.old.keeper.history }
+        ensures is { turn.new.history ≡ self.new.keeper.history }
+        ensures ok { OnOk result (AreMade changes.now self.old.keeper.history self.new.keeper.history) }
+        ensures count { IfOk result (λ count. count ≡ length self.new.keeper.history.changes) }
+        ensures err { OnErr result (self.new.keeper.history ≡ self.old.keeper.history) }
+        ensures caches { OnErr result ((self.new.keeper ≡ lent self.old.keeper) × (self.new.remembered ≡ self.old.remembered)) }
+        ensures report { OnErr result (self.new.report ≡ self.old.report) }
+        ensures refused { IfErr result (AreRefused changes.now self.old.keeper.history) }
+    {
+        tables_are_of_their_origin();
+        self.keeper.face(arena, turn);
+        if changes.is_empty() {
+            return Ok(self.keeper.count());
+        }
+        let written = self.tables.apply_all(alloc, changes)?;
+        flush_written(
+            &mut self.keeper,
+            arena,
+            &self.tables,
+            &written,
+            &mut self.below,
+        );
+        Ok(self.keeper.commit_all(arena, turn, changes))
     }
 
     /// A reader of a sender number that isn't given out, where there is one. It has seen the whole history.

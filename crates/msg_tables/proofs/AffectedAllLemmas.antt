@@ -1,6 +1,7 @@
 -- What a list of changes affects is found by what it made and where it wrote, once all is made.
-use Rattle.std.proofs.Common.{◌≡◌, ℕ, List, [], ◌∷◌, ◌++◌, Bool, true, false, refl, ap, ◌∙◌, subst}
-use Rattle.std.specs.Prelude.{◌||◌, ◌==◌}
+use Rattle.std.proofs.Common.{◌≡◌, ◌<◌, ◌+◌, ◌⊎◌, ℕ, List, [], ◌∷◌, ◌++◌, length, take, Bool, true, false, refl, sym, ap, ap₂, ◌∙◌, subst, inl, inr}
+use Rattle.std.specs.Prelude.{◌||◌, ◌==◌, slice_index_or}
+use Rattle.std.proofs.lemmas.List.{take_more}
 use Rattle.std.proofs.lemmas.List.Folds.{list_any-append}
 use Rattle.msg_names.specs.declared.value.ClassRef.{ClassRef}
 use Rattle.msg_names.specs.ClassRef.{same_class}
@@ -10,7 +11,11 @@ use Rattle.msg_tables.specs.declared.change.Change.{Change}
 use Rattle.msg_tables.specs.declared.change.Change.TheVariants.{Add, Replace, SetImp, Exchange, Attach, AddClass}
 use Rattle.msg_tables.specs.Affected.{is_affected, is_of_made, written_refs}
 use Rattle.msg_tables.specs.Chain.{is_member}
+use Rattle.msg_tables.specs.declared.entry.Entry.{Entry}
+use Rattle.msg_tables.specs.Journal.{places_of, classes_of}
 use Rattle.msg_tables.specs.Log.{Log, and_then, chain_at}
+use Rattle.msg_tables.specs.Making.{is_told}
+use Rattle.msg_tables.proofs.NoteLemmas.{places-append, classes-append}
 use Rattle.msg_tables.specs.Refusal.{AreAccepted, IsLog}
 use Rattle.msg_tables.specs.Several.{and_all, is_affected_by_all, is_below, is_of_one, made_by, made_by_all, written_by_all}
 use Rattle.msg_tables.proofs.BelowAllLemmas.{below-all}
@@ -104,3 +109,23 @@ told-all h xs ks ps c sound is all classes same e =
     or-cases (is_of_one (made_by_all xs) c) (is_below (and_all h xs) (written_by_all h xs) c) (affected-all h xs c sound is all e)
     (λ made. or-left (is_of_one ks c) (is_below (and_all h xs) ps c) (ap (λ js. is_of_one js c) classes ∙ made))
     (λ below. or-right (is_of_one ks c) (is_below (and_all h xs) ps c) (below-same (and_all h xs) (written_by_all h xs) ps c same below))
+
+-- ---- one entry more
+
+parted : (a b p q : Bool) → ((a || b) || (p || q)) ≡ true → ((a || p) ≡ true) ⊎ ((b || q) ≡ true)
+parted true b p q e = inl refl
+parted false true p q e = inr refl
+parted false false true q e = inl refl
+parted false false false q e = inr e
+
+told-append : (h : Log) (xs ys : List Entry) (c : ClassRef) → is_told h (xs ++ ys) c ≡ true → (is_told h xs c ≡ true) ⊎ (is_told h ys c ≡ true)
+told-append h xs ys c e =
+    parted (is_of_one (classes_of xs) c) (is_of_one (classes_of ys) c) (is_below h (places_of xs) c) (is_below h (places_of ys) c)
+    (sym (ap₂ (λ a b. a || b)
+        (ap (λ ks. is_of_one ks c) (classes-append xs ys) ∙ list_any-append (λ k. c.class == k) (classes_of xs) (classes_of ys))
+        (ap (λ ps. is_below h ps c) (places-append xs ys) ∙ below-append h (places_of xs) (places_of ys) c)) ∙ e)
+
+pub told-next : (h : Log) (es : List Entry) (i : ℕ) (e : Entry) (c : ClassRef) → i < length es → e ≡ slice_index_or es i e → is_told h (take (i + 1) es) c ≡ true
+    → (is_told h (take i es) c ≡ true) ⊎ (is_told h (e ∷ []) c ≡ true)
+told-next h es i e c inside is told =
+    told-append h (take i es) (e ∷ []) c (subst (λ xs. is_told h xs c ≡ true) (take_more es i e inside ∙ ap (λ x. take i es ++ x ∷ []) (sym is)) told)

@@ -71,6 +71,10 @@ accepted-all h xs e = none-accepted h xs 0 (step (refused_from 0 h xs) e)
     step None e = refl
     step (Some r) e = cc
 
+pub none-refused : (h : Log) (xs : List Change) → refused_from 0 h xs ≡ None → refusal_of_all h xs ≡ None
+unfolding refusal_of_all
+none-refused h xs e = ap (λ o. option_map (λ (r : ℕ × ChangeFault). r.1) o) e
+
 pub kept-all : (h : Log) (xs : List Change) (c : ClassRef) (s : ℕ) → IsSound h.origin → IsLog h → AreAccepted h xs → is_affected_by_all h xs c ≡ false → lookup (and_all h xs) c s ≡ lookup h c s
 kept-all h [] c s sound is all e = refl
 kept-all h (x ∷ xs) c s sound is all e =

@@ -12,6 +12,7 @@ pub mod Inside
 pub mod Journal
 pub mod Kept
 pub mod Log
+pub mod Made
 pub mod Making
 pub mod Marking
 pub mod Methods

@@ -1,0 +1,26 @@
+use Rattle.std.proofs.Common.{◌≡◌, ◌+◌, [], ◌∷◌, length, take, true, sym, ap, subst, ◌∙◌, ⊎_elim, arith}
+use Rattle.std.proofs.Math.Seq.{take-length}
+use Rattle.msg_tables.specs.Making.{is_told}
+use Rattle.msg_tables.proofs.AffectedAllLemmas.{told-next}
+use Rattle.msg_runtime.proofs.flushing_all.flush_written.Goals as goal
+
+pub loop-entry-preserved : goal.loop-entry-preserved
+loop-entry-preserved c = record {
+  arena = c.flush_entry.ensures.arena;
+  history = c.flush_entry.ensures.history ∙ c.loop-entry.invariant.history;
+  room = c.flush_entry.ensures.room;
+  flushed = λ h stands d told.
+      let items = c.as_slice-entry-items.result.now in
+      let i = c.loop-entry.entry-index in
+      let entry = c.entry-item.result in
+      ⊎_elim (λ (before : is_told h (take i items) d ≡ true). c.flush_entry.ensures.others d (c.loop-entry.invariant.flushed h stands d before))
+      (λ (now : is_told h (entry ∷ []) d ≡ true). c.flush_entry.ensures.flushed h stands d now)
+      (told-next h items i entry d c.loop-entry-test.true c.entry-item.is told);
+}
+
+pub returns-clause-flushed : goal.returns-clause-flushed
+returns-clause-flushed c = λ h stands d told.
+    let items = c.as_slice-entry-items.result.now in
+    let end : c.loop-entry.entry-index ≡ length items = omega (arith, c.loop-entry-test.false, c.loop-entry.auto.entry-index-end) in
+    let whole : take c.loop-entry.entry-index items ≡ c.args.written.now = ap (λ n. take n items) end ∙ take-length items ∙ c.as_slice-entry-items.ensures in
+    c.loop-entry.invariant.flushed h stands d (subst (λ es. is_told h es d ≡ true) (sym whole) told)

@@ -1,0 +1,23 @@
+-- What becomes of a list of changes that is made as one.
+use Rattle.std.specs.Prelude.{◌≡◌, ◌≢◌, ◌<◌, List, [], ◌∷◌, Some, None, length, take}
+use Rattle.msg_tables.specs.declared.apply_all.Refused.{Refused}
+use Rattle.msg_tables.specs.declared.change.Change.{Change}
+use Rattle.msg_tables.specs.declared.fault.ChangeFault.TheVariants.{Memory}
+use Rattle.msg_tables.specs.History.{History, and_then, log}
+use Rattle.msg_tables.specs.Several.{refused_from}
+
+-- the history longer by changes that are made as one, where there are any
+abbrev pub and_as_one : History → List Change → History
+and_as_one h [] = h
+and_as_one h (x ∷ xs) = and_then h (x ∷ xs)
+
+-- the changes were accepted, one after another, and the history is longer by them as one
+pub record AreMade (xs : List Change) (old new : History) : Type 0 where
+  pub accepted : refused_from 0 (log old) xs ≡ None
+  pub history : new ≡ and_as_one old xs
+
+-- The first that would be refused is named, with its fault. Where memory was wanting, it is one before which none would be.
+pub record AreRefused (xs : List Change) (h : History) (r : Refused) : Type 0 where
+  pub fault : r.fault ≢ Memory → refused_from 0 (log h) xs ≡ Some (r.place, r.fault)
+  pub before : refused_from 0 (log h) (take r.place xs) ≡ None
+  pub place : r.place < length xs
