@@ -1,7 +1,8 @@
 //! The changer.
 
-ghost use Rattle.std.specs.Prelude.{[], ◌∷◌, ◌≡◌, ◌≢◌, length, IfOk, IfErr, IsErrOf, OnErr, None, Some};
+ghost use Rattle.std.specs.Prelude.{[], ◌∷◌, ◌≡◌, ◌≢◌, length, IfOk, IfErr, IsErrOf, OnErr, OnOk, None, Some};
 ghost use Rattle.msg_tables.specs.History.{BeginsWith, and_then, log};
+ghost use Rattle.msg_tables.specs.Made.{AreMade, AreRefused};
 ghost use Rattle.msg_tables.specs.Refusal.{refusal};
 ghost use Rattle.msg_tables.specs.declared.fault.ChangeFault.{ChangeFault};
 
@@ -9,14 +10,15 @@ use crate::dispatcher::Dispatcher;
 use crate::name::ArenaName;
 use crate::sender::Sender;
 use msg_cache::Turn;
-use msg_tables::{Change, ChangeFault};
+use msg_tables::{Change, ChangeFault, Refused};
+use std::alloc::Global;
 use std::marker::Model;
 use std::sync::Wait;
 
 /// What is said of an accepted change.
 #[derive(Clone, Copy, Debug, PartialEq, Eq)]
 pub struct Receipt {
-    /// How many changes were accepted, this one included.
+    /// How many times changes were accepted, this time included.
     pub count: u64,
 }
 
@@ -60,7 +62,31 @@ impl<'d, N: ArenaName> Changer<'d, N> {
         Ok(Receipt { count })
     }
 
-    /// How many changes were accepted.
+    /// Makes a list of changes as one, or says which of them would be refused, and then none is made. Each lookup, by whatever sender, answers from before all of them or
+    /// from after all. An empty list changes nothing and isn't counted.
+    pub fn change_all<R: Wait>(
+        &mut self,
+        alloc: Global,
+        rt: &R,
+        changes: &[Change],
+    ) -> Result<Receipt, Refused>
+        ensures ok { OnOk result (AreMade changes.now self.old self.new) }
+        ensures count { IfOk result (λ r. r.count ≡ length self.new.changes) }
+        ensures err { OnErr result (self.new ≡ self.old) }
+        ensures refused { IfErr result (AreRefused changes.now self.old) }
+    {
+        let dispatcher = self.dispatcher;
+        let count = dispatcher.desk.lock(rt).change_all(
+            alloc,
+            &dispatcher.arena,
+            &mut self.turn,
+            changes,
+        )?;
+        self.count = count;
+        Ok(Receipt { count })
+    }
+
+    /// How many times changes were accepted: a list of them counts as one.
     pub fn count(&self) -> u64
         ensures { result ≡ length self.now.changes }
     {

@@ -1,9 +1,10 @@
 //! What stands behind the runtime lock.
 
-ghost use Rattle.std.specs.Prelude.{[], ◌∷◌, ◌≡◌, ◌≢◌, ◌<◌, ◌≤◌, length, IfOk, IfErr, IfSome, IsErrOf, IsNone, OnErr, None, Some};
+ghost use Rattle.std.specs.Prelude.{[], ◌∷◌, ◌≡◌, ◌≢◌, ◌<◌, ◌≤◌, length, IfOk, IfErr, IfSome, IsErrOf, IsNone, OnErr, OnOk, None, Some};
 ghost use Rattle.msg_tables.specs.Origin.{last_imp};
 ghost use Rattle.msg_names.specs.Number.{selector_number, imp_number};
 ghost use Rattle.msg_tables.specs.History.{BeginsWith, and_then, empty, lookup, log};
+ghost use Rattle.msg_tables.specs.Made.{AreMade, AreRefused};
 ghost use Rattle.msg_tables.specs.Refusal.{refusal};
 ghost use Rattle.msg_tables.specs.declared.fault.ChangeFault.{ChangeFault};
 ghost use Rattle.msg_cache.specs.Counts.{AreCounts, after_refusal};
@@ -17,7 +18,8 @@ use msg_cache::{Arena, Report, Turn};
 use msg_names::{ClassRef, ImpRef, Selector};
 use msg_reader::{Notes, Reader};
 use msg_runtime::Runtime;
-use msg_tables::{Change, ChangeFault};
+use msg_tables::{Change, ChangeFault, Refused};
+use std::alloc::Global;
 use std::marker::{Model, PhantomData};
 
 // The runtime of the arena that N names.
@@ -101,6 +103,24 @@ impl<N: ArenaName> Desk<N> {
         ensures memory { IsErrOf result ChangeFault.Memory → refusal (log turn.old.history) change.now ≡ None }
     {
         self.runtime.change(arena, turn, change)
+    }
+
+    pub(crate) fn change_all(
+        &mut self,
+        alloc: Global,
+        arena: &Arena,
+        turn: &mut Turn,
+        changes: &[Change],
+    ) -> Result<u64, Refused>
+        requires arena { arena.now ≡ N.arena }
+        requires turn { turn.old.table ≡ N.arena.table }
+        ensures turn { turn.new.table ≡ N.arena.table }
+        ensures ok { OnOk result (AreMade changes.now turn.old.history turn.new.history) }
+        ensures count { IfOk result (λ count. count ≡ length turn.new.history.changes) }
+        ensures err { OnErr result (turn.new.history ≡ turn.old.history) }
+        ensures refused { IfErr result (AreRefused changes.now turn.old.history) }
+    {
+        self.runtime.change_all(alloc, arena, turn, changes)
     }
 
     // The reader has then seen the turn's history, which begins with what it had seen.

@@ -7,12 +7,13 @@ use Rattle.msg_tables.specs.Refusal.{refusal}
 use Rattle.msg_host.specs.View.{RuntimeView}
 use Rattle.msg_host.specs.declared.changing.MethodRow.{MethodRow}
 use Rattle.msg_host.specs.declared.fault.AskFault.{AskFault}
-use Rattle.msg_host.specs.declared.fault.AskFault.TheVariants.{NoClass, NoSelector}
+use Rattle.msg_host.specs.declared.fault.AskFault.TheVariants.{NoClass, NoSelector, BadRow}
 
 -- the numbers of the faults of questions
 abbrev pub ask_fault_number : AskFault → ℕ
 ask_fault_number NoClass = 66
 ask_fault_number NoSelector = 67
+ask_fault_number BadRow = 75
 
 -- why so many classes aren't asked for this class and selector
 abbrev pub ask_fault : ℕ → ℕ → ℕ → Option AskFault

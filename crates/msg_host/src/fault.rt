@@ -9,13 +9,15 @@ ghost use Rattle.msg_host.specs.declared.fault.SenderFault.TheVariants as sendin
 use msg_names::{ClassRef, Selector};
 use std::alloc::AllocError;
 
-/// Why a question in numbers isn't asked. Where both hold, the first is answered.
+/// Why a question in numbers isn't asked, or a change in numbers isn't made. Where both of the first two hold, the first is answered.
 #[derive(Clone, Copy, Debug, PartialEq, Eq)]
 pub enum AskFault {
     /// No class has the number.
     NoClass,
     /// The number is 0, which is no selector's.
     NoSelector,
+    /// A row of a list of changes is of no kind, or names neither a class nor its metaclass.
+    BadRow,
 }
 
 impl AskFault {
@@ -26,6 +28,7 @@ impl AskFault {
         match self {
             AskFault::NoClass => 66,
             AskFault::NoSelector => 67,
+            AskFault::BadRow => 75,
         }
     }
 }

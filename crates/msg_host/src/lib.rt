@@ -8,6 +8,7 @@ mod changing;
 mod config;
 mod crossing;
 mod fault;
+mod listing;
 mod opening;
 mod runtime;
 mod sender;
@@ -20,5 +21,6 @@ pub use config::{
 };
 pub use crossing::{a_runtime_may_cross, a_sender_may_cross};
 pub use fault::{AskFault, OpenFault, SenderFault};
+pub use listing::ChangeRow;
 pub use runtime::HostedRuntime;
 pub use sender::HostedSender;

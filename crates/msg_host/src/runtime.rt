@@ -5,6 +5,7 @@ ghost use Rattle.msg_names.specs.Number.{selector_number, imp_number};
 ghost use Rattle.msg_tables.specs.Origin.{last_imp};
 ghost use Rattle.msg_tables.specs.History.{BeginsWith, and_then, lookup, log};
 ghost use Rattle.msg_tables.specs.Marking.{MarksAffected};
+ghost use Rattle.msg_tables.specs.Made.{AreMade, AreRefused};
 ghost use Rattle.msg_tables.specs.Refusal.{refusal};
 ghost use Rattle.msg_tables.specs.declared.fault.ChangeFault.{ChangeFault};
 ghost use Rattle.msg_cache.specs.Counts.{AreCounts};
@@ -24,7 +25,7 @@ use msg_names::{ClassRef, ImpRef, Selector};
 use msg_reader::Notes;
 use msg_reader::laws::a_slot_of_few_classes_is_short;
 use msg_runtime::Runtime;
-use msg_tables::{Change, ChangeFault, Marks};
+use msg_tables::{Change, ChangeFault, Marks, Refused};
 use std::alloc::{AllocError, Global};
 use std::marker::Model;
 use std::sync::Arc;
@@ -108,7 +109,7 @@ impl HostedRuntime {
         self.runtime.reach(change, marks)
     }
 
-    /// Makes a change, flushes the caches that it reaches, and answers how many changes there are. After an error nothing was changed or flushed.
+    /// Makes a change, flushes the caches that it reaches, and answers how many times changes were made. After an error nothing was changed or flushed.
     pub fn change(&mut self, change: &Change) -> Result<u64, ChangeFault>
         ensures arena { self.new.arena ≡ self.old.arena }
         ensures ok { IfOk result (λ count. (refusal (log self.old.history) change.now ≡ None) × (self.new.history ≡ and_then self.old.history (change.now ∷ [])) × (count ≡ length self.new.history.changes)) }
@@ -119,7 +120,20 @@ impl HostedRuntime {
         self.runtime.change(&self.arena, &mut self.turn, change)
     }
 
-    /// How many changes were made.
+    /// Makes a list of changes as one, flushes the caches that it reaches, and answers how many times changes were made; or says which of them would be refused. After an
+    /// error nothing was changed or flushed. An empty list changes nothing and isn't counted.
+    pub fn change_all(&mut self, alloc: Global, changes: &[Change]) -> Result<u64, Refused>
+        ensures arena { self.new.arena ≡ self.old.arena }
+        ensures ok { OnOk result (AreMade changes.now self.old.history self.new.history) }
+        ensures count { IfOk result (λ count. count ≡ length self.new.history.changes) }
+        ensures err { OnErr result (self.new ≡ self.old) }
+        ensures refused { IfErr result (AreRefused changes.now self.old.history) }
+    {
+        self.runtime
+            .change_all(alloc, &self.arena, &mut self.turn, changes)
+    }
+
+    /// How many times changes were made: a list of them counts as one.
     pub fn count(&self) -> u64
         ensures { result ≡ length self.now.history.changes }
     {

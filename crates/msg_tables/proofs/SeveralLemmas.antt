@@ -63,6 +63,13 @@ refused-one h x = step (refusal h x)
     step None = refl
     step (Some f) = refl
 
+pub refused-one_at : (h : Log) (x : Change) → refused_from 0 h (x ∷ []) ≡ option_map (λ f. (0, f)) (refusal h x)
+refused-one_at h x = step (refusal h x)
+  where
+    step : (o : Option ChangeFault) → option_map_or {U = Option (ℕ × ChangeFault)} (λ f. Some (0, f)) o None ≡ option_map (λ f. (0, f)) o
+    step None = refl
+    step (Some f) = refl
+
 pub accepted-all : (h : Log) (xs : List Change) → refusal_of_all h xs ≡ None → AreAccepted h xs
 unfolding refusal_of_all
 accepted-all h xs e = none-accepted h xs 0 (step (refused_from 0 h xs) e)

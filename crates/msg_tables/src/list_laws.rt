@@ -1,13 +1,13 @@
 //! Laws of lists of changes, which are made as one or undone.
 
-ghost use Rattle.std.specs.Prelude.{◌≡◌, ◌≢◌, ◌<◌, ℕ, List, length, Option, ◌∷◌, [], ◌++◌, Some, None, true, false, take, drop};
+ghost use Rattle.std.specs.Prelude.{◌≡◌, ◌≢◌, ◌<◌, ℕ, List, length, Option, option_map, ◌∷◌, [], ◌++◌, Some, None, true, false, take, drop};
 ghost use Rattle.msg_names.specs.declared.value.ClassRef.{ClassRef};
 ghost use Rattle.msg_tables.specs.Origin.{IsSound};
 ghost use Rattle.msg_tables.specs.declared.change.Change.{Change};
 ghost use Rattle.msg_tables.specs.declared.fault.ChangeFault.{ChangeFault};
 ghost use Rattle.msg_tables.specs.Log.{Log, and_then, chain_at, table, table_after_all, lookup};
 ghost use Rattle.msg_tables.specs.Refusal.{IsLog, AreAccepted, refusal};
-ghost use Rattle.msg_tables.specs.Several.{and_all, refused_from, refusal_of_all, is_affected_by_all};
+ghost use Rattle.msg_tables.specs.Several.{and_all, refused_from, is_affected_by_all};
 ghost use Rattle.msg_tables.specs.Chain.{is_member};
 ghost use Rattle.msg_tables.specs.Undo.{undo, undo_all};
 
@@ -28,14 +28,14 @@ pub fn a_refused_part_is_the_first()
         → (before : List Change) × (x : Change) × (later : List Change) × (xs ≡ before ++ x ∷ later) × (length before ≡ n) × AreAccepted h before × (refusal (and_all h before) x ≡ Some f) }
 {}
 
-/// A change of one part is refused as that part.
+/// A change of one part is refused as that part, at place 0.
 pub fn one_part_is_refused_as_itself()
-    ensures { (h : Log) (x : Change) → refusal_of_all h (x ∷ []) ≡ refusal h x }
+    ensures { (h : Log) (x : Change) → refused_from 0 h (x ∷ []) ≡ option_map (λ f. (0, f)) (refusal h x) }
 {}
 
 /// A class reference that an accepted change affects in no part finds what it found.
 pub fn a_change_of_parts_affects_no_more()
-    ensures { (h : Log) (xs : List Change) (c : ClassRef) (s : ℕ) → IsSound h.origin → IsLog h → refusal_of_all h xs ≡ None → is_affected_by_all h xs c ≡ false
+    ensures { (h : Log) (xs : List Change) (c : ClassRef) (s : ℕ) → IsSound h.origin → IsLog h → refused_from 0 h xs ≡ None → is_affected_by_all h xs c ≡ false
         → lookup (and_all h xs) c s ≡ lookup h c s }
 {}
 

@@ -1,0 +1,67 @@
+-- Lists of changes in numbers.
+use Rattle.std.specs.Prelude.{◌≡◌, ◌≢◌, ◌<◌, ◌⊎◌, ℕ, ◌==◌, if◌then◌else◌, List, map, take, length, slice_get, Option, Some, None, Result, Ok, Err}
+use Rattle.msg_names.specs.declared.value.ClassRef.{ClassRef}
+use Rattle.msg_names.specs.declared.value.Selector.{Selector}
+use Rattle.msg_names.specs.Number.{imp_ref_of, selector_of}
+use Rattle.msg_tables.specs.After.{of_class, of_meta}
+use Rattle.msg_tables.specs.declared.change.Change.{Change}
+use Rattle.msg_tables.specs.declared.change.Change.TheVariants.{Add, Replace, SetImp, Exchange, AddClass}
+use Rattle.msg_tables.specs.declared.fault.ChangeFault.{ChangeFault}
+use Rattle.msg_tables.specs.FaultNumber.{change_fault_number}
+use Rattle.msg_tables.specs.History.{History, log}
+use Rattle.msg_tables.specs.Made.{AreMade}
+use Rattle.msg_tables.specs.Several.{refused_from}
+use Rattle.msg_host.specs.Asking.{ask_fault_number, want_of_memory}
+use Rattle.msg_host.specs.declared.fault.AskFault.{AskFault}
+use Rattle.msg_host.specs.declared.fault.AskFault.TheVariants.{NoSelector, BadRow}
+use Rattle.msg_host.specs.declared.listing.ChangeRow.{ChangeRow}
+
+-- the class reference of a number: 0 beside it is for the class, 1 for its metaclass
+abbrev pub ref_in : ℕ → ℕ → Result ClassRef AskFault
+ref_in k meta = if meta == 0 then Ok (of_class k) else (if meta == 1 then Ok (of_meta k) else Err BadRow)
+
+-- the selector of a number
+abbrev pub selector_in : ℕ → Result Selector AskFault
+selector_in n = if n == 0 then Err NoSelector else Ok (selector_of n)
+
+-- both, or the first fault
+abbrev pub both : {A B : Type 0} → Result A AskFault → Result B AskFault → Result (A × B) AskFault
+both (Ok a) (Ok b) = Ok (a, b)
+both (Ok a) (Err f) = Err f
+both (Err f) o = Err f
+
+-- the method that numbers name
+abbrev pub method_in : ℕ → ℕ → ℕ → Result (ClassRef × Selector) AskFault
+method_in k meta s = both (ref_in k meta) (selector_in s)
+
+-- a change of what numbers name
+abbrev pub change_of : {A : Type 0} → (A → Change) → Result A AskFault → Result Change AskFault
+change_of make (Ok a) = Ok (make a)
+change_of make (Err f) = Err f
+
+-- the change that a row means, or why it means none
+abbrev pub change_in : ChangeRow → Result Change AskFault
+change_in r =
+    if r.kind == 1 then change_of (λ m. Add m.0 m.1 (imp_ref_of r.imp)) (method_in r.class r.meta r.sel)
+    else (if r.kind == 2 then change_of (λ m. Replace m.0 m.1 (imp_ref_of r.imp)) (method_in r.class r.meta r.sel)
+    else (if r.kind == 3 then change_of (λ m. SetImp m.0 m.1 (imp_ref_of r.imp)) (method_in r.class r.meta r.sel)
+    else (if r.kind == 4 then change_of (λ m. Exchange m.0.0 m.0.1 m.1.0 m.1.1) (both (method_in r.class r.meta r.sel) (method_in r.other r.other_meta r.other_sel))
+    else (if r.kind == 5 then Ok (AddClass r.class (Some r.other))
+    else (if r.kind == 6 then Ok (AddClass r.class None) else Err BadRow)))))
+
+-- the rows mean these changes
+abbrev pub AreMeant : List ChangeRow → List Change → Type 0
+AreMeant rows xs = map change_in rows ≡ map (λ x. Ok x) xs
+
+-- the changes that the rows mean were made as one
+abbrev pub MakesRows : List ChangeRow → History → History → Type 0
+MakesRows rows old new = (xs : List Change) × AreMeant rows xs × AreMade xs old new
+
+-- the row of this place means no change, and this is the number of its fault; those before mean some
+abbrev pub IsBadRow : List ChangeRow → ℕ → ℕ → Type 0
+IsBadRow rows place n = (before : List Change) × AreMeant (take place rows) before
+    × (row : ChangeRow) × (slice_get rows place ≡ Some row) × (f : AskFault) × (change_in row ≡ Err f) × (n ≡ ask_fault_number f)
+
+-- the change of this place is the first that would be refused, and this is the number of its fault
+abbrev pub IsRefusedRow : List ChangeRow → History → ℕ → ℕ → Type 0
+IsRefusedRow rows h place n = (xs : List Change) × AreMeant rows xs × (f : ChangeFault) × (refused_from 0 (log h) xs ≡ Some (place, f)) × (n ≡ change_fault_number f)

@@ -1,0 +1,171 @@
+//! Lists of changes in numbers.
+
+ghost use Rattle.std.specs.Prelude.{◌≡◌, ◌≢◌, ◌<◌, ◌⊎◌, IfOk, IfErr};
+ghost use Rattle.msg_tables.specs.declared.change.Change.{Change};
+ghost use Rattle.msg_host.specs.Asking.{want_of_memory};
+ghost use Rattle.msg_host.specs.Listing.{AreMeant, IsBadRow, IsRefusedRow, MakesRows, both, change_in, change_of, method_in, ref_in, selector_in};
+ghost use Rattle.msg_host.specs.declared.fault.AskFault.{AskFault};
+
+use crate::fault::{AskFault, selector};
+use crate::runtime::HostedRuntime;
+use msg_names::{ClassRef, ImpRef, Selector};
+use msg_tables::{Change, ChangeFault};
+use std::alloc::Global;
+
+/// A change in numbers. Its kind says which call makes it alone, and it reads the fields that this call takes: 1 `add`, 2 `replace`, 3 `set`, 4 `exchange`, 5 `make_class` with the
+/// superclass in `other`, 6 `make_class` without one. A class number with 0 beside it is the class, with 1 its metaclass.
+#[repr(C)]
+#[derive(Clone, Copy)]
+pub struct ChangeRow {
+    pub kind: u32,
+    pub class: u32,
+    pub meta: u32,
+    pub sel: u32,
+    pub imp: u32,
+    pub other: u32,
+    pub other_meta: u32,
+    pub other_sel: u32,
+}
+
+// Why rows aren't taken as a list of changes: the place of the first that means none, and the number of its fault.
+#[derive(Clone, Copy)]
+struct BadRow {
+    place: usize,
+    number: u32,
+}
+
+// The class reference of a number and of what stands beside it.
+fn class_ref(class: u32, meta: u32) -> Result<ClassRef, AskFault>
+    ensures { result ≡ ref_in class meta }
+{
+    match meta {
+        0 => Ok(ClassRef { class, meta: false }),
+        1 => Ok(ClassRef { class, meta: true }),
+        _ => Err(AskFault::BadRow),
+    }
+}
+
+// The selector of a number.
+fn selector_of_row(number: u32) -> Result<Selector, AskFault>
+    ensures { result ≡ selector_in number }
+{
+    selector(number)
+}
+
+// The method that numbers name.
+fn method_of_row(class: u32, meta: u32, sel: u32) -> Result<(ClassRef, Selector), AskFault>
+    ensures { result ≡ method_in class meta sel }
+{
+    let class = class_ref(class, meta)?;
+    let sel = selector_of_row(sel)?;
+    Ok((class, sel))
+}
+
+impl ChangeRow {
+    // The method that the row names first.
+    fn method(self) -> Result<(ClassRef, Selector), AskFault>
+        ensures { result ≡ method_in self.class self.meta self.sel }
+    {
+        method_of_row(self.class, self.meta, self.sel)
+    }
+
+    // The exchange of the two methods that it names.
+    fn exchange(self) -> Result<Change, AskFault>
+        ensures { result ≡ change_of (λ m. Change.Exchange m.0.0 m.0.1 m.1.0 m.1.1) (both (method_in self.class self.meta self.sel) (method_in self.other self.other_meta self.other_sel)) }
+    {
+        let (class, sel) = self.method()?;
+        let (other, other_sel) = method_of_row(self.other, self.other_meta, self.other_sel)?;
+        Ok(Change::Exchange {
+            class,
+            sel,
+            other,
+            other_sel,
+        })
+    }
+
+    // What becomes of the method that it names.
+    fn with_imp(self) -> Result<Change, AskFault>
+        requires { (self.kind ≡ 1) ⊎ (self.kind ≡ 2) ⊎ (self.kind ≡ 3) }
+        ensures { result ≡ change_in self }
+    {
+        let (class, sel) = self.method()?;
+        let imp = ImpRef::of(self.imp);
+        Ok(match self.kind {
+            1 => Change::Add { class, sel, imp },
+            2 => Change::Replace { class, sel, imp },
+            _ => Change::SetImp { class, sel, imp },
+        })
+    }
+
+    // The change that the row means.
+    fn change(self) -> Result<Change, AskFault>
+        ensures { result ≡ change_in self }
+    {
+        match self.kind {
+            1 | 2 | 3 => self.with_imp(),
+            4 => self.exchange(),
+            5 => Ok(Change::AddClass {
+                class: self.class,
+                superclass: Some(self.other),
+            }),
+            6 => Ok(Change::AddClass {
+                class: self.class,
+                superclass: None,
+            }),
+            _ => Err(AskFault::BadRow),
+        }
+    }
+}
+
+// The changes that rows mean.
+fn changes_of(alloc: Global, rows: &[ChangeRow]) -> Result<Vec<Change>, BadRow>
+    ensures ok { IfOk result (λ changes. AreMeant rows.now changes.items) }
+    ensures err { IfErr result (λ r. r.number ≢ want_of_memory → IsBadRow rows.now r.place r.number) }
+    ensures fault { IfErr result (λ r. r.number ≢ 0) }
+{
+    let mut changes = Vec::new(alloc);
+    for (place, row) in rows.iter().enumerate() {
+        let change = match row.change() {
+            Ok(change) => change,
+            Err(fault) => {
+                return Err(BadRow {
+                    place,
+                    number: fault.number(),
+                });
+            }
+        };
+        if changes.push(change).is_err() {
+            return Err(BadRow {
+                place,
+                number: ChangeFault::Memory.number(),
+            });
+        }
+    }
+    Ok(changes)
+}
+
+impl HostedRuntime {
+    /// Makes the changes of rows as one. 0, or the number of the fault, after which nothing has changed; then `place` is that of the row, from 0, which means no change or is the first that
+    /// would be refused, or at which memory was wanting. Rows that mean no change are found before any is made.
+    pub fn make_all(&mut self, alloc: Global, rows: &[ChangeRow], place: &mut usize) -> u32
+        ensures arena { self.new.arena ≡ self.old.arena }
+        ensures made { result ≡ 0 → MakesRows rows.now self.old.history self.new.history }
+        ensures left { result ≢ 0 → self.new ≡ self.old }
+        ensures fault { result ≢ 0 → result ≢ want_of_memory → IsBadRow rows.now place.new result ⊎ IsRefusedRow rows.now self.old.history place.new result }
+    {
+        let changes = match changes_of(alloc, rows) {
+            Ok(changes) => changes,
+            Err(bad) => {
+                *place = bad.place;
+                return bad.number;
+            }
+        };
+        match self.change_all(alloc, &changes) {
+            Ok(_count) => 0,
+            Err(refused) => {
+                *place = refused.place;
+                refused.fault.number()
+            }
+        }
+    }
+}
