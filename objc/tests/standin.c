@@ -18,7 +18,9 @@ struct cell { uint64_t key; uint32_t imp; };
  * who reads both words without a lock sees whether they are of one entry. */
 struct entry { _Atomic(uint64_t) mixed, found; };
 
-struct class { bool made; int64_t above; };
+/* `root`: the number of the root above it, and `changed`, of a root: the version of the last change below it. What is
+ * cached of an earlier version is no longer found. */
+struct class { bool made; int64_t above; _Atomic(uint32_t) root; _Atomic(uint64_t) changed; };
 
 struct tables {
     struct class *of;
@@ -134,6 +136,12 @@ uint32_t msg_holder(msg_runtime *runtime, uint32_t number, bool meta, uint32_t s
     return MSG_DONE;
 }
 
+/* What is cached for the class is gone before the change is told. */
+static void flush(struct tables *tables, uint32_t number)
+{
+    atomic_store(&tables->of[tables->of[number].root].changed, tables->version + 1);
+}
+
 /* Of a change of a class, which comes by one more version. */
 static uint32_t refusal(const struct tables *tables, uint32_t number)
 {
@@ -151,6 +159,7 @@ uint32_t msg_replace(msg_runtime *runtime, uint32_t number, bool meta, uint32_t 
     if (!imp) return MSG_NO_SUCH_IMP;
     if (fault) return fault;
     put(tables, msg_key(2 * number + meta, sel), imp);
+    flush(tables, number);
     atomic_fetch_add(&tables->version, 1);
     return MSG_DONE;
 }
@@ -177,6 +186,8 @@ uint32_t msg_exchange(msg_runtime *runtime, uint32_t number, bool meta, uint32_t
     uint32_t kept = one->imp;
     one->imp = two->imp;
     two->imp = kept;
+    flush(tables, number);
+    flush(tables, other);
     atomic_fetch_add(&tables->version, 1);
     return MSG_DONE;
 }
@@ -206,6 +217,7 @@ uint32_t msg_attach(msg_runtime *runtime, uint32_t number, const msg_method *met
     if (fault) return fault;
     put_all(tables, 2 * number, methods, count);
     put_all(tables, 2 * number + 1, class_methods, class_count);
+    flush(tables, number);
     atomic_fetch_add(&tables->version, 1);
     return MSG_DONE;
 }
@@ -217,7 +229,11 @@ static uint32_t make(msg_runtime *runtime, uint32_t number, int64_t above)
     if (number >= tables->classes || (above >= 0 && refusal(tables, (uint32_t)above) == MSG_NO_SUCH_CLASS)) return MSG_NO_SUCH_CLASS;
     if (tables->version == CHANGES) return MSG_LIMIT;
     if (tables->of[number].made) return MSG_DUPLICATE_CLASS;
-    tables->of[number] = (struct class){true, above};
+    struct class *it = &tables->of[number];
+    it->made = true;
+    it->above = above;
+    it->root = above < 0 ? number : (uint32_t)tables->of[above].root;
+    flush(tables, number);
     atomic_fetch_add(&tables->version, 1);
     return MSG_DONE;
 }
@@ -299,16 +315,22 @@ uint32_t msg_fill(msg_runtime *runtime, msg_sender *sender, uint32_t number, boo
     return MSG_DONE;
 }
 
+/* Whether what was found at a version is still so: no change of the class's tree came after it. */
+static bool is_still(struct tables *tables, uint32_t number, uint64_t version)
+{
+    return atomic_load(&tables->of[tables->of[number].root].changed) <= version;
+}
+
 /* From the shared cache: of a version that the sender has seen, or sees by this. */
 static uint32_t probe(struct asker *asker, msg_sender *sender, uint32_t slot, uint32_t sel, uint32_t *imp)
 {
     uint64_t key = msg_key(slot, sel);
     struct entry *entry = place(asker->tables, key);
-    uint64_t mixed = atomic_load(&entry->mixed), found = atomic_load(&entry->found);
     asker->seen = atomic_load(&asker->tables->version);
-    uint32_t is_imp = (uint32_t)(found >> 32);
-    if (mixed != (key ^ mix(found)) || found != found_at(is_imp, asker->seen)) return MSG_MISSED;
-    *imp = is_imp;
+    uint64_t mixed = atomic_load(&entry->mixed), found = atomic_load(&entry->found), since = (uint32_t)found - UINT64_C(1);
+    if (mixed != (key ^ mix(found)) || !is_still(asker->tables, slot / 2, since)) return MSG_MISSED;
+    if (asker->seen < since) asker->seen = since;
+    uint32_t is_imp = *imp = (uint32_t)(found >> 32);
     note(sender, slot, sel, asker->seen, is_imp);
     return MSG_DONE;
 }

@@ -2,7 +2,10 @@
  * FAULTS are the numbers of the header's enumeration as tools/process reads them, each as F(number). */
 #define _DEFAULT_SOURCE
 #include "msg_process.h"
+#include <limits.h>
+#include <sched.h>
 #include <signal.h>
+#include <stdatomic.h>
 #include <stdio.h>
 #include <stdlib.h>
 #include <sys/wait.h>
@@ -246,11 +249,18 @@ static void at_end(void *rounds)
     if ((size_t)rounds > 1) pthread_setspecific(ending, (char *)rounds - 1);
 }
 
+/* Of destructors: in all, so also after the layer's last. ThreadSanitizer ends a thread before the last. */
+#ifdef SANITIZED_thread
+enum { ROUNDS = PTHREAD_DESTRUCTOR_ITERATIONS - 1 };
+#else
+enum { ROUNDS = PTHREAD_DESTRUCTOR_ITERATIONS };
+#endif
+
 static void *find_and_end(void *has_sender)
 {
     for (int i = 0; i < 3; i++) WANT(find(CHILD, false, ONE), 15);
     *(bool *)has_sender = msg_process_own.sender->open;
-    pthread_setspecific(ending, (void *)3); /* in three rounds of destructors */
+    pthread_setspecific(ending, (void *)ROUNDS);
     if (has_sender) pthread_barrier_wait(&all_found);
     return NULL;
 }
@@ -342,6 +352,44 @@ static void fork_and_wait(bool holds)
     WANT(left(), SENDERS - 1);
 }
 
+static atomic_bool asks_on, is_asking;
+
+/* Two selectors that are noted at one place, and both cached: so it is in a call without the lock nearly always. */
+static void *ask(void *none)
+{
+    while (asks_on) {
+        WANT(find(CHILD, false, ONE), 15);
+        WANT(find(CHILD, false, ONE + MSG_NOTES), 0);
+        is_asking = true;
+    }
+    return none;
+}
+
+/* The child closes the other's sender, which is in no call then. */
+static void fork_beside_asking(void)
+{
+    pthread_t thread;
+    asks_on = true;
+    pthread_create(&thread, NULL, ask, NULL);
+    for (int i = 0; i < 50; i++) {
+        int status = 0;
+        for (is_asking = false; !is_asking;) sched_yield();
+        pid_t pid = fork();
+        if (!pid) {
+            wrong = 0;
+            alarm(60);
+            WANT(find(CHILD, false, ONE), 15);
+            WANT(left(), SENDERS - 1);
+            fflush(stdout);
+            _exit(wrong != 0);
+        }
+        waitpid(pid, &status, 0);
+        WANT(status, 0);
+    }
+    asks_on = false;
+    pthread_join(thread, NULL);
+}
+
 int main(void)
 {
     alarm(100);
@@ -355,6 +403,7 @@ int main(void)
     pthread_barrier_init(&sits, NULL, 2);
     pthread_barrier_init(&goes, NULL, 2);
     for (int i = 0; i < 4; i++) fork_and_wait(i % 2);
+    fork_beside_asking();
     printf("rules: %d broken\n", wrong);
     return wrong != 0;
 }
