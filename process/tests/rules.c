@@ -139,6 +139,9 @@ static void locked(void)
     WANT(msg_replace(runtime, CHILD, false, ONE, 15), MSG_DONE);
     uint32_t found = find(CHILD, false, ONE); /* made, and perhaps not cached yet */
     WANT(found == 15 || found == 1000 + MSG_LOCK_HELD, 1);
+    msg_process_cache(msg_key(2 * CHILD, ONE));
+    WANT(find(CHILD, false, ONE), 15);
+    msg_process_cache(msg_key(2 * CLASSES, ONE)); /* of nobody */
     msg_process_unlock();
     WANT(find(CHILD, false, ONE), 15);
 }
@@ -365,6 +368,12 @@ static void *ask(void *none)
     return none;
 }
 
+/* Asked last before a fork, since it is registered before the layer's: the other goes on meanwhile. */
+static void let_run(void)
+{
+    if (asks_on) usleep(100);
+}
+
 /* The child closes the other's sender, which is in no call then. */
 static void fork_beside_asking(void)
 {
@@ -393,6 +402,7 @@ static void fork_beside_asking(void)
 int main(void)
 {
     alarm(100);
+    pthread_atfork(let_run, NULL, NULL);
     texts();
     before_start();
     finds();

@@ -109,6 +109,7 @@ static void change(msg_runtime *runtime, int steps)
         long step = ++begun, method = step % METHODS; /* under the lock */
         want(msg_replace(runtime, root_of(method), is_of_class(method), selector(method), (uint32_t)step), MSG_DONE);
         returned = step; /* from here on each thread has to see it, though the lock is held */
+        if (below(2)) msg_process_cache(msg_key(2 * root_of(method) + is_of_class(method), selector(method)));
         seen = step;
         find(below(8), below(2) ? step % METHODS : below(METHODS), true);
     }
