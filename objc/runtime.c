@@ -60,7 +60,7 @@ uint32_t shim_number(IMP imp)
 
 IMP shim_find(Class class_, uint32_t sel)
 {
-    static _Thread_local volatile bool finds;
+    static _Thread_local volatile bool finds; /* only a handler of a signal sees it set here */
     uint32_t imp, fault = MSG_LOCK_HELD;
     if (!shim_in_construction(class_)) {
         bool waits = !finds;
