@@ -3,6 +3,7 @@
  * before by them, since what was changed is found anew under the lock alone. Trusted: this order, that rows and tables
  * say the same after each change, and that a change for whose function there is no number changes neither. */
 #include "seat.h"
+#include "msg_objc.h"
 #include <stdlib.h>
 #include <string.h>
 
@@ -142,15 +143,20 @@ void shim_make(Class class_)
 
 /* ---- as programs ask for them ---- */
 
-static bool put_new(struct record *record, SEL sel, IMP imp, const char *types)
+static Method new_method(SEL sel, IMP imp, const char *types)
 {
-    uint32_t number = shim_number(imp);
-    if (!number) return false;
     Method method = shim_memory(sizeof *method);
     method->name.sel = shim_typed_selector(sel_getName(sel), types);
     method->types = shim_copy(types);
     method->imp = imp;
-    add(record, method, number);
+    return method;
+}
+
+static bool put_new(struct record *record, SEL sel, IMP imp, const char *types)
+{
+    uint32_t number = shim_number(imp);
+    if (!number) return false;
+    add(record, new_method(sel, imp, types), number);
     return true;
 }
 
@@ -257,4 +263,103 @@ Method *class_copyMethodList(Class class_, unsigned int *count)
     Method *list = shim_memory((many + 1) * sizeof *list);
     for (unsigned int i = 0; i < many; i++) list[i] = record->methods[many - 1 - i];
     return list;
+}
+
+/* ---- several at once: one change of the tables ---- */
+
+/* A part of it, and the method that it changes: the class's own, or one that is to be put; and what was found before. */
+struct swap { msg_change part; struct record *record; Method method; bool is_new; IMP before; };
+
+static bool is_named_before(const struct objc_method_swap *rows, size_t at)
+{
+    for (size_t i = 0; i < at; i++)
+        if (rows[i].class_ == rows[at].class_ && rows[i].sel->name.number == rows[at].sel->name.number) return true;
+    return false;
+}
+
+static bool plan(const struct objc_method_swap *rows, size_t at, struct swap *swap)
+{
+    const struct objc_method_swap *it = &rows[at];
+    if (!it->class_ || !it->class_->record || !it->class_->record->number || !it->sel || !it->imp || is_named_before(rows, at)) return false;
+    uint32_t sel = (uint32_t)it->sel->name.number, number = shim_number(it->imp);
+    struct record *record = it->class_->record;
+    struct row *row = row_of(record, sel);
+    Method known = shim_standing(it->class_, sel);
+    const char *types = it->types || !known ? it->types : known->types;
+    if (!number || (!row && !types)) return false;
+    Method method = row ? row->method : new_method(it->sel, it->imp, types);
+    *swap = (struct swap){{MSG_REPLACES, record->number, record->meta, sel, number, 0, 0, 0}, record, method, !row, known ? known->imp : NULL};
+    return true;
+}
+
+/* In the rows, after the tables: what was before comes into `imp`. */
+static void settle(struct swap *swap, struct objc_method_swap *it)
+{
+    if (swap->is_new) {
+        shim_list(swap->record, swap->method);
+        put_row(swap->record, swap->method);
+    } else shim_set_imp(swap->method, it->imp);
+    it->imp = swap->before;
+}
+
+static void forget(struct swap *swap)
+{
+    if (!swap->is_new) return;
+    free((char *)swap->method->types);
+    free(swap->method);
+}
+
+/* Whether the tables have made all that was planned; else the place of what they refuse, as where memory is wanting. */
+static bool change_all(const struct swap *swaps, size_t count, size_t *place)
+{
+    if (*place < count || !count) return !count;
+    msg_change *parts = shim_memory(count * sizeof *parts);
+    for (size_t i = 0; i < count; i++) parts[i] = swaps[i].part;
+    *place = 0;
+    bool made = !msg_change_all(shim_runtime, parts, count, place);
+    free(parts);
+    if (made) *place = count;
+    return made;
+}
+
+size_t objc_replace_methods(struct objc_method_swap *rows, size_t count)
+{
+    CHANGING;
+    struct swap *swaps = shim_memory(count * sizeof *swaps);
+    size_t planned = 0;
+    while (planned < count && plan(rows, planned, &swaps[planned])) planned++;
+    size_t place = planned;
+    bool made = change_all(swaps, count, &place);
+    for (size_t i = 0; i < planned; i++) {
+        if (made) settle(&swaps[i], &rows[i]);
+        else forget(&swaps[i]);
+    }
+    for (size_t i = 0; made && i < count; i++) cache(swaps[i].record, swaps[i].part.sel);
+    free(swaps);
+    return place;
+}
+
+static bool plan_exchange(const struct objc_method_pair *pair, struct swap *swap)
+{
+    struct record *here, *there;
+    struct row *row = pair->one ? home_of(pair->one, &here) : NULL, *other = row && pair->other ? home_of(pair->other, &there) : NULL;
+    if (!other) return false;
+    swap->part = (msg_change){MSG_EXCHANGES, here->number, here->meta, row->sel, 0, there->number, there->meta, other->sel};
+    return true;
+}
+
+size_t objc_exchange_methods(const struct objc_method_pair *pairs, size_t count)
+{
+    CHANGING;
+    struct swap *swaps = shim_memory(count * sizeof *swaps);
+    size_t place = 0;
+    while (place < count && plan_exchange(&pairs[place], &swaps[place])) place++;
+    bool made = change_all(swaps, count, &place);
+    for (size_t i = 0; made && i < count; i++) {
+        IMP imp = pairs[i].one->imp;
+        shim_set_imp(pairs[i].one, pairs[i].other->imp);
+        shim_set_imp(pairs[i].other, imp);
+    }
+    free(swaps);
+    return place;
 }
