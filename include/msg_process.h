@@ -38,6 +38,10 @@ uint32_t msg_process_lock_to_change(msg_runtime **runtime);
 /* Gives the lock back; by the thread that took it. */
 void msg_process_unlock(void);
 
+/* Where the calling thread holds the lock, after a change: what the lookup of a key finds by now is cached, so that no thread waits for the lock to find it, and noted for the calling
+ * one. It does nothing where that has no sender. */
+void msg_process_cache(uint64_t key);
+
 /* The inline calls below, where the calling thread has noted nothing, or isn't asked. */
 uint32_t msg_process_find_slowly(uint64_t key, bool waits, uint32_t *imp);
 

@@ -56,6 +56,14 @@ typedef struct { uint32_t number; bool meta; } msg_class;
 /* A method of a category. */
 typedef struct { uint32_t sel; uint32_t imp; } msg_method;
 
+/* A part of a change that is several. By its kind it is what the call of that name makes, and reads these fields; the others are 0:
+ *   MSG_ADDS, MSG_REPLACES, MSG_SETS_IMP   number, meta, sel, imp
+ *   MSG_EXCHANGES                          number, meta, sel, other, other_meta, other_sel
+ *   MSG_MAKES_CLASS                        number, and other, which is the superclass
+ *   MSG_MAKES_ROOT_CLASS                   number */
+typedef struct { uint32_t kind; uint32_t number; uint32_t meta; uint32_t sel; uint32_t imp; uint32_t other; uint32_t other_meta; uint32_t other_sel; } msg_change;
+enum { MSG_ADDS = 1, MSG_REPLACES = 2, MSG_SETS_IMP = 3, MSG_EXCHANGES = 4, MSG_MAKES_CLASS = 5, MSG_MAKES_ROOT_CLASS = 6 };
+
 /* How much a runtime has room for. Fields of 32 bits; 0 is the default. Later fields come at the end. */
 typedef struct {
     uint32_t classes;   /* class numbers are below this: 16,384 by default, at most 1,048,576 */
@@ -97,6 +105,7 @@ enum {
     MSG_NONE = 70,              /* there is none: no superclass, no method */
     MSG_MISSED = 71,            /* of msg_probe: not cached. Ask msg_fill under the lock */
     MSG_BAD_CONFIG = 73,        /* of msg_open: beyond the most that is said beside a field, or a field that the library doesn't know */
+    MSG_BAD_PART = 75,          /* of msg_change_all: a part of a kind that the library doesn't know, or whose meta isn't 0 or 1 */
     MSG_LOCK_HELD = 74          /* of msg_process.h alone: the calling thread has the runtime lock already, as where a handler of a signal interrupted it there */
 };
 
@@ -129,6 +138,9 @@ uint32_t msg_exchange(msg_runtime *runtime, uint32_t number, bool meta, uint32_t
 uint32_t msg_attach(msg_runtime *runtime, uint32_t number, const msg_method *methods, size_t count, const msg_method *class_methods, size_t class_count);
 uint32_t msg_make_class(msg_runtime *runtime, uint32_t number, uint32_t superclass);
 uint32_t msg_make_root_class(msg_runtime *runtime, uint32_t number);
+/* Several as one change: a lookup, by whatever sender, answers from before all of them or after all, and the count of changes is one more. It is refused as a whole, as the first
+ * part is that would be refused if those before it were made; that part's place is written, from 0. Then, and where memory is wanting, nothing has changed. Of no parts it is made. */
+uint32_t msg_change_all(msg_runtime *runtime, const msg_change *changes, size_t count, size_t *place);
 
 /* A sender of the runtime, for one thread: it has seen all changes made so far. It may be closed after its runtime was. */
 uint32_t msg_sender_open(msg_runtime *runtime, msg_sender *sender);
@@ -168,6 +180,8 @@ uint32_t msg_refresh(msg_sender *sender, uint64_t *count);
 MSG_IS_SO(sizeof(msg_note) == 24);
 MSG_IS_SO(sizeof(msg_sender) == 16 + 24 * MSG_NOTES);
 MSG_IS_SO(sizeof(msg_config) == 44);
+MSG_IS_SO(sizeof(msg_change) == 32);
+MSG_IS_SO(offsetof(msg_change, number) == 4 && offsetof(msg_change, sel) == 12 && offsetof(msg_change, other) == 20 && offsetof(msg_change, other_sel) == 28);
 MSG_IS_SO(__BYTE_ORDER__ == __ORDER_LITTLE_ENDIAN__);
 
 /* ---- inline: opening ---- */
@@ -211,6 +225,7 @@ static inline const char *msg_fault_text(uint32_t fault)
     case MSG_NONE: return "there is none";
     case MSG_MISSED: return "not cached";
     case MSG_BAD_CONFIG: return "the config asks for too much";
+    case MSG_BAD_PART: return "no such kind of change";
     case MSG_LOCK_HELD: return "the thread has the lock already";
     default: return "unknown fault";
     }

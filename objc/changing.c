@@ -1,12 +1,14 @@
-/* Methods that stand in classes, and changes of them: of the rows, and by the proved calls of the tables, under one
- * lock. Trusted: that rows and tables say the same after each change, and that a change for whose function there is no
- * number changes neither. */
-#include "shim.h"
+/* Methods that stand in classes, and changes of them: by the proved calls of the tables and then of the rows, under one
+ * lock. So what a row says nobody finds otherwise by the tables later; and what it no longer says, nobody has found
+ * before by them, since what was changed is found anew under the lock alone. Trusted: this order, that rows and tables
+ * say the same after each change, and that a change for whose function there is no number changes neither. */
+#include "seat.h"
+#include "msg_objc.h"
 #include <stdlib.h>
 #include <string.h>
 
 /* The count is read first: so many rows any array has that is there then. */
-struct row *shim_row(struct record *record, uint32_t sel)
+static struct row *row_of(struct record *record, uint32_t sel)
 {
     size_t count = record->count;
     struct row *row = count ? record->rows->at : NULL;
@@ -25,16 +27,16 @@ static void make_room(struct record *record)
     record->room = room;
 }
 
-static void list(struct record *record, Method method)
+void shim_list(struct record *record, Method method)
 {
     record->methods = shim_more(record->methods, record->method_count, &record->method_room, sizeof method);
     record->methods[record->method_count++] = method;
 }
 
-void shim_put_row(struct record *record, Method method, uint32_t sel)
+static void put_row(struct record *record, Method method)
 {
-    struct row *row = shim_row(record, sel);
-    list(record, method);
+    uint32_t sel = (uint32_t)method->name.sel->name.number;
+    struct row *row = row_of(record, sel);
     if (row) {
         __atomic_store_n(&row->method, method, __ATOMIC_RELEASE);
         return;
@@ -44,25 +46,117 @@ void shim_put_row(struct record *record, Method method, uint32_t sel)
     record->count++;
 }
 
+/* Of the methods that are listed from there on. */
+static void put_rows(struct record *record, uint32_t from)
+{
+    for (uint32_t i = from; i < record->method_count; i++) put_row(record, record->methods[i]);
+}
+
 /* Goes through a class in construction, which has no place in the tables, to its superclass. */
 Method shim_standing(Class class_, uint32_t sel)
 {
     for (; class_; class_ = class_->superclass.class_) {
-        struct row *row = shim_row(class_->record, sel);
+        struct row *row = row_of(class_->record, sel);
         if (row) return __atomic_load_n(&row->method, __ATOMIC_ACQUIRE);
     }
     return NULL;
+}
+
+/* ---- of the tables, where they hold the class, and of the rows ---- */
+
+/* Where the method stands that the tables find, or NULL. */
+static struct record *holder_of(struct record *record, uint32_t sel)
+{
+    msg_class at;
+    if (msg_holder(shim_runtime, record->number, record->meta, sel, &at)) return NULL;
+    Class class_ = shim_classes[at.number];
+    return at.meta ? class_->isa->record : class_->record;
+}
+
+static inline void put(struct record *of, uint32_t sel, uint32_t imp)
+{
+    if (of->number) shim_must(msg_replace(shim_runtime, of->number, of->meta, sel, imp), "replace");
+}
+
+/* For after a change of one method. */
+static inline void cache(struct record *of, uint32_t sel)
+{
+    if (of->number) msg_process_cache(msg_key(2 * of->number + of->meta, sel));
+}
+
+static void add(struct record *record, Method method, uint32_t imp)
+{
+    uint32_t sel = (uint32_t)method->name.sel->name.number;
+    put(record, sel, imp);
+    shim_list(record, method);
+    put_row(record, method);
+    cache(record, sel);
+}
+
+static inline void replace(struct record *record, struct row *row, uint32_t imp)
+{
+    put(record, row->sel, imp);
+    shim_set_imp(row->method, shim_function(imp));
+    cache(record, row->sel);
+}
+
+static void exchange(struct record *one, struct row *row, struct record *other, struct row *other_row)
+{
+    IMP imp = row->method->imp;
+    uint32_t number = other->number, sel = other_row->sel;
+    shim_must(msg_exchange(shim_runtime, one->number, one->meta, row->sel, number, other->meta, sel), "exchange");
+    shim_set_imp(row->method, other_row->method->imp);
+    shim_set_imp(other_row->method, imp);
+}
+
+/* The newest first: of one name the first counts. */
+static msg_method *newest(struct record *record, uint32_t from)
+{
+    msg_method *list = shim_memory((record->method_count - from) * sizeof *list), *at = list;
+    for (uint32_t i = record->method_count; i-- > from;) {
+        Method method = record->methods[i];
+        *at++ = (msg_method){(uint32_t)method->name.sel->name.number, shim_number(method->imp)};
+    }
+    return list;
+}
+
+void shim_attach(Class class_, uint32_t from, uint32_t class_from)
+{
+    struct record *record = class_->record, *meta = class_->isa->record;
+    msg_method *methods = newest(record, from), *class_methods = newest(meta, class_from);
+    size_t count = record->method_count - from, class_count = meta->method_count - class_from;
+    shim_must(msg_attach(shim_runtime, record->number, methods, count, class_methods, class_count), class_->name);
+    free(methods);
+    free(class_methods);
+    put_rows(record, from);
+    put_rows(meta, class_from);
+}
+
+void shim_make(Class class_)
+{
+    uint32_t number = class_->record->number;
+    Class above = class_->superclass.class_;
+    if (above) shim_must(msg_make_class(shim_runtime, number, above->record->number), class_->name);
+    else shim_must(msg_make_root_class(shim_runtime, number), class_->name);
+    shim_attach(class_, 0, 0);
+}
+
+/* ---- as programs ask for them ---- */
+
+static Method new_method(SEL sel, IMP imp, const char *types)
+{
+    Method method = shim_memory(sizeof *method);
+    method->name.sel = shim_typed_selector(sel_getName(sel), types);
+    method->types = shim_copy(types);
+    method->imp = imp;
+    return method;
 }
 
 static bool put_new(struct record *record, SEL sel, IMP imp, const char *types)
 {
     uint32_t number = shim_number(imp);
     if (!number) return false;
-    Method method = shim_memory(sizeof *method);
-    method->name.sel = shim_typed_selector(sel_getName(sel), types);
-    method->types = shim_copy(types);
-    method->imp = imp;
-    shim_add(record, method, (uint32_t)sel->name.number, number);
+    add(record, new_method(sel, imp, types), number);
     return true;
 }
 
@@ -71,22 +165,22 @@ static inline IMP set(struct record *record, struct row *row, IMP imp)
     IMP before = row->method->imp;
     uint32_t number = shim_number(imp);
     if (!number) return NULL;
-    shim_replace(record, row, number);
+    replace(record, row, number);
     return before;
 }
 
 BOOL class_addMethod(Class class_, SEL sel, IMP imp, const char *types)
 {
     if (!class_ || !class_->record || !sel || !imp || !types) return false;
-    LOCKED;
-    return !shim_row(class_->record, (uint32_t)sel->name.number) && put_new(class_->record, sel, imp, types);
+    CHANGING;
+    return !row_of(class_->record, (uint32_t)sel->name.number) && put_new(class_->record, sel, imp, types);
 }
 
 IMP class_replaceMethod(Class class_, SEL sel, IMP imp, const char *types)
 {
     if (!class_ || !sel || !imp || !types || !class_->record) return NULL;
-    LOCKED;
-    struct row *row = shim_row(class_->record, (uint32_t)sel->name.number);
+    CHANGING;
+    struct row *row = row_of(class_->record, (uint32_t)sel->name.number);
     if (row) return set(class_->record, row, imp);
     put_new(class_->record, sel, imp, types);
     return NULL;
@@ -98,7 +192,7 @@ static struct row *home_of(Method method, struct record **record)
     for (uint32_t i = 1; i <= shim_class_count; i++) {
         struct record *both[2] = {shim_classes[i]->record, shim_classes[i]->isa->record};
         for (int j = 0; j < 2; j++) {
-            struct row *row = shim_row(*record = both[j], (uint32_t)method->name.sel->name.number);
+            struct row *row = row_of(*record = both[j], (uint32_t)method->name.sel->name.number);
             if (row && row->method == method) return row;
         }
     }
@@ -119,7 +213,7 @@ IMP method_setImplementation(Method method, IMP imp)
 {
     if (!method || !imp) return NULL;
     struct record *record;
-    LOCKED;
+    CHANGING;
     struct row *row = home_of(method, &record);
     return set_any(record, row, method, imp);
 }
@@ -128,10 +222,10 @@ void method_exchangeImplementations(Method one, Method other)
 {
     if (!one || !other) return;
     struct record *here, *there;
-    LOCKED;
+    CHANGING;
     struct row *row = home_of(one, &here), *other_row = home_of(other, &there);
     if (row && other_row) {
-        shim_exchange(here, row, there, other_row);
+        exchange(here, row, there, other_row);
         return;
     }
     IMP imp = set_any(here, row, one, other->imp);
@@ -142,8 +236,8 @@ static Method instance_method(Class class_, uint32_t sel)
 {
     LOCKED;
     if (shim_in_construction(class_)) return shim_standing(class_, sel);
-    struct record *holder = shim_holder(class_->record, sel);
-    struct row *row = holder ? shim_row(holder, sel) : NULL;
+    struct record *holder = holder_of(class_->record, sel);
+    struct row *row = holder ? row_of(holder, sel) : NULL;
     return row ? row->method : NULL;
 }
 
@@ -169,4 +263,103 @@ Method *class_copyMethodList(Class class_, unsigned int *count)
     Method *list = shim_memory((many + 1) * sizeof *list);
     for (unsigned int i = 0; i < many; i++) list[i] = record->methods[many - 1 - i];
     return list;
+}
+
+/* ---- several at once: one change of the tables ---- */
+
+/* A part of it, and the method that it changes: the class's own, or one that is to be put; and what was found before. */
+struct swap { msg_change part; struct record *record; Method method; bool is_new; IMP before; };
+
+static bool is_named_before(const struct objc_method_swap *rows, size_t at)
+{
+    for (size_t i = 0; i < at; i++)
+        if (rows[i].class_ == rows[at].class_ && rows[i].sel->name.number == rows[at].sel->name.number) return true;
+    return false;
+}
+
+static bool plan(const struct objc_method_swap *rows, size_t at, struct swap *swap)
+{
+    const struct objc_method_swap *it = &rows[at];
+    if (!it->class_ || !it->class_->record || !it->class_->record->number || !it->sel || !it->imp || is_named_before(rows, at)) return false;
+    uint32_t sel = (uint32_t)it->sel->name.number, number = shim_number(it->imp);
+    struct record *record = it->class_->record;
+    struct row *row = row_of(record, sel);
+    Method known = shim_standing(it->class_, sel);
+    const char *types = it->types || !known ? it->types : known->types;
+    if (!number || (!row && !types)) return false;
+    Method method = row ? row->method : new_method(it->sel, it->imp, types);
+    *swap = (struct swap){{MSG_REPLACES, record->number, record->meta, sel, number, 0, 0, 0}, record, method, !row, known ? known->imp : NULL};
+    return true;
+}
+
+/* In the rows, after the tables: what was before comes into `imp`. */
+static void settle(struct swap *swap, struct objc_method_swap *it)
+{
+    if (swap->is_new) {
+        shim_list(swap->record, swap->method);
+        put_row(swap->record, swap->method);
+    } else shim_set_imp(swap->method, it->imp);
+    it->imp = swap->before;
+}
+
+static void forget(struct swap *swap)
+{
+    if (!swap->is_new) return;
+    free((char *)swap->method->types);
+    free(swap->method);
+}
+
+/* Whether the tables have made all that was planned; else the place of what they refuse, as where memory is wanting. */
+static bool change_all(const struct swap *swaps, size_t count, size_t *place)
+{
+    if (*place < count || !count) return !count;
+    msg_change *parts = shim_memory(count * sizeof *parts);
+    for (size_t i = 0; i < count; i++) parts[i] = swaps[i].part;
+    *place = 0;
+    bool made = !msg_change_all(shim_runtime, parts, count, place);
+    free(parts);
+    if (made) *place = count;
+    return made;
+}
+
+size_t objc_replace_methods(struct objc_method_swap *rows, size_t count)
+{
+    CHANGING;
+    struct swap *swaps = shim_memory(count * sizeof *swaps);
+    size_t planned = 0;
+    while (planned < count && plan(rows, planned, &swaps[planned])) planned++;
+    size_t place = planned;
+    bool made = change_all(swaps, count, &place);
+    for (size_t i = 0; i < planned; i++) {
+        if (made) settle(&swaps[i], &rows[i]);
+        else forget(&swaps[i]);
+    }
+    for (size_t i = 0; made && i < count; i++) cache(swaps[i].record, swaps[i].part.sel);
+    free(swaps);
+    return place;
+}
+
+static bool plan_exchange(const struct objc_method_pair *pair, struct swap *swap)
+{
+    struct record *here, *there;
+    struct row *row = pair->one ? home_of(pair->one, &here) : NULL, *other = row && pair->other ? home_of(pair->other, &there) : NULL;
+    if (!other) return false;
+    swap->part = (msg_change){MSG_EXCHANGES, here->number, here->meta, row->sel, 0, there->number, there->meta, other->sel};
+    return true;
+}
+
+size_t objc_exchange_methods(const struct objc_method_pair *pairs, size_t count)
+{
+    CHANGING;
+    struct swap *swaps = shim_memory(count * sizeof *swaps);
+    size_t place = 0;
+    while (place < count && plan_exchange(&pairs[place], &swaps[place])) place++;
+    bool made = change_all(swaps, count, &place);
+    for (size_t i = 0; made && i < count; i++) {
+        IMP imp = pairs[i].one->imp;
+        shim_set_imp(pairs[i].one, pairs[i].other->imp);
+        shim_set_imp(pairs[i].other, imp);
+    }
+    free(swaps);
+    return place;
 }

@@ -4,19 +4,16 @@
 #define _GNU_SOURCE /* for a recursive lock without a call */
 #include "shim.h"
 
-/* In the order in which they are taken elsewhere; so no +initialize of another thread's is half done, nor a change. */
+/* In the order in which they are taken elsewhere, the lock of the process's runtime last, by its layer; so no
+ * +initialize of another thread's is half done, nor a change. */
 static void before_fork(void)
 {
     pthread_mutex_lock(&shim_initializing);
     shim_hold_places(true);
-    shim_take();
-    shim_hold_senders(true);
 }
 
 static void give_all(void)
 {
-    shim_hold_senders(false);
-    shim_give(NULL);
     shim_hold_places(false);
     pthread_mutex_unlock(&shim_initializing);
 }
@@ -25,12 +22,12 @@ static void give_all(void)
  * dead thread may hold. */
 static void in_child(void)
 {
-    shim_leave_dead();
     give_all();
     shim_initializing = (pthread_mutex_t)PTHREAD_RECURSIVE_MUTEX_INITIALIZER_NP;
     shim_renew_property_locks();
 }
 
+/* After the layer did: who comes later is asked first. */
 void shim_care_for_forks(void)
 {
     if (pthread_atfork(before_fork, give_all, in_child)) shim_stop("no memory", "fork");

@@ -27,7 +27,7 @@ static void take_method(Class class_, struct record *record, Method method)
     method->name.sel = shim_needed_selector(name, method->types);
     if (!shim_number(method->imp)) shim_stop("too many implementations", class_->name);
     if (record->meta && !strcmp(name, "load")) note_load(class_, NULL, method->imp, method->name.sel);
-    shim_put_row(record, method, (uint32_t)method->name.sel->name.number);
+    shim_list(record, method);
 }
 
 static void take_lists(Class class_, struct record *record, struct method_list *list)
@@ -92,7 +92,6 @@ static bool try_category(void *row)
     if (!class_) return false;
     uint32_t from = class_->record->method_count, class_from = class_->isa->record->method_count;
     note_load(class_, category, NULL, NULL);
-    shim_begin_change();
     take_lists(class_, class_->record, category->methods);
     take_lists(class_, class_->isa->record, category->class_methods);
     shim_attach(class_, from, class_from);
@@ -165,12 +164,9 @@ static void send_loads(void)
 static void take_module(struct module *module)
 {
     static bool begun;
-    LOCKED;
+    CHANGING;
     if (begun && module == &shim_roots) return;
-    if (!begun) {
-        shim_open();
-        take_symbols(shim_roots.symbols);
-    }
+    if (!begun) take_symbols(shim_roots.symbols);
     begun = true;
     if (module != &shim_roots) take_symbols(module->symbols);
     take_what_waits();

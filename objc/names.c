@@ -37,13 +37,6 @@ void *shim_memory(size_t size)
     return memory;
 }
 
-void *shim_lines(size_t size)
-{
-    void *memory = aligned_alloc(LINE, size);
-    if (!memory) shim_stop("no memory", "runtime");
-    return memset(memory, 0, size);
-}
-
 char *shim_copy(const char *text)
 {
     char *copy = strdup(text);

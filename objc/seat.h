@@ -4,28 +4,16 @@
 #define MSG_OBJC_SEAT_H
 
 #include "shim.h"
-#include "msg_runtime.h"
 
-/* `functions`: by their numbers; number 0 is forwarding, and NULL. Address space until a number is used, so that it
- * never moves. `begun`: how many changes were made or begun; sends go by it. */
-struct tables { _Alignas(LINE) _Atomic(IMP) functions[MOST_IMPS + 1]; _Alignas(LINE) _Atomic(uint64_t) begun; };
-extern __attribute__((visibility("hidden"))) struct tables shim_tables;
-
-/* A thread's own, in the list of all. `asks`: it is in a call without the lock, whose end a fork waits for. */
-struct seat { _Alignas(LINE) msg_sender sender; struct seat *next; atomic_bool asks; };
-
-/* What is linked into programs alone may say local-exec, which takes an instruction less. */
-#ifndef SHIM_TLS
-#define SHIM_TLS "initial-exec"
-#endif
-extern _Thread_local __attribute__((tls_model(SHIM_TLS))) struct seat *shim_seat;
+/* By their numbers; number 0 is forwarding, and NULL. Address space until a number is used, so that it never moves. */
+extern __attribute__((visibility("hidden"))) _Atomic(IMP) shim_functions[MOST_IMPS + 1];
 
 /* What the calling thread's sender finds, by all changes that returned before; NULL is forwarding. In a handler of a
- * signal that interrupts its own thread on the slow way or in a change: what the rows say, which is no older than
- * what that change began with. */
+ * signal whose own thread has the lock, or which would have to wait where that thread is on this way itself: what the
+ * rows say. */
 IMP shim_find(Class class_, uint32_t sel);
 
-static inline IMP shim_function(uint32_t imp) { return atomic_load_explicit(&shim_tables.functions[imp], memory_order_acquire); }
+static inline IMP shim_function(uint32_t imp) { return atomic_load_explicit(&shim_functions[imp], memory_order_acquire); }
 
 /* What the note at the one place of a class and a selector says by all changes that were begun before, or false where
  * it is another's, or older. No sender notes anything for key 0, which all classes have until they were initialized.
@@ -35,8 +23,8 @@ static inline IMP shim_function(uint32_t imp) { return atomic_load_explicit(&shi
  * With MSG_CHECK it is compared with the proved msg_recall. */
 static inline bool shim_note(Class class_, SEL sel, uint32_t *number)
 {
-    const msg_sender *sender = &shim_seat->sender;
-    uint64_t count = atomic_load_explicit(&shim_tables.begun, memory_order_acquire), noted;
+    const msg_sender *sender = __atomic_load_n(&msg_process_own.sender, __ATOMIC_RELAXED);
+    uint64_t count = __atomic_load_n(&msg_process_changes.begun, __ATOMIC_ACQUIRE), noted;
     uint64_t key = __atomic_load_n(&class_->key, __ATOMIC_ACQUIRE) + sel->name.number;
     const msg_note *note = sender->notes + (uint32_t)((key >> 27) + key) % MSG_NOTES;
     if (__builtin_expect(note->count != count, 0)) return false;

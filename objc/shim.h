@@ -1,17 +1,23 @@
-/* What the files of the shim share. All of it is called under `shim_lock` where nothing else is said. Trusted: as the
- * files that it names. */
+/* What the files of the shim share. All of it is called under the lock of the process's runtime where nothing else is
+ * said. Trusted: as the files that it names. */
 #ifndef MSG_OBJC_SHIM_H
 #define MSG_OBJC_SHIM_H
 
 #include "abi.h"
 #include "calls.h"
+#include "msg_runtime.h"
 #include <pthread.h>
 #include <stdatomic.h>
+
+/* Of the process's layer nothing is seen outside of the shim, so it is reached without a table of a shared library's. */
+#pragma GCC visibility push(hidden)
+#include "msg_process.h"
+#pragma GCC visibility pop
 
 _Static_assert(sizeof(void *) == 8 && __BYTE_ORDER__ == __ORDER_LITTLE_ENDIAN__,
                "notes, keys and exception tables are read as on such a machine");
 
-/* Of class numbers the tables reserve as many as shim_open says; the others are address space until they are used. */
+/* Of class numbers the tables reserve as many as runtime.c says; the others are address space until they are used. */
 enum { MOST_SELECTORS = (1 << 20) - 1, MOST_CLASSES = (1 << 20) - 1, MOST_IMPS = (1 << 20) - 1, LINE = 64 };
 
 /* A method that stands in a class: what the proved tables hold, kept beside them, since they know numbers alone. */
@@ -37,25 +43,23 @@ struct record {
     Method *methods;
 };
 
-extern pthread_mutex_t shim_lock;
 extern Class shim_classes[MOST_CLASSES + 1]; /* by number, from 1; class 0 of the tables is never made */
 extern uint32_t shim_class_count, shim_class_room;
 
 /* Without the lock. */
 _Noreturn void shim_stop(const char *why, const char *what);
 void *shim_memory(size_t size);
-void *shim_lines(size_t size); /* zeros that begin with a cache line, of so many whole ones */
 char *shim_copy(const char *text);
 /* The same rows, with room for one more. */
 void *shim_more(void *rows, uint32_t count, uint32_t *room, size_t size);
 void shim_unlock(pthread_mutex_t **lock);
 /* Held to the end of the block, also where an exception leaves it. */
 #define HOLDING(lock) pthread_mutex_t *held __attribute__((cleanup(shim_unlock), unused)) = (pthread_mutex_lock(lock), (lock))
-/* shim_lock, in the same way. A handler of a signal that interrupts the block sees that its thread is on the slow
- * way. */
-void shim_take(void);
+/* The lock, in the same way, to ask the tables; or to ask and change them, when no send goes by what was noted before. */
+void shim_take(bool to_change);
 void shim_give(char *unused);
-#define LOCKED shim_take(); char locked __attribute__((cleanup(shim_give), unused))
+#define LOCKED shim_take(false); char locked __attribute__((cleanup(shim_give), unused))
+#define CHANGING shim_take(true); char locked __attribute__((cleanup(shim_give), unused))
 
 /* Selectors that the shim sends itself, by fixed numbers. */
 enum { INITIALIZE = 1, RESOLVE_INSTANCE, RESOLVE_CLASS, FORWARD, NOT_RECOGNIZED };
@@ -84,9 +88,10 @@ void shim_take_roots(void);
 void shim_take_protocol(struct protocol *protocol, Class class_);
 void shim_take_protocols(struct protocol_list *list, Class class_);
 
-/* changing.c */
-struct row *shim_row(struct record *record, uint32_t sel);
-void shim_put_row(struct record *record, Method method, uint32_t sel);
+/* changing.c: methods are listed, and then the tables make their class with them, or attach those from there on. */
+void shim_list(struct record *record, Method method);
+void shim_make(Class class_);
+void shim_attach(Class class_, uint32_t from, uint32_t class_from);
 Method shim_standing(Class class_, uint32_t sel); /* what the rows say; also without the lock */
 static inline IMP shim_imp(Method method) { return __atomic_load_n(&method->imp, __ATOMIC_ACQUIRE); }
 static inline void shim_set_imp(Method method, IMP imp) { __atomic_store_n(&method->imp, imp, __ATOMIC_RELEASE); }
@@ -100,8 +105,6 @@ void shim_care_for_forks(void);
 extern pthread_mutex_t shim_initializing;
 void shim_hold_places(bool hold);
 void shim_renew_property_locks(void);
-void shim_hold_senders(bool hold);
-void shim_leave_dead(void); /* closes the senders of threads that are gone */
 
 /* Another thread may set an object's class meanwhile, as observing a key does. */
 static inline Class shim_class_of(id object) { return __atomic_load_n(&object->isa, __ATOMIC_ACQUIRE); }
@@ -110,19 +113,8 @@ static inline Class shim_class_of(id object) { return __atomic_load_n(&object->i
 IMP shim_forward(id receiver, SEL sel);
 
 /* runtime.c */
-void shim_open(void);
-/* A function's number, or 0 where there are no more. */
-uint32_t shim_number(IMP imp);
-/* A change of the rows, and of the tables where they hold the class: by the number of a function. */
-void shim_add(struct record *record, Method method, uint32_t sel, uint32_t imp);
-void shim_replace(struct record *record, struct row *row, uint32_t imp);
-void shim_exchange(struct record *one, struct row *row, struct record *other, struct row *other_row);
-/* The tables make the class, with the methods that it has; or attach those that came since it had so many, in a change
- * that was begun before they came. */
-void shim_make(Class class_);
-void shim_begin_change(void);
-void shim_attach(Class class_, uint32_t from, uint32_t class_from);
-/* Where the method stands that the tables find, or NULL. */
-struct record *shim_holder(struct record *record, uint32_t sel);
+extern msg_runtime *shim_runtime;
+void shim_must(uint32_t fault, const char *what); /* or the program ends */
+uint32_t shim_number(IMP imp); /* a function's, or 0 where there are no more */
 
 #endif

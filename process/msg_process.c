@@ -163,6 +163,15 @@ uint32_t msg_process_find_slowly(uint64_t key, bool waits, uint32_t *imp)
     return answer;
 }
 
+void msg_process_cache(uint64_t key)
+{
+    const msg_sender *was;
+    uint32_t imp;
+    struct seat *seat = hide(&was);
+    if (holds && seat) msg_fill(&runtime, &seat->sender, (uint32_t)(key >> 33), key >> 32 & 1, (uint32_t)key, &imp);
+    show(was);
+}
+
 static uint32_t take_started(bool to_change, msg_runtime **taken)
 {
     uint32_t fault = atomic_load_explicit(&started, memory_order_acquire) ? take(to_change, true) : MSG_CLOSED;

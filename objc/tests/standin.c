@@ -18,7 +18,9 @@ struct cell { uint64_t key; uint32_t imp; };
  * who reads both words without a lock sees whether they are of one entry. */
 struct entry { _Atomic(uint64_t) mixed, found; };
 
-struct class { bool made; int64_t above; };
+/* `root`: the number of the root above it, and `changed`, of a root: the version of the last change below it. What is
+ * cached of an earlier version is no longer found. */
+struct class { bool made; int64_t above; _Atomic(uint32_t) root; _Atomic(uint64_t) changed; };
 
 struct tables {
     struct class *of;
@@ -134,51 +136,143 @@ uint32_t msg_holder(msg_runtime *runtime, uint32_t number, bool meta, uint32_t s
     return MSG_DONE;
 }
 
-/* Of a change of a class, which comes by one more version. */
-static uint32_t refusal(const struct tables *tables, uint32_t number)
+/* What is cached for the class is gone before the change is told. */
+static void flush(struct tables *tables, uint32_t number)
 {
-    if (number >= tables->classes || !tables->of[number].made) return MSG_NO_SUCH_CLASS;
-    return tables->version == CHANGES ? MSG_LIMIT : MSG_DONE;
+    atomic_store(&tables->of[tables->of[number].root].changed, tables->version + 1);
 }
 
-uint32_t msg_replace(msg_runtime *runtime, uint32_t number, bool meta, uint32_t sel, uint32_t imp)
+/* ---- changes: each is a list of parts ---- */
+
+/* What a part wrote, so that it can be taken back: the method of a key as it was, or, of key 0, the class that is made. */
+struct was { uint64_t key; uint32_t imp; };
+struct log { struct was *rows; size_t count; };
+
+static bool is_made(const struct tables *tables, uint32_t number) { return number < tables->classes && tables->of[number].made; }
+
+static uint32_t set(struct tables *tables, struct log *log, uint64_t key, uint32_t imp)
+{
+    log->rows[log->count++] = (struct was){key, cell(tables, key)->imp};
+    put(tables, key, imp);
+    return MSG_DONE;
+}
+
+static uint32_t write(struct tables *tables, struct log *log, const msg_change *it, bool full)
+{
+    uint64_t key = msg_key(2 * it->number + it->meta, it->sel);
+    if (!is_made(tables, it->number)) return MSG_NO_SUCH_CLASS;
+    if (!it->sel) return MSG_NO_SELECTOR;
+    if (!it->imp) return MSG_NO_SUCH_IMP;
+    if (it->kind == MSG_ADDS && cell(tables, key)->imp) return MSG_METHOD_PRESENT;
+    bool meta = it->meta;
+    int64_t at = it->kind == MSG_SETS_IMP ? holder(tables, it->number, &meta, it->sel) : (int64_t)it->number;
+    if (at < 0) return MSG_NO_METHOD;
+    return full ? (uint32_t)MSG_LIMIT : set(tables, log, msg_key(2 * (uint32_t)at + meta, it->sel), it->imp);
+}
+
+static uint32_t exchange(struct tables *tables, struct log *log, const msg_change *it, bool full)
+{
+    bool meta = it->meta, other_meta = it->other_meta;
+    if (!is_made(tables, it->number) || !is_made(tables, it->other)) return MSG_NO_SUCH_CLASS;
+    if (!it->sel || !it->other_sel) return MSG_NO_SELECTOR;
+    int64_t at = holder(tables, it->number, &meta, it->sel), other = holder(tables, it->other, &other_meta, it->other_sel);
+    if (at < 0 || other < 0) return MSG_NO_METHOD;
+    if (full) return MSG_LIMIT;
+    uint64_t key = msg_key(2 * (uint32_t)at + meta, it->sel), other_key = msg_key(2 * (uint32_t)other + other_meta, it->other_sel);
+    uint32_t imp = cell(tables, key)->imp;
+    set(tables, log, key, cell(tables, other_key)->imp);
+    return set(tables, log, other_key, imp);
+}
+
+static uint32_t make(struct tables *tables, struct log *log, const msg_change *it, bool full)
+{
+    bool is_root = it->kind == MSG_MAKES_ROOT_CLASS;
+    if (it->number >= tables->classes || (!is_root && !is_made(tables, it->other))) return MSG_NO_SUCH_CLASS;
+    if (full) return MSG_LIMIT;
+    struct class *made = &tables->of[it->number];
+    if (made->made) return MSG_DUPLICATE_CLASS;
+    made->made = true;
+    made->above = is_root ? -1 : (int64_t)it->other;
+    made->root = is_root ? it->number : (uint32_t)tables->of[it->other].root;
+    log->rows[log->count++] = (struct was){0, it->number};
+    return MSG_DONE;
+}
+
+static uint32_t change(struct tables *tables, struct log *log, const msg_change *it, bool full)
+{
+    if (it->meta > 1 || it->other_meta > 1) return MSG_BAD_PART;
+    switch (it->kind) {
+    case MSG_ADDS: case MSG_REPLACES: case MSG_SETS_IMP: return write(tables, log, it, full);
+    case MSG_EXCHANGES: return exchange(tables, log, it, full);
+    case MSG_MAKES_CLASS: case MSG_MAKES_ROOT_CLASS: return make(tables, log, it, full);
+    default: return MSG_BAD_PART;
+    }
+}
+
+static void take_back(struct tables *tables, const struct log *log)
+{
+    for (size_t i = log->count; i--;) {
+        struct was was = log->rows[i];
+        if (was.key) put(tables, was.key, was.imp);
+        else tables->of[was.imp].made = false;
+    }
+}
+
+static void commit(struct tables *tables, const msg_change *changes, size_t count)
+{
+    for (size_t i = 0; i < count; i++) {
+        flush(tables, changes[i].number);
+        if (changes[i].kind == MSG_EXCHANGES) flush(tables, changes[i].other);
+    }
+    atomic_fetch_add(&tables->version, 1);
+}
+
+uint32_t msg_change_all(msg_runtime *runtime, const msg_change *changes, size_t count, size_t *place)
 {
     if (!runtime->open) return MSG_CLOSED;
     struct tables *tables = runtime->at;
-    uint32_t fault = refusal(tables, number);
-    if (fault == MSG_NO_SUCH_CLASS) return fault;
-    if (!sel) return MSG_NO_SELECTOR;
-    if (!imp) return MSG_NO_SUCH_IMP;
-    if (fault) return fault;
-    put(tables, msg_key(2 * number + meta, sel), imp);
-    atomic_fetch_add(&tables->version, 1);
-    return MSG_DONE;
+    struct log log = {zeros(2 * count + 1, sizeof *log.rows), 0};
+    uint32_t fault = !count && tables->version == CHANGES ? MSG_LIMIT : MSG_DONE;
+    size_t at = 0;
+    while (at < count && !(fault = change(tables, &log, &changes[at], tables->version + at >= CHANGES))) at++;
+    if (fault) {
+        *place = at;
+        take_back(tables, &log);
+    } else commit(tables, changes, count);
+    free(log.rows);
+    return fault;
+}
+
+static uint32_t change_one(msg_runtime *runtime, msg_change it)
+{
+    size_t place;
+    return msg_change_all(runtime, &it, 1, &place);
 }
 
 uint32_t msg_add(msg_runtime *runtime, uint32_t number, bool meta, uint32_t sel, uint32_t imp)
 {
-    if (!runtime->open) return MSG_CLOSED;
-    uint32_t fault = refusal(runtime->at, number);
-    if (!fault && sel && cell(runtime->at, msg_key(2 * number + meta, sel))->imp) return MSG_METHOD_PRESENT;
-    return msg_replace(runtime, number, meta, sel, imp);
+    return change_one(runtime, (msg_change){MSG_ADDS, number, meta, sel, imp, 0, 0, 0});
+}
+
+uint32_t msg_replace(msg_runtime *runtime, uint32_t number, bool meta, uint32_t sel, uint32_t imp)
+{
+    return change_one(runtime, (msg_change){MSG_REPLACES, number, meta, sel, imp, 0, 0, 0});
 }
 
 uint32_t msg_exchange(msg_runtime *runtime, uint32_t number, bool meta, uint32_t sel,
                       uint32_t other, bool other_meta, uint32_t other_sel)
 {
-    if (!runtime->open) return MSG_CLOSED;
-    struct tables *tables = runtime->at;
-    uint32_t fault = refusal(tables, number), other_fault = refusal(tables, other);
-    if (fault || other_fault) return fault ? fault : other_fault;
-    int64_t at = holder(tables, number, &meta, sel), other_at = holder(tables, other, &other_meta, other_sel);
-    if (at < 0 || other_at < 0) return MSG_NO_METHOD;
-    struct cell *one = cell(tables, msg_key(2 * (uint32_t)at + meta, sel));
-    struct cell *two = cell(tables, msg_key(2 * (uint32_t)other_at + other_meta, other_sel));
-    uint32_t kept = one->imp;
-    one->imp = two->imp;
-    two->imp = kept;
-    atomic_fetch_add(&tables->version, 1);
-    return MSG_DONE;
+    return change_one(runtime, (msg_change){MSG_EXCHANGES, number, meta, sel, 0, other, other_meta, other_sel});
+}
+
+uint32_t msg_make_class(msg_runtime *runtime, uint32_t number, uint32_t superclass)
+{
+    return change_one(runtime, (msg_change){MSG_MAKES_CLASS, number, 0, 0, 0, superclass, 0, 0});
+}
+
+uint32_t msg_make_root_class(msg_runtime *runtime, uint32_t number)
+{
+    return change_one(runtime, (msg_change){MSG_MAKES_ROOT_CLASS, number, 0, 0, 0, 0, 0, 0});
 }
 
 static uint32_t fault_in(const msg_method *methods, size_t count)
@@ -200,34 +294,16 @@ uint32_t msg_attach(msg_runtime *runtime, uint32_t number, const msg_method *met
 {
     if (!runtime->open) return MSG_CLOSED;
     struct tables *tables = runtime->at;
-    uint32_t fault = refusal(tables, number);
-    if (!fault) fault = fault_in(methods, count);
+    uint32_t fault = is_made(tables, number) ? fault_in(methods, count) : (uint32_t)MSG_NO_SUCH_CLASS;
     if (!fault) fault = fault_in(class_methods, class_count);
+    if (!fault && tables->version == CHANGES) fault = MSG_LIMIT;
     if (fault) return fault;
     put_all(tables, 2 * number, methods, count);
     put_all(tables, 2 * number + 1, class_methods, class_count);
+    flush(tables, number);
     atomic_fetch_add(&tables->version, 1);
     return MSG_DONE;
 }
-
-static uint32_t make(msg_runtime *runtime, uint32_t number, int64_t above)
-{
-    if (!runtime->open) return MSG_CLOSED;
-    struct tables *tables = runtime->at;
-    if (number >= tables->classes || (above >= 0 && refusal(tables, (uint32_t)above) == MSG_NO_SUCH_CLASS)) return MSG_NO_SUCH_CLASS;
-    if (tables->version == CHANGES) return MSG_LIMIT;
-    if (tables->of[number].made) return MSG_DUPLICATE_CLASS;
-    tables->of[number] = (struct class){true, above};
-    atomic_fetch_add(&tables->version, 1);
-    return MSG_DONE;
-}
-
-uint32_t msg_make_class(msg_runtime *runtime, uint32_t number, uint32_t superclass)
-{
-    return make(runtime, number, superclass);
-}
-
-uint32_t msg_make_root_class(msg_runtime *runtime, uint32_t number) { return make(runtime, number, -1); }
 
 uint32_t msg_sender_open(msg_runtime *runtime, msg_sender *sender)
 {
@@ -299,16 +375,22 @@ uint32_t msg_fill(msg_runtime *runtime, msg_sender *sender, uint32_t number, boo
     return MSG_DONE;
 }
 
+/* Whether what was found at a version is still so: no change of the class's tree came after it. */
+static bool is_still(struct tables *tables, uint32_t number, uint64_t version)
+{
+    return atomic_load(&tables->of[tables->of[number].root].changed) <= version;
+}
+
 /* From the shared cache: of a version that the sender has seen, or sees by this. */
 static uint32_t probe(struct asker *asker, msg_sender *sender, uint32_t slot, uint32_t sel, uint32_t *imp)
 {
     uint64_t key = msg_key(slot, sel);
     struct entry *entry = place(asker->tables, key);
-    uint64_t mixed = atomic_load(&entry->mixed), found = atomic_load(&entry->found);
     asker->seen = atomic_load(&asker->tables->version);
-    uint32_t is_imp = (uint32_t)(found >> 32);
-    if (mixed != (key ^ mix(found)) || found != found_at(is_imp, asker->seen)) return MSG_MISSED;
-    *imp = is_imp;
+    uint64_t mixed = atomic_load(&entry->mixed), found = atomic_load(&entry->found), since = (uint32_t)found - UINT64_C(1);
+    if (mixed != (key ^ mix(found)) || !is_still(asker->tables, slot / 2, since)) return MSG_MISSED;
+    if (asker->seen < since) asker->seen = since;
+    uint32_t is_imp = *imp = (uint32_t)(found >> 32);
     note(sender, slot, sel, asker->seen, is_imp);
     return MSG_DONE;
 }

@@ -2,7 +2,10 @@
  * FAULTS are the numbers of the header's enumeration as tools/process reads them, each as F(number). */
 #define _DEFAULT_SOURCE
 #include "msg_process.h"
+#include <limits.h>
+#include <sched.h>
 #include <signal.h>
+#include <stdatomic.h>
 #include <stdio.h>
 #include <stdlib.h>
 #include <sys/wait.h>
@@ -136,6 +139,9 @@ static void locked(void)
     WANT(msg_replace(runtime, CHILD, false, ONE, 15), MSG_DONE);
     uint32_t found = find(CHILD, false, ONE); /* made, and perhaps not cached yet */
     WANT(found == 15 || found == 1000 + MSG_LOCK_HELD, 1);
+    msg_process_cache(msg_key(2 * CHILD, ONE));
+    WANT(find(CHILD, false, ONE), 15);
+    msg_process_cache(msg_key(2 * CLASSES, ONE)); /* of nobody */
     msg_process_unlock();
     WANT(find(CHILD, false, ONE), 15);
 }
@@ -246,11 +252,18 @@ static void at_end(void *rounds)
     if ((size_t)rounds > 1) pthread_setspecific(ending, (char *)rounds - 1);
 }
 
+/* Of destructors: in all, so also after the layer's last. ThreadSanitizer ends a thread before the last. */
+#ifdef SANITIZED_thread
+enum { ROUNDS = PTHREAD_DESTRUCTOR_ITERATIONS - 1 };
+#else
+enum { ROUNDS = PTHREAD_DESTRUCTOR_ITERATIONS };
+#endif
+
 static void *find_and_end(void *has_sender)
 {
     for (int i = 0; i < 3; i++) WANT(find(CHILD, false, ONE), 15);
     *(bool *)has_sender = msg_process_own.sender->open;
-    pthread_setspecific(ending, (void *)3); /* in three rounds of destructors */
+    pthread_setspecific(ending, (void *)ROUNDS);
     if (has_sender) pthread_barrier_wait(&all_found);
     return NULL;
 }
@@ -342,9 +355,54 @@ static void fork_and_wait(bool holds)
     WANT(left(), SENDERS - 1);
 }
 
+static atomic_bool asks_on, is_asking;
+
+/* Two selectors that are noted at one place, and both cached: so it is in a call without the lock nearly always. */
+static void *ask(void *none)
+{
+    while (asks_on) {
+        WANT(find(CHILD, false, ONE), 15);
+        WANT(find(CHILD, false, ONE + MSG_NOTES), 0);
+        is_asking = true;
+    }
+    return none;
+}
+
+/* Asked last before a fork, since it is registered before the layer's: the other goes on meanwhile. */
+static void let_run(void)
+{
+    if (asks_on) usleep(100);
+}
+
+/* The child closes the other's sender, which is in no call then. */
+static void fork_beside_asking(void)
+{
+    pthread_t thread;
+    asks_on = true;
+    pthread_create(&thread, NULL, ask, NULL);
+    for (int i = 0; i < 50; i++) {
+        int status = 0;
+        for (is_asking = false; !is_asking;) sched_yield();
+        pid_t pid = fork();
+        if (!pid) {
+            wrong = 0;
+            alarm(60);
+            WANT(find(CHILD, false, ONE), 15);
+            WANT(left(), SENDERS - 1);
+            fflush(stdout);
+            _exit(wrong != 0);
+        }
+        waitpid(pid, &status, 0);
+        WANT(status, 0);
+    }
+    asks_on = false;
+    pthread_join(thread, NULL);
+}
+
 int main(void)
 {
     alarm(100);
+    pthread_atfork(let_run, NULL, NULL);
     texts();
     before_start();
     finds();
@@ -355,6 +413,7 @@ int main(void)
     pthread_barrier_init(&sits, NULL, 2);
     pthread_barrier_init(&goes, NULL, 2);
     for (int i = 0; i < 4; i++) fork_and_wait(i % 2);
+    fork_beside_asking();
     printf("rules: %d broken\n", wrong);
     return wrong != 0;
 }

@@ -1,6 +1,7 @@
-/* Threads that find, change, make classes, fork, begin and end at once, and handlers of signals that find, for SECONDS. Step s of the history gives method s % METHODS of the root
- * class the implementation s. So an answer s says that the find was at a point from s until the step s + METHODS: it has to have the method's remainder, to be no later than what was
- * begun, and METHODS + s has to be beyond each point that the thread has seen, and beyond each step that had returned. */
+/* Threads that find, change, make classes, fork, open and close senders at once, and handlers of signals that find, for SECONDS. Step s of the history gives method s % METHODS the
+ * implementation s. So an answer s says that the find was at a point from s until the step s + METHODS: it has to have the method's remainder, to be no later than what was begun, and
+ * METHODS + s has to be beyond each point that the thread has seen, and beyond each step that had returned, whose lock may still be held. So no method goes back, and none lags behind
+ * another. The methods stand in the roots of TREES trees, on both of their sides: what is cached for one tree outlasts the changes of the others. */
 #define _GNU_SOURCE
 #include "msg_process.h"
 #include <errno.h>
@@ -12,13 +13,13 @@
 #include <time.h>
 #include <unistd.h>
 
-enum { FINDERS = 16, CHANGERS = 4, BEGINNERS = 6, SENDERS = 26, CLASSES = 512, METHODS = 16, PATIENCE = 60 };
+enum { FINDERS = 16, CHANGERS = 4, BEGINNERS = 6, SENDERS = 26, CLASSES = 512, TREES = 4, METHODS = 16, PATIENCE = 60 };
 #ifndef SECONDS
-#define SECONDS 3
+#define SECONDS 5
 #endif
 
 static atomic_bool is_over;
-static atomic_long begun, returned, made, answers, held, handled, refused, ended, without, forked, ready;
+static atomic_long begun, returned, made, answers, held, handled, refused, ended, without, opened, forked, ready;
 static atomic_long wrong;
 
 static _Thread_local volatile long seen;
@@ -39,6 +40,15 @@ static uint32_t below(uint32_t limit)
 
 /* Two methods of a class are noted at one place. */
 static uint32_t selector(long method) { return 1 + (uint32_t)method % 8 + MSG_NOTES * ((uint32_t)method / 8); }
+static uint32_t root_of(long method) { return (uint32_t)method % TREES; }
+static bool is_of_class(long method) { return method / TREES % 2; }
+
+/* The class of the method's tree that is near the given one; 0 and so many are made. */
+static uint32_t of_tree(uint32_t class_, long method)
+{
+    uint32_t is = class_ / TREES * TREES + root_of(method);
+    return is < (uint32_t)made ? is : is - TREES;
+}
 
 /* A find, and whether its answer may be. With the lock, as perhaps in a handler, it may have none. */
 static void find(uint32_t class_, long method, bool may_hold)
@@ -47,7 +57,7 @@ static void find(uint32_t class_, long method, bool may_hold)
     long least = returned;
     if (seen > least) least = seen;
     bool waits = !may_hold || below(2);
-    uint32_t fault = (waits ? msg_process_find : msg_process_find_at_once)(class_, false, selector(method), &imp);
+    uint32_t fault = (waits ? msg_process_find : msg_process_find_at_once)(of_tree(class_, method), is_of_class(method), selector(method), &imp);
     long most = begun, step = imp;
     if (fault == MSG_LOCK_HELD && may_hold) {
         held++;
@@ -96,20 +106,16 @@ static void want(uint32_t fault, uint32_t wanted)
 static void change(msg_runtime *runtime, int steps)
 {
     for (int i = 0; i < steps; i++) {
-        long step = ++begun; /* under the lock */
-        want(msg_replace(runtime, 0, false, selector(step % METHODS), (uint32_t)step), MSG_DONE);
-        seen = step; /* a thread that holds the lock has seen what it changed */
+        long step = ++begun, method = step % METHODS; /* under the lock */
+        want(msg_replace(runtime, root_of(method), is_of_class(method), selector(method), (uint32_t)step), MSG_DONE);
+        returned = step; /* from here on each thread has to see it, though the lock is held */
+        if (below(2)) msg_process_cache(msg_key(2 * root_of(method) + is_of_class(method), selector(method)));
+        seen = step;
         find(below(8), below(2) ? step % METHODS : below(METHODS), true);
     }
     if (below(3)) return;
     want(msg_replace(runtime, CLASSES, false, 1, 1), MSG_NO_SUCH_CLASS);
     refused++;
-}
-
-static void raise_to(atomic_long *at, long to)
-{
-    long was = *at;
-    while (was < to && !atomic_compare_exchange_weak(at, &was, to)) {}
 }
 
 static long change_some(void)
@@ -119,7 +125,6 @@ static long change_some(void)
     change(runtime, 1 + (int)below(3));
     long step = begun;
     msg_process_unlock();
-    raise_to(&returned, step);
     return step;
 }
 
@@ -134,13 +139,13 @@ static void *change_on(void *number)
     return NULL;
 }
 
-/* Each class below one before it. */
+/* Each class below one before it in its tree. */
 static void *make_on(void *number)
 {
     begin_thread((long)number);
     while (!is_over) {
         msg_runtime *runtime;
-        uint32_t next = (uint32_t)made, above = below(next);
+        uint32_t next = (uint32_t)made, above = next % TREES + TREES * below(next / TREES);
         want(msg_process_lock_to_change(&runtime), MSG_DONE);
         if (next < CLASSES) want(msg_make_class(runtime, next, above), MSG_DONE);
         else want(msg_make_class(runtime, 1, above), MSG_DUPLICATE_CLASS);
@@ -172,10 +177,29 @@ static void *find_and_end(void *number)
     return NULL;
 }
 
+/* A sender of the host's own, in one turn of the lock, so that no fork comes while it is out. */
+static void open_and_close(void)
+{
+    static msg_sender sender;
+    msg_runtime *runtime;
+    uint32_t imp = 0;
+    long method = below(METHODS);
+    want(msg_process_lock(&runtime), MSG_DONE);
+    uint32_t fault = msg_sender_open(runtime, &sender);
+    if (!fault) {
+        want(msg_fill(runtime, &sender, root_of(method), is_of_class(method), selector(method), &imp), MSG_DONE);
+        if (imp % METHODS != method || imp + METHODS <= begun || imp > begun) tell("not the newest, begun", imp, begun);
+        want(msg_sender_close(runtime, &sender), MSG_DONE);
+        opened++;
+    } else want(fault, MSG_NO_SENDER);
+    msg_process_unlock();
+}
+
 static void *begin_and_end(void *number)
 {
     begin_thread((long)number);
     for (long i = 1; !is_over; i++) {
+        open_and_close();
         pthread_t threads[BEGINNERS];
         int count = 1 + (int)below(BEGINNERS), are = 0;
         while (are < count && !pthread_create(&threads[are], NULL, find_and_end, (void *)(i * BEGINNERS + are))) are++;
@@ -267,7 +291,7 @@ static void handle(int signal)
     errno = kept;
 }
 
-static bool is_little(void) { return !refused || !ended || !without || (FORKS && !forked) || !handled || !held || made < 9; }
+static bool is_little(void) { return !refused || !ended || !without || !opened || (FORKS && !forked) || !handled || !held || made < 9; }
 
 int main(void)
 {
@@ -280,19 +304,18 @@ int main(void)
     pthread_key_create(&ending, at_end);
     want(msg_process_start(&config), MSG_DONE);
     want(msg_process_lock_to_change(&runtime), MSG_DONE);
-    want(msg_make_root_class(runtime, 0), MSG_DONE);
-    for (uint32_t i = 1; i < 8; i++) want(msg_make_class(runtime, i, i / 2), MSG_DONE);
-    made = 8;
+    for (uint32_t i = 0; i < TREES; i++) want(msg_make_root_class(runtime, i), MSG_DONE);
+    for (uint32_t i = TREES; i < 2 * TREES; i++) want(msg_make_class(runtime, i, i - TREES), MSG_DONE);
+    made = 2 * TREES;
     while (begun < METHODS) change(runtime, 1);
     msg_process_unlock();
-    returned = begun;
 
     sigaction(SIGUSR1, &(struct sigaction){.sa_handler = handle, .sa_flags = SA_RESTART}, NULL);
     for (long i = 0; i < THREADS; i++) pthread_create(&threads[i], NULL, i < FINDERS ? find_on : i < FINDERS + CHANGERS ? change_on : make_on, (void *)(i + 1));
     while (ready < THREADS) usleep(1000);
     for (long i = 0; i < 3; i++) pthread_create(&beside[i], NULL, others[i], (void *)(i + 100));
     time_t end = time(NULL) + SECONDS;
-    while (time(NULL) < end || (is_little() && time(NULL) < end + PATIENCE / 2)) {
+    while (!wrong && (time(NULL) < end || (is_little() && time(NULL) < end + PATIENCE / 2))) {
         pthread_kill(threads[below(THREADS)], SIGUSR1);
         usleep(20);
     }
@@ -300,8 +323,8 @@ int main(void)
     for (int i = 0; i < THREADS; i++) pthread_join(threads[i], NULL);
     for (int i = 0; i < 3; i++) pthread_join(beside[i], NULL);
     if (left() != SENDERS) tell("senders that are left", left(), SENDERS); /* this thread has none */
-    fprintf(stderr, "%ld answers beside %ld steps, %ld refused changes, %ld classes, %ld threads (%ld without a sender), %ld forks; %ld signals, %ld answered that the lock is held\n",
-            (long)answers, (long)begun, (long)refused, (long)made, (long)ended, (long)without, (long)forked, (long)handled, (long)held);
+    fprintf(stderr, "%ld answers beside %ld steps, %ld refused changes, %ld classes, %ld threads (%ld without a sender), %ld senders, %ld forks; %ld signals, %ld answered that the lock is held\n",
+            (long)answers, (long)begun, (long)refused, (long)made, (long)ended, (long)without, (long)opened, (long)forked, (long)handled, (long)held);
     printf("stress: %ld wrong%s\n", (long)wrong, is_little() ? ", and too little was tried" : "");
     return wrong || is_little();
 }

@@ -1,0 +1,114 @@
+/* What include/msg_runtime.h says of msg_change_all: all or nothing, the first fault and its place, one more change, and each kind as the call of its name. */
+#include "msg_runtime.h"
+#include <stdio.h>
+
+enum { ROOT, CHILD, MADE, CLASSES = 8, ONE = 1, TWO, NOBODYS, COUNT_IN = 7 };
+
+static int wrong;
+static msg_runtime runtime = MSG_RUNTIME_INIT;
+static msg_sender sender;
+
+static void want(int line, const char *what, uint64_t found, uint64_t wanted)
+{
+    if (found == wanted) return;
+    wrong++;
+    printf("lists.c:%d: %s is %llu, not %llu\n", line, what, (unsigned long long)found, (unsigned long long)wanted);
+}
+#define WANT(found, wanted) want(__LINE__, #found, found, wanted)
+
+static uint32_t look(uint32_t number, bool meta, uint32_t sel)
+{
+    uint32_t imp = 0, filled = 0;
+    WANT(msg_lookup(&runtime, number, meta, sel, &imp), MSG_DONE);
+    WANT(msg_fill(&runtime, &sender, number, meta, sel, &filled), MSG_DONE);
+    WANT(filled, imp);
+    return imp;
+}
+
+static uint64_t changes(void)
+{
+    uint64_t count = 0;
+    WANT(msg_change_count(&runtime, &count), MSG_DONE);
+    return count;
+}
+
+static void made(void)
+{
+    const msg_change parts[] = {
+        {.kind = MSG_MAKES_CLASS, .number = MADE, .other = CHILD},
+        {.kind = MSG_ADDS, .number = MADE, .sel = ONE, .imp = 21},
+        {.kind = MSG_REPLACES, .number = ROOT, .sel = ONE, .imp = 22},
+        {.kind = MSG_REPLACES, .number = ROOT, .meta = 1, .sel = TWO, .imp = 23},
+        {.kind = MSG_SETS_IMP, .number = CHILD, .sel = ONE, .imp = 24},                                          /* where it is found: in the root */
+        {.kind = MSG_EXCHANGES, .number = MADE, .sel = ONE, .other = MADE, .other_meta = 1, .other_sel = TWO}, /* 21 with 23 */
+        {.kind = MSG_SETS_IMP, .number = MADE, .sel = ONE, .imp = 25},
+    };
+    _Static_assert(sizeof parts / sizeof *parts == COUNT_IN, "as many");
+    size_t place = 99;
+    uint64_t before = changes();
+    WANT(msg_change_all(&runtime, parts, COUNT_IN, &place), MSG_DONE);
+    WANT(place, 99);
+    WANT(changes(), before + 1);
+    WANT(look(MADE, false, ONE), 25);
+    WANT(look(ROOT, true, TWO), 21);
+    WANT(look(MADE, true, TWO), 21);
+    WANT(look(CHILD, false, ONE), 24);
+    WANT(msg_change_all(&runtime, parts, 0, &place), MSG_DONE);
+    WANT(changes(), before + 2);
+}
+
+/* Behind a made class, two replaced methods and an added one. */
+static void refused(msg_change last, uint32_t fault)
+{
+    const msg_change parts[] = {
+        {.kind = MSG_MAKES_CLASS, .number = MADE + 1, .other = ROOT},
+        {.kind = MSG_REPLACES, .number = ROOT, .sel = ONE, .imp = 31},
+        {.kind = MSG_REPLACES, .number = ROOT, .sel = ONE, .imp = 32},
+        {.kind = MSG_ADDS, .number = MADE + 1, .sel = NOBODYS, .imp = 33},
+        last,
+        {.kind = 99}, /* comes later */
+    };
+    size_t place = 99;
+    uint64_t before = changes();
+    uint32_t one = look(ROOT, false, ONE);
+    WANT(msg_change_all(&runtime, parts, 6, &place), fault);
+    WANT(place, 4);
+    WANT(changes(), before);
+    WANT(look(ROOT, false, ONE), one);
+    WANT(look(MADE + 1, false, NOBODYS), 0);
+    msg_class above;
+    WANT(msg_holder(&runtime, MADE + 1, false, ONE, &above), MSG_NONE);
+}
+
+static void all_refused(void)
+{
+    refused((msg_change){.kind = MSG_REPLACES, .number = CLASSES, .sel = ONE, .imp = 1}, MSG_NO_SUCH_CLASS);
+    refused((msg_change){.kind = MSG_REPLACES, .number = MADE + 2, .sel = ONE, .imp = 1}, MSG_NO_SUCH_CLASS);
+    refused((msg_change){.kind = MSG_REPLACES, .number = ROOT, .sel = ONE}, MSG_NO_SUCH_IMP);
+    refused((msg_change){.kind = MSG_REPLACES, .number = ROOT, .imp = 1}, MSG_NO_SELECTOR);
+    refused((msg_change){.kind = MSG_ADDS, .number = MADE + 1, .sel = NOBODYS, .imp = 1}, MSG_METHOD_PRESENT); /* by the list itself */
+    refused((msg_change){.kind = MSG_SETS_IMP, .number = ROOT, .sel = NOBODYS, .imp = 1}, MSG_NO_METHOD);
+    refused((msg_change){.kind = MSG_EXCHANGES, .number = ROOT, .sel = ONE, .other = ROOT, .other_sel = NOBODYS}, MSG_NO_METHOD);
+    refused((msg_change){.kind = MSG_MAKES_CLASS, .number = MADE + 1, .other = ROOT}, MSG_DUPLICATE_CLASS);
+    refused((msg_change){.kind = MSG_MAKES_CLASS, .number = MADE + 2, .other = MADE + 3}, MSG_NO_SUCH_CLASS);
+    refused((msg_change){.kind = 0}, MSG_BAD_PART);
+    refused((msg_change){.kind = MSG_MAKES_ROOT_CLASS + 1}, MSG_BAD_PART);
+    refused((msg_change){.kind = MSG_REPLACES, .number = ROOT, .meta = 2, .sel = ONE, .imp = 1}, MSG_BAD_PART);
+}
+
+int main(void)
+{
+    size_t place = 99;
+    WANT(msg_change_all(&runtime, &(msg_change){.kind = MSG_MAKES_ROOT_CLASS}, 1, &place), MSG_CLOSED);
+    WANT(place, 99);
+    WANT(msg_open(&runtime, &(msg_config){.classes = CLASSES}), MSG_DONE);
+    WANT(msg_sender_open(&runtime, &sender), MSG_DONE);
+    const msg_change first[] = {{.kind = MSG_MAKES_ROOT_CLASS, .number = ROOT}, {.kind = MSG_MAKES_CLASS, .number = CHILD, .other = ROOT}};
+    WANT(msg_change_all(&runtime, first, 2, &place), MSG_DONE);
+    made();
+    all_refused();
+    WANT(msg_make_class(&runtime, MADE + 1, ROOT), MSG_DONE);
+    WANT(look(MADE + 1, false, ONE), 24);
+    printf("lists: %d wrong\n", wrong);
+    return wrong != 0;
+}
