@@ -105,7 +105,7 @@ enum {
     MSG_NONE = 70,              /* there is none: no superclass, no method */
     MSG_MISSED = 71,            /* of msg_probe: not cached. Ask msg_fill under the lock */
     MSG_BAD_CONFIG = 73,        /* of msg_open: beyond the most that is said beside a field, or a field that the library doesn't know */
-    MSG_BAD_PART = 75,          /* of msg_change_all: a part of a kind that the library doesn't know, or whose meta isn't 0 or 1 */
+    MSG_BAD_CHANGE = 75,        /* of msg_change_all: a part of a kind that the library doesn't know, or whose meta isn't 0 or 1 */
     MSG_LOCK_HELD = 74          /* of msg_process.h alone: the calling thread has the runtime lock already, as where a handler of a signal interrupted it there */
 };
 
@@ -225,7 +225,7 @@ static inline const char *msg_fault_text(uint32_t fault)
     case MSG_NONE: return "there is none";
     case MSG_MISSED: return "not cached";
     case MSG_BAD_CONFIG: return "the config asks for too much";
-    case MSG_BAD_PART: return "no such kind of change";
+    case MSG_BAD_CHANGE: return "no such kind of change";
     case MSG_LOCK_HELD: return "the thread has the lock already";
     default: return "unknown fault";
     }

@@ -200,12 +200,12 @@ static uint32_t make(struct tables *tables, struct log *log, const msg_change *i
 
 static uint32_t change(struct tables *tables, struct log *log, const msg_change *it, bool full)
 {
-    if (it->meta > 1 || it->other_meta > 1) return MSG_BAD_PART;
+    if (it->meta > 1 || it->other_meta > 1) return MSG_BAD_CHANGE;
     switch (it->kind) {
     case MSG_ADDS: case MSG_REPLACES: case MSG_SETS_IMP: return write(tables, log, it, full);
     case MSG_EXCHANGES: return exchange(tables, log, it, full);
     case MSG_MAKES_CLASS: case MSG_MAKES_ROOT_CLASS: return make(tables, log, it, full);
-    default: return MSG_BAD_PART;
+    default: return MSG_BAD_CHANGE;
     }
 }
 

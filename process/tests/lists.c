@@ -91,9 +91,9 @@ static void all_refused(void)
     refused((msg_change){.kind = MSG_EXCHANGES, .number = ROOT, .sel = ONE, .other = ROOT, .other_sel = NOBODYS}, MSG_NO_METHOD);
     refused((msg_change){.kind = MSG_MAKES_CLASS, .number = MADE + 1, .other = ROOT}, MSG_DUPLICATE_CLASS);
     refused((msg_change){.kind = MSG_MAKES_CLASS, .number = MADE + 2, .other = MADE + 3}, MSG_NO_SUCH_CLASS);
-    refused((msg_change){.kind = 0}, MSG_BAD_PART);
-    refused((msg_change){.kind = MSG_MAKES_ROOT_CLASS + 1}, MSG_BAD_PART);
-    refused((msg_change){.kind = MSG_REPLACES, .number = ROOT, .meta = 2, .sel = ONE, .imp = 1}, MSG_BAD_PART);
+    refused((msg_change){.kind = 0}, MSG_BAD_CHANGE);
+    refused((msg_change){.kind = MSG_MAKES_ROOT_CLASS + 1}, MSG_BAD_CHANGE);
+    refused((msg_change){.kind = MSG_REPLACES, .number = ROOT, .meta = 2, .sel = ONE, .imp = 1}, MSG_BAD_CHANGE);
 }
 
 int main(void)

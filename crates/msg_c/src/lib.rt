@@ -10,6 +10,7 @@ mod changing;
 #[cfg(test)]
 mod config_tests;
 mod crossing;
+mod listing;
 #[cfg(test)]
 mod memory_tests;
 mod opening;

@@ -1,6 +1,6 @@
 //! Lists of changes in numbers.
 
-ghost use Rattle.std.specs.Prelude.{◌≡◌, ◌≢◌, ◌<◌, ◌⊎◌, IfOk, IfErr};
+ghost use Rattle.std.specs.Prelude.{◌≡◌, ◌≢◌, ◌<◌, ◌⊎◌, IfOk, IfErr, length};
 ghost use Rattle.msg_tables.specs.declared.change.Change.{Change};
 ghost use Rattle.msg_host.specs.Asking.{want_of_memory};
 ghost use Rattle.msg_host.specs.Listing.{AreMeant, IsBadRow, IsRefusedRow, MakesRows, both, change_in, change_of, method_in, ref_in, selector_in};
@@ -122,6 +122,7 @@ fn changes_of(alloc: Global, rows: &[ChangeRow]) -> Result<Vec<Change>, BadRow>
     ensures ok { IfOk result (λ changes. AreMeant rows.now changes.items) }
     ensures err { IfErr result (λ r. r.number ≢ want_of_memory → IsBadRow rows.now r.place r.number) }
     ensures fault { IfErr result (λ r. r.number ≢ 0) }
+    ensures place { IfErr result (λ r. r.place < length rows.now) }
 {
     let mut changes = Vec::new(alloc);
     for (place, row) in rows.iter().enumerate() {
@@ -151,6 +152,8 @@ impl HostedRuntime {
         ensures arena { self.new.arena ≡ self.old.arena }
         ensures made { result ≡ 0 → MakesRows rows.now self.old.history self.new.history }
         ensures left { result ≢ 0 → self.new ≡ self.old }
+        ensures place { result ≢ 0 → place.new < length rows.now }
+        ensures kept { result ≡ 0 → place.new ≡ place.old }
         ensures fault { result ≢ 0 → result ≢ want_of_memory → IsBadRow rows.now place.new result ⊎ IsRefusedRow rows.now self.old.history place.new result }
     {
         let changes = match changes_of(alloc, rows) {
