@@ -139,7 +139,8 @@ uint32_t msg_attach(msg_runtime *runtime, uint32_t number, const msg_method *met
 uint32_t msg_make_class(msg_runtime *runtime, uint32_t number, uint32_t superclass);
 uint32_t msg_make_root_class(msg_runtime *runtime, uint32_t number);
 /* Several as one change: a lookup, by whatever sender, answers from before all of them or after all, and the count of changes is one more. It is refused as a whole, as the first
- * part is that would be refused if those before it were made; that part's place is written, from 0. Then, and where memory is wanting, nothing has changed. Of no parts it is made. */
+ * part is that would be refused if those before it were made; that part's place is written, from 0. A part that means no change (67, 75) is found before any is made. Then, and where
+ * memory is wanting, nothing has changed. Of no parts nothing is made, and the count stays. */
 uint32_t msg_change_all(msg_runtime *runtime, const msg_change *changes, size_t count, size_t *place);
 
 /* A sender of the runtime, for one thread: it has seen all changes made so far. It may be closed after its runtime was. */

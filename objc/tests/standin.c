@@ -198,14 +198,22 @@ static uint32_t make(struct tables *tables, struct log *log, const msg_change *i
     return MSG_DONE;
 }
 
+static uint32_t meaning(const msg_change *it)
+{
+    switch (it->kind) {
+    case MSG_ADDS: case MSG_REPLACES: case MSG_SETS_IMP: return it->meta > 1 ? MSG_BAD_CHANGE : it->sel ? MSG_DONE : MSG_NO_SELECTOR;
+    case MSG_EXCHANGES: return it->meta > 1 || it->other_meta > 1 ? MSG_BAD_CHANGE : it->sel && it->other_sel ? MSG_DONE : MSG_NO_SELECTOR;
+    case MSG_MAKES_CLASS: case MSG_MAKES_ROOT_CLASS: return MSG_DONE;
+    default: return MSG_BAD_CHANGE;
+    }
+}
+
 static uint32_t change(struct tables *tables, struct log *log, const msg_change *it, bool full)
 {
-    if (it->meta > 1 || it->other_meta > 1) return MSG_BAD_CHANGE;
     switch (it->kind) {
     case MSG_ADDS: case MSG_REPLACES: case MSG_SETS_IMP: return write(tables, log, it, full);
     case MSG_EXCHANGES: return exchange(tables, log, it, full);
-    case MSG_MAKES_CLASS: case MSG_MAKES_ROOT_CLASS: return make(tables, log, it, full);
-    default: return MSG_BAD_CHANGE;
+    default: return make(tables, log, it, full);
     }
 }
 
@@ -231,9 +239,13 @@ uint32_t msg_change_all(msg_runtime *runtime, const msg_change *changes, size_t 
 {
     if (!runtime->open) return MSG_CLOSED;
     struct tables *tables = runtime->at;
-    struct log log = {zeros(2 * count + 1, sizeof *log.rows), 0};
-    uint32_t fault = !count && tables->version == CHANGES ? MSG_LIMIT : MSG_DONE;
+    uint32_t fault = MSG_DONE;
     size_t at = 0;
+    while (at < count && !(fault = meaning(&changes[at]))) at++;
+    if (fault) *place = at;
+    if (fault || !count) return fault;
+    struct log log = {zeros(2 * count + 1, sizeof *log.rows), 0};
+    at = 0;
     while (at < count && !(fault = change(tables, &log, &changes[at], tables->version + at >= CHANGES))) at++;
     if (fault) {
         *place = at;

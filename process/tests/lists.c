@@ -53,11 +53,11 @@ static void made(void)
     WANT(look(ROOT, true, TWO), 21);
     WANT(look(MADE, true, TWO), 21);
     WANT(look(CHILD, false, ONE), 24);
-    WANT(msg_change_all(&runtime, parts, 0, &place), MSG_DONE);
-    WANT(changes(), before + 2);
+    WANT(msg_change_all(&runtime, parts, 0, &place), MSG_DONE); /* of none: nothing is made */
+    WANT(changes(), before + 1);
 }
 
-/* Behind a made class, two replaced methods and an added one. */
+/* Behind a made class, two replaced methods and an added one, and before one that would be refused. */
 static void refused(msg_change last, uint32_t fault)
 {
     const msg_change parts[] = {
@@ -66,7 +66,7 @@ static void refused(msg_change last, uint32_t fault)
         {.kind = MSG_REPLACES, .number = ROOT, .sel = ONE, .imp = 32},
         {.kind = MSG_ADDS, .number = MADE + 1, .sel = NOBODYS, .imp = 33},
         last,
-        {.kind = 99}, /* comes later */
+        {.kind = MSG_REPLACES, .number = CLASSES, .sel = ONE, .imp = 1}, /* would be refused too */
     };
     size_t place = 99;
     uint64_t before = changes();
