@@ -5,7 +5,7 @@ use Rattle.std.proofs.lemmas.List.{drop-map, take_all}
 use Rattle.std.proofs.lemmas.Slice.Eq.{bytes_eq-Decides}
 use Rattle.serde_json.specs.Data.{Data}
 use Rattle.serde_json.specs.Find.{as_str}
-use Rattle.json.specs.declared.value.Value.{Value}
+use Rattle.msg_json.specs.declared.tree.Tree.{Tree}
 use Rattle.msg_json.specs.View.{view}
 use Rattle.msg_form.specs.Expression.{Constant}
 use Rattle.msg_form.specs.ExprShape.{constant_of}
@@ -37,7 +37,7 @@ unfolding worded_change_of
 attach_is word ds e = rw ((bytes_eq-Decides word (codes "attach")).0 e) refl
 
 -- where the receiver and the selector of a send were read, what is left to read decides
-pub send_item_left : {L : Type 0} (d : Data) (vs : List (Value L)) (v : Value L) (receiver : Constant) (selector : Text) → Some (map view vs) ≡ list_at d → 2 ≤ length vs → v ≡ get_or vs 0 v → Some receiver ≡ constant_of (view v) → Some selector ≡ value_of as_str 1 (map view vs)
+pub send_item_left : (d : Data) (vs : List Tree) (v : Tree) (receiver : Constant) (selector : Text) → Some (map view vs) ≡ list_at d → 2 ≤ length vs → v ≡ get_or vs 0 v → Some receiver ≡ constant_of (view v) → Some selector ≡ value_of as_str 1 (map view vs)
     → send_item_of d ≡ (each constant_of (map view (take (length vs - 2) (drop 2 vs))) >>= λ args. Some (send_item receiver selector args))
 unfolding send_item_of
 send_item_left d vs v receiver selector listed two there is selected =

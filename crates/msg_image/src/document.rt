@@ -25,7 +25,7 @@ use std::alloc::{AllocError, Global};
 pub const MOST_BYTES: usize = 16_777_216;
 
 // So many bytes for each of a text hold the trees of most texts.
-const TREE_BYTES: usize = 16;
+const TREE_BYTES: usize = 4;
 
 /// An image, and what is to be sent and changed.
 #[derive(Drop)]
@@ -35,6 +35,7 @@ pub struct Document {
 }
 
 fn parsed<'t, 'b>(
+    alloc: Global,
     bump: &'b Bump,
     bytes: &'t [u8],
     scratch: &'t mut Scratch,
@@ -42,7 +43,7 @@ fn parsed<'t, 'b>(
     ensures ok { IfOk result (λ v. IsJson bytes.now (Some (view v))) }
     ensures err { IfErr result (λ e. e ≢ DocumentFault.Memory → (e ≡ DocumentFault.NotJson) × IsJson bytes.now None) }
 {
-    match msg_json::read(bump, bytes, scratch) {
+    match msg_json::read(alloc, bump, bytes, scratch) {
         Ok(value) => Ok(value),
         Err(JsonFault::Memory) => Err(DocumentFault::Memory),
         Err(JsonFault::NotJson) => Err(DocumentFault::NotJson),
@@ -91,7 +92,7 @@ pub fn judge_form(alloc: Global, form: &Form) -> Result<Document, DocumentFault>
     document
 }
 
-// Room for the tree of most texts, taken at once: then the list that grows last grows in place. Where so much can't be had, the arena begins small.
+// Room for the tree of most texts, taken at once. Where so much can't be had, the arena begins small.
 fn arena(alloc: Global, bytes: &[u8]) -> Bump {
     match Bump::try_with_capacity(alloc, bytes.len().saturating_mul(TREE_BYTES)) {
         Ok(bump) => bump,
@@ -109,7 +110,7 @@ fn spelled<'t>(
     ensures err { IfErr result (λ e. e ≢ DocumentFault.Memory → IsJudged bytes.now (Err e)) }
 {
     let bump = arena(alloc, bytes);
-    let value = parsed(&bump, bytes, scratch)?;
+    let value = parsed(alloc, &bump, bytes, scratch)?;
     Ok(Form::read(alloc, &value)?)
 }
 

@@ -13,7 +13,7 @@ use super::FromValue;
 use super::values::{name_in, text_in};
 use crate::faults::ReadFault;
 use crate::form::{BinaryExpr, Constant, Expr, IfExpr, Operator, SendExpr, SuperExpr};
-use msg_json::{Tree, Value, whole};
+use msg_json::{Tree, whole};
 use std::alloc::Global;
 
 impl<'v> FromValue<'v> for Constant<'v> {
@@ -33,9 +33,9 @@ pub(super) fn constant<'v>(value: &Tree<'v, '_>) -> Option<Constant<'v>>
     ensures { option_map constant_view result ≡ spec.constant_of (view value.now) }
 {
     match value {
-        Value::Null => Some(Constant::Nil),
-        Value::Number(_) => Some(Constant::Whole(whole(value)?)),
-        Value::Array(values) => listed_constant(values),
+        Tree::Null => Some(Constant::Nil),
+        Tree::Number(_) => Some(Constant::Whole(whole(value)?)),
+        Tree::Array(values) => listed_constant(values),
         _ => None,
     }
 }
@@ -107,7 +107,7 @@ fn expr<'v>(alloc: Global, value: &Tree<'v, '_>) -> Result<Expr<'v>, ReadFault>
     ensures { Gives expr_view result (expression_of (view value.now)) }
 {
     match value {
-        Value::Array(values) => listed(alloc, values),
+        Tree::Array(values) => listed(alloc, values),
         _ => match constant(value) {
             Some(constant) => Ok(Expr::Const(constant)),
             None => Err(ReadFault::Shape),

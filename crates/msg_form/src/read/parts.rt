@@ -15,7 +15,7 @@ use super::values::{list, name, name_at, name_in, text_in, truth};
 use super::{FromValue, list_at};
 use crate::faults::ReadFault;
 use crate::form::{Category, Change, Class, Expr, Form, Imp, Item, Object, Pair, is_second};
-use msg_json::{Tree, Value, get, has_keys, whole};
+use msg_json::{Tree, get, has_keys, whole};
 use std::alloc::Global;
 
 #[tactic(auto, unfolding(crate::specs::Shape::pair_form_of))]
@@ -49,8 +49,8 @@ pub(super) fn superclass<'v>(value: &Tree<'v, '_>) -> Option<Option<&'v str>>
     ensures { option_map (λ o. option_map (λ s. s.now) o) result ≡ spec.superclass_of (view value.now) }
 {
     match value {
-        Value::Null => Some(None),
-        Value::String(_) => Some(Some(name(value)?)),
+        Tree::Null => Some(None),
+        Tree::Text(_) => Some(Some(name(value)?)),
         _ => None,
     }
 }

@@ -10,7 +10,7 @@ use Rattle.msg_form.proofs.ReadLemmas.{gives_beside, fails_on}
 use Rattle.msg_form.proofs.read.expr.+expr.Goals as goal
 
 pub expr-returns-in-Array : goal.expr-returns-in-Array
-expr-returns-in-Array t c = rw (expression_of-array c.args.value.now c.in-Array.values c.in-Array.is, ← c.deref.ensures.value) c.listed.ensures
+expr-returns-in-Array t c = rw (expression_of-array c.args.value.now c.in-Array.values c.in-Array.is) c.listed.ensures
 
 pub exprs-loop-value-init : goal.exprs-loop-value-init
 exprs-loop-value-init t c = exprs_start c.new-exprs.result.items c.args.values.now c.args.from c.new-exprs.ensures.items c.requires
