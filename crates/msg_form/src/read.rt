@@ -72,7 +72,7 @@ fn list_in<'v, T: FromValue<'v>>(
 fn each<'v, T: FromValue<'v>>(alloc: Global, values: &[Tree<'v, '_>]) -> Result<Vec<T>, ReadFault>
     ensures { Gives (λ v. map T.plain v.items) result (each T.spelled (map view values.now)) }
 {
-    let mut parts = Vec::new(alloc);
+    let mut parts = Vec::with_capacity(alloc, values.len())?;
     for value in values {
         parts.push(T::from_value(alloc, value)?)?;
     }

@@ -240,7 +240,7 @@ fn exprs<'v>(
     requires { from ≤ length values.now }
     ensures { Gives (λ v. map expr_view v.items) result (spec.all_from from (readings values.now)) }
 {
-    let mut exprs = Vec::new(alloc);
+    let mut exprs = Vec::with_capacity(alloc, values.len() - from)?;
     for value in &values[from..] {
         exprs.push(expr(alloc, value)?)?;
     }

@@ -13,7 +13,7 @@ pub expr-returns-in-Array : goal.expr-returns-in-Array
 expr-returns-in-Array t c = rw (expression_of-array c.args.value.now c.in-Array.values c.in-Array.is) c.listed.ensures
 
 pub exprs-loop-value-init : goal.exprs-loop-value-init
-exprs-loop-value-init t c = exprs_start c.new-exprs.result.items c.args.values.now c.args.from c.new-exprs.ensures.items c.requires
+exprs-loop-value-init t c = exprs_start c.in_ok-exprs.exprs.items c.args.values.now c.args.from c.in_ok-exprs.ensures.items c.requires
 
 pub exprs-loop-value-preserved : goal.exprs-loop-value-preserved
 exprs-loop-value-preserved t c =
@@ -70,7 +70,7 @@ super_send-returns-in_err-new t c =
 
 pub exprs-returns-in_err-expr : goal.exprs-returns-in_err-expr
 exprs-returns-in_err-expr t c =
-    let e = err_from_is_err_and c.from_residual.result c.from_residual.ensures.1 in
+    let e = err_from_is_err_and c.from_residual-in_err-expr.result c.from_residual-in_err-expr.ensures.1 in
     rw (e.1, e.2)
     (each_fails expr_view expression_of (take (length c.args.values.now - c.args.from) (drop c.args.from c.args.values.now)) c.loop-value.value-index c.value-item.result c.loop-value.exprs.items (all_from c.args.from (map expression_of (map view c.args.values.now))) c.in_err-expr.field-0.0 c.loop-value-test.true c.value-item.is c.in_err-expr.ensures c.loop-value.invariant)
 
