@@ -100,18 +100,19 @@ fn arena(alloc: Global, bytes: &[u8]) -> Bump {
     }
 }
 
-// The form that a text spells. Its tree lies in a bump arena, and neither is kept beside what is made of the form.
+// The form that a text spells, with its expressions in the arena. Its tree lies in an arena of its own, and neither is kept beside what is made of the form.
 fn spelled<'t>(
     alloc: Global,
+    bump: &'t Bump,
     bytes: &'t [u8],
     scratch: &'t mut Scratch,
 ) -> Result<Form<'t>, DocumentFault>
     ensures ok { IfOk result (λ f. Spells bytes.now (form_view f)) }
     ensures err { IfErr result (λ e. e ≢ DocumentFault.Memory → IsJudged bytes.now (Err e)) }
 {
-    let bump = arena(alloc, bytes);
-    let value = parsed(alloc, &bump, bytes, scratch)?;
-    Ok(Form::read(alloc, &value)?)
+    let trees = arena(alloc, bytes);
+    let value = parsed(alloc, &trees, bytes, scratch)?;
+    Ok(Form::read(alloc, bump, &value)?)
 }
 
 /// Reads a document: the image and the items that the bytes spell, or the first fault in the order of [`DocumentFault`].
@@ -128,7 +129,8 @@ pub fn read_document(alloc: Global, bytes: &[u8]) -> Result<Document, DocumentFa
         return Err(DocumentFault::Limit);
     }
     let mut scratch = Scratch::new(alloc);
-    let form = spelled(alloc, bytes, &mut scratch)?;
+    let bump = Bump::new(alloc);
+    let form = spelled(alloc, &bump, bytes, &mut scratch)?;
     judge_form(alloc, &form)
 }
 

@@ -31,7 +31,8 @@ const WALK: [&str; 20] = [
 ];
 
 fn walk_is(rt: &impl Abort, alloc: Global, value: &Tree, want: &[&str]) {
-    let form = Form::read(alloc, value).expect(rt, "a form");
+    let bump = Bump::new(alloc);
+    let form = Form::read(alloc, &bump, value).expect(rt, "a form");
     let texts = form.selector_texts(alloc).expect(rt, "memory");
     same(rt, texts.as_slice(), want);
 }
