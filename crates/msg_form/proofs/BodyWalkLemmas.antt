@@ -1,5 +1,5 @@
 -- The texts that a walk over a body pushes, step by step.
-use Rattle.std.proofs.Common.{◌≡◌, ℕ, suc, ◌+◌, ◌<◌, ◌≤◌, List, [], ◌∷◌, ◌++◌, length, map, drop, get_or, Box, Global, ◌⊎◌, inl, inr, sym, ap, ◌∙◌, append_assoc, append-nil, drop-cons, add-one, rules}
+use Rattle.std.proofs.Common.{◌≡◌, ℕ, suc, ◌+◌, ◌<◌, ◌≤◌, List, [], ◌∷◌, ◌++◌, length, map, drop, get_or, Bor, ◌⊎◌, inl, inr, sym, ap, ◌∙◌, append_assoc, append-nil, drop-cons, add-one, rules}
 use Rattle.std.proofs.lemmas.List.{drop_all}
 use Rattle.msg_form.specs.Expression.{constant, me, arg, binary, choice, send, super_send, expressions}
 use Rattle.msg_form.specs.ExprView.{constant_view, expr_view}
@@ -22,30 +22,30 @@ texts-leaf : (x : Expr) → (x ≡ Me) ⊎ ((k : ℕ) × (x ≡ Arg k)) → text
 texts-leaf x (inl at) = let seen : expr_view x ≡ me = ap expr_view at ∙ search (rules, the_lemmas) in ap texts_in seen
 texts-leaf x (inr k) = let seen : expr_view x ≡ arg k.0 = ap expr_view k.1 ∙ search (rules, the_lemmas) in ap texts_in seen
 
-pub texts-Binary : (x : Expr) (b : Box BinaryExpr Global) → x ≡ Binary b → texts_in (expr_view x) ≡ texts_in (expr_view (out-BinaryExpr b.value).left) ++ texts_in (expr_view (out-BinaryExpr b.value).right)
+pub texts-Binary : (x : Expr) (b : Bor BinaryExpr) → x ≡ Binary b → texts_in (expr_view x) ≡ texts_in (expr_view (out-BinaryExpr b.now).left) ++ texts_in (expr_view (out-BinaryExpr b.now).right)
 texts-Binary x b at =
-    let fields = out-BinaryExpr b.value in
+    let fields = out-BinaryExpr b.now in
     let seen : expr_view x ≡ binary fields.operator (expr_view fields.left) (expr_view fields.right) = ap expr_view at ∙ search (rules, the_lemmas) in
     ap texts_in seen
 
-pub texts-If : (x : Expr) (b : Box IfExpr Global) → x ≡ If b
-    → texts_in (expr_view x) ≡ texts_in (expr_view (out-IfExpr b.value).condition) ++ (texts_in (expr_view (out-IfExpr b.value).then) ++ texts_in (expr_view (out-IfExpr b.value).otherwise))
+pub texts-If : (x : Expr) (b : Bor IfExpr) → x ≡ If b
+    → texts_in (expr_view x) ≡ texts_in (expr_view (out-IfExpr b.now).condition) ++ (texts_in (expr_view (out-IfExpr b.now).then) ++ texts_in (expr_view (out-IfExpr b.now).otherwise))
 texts-If x b at =
-    let fields = out-IfExpr b.value in
+    let fields = out-IfExpr b.now in
     let seen : expr_view x ≡ choice (expr_view fields.condition) (expr_view fields.then) (expr_view fields.otherwise) = ap expr_view at ∙ search (rules, the_lemmas) in
     ap texts_in seen
 
-pub texts-Send : (x : Expr) (b : Box SendExpr Global) → x ≡ Send b
-    → texts_in (expr_view x) ≡ texts_in (expr_view (out-SendExpr b.value).receiver) ++ ((out-SendExpr b.value).selector.now ∷ all_texts_in (expressions (map expr_view (out-SendExpr b.value).args.items)))
+pub texts-Send : (x : Expr) (b : Bor SendExpr) → x ≡ Send b
+    → texts_in (expr_view x) ≡ texts_in (expr_view (out-SendExpr b.now).receiver) ++ ((out-SendExpr b.now).selector.now ∷ all_texts_in (expressions (map expr_view (out-SendExpr b.now).args.now)))
 texts-Send x b at =
-    let fields = out-SendExpr b.value in
-    let seen : expr_view x ≡ send (expr_view fields.receiver) fields.selector.now (expressions (map expr_view fields.args.items)) = ap expr_view at ∙ search (rules, the_lemmas) in
+    let fields = out-SendExpr b.now in
+    let seen : expr_view x ≡ send (expr_view fields.receiver) fields.selector.now (expressions (map expr_view fields.args.now)) = ap expr_view at ∙ search (rules, the_lemmas) in
     ap texts_in seen
 
-pub texts-Super : (x : Expr) (b : Box SuperExpr Global) → x ≡ Super b → texts_in (expr_view x) ≡ (out-SuperExpr b.value).selector.now ∷ all_texts_in (expressions (map expr_view (out-SuperExpr b.value).args.items))
+pub texts-Super : (x : Expr) (b : Bor SuperExpr) → x ≡ Super b → texts_in (expr_view x) ≡ (out-SuperExpr b.now).selector.now ∷ all_texts_in (expressions (map expr_view (out-SuperExpr b.now).args.now))
 texts-Super x b at =
-    let fields = out-SuperExpr b.value in
-    let seen : expr_view x ≡ super_send fields.selector.now (expressions (map expr_view fields.args.items)) = ap expr_view at ∙ search (rules, the_lemmas) in
+    let fields = out-SuperExpr b.now in
+    let seen : expr_view x ≡ super_send fields.selector.now (expressions (map expr_view fields.args.now)) = ap expr_view at ∙ search (rules, the_lemmas) in
     ap texts_in seen
 
 -- ---- pushes

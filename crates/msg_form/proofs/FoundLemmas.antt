@@ -1,11 +1,10 @@
 -- What a walk over a body finds.
-use Rattle.std.proofs.Common.{◌≡◌, ℕ, suc, ◌-◌, Bool, true, false, not, ◌||◌, ◌&&◌, List, [], ◌∷◌, ◌++◌, length, map, Box, Global, vec_len, refl, sym, ap, ◌∙◌, arith, rules}
+use Rattle.std.proofs.Common.{◌≡◌, ℕ, suc, ◌-◌, Bool, true, false, ◌||◌, ◌&&◌, List, [], ◌∷◌, ◌++◌, length, map, Bor, refl, sym, ap, ◌∙◌, arith, rules}
 use Rattle.std.specs.Prelude.{◌==◌, fold, max, nat_le, nat_lt}
 use Rattle.std.specs.List.{flat_map, list_any}
 use Rattle.std.proofs.lemmas.Bool.Decides.{nat_tests}
 use Rattle.std.proofs.lemmas.List.{length-map, map-append}
 use Rattle.std.proofs.lemmas.List.Folds.{list_any-append}
-use Rattle.msg_names.specs.Name.{colons_of}
 use Rattle.msg_form.specs.BodyWalk.{parts_at, all_parts_at, entered, with_own, with_part}
 use Rattle.msg_form.specs.Expression.{whole, nil, object_named, class_named, selector_named, Expression, Expressions, constant, me, arg, binary, choice, send, super_send, no_more, more, expressions, count_of}
 use Rattle.msg_form.specs.ExprView.{expr_view}
@@ -215,26 +214,26 @@ module _ (above : Bool) (classes objects : List Text) (args : ℕ) where
       shuffle false false false x y = refl
 
   -- a send is noted
-  pub note_send : (x : Expr) (s : Box SendExpr Global) (a b : SendExpr) (n : ℕ) (r : Bool) (f : BodyFaults) → x ≡ Send s → a ≡ s.value → b ≡ s.value → n ≡ vec_len (out-SendExpr b).args → r ≡ not (n == colons_of (out-SendExpr a).selector.now)
+  pub note_send : (x : Expr) (s : Bor SendExpr) (r : Bool) (f : BodyFaults) → x ≡ Send s → r ≡ is_miscounted_send ((out-SendExpr s.now).selector.now, length (out-SendExpr s.now).args.now)
       → record { sends_above = f.sends_above; unknown_class = f.unknown_class; unknown_object = f.unknown_object; argument_count = f.argument_count || r; argument_index = f.argument_index; too_deep = f.too_deep } ≡ with_own above classes objects args f (expr_view x)
-  note_send x s a b n r f is same_a same_b len e =
-      let fields = out-SendExpr s.value in
-      let es = expressions (map expr_view fields.args.items) in
+  note_send x s r f is e =
+      let fields = out-SendExpr s.now in
+      let es = expressions (map expr_view fields.args.now) in
       let seen : expr_view x ≡ send (expr_view fields.receiver) fields.selector.now es = ap expr_view is ∙ search (rules, the_lemmas) in
-      let count : n ≡ count_of es = len ∙ (out-SendExpr b).args.ok.0 ∙ ap (λ y. length (out-SendExpr y).args.items) same_b ∙ sym (counted fields.args.items) in
-      let wrong : r ≡ is_miscounted_send (fields.selector.now, count_of es) = e ∙ (λ i. not (count i == colons_of (out-SendExpr (same_a i)).selector.now)) in
+      let count : length fields.args.now ≡ count_of es = sym (counted fields.args.now) in
+      let wrong : r ≡ is_miscounted_send (fields.selector.now, count_of es) = e ∙ ap (λ n. is_miscounted_send (fields.selector.now, n)) count in
       (λ i. record { sends_above = f.sends_above; unknown_class = f.unknown_class; unknown_object = f.unknown_object; argument_count = f.argument_count || wrong i; argument_index = f.argument_index; too_deep = f.too_deep })
       ∙ sym (ap (with_own above classes objects args f) seen)
 
   -- and a super send
-  pub note_super : (x : Expr) (s : Box SuperExpr Global) (a b : SuperExpr) (n : ℕ) (r : Bool) (f : BodyFaults) → x ≡ Super s → a ≡ s.value → b ≡ s.value → n ≡ vec_len (out-SuperExpr b).args → r ≡ not (n == colons_of (out-SuperExpr a).selector.now)
+  pub note_super : (x : Expr) (s : Bor SuperExpr) (r : Bool) (f : BodyFaults) → x ≡ Super s → r ≡ is_miscounted_send ((out-SuperExpr s.now).selector.now, length (out-SuperExpr s.now).args.now)
       → record { sends_above = f.sends_above || above; unknown_class = f.unknown_class; unknown_object = f.unknown_object; argument_count = f.argument_count || r; argument_index = f.argument_index; too_deep = f.too_deep } ≡ with_own above classes objects args f (expr_view x)
-  note_super x s a b n r f is same_a same_b len e =
-      let fields = out-SuperExpr s.value in
-      let es = expressions (map expr_view fields.args.items) in
+  note_super x s r f is e =
+      let fields = out-SuperExpr s.now in
+      let es = expressions (map expr_view fields.args.now) in
       let seen : expr_view x ≡ super_send fields.selector.now es = ap expr_view is ∙ search (rules, the_lemmas) in
-      let count : n ≡ count_of es = len ∙ (out-SuperExpr b).args.ok.0 ∙ ap (λ y. length (out-SuperExpr y).args.items) same_b ∙ sym (counted fields.args.items) in
-      let wrong : r ≡ is_miscounted_send (fields.selector.now, count_of es) = e ∙ (λ i. not (count i == colons_of (out-SuperExpr (same_a i)).selector.now)) in
+      let count : length fields.args.now ≡ count_of es = sym (counted fields.args.now) in
+      let wrong : r ≡ is_miscounted_send (fields.selector.now, count_of es) = e ∙ ap (λ n. is_miscounted_send (fields.selector.now, n)) count in
       (λ i. record { sends_above = f.sends_above || above; unknown_class = f.unknown_class; unknown_object = f.unknown_object; argument_count = f.argument_count || wrong i; argument_index = f.argument_index; too_deep = f.too_deep })
       ∙ sym (ap (with_own above classes objects args f) seen)
 

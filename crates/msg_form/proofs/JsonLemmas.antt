@@ -2,20 +2,19 @@
 use Rattle.std.proofs.Common.{◌≡◌, ℕ, zero, suc, ◌+◌, ◌<◌, ◌≤◌, ◌==◌, true, eq-eqb, List, [], ◌∷◌, ◌++◌, map, drop, get_or, length, slice_get, Option, None, Some, option_map, refl, sym, ap, ◌∙◌, append_assoc, drop-cons, add-one, arith, append-nil}
 use Rattle.std.proofs.lemmas.List.{drop_all, length-map, map_push}
 use Rattle.serde_json.specs.Data.{Data}
-use Rattle.json.specs.Value.{items_view}
-use Rattle.json.specs.declared.value.Value.{Value}
-use Rattle.msg_json.specs.View.{view, items_data}
+use Rattle.msg_json.specs.declared.tree.Tree.{Tree}
+use Rattle.msg_json.specs.View.{view, items_view}
 use Rattle.msg_form.specs.Gives.{Fails}
 use Rattle.msg_form.specs.Json.{each, values_of}
 use Rattle.msg_form.specs.declared.faults.ReadFault.{ReadFault}
 use Rattle.msg_form.specs.declared.faults.ReadFault.TheVariants as faults
 
-pub values_of-items_view : {A : Type 0} (vs : List (Value A)) → values_of (items_data (items_view vs)) ≡ map view vs
+pub values_of-items_view : (vs : List Tree) → values_of (items_view vs) ≡ map view vs
 values_of-items_view [] = refl
 values_of-items_view (v ∷ vs) = ap (λ ds. view v ∷ ds) (values_of-items_view vs)
 
 -- the value at a place
-pub value_there : {A : Type 0} (vs : List (Value A)) (i : ℕ) (v : Value A) → i < length vs → v ≡ get_or vs i v → slice_get (map view vs) i ≡ Some (view v)
+pub value_there : (vs : List Tree) (i : ℕ) (v : Tree) → i < length vs → v ≡ get_or vs i v → slice_get (map view vs) i ≡ Some (view v)
 value_there [] i v lt at = absurd (omega arith)
 value_there (w ∷ vs) zero v lt at = ap (λ x. Some (view x)) (sym at)
 value_there (w ∷ vs) (suc i) v lt at = value_there vs i v (omega arith) at
@@ -33,7 +32,7 @@ regroup front x None = refl
 regroup front x (Some xs) = ap Some (sym (append_assoc front (x ∷ []) xs))
 
 -- a turn of a loop that reads each value by f, and pushes what it read
-pub each_on : {A B L : Type 0} (g : A → B) (f : Data → Option B) (vs : List (Value L)) (i : ℕ) (v : Value L) (old new : List A) (x : A) (whole : Option (List B)) → i < length vs → v ≡ get_or vs i v → f (view v) ≡ Some (g x) → new ≡ old ++ x ∷ []
+pub each_on : {A B : Type 0} (g : A → B) (f : Data → Option B) (vs : List Tree) (i : ℕ) (v : Tree) (old new : List A) (x : A) (whole : Option (List B)) → i < length vs → v ≡ get_or vs i v → f (view v) ≡ Some (g x) → new ≡ old ++ x ∷ []
     → with_front (map g old) (each f (map view (drop i vs))) ≡ whole → with_front (map g new) (each f (map view (drop (i + 1) vs))) ≡ whole
 each_on g f vs i v old new x whole lt at read pushed so_far =
     let left : drop i vs ≡ v ∷ drop (i + 1) vs = rw add-one (drop-cons vs i v lt ∙ ap (λ y. y ∷ drop (suc i) vs) (sym at)) in
@@ -42,11 +41,11 @@ each_on g f vs i v old new x whole lt at read pushed so_far =
     rw grown (sym here ∙ so_far)
 
 -- after the loop all values are read
-pub each_done : {A B L : Type 0} (g : A → B) (f : Data → Option B) (vs : List (Value L)) (i : ℕ) (read : List A) (whole : Option (List B)) → length vs ≤ i → with_front (map g read) (each f (map view (drop i vs))) ≡ whole → whole ≡ Some (map g read)
+pub each_done : {A B : Type 0} (g : A → B) (f : Data → Option B) (vs : List Tree) (i : ℕ) (read : List A) (whole : Option (List B)) → length vs ≤ i → with_front (map g read) (each f (map view (drop i vs))) ≡ whole → whole ≡ Some (map g read)
 each_done g f vs i read whole past so_far = sym so_far ∙ ap (λ ds. with_front (map g read) (each f (map view ds))) (drop_all i vs past) ∙ ap Some (append-nil (map g read))
 
 -- where one of the values is not read, they spell nothing
-pub each_fails : {A B L : Type 0} (g : A → B) (f : Data → Option B) (vs : List (Value L)) (i : ℕ) (v : Value L) (read : List A) (whole : Option (List B)) (e : ReadFault) → i < length vs → v ≡ get_or vs i v → Fails e (f (view v))
+pub each_fails : {A B : Type 0} (g : A → B) (f : Data → Option B) (vs : List Tree) (i : ℕ) (v : Tree) (read : List A) (whole : Option (List B)) (e : ReadFault) → i < length vs → v ≡ get_or vs i v → Fails e (f (view v))
     → with_front (map g read) (each f (map view (drop i vs))) ≡ whole → Fails e whole
 each_fails g f vs i v read whole faults.Memory lt at fails so_far = tt
 each_fails g f vs i v read whole faults.Shape lt at none so_far =
@@ -54,5 +53,5 @@ each_fails g f vs i v read whole faults.Shape lt at none so_far =
     sym so_far ∙ rw (left, none) refl
 
 -- there are so many values
-pub so_long : {A : Type 0} (vs : List (Value A)) (n : ℕ) → length vs ≡ n → (length (map view vs) == n) ≡ true
+pub so_long : (vs : List Tree) (n : ℕ) → length vs ≡ n → (length (map view vs) == n) ≡ true
 so_long vs n e = eq-eqb (length (map view vs)) n (length-map vs view ∙ e)

@@ -18,3 +18,4 @@ pub mod BodyLemmas
 pub mod LeastLemmas
 pub mod LimitLemmas
 pub mod FoundLemmas
+pub mod KeptLemmas

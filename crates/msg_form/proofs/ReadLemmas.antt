@@ -1,16 +1,15 @@
 -- Readings of values that stand beside others.
-use Rattle.std.proofs.Common.{◌≡◌, ◌-◌, ◌≤◌, List, true, map, take, drop, get_or, length, Option, Some, Result, Ok, Err, sym, ap, refl, ◌∙◌, subst, codes, bytes_eq, arith, length-drop}
-use Rattle.std.specs.Prelude.{IfOk, IfErr}
+use Rattle.std.proofs.Common.{◌≡◌, ◌-◌, ◌≤◌, List, true, map, take, drop, get_or, length, Option, Some, ap, refl, codes, bytes_eq, arith, length-drop}
 use Rattle.std.proofs.lemmas.List.{drop-map, take_all}
 use Rattle.std.proofs.lemmas.Slice.Eq.{bytes_eq-Decides}
 use Rattle.serde_json.specs.Data.{Data}
 use Rattle.serde_json.specs.Find.{as_str}
-use Rattle.json.specs.declared.value.Value.{Value}
+use Rattle.msg_json.specs.declared.tree.Tree.{Tree}
 use Rattle.msg_json.specs.View.{view}
 use Rattle.msg_form.specs.Expression.{Constant}
 use Rattle.msg_form.specs.ExprShape.{constant_of}
 use Rattle.msg_form.specs.Form.{send_item}
-use Rattle.msg_form.specs.Gives.{Fails, Gives}
+use Rattle.msg_form.specs.Gives.{Fails}
 use Rattle.msg_form.specs.Json.{◌>>=◌, each, list_at, value_of}
 use Rattle.msg_form.specs.Shape.{worded_change_of, attach_of, send_item_of}
 use Rattle.msg_form.specs.Text.{Text}
@@ -23,21 +22,13 @@ pub fails_on : {Y Z : Type 0} (e : ReadFault) (o : Option Y) (f : Y → Option Z
 fails_on faults.Memory o f fails = tt
 fails_on faults.Shape o f fails = ap (λ q. q >>= f) fails
 
--- a value, and one that was read after it
-pub gives_beside : {A B X Y : Type 0} (g : A → X) (h : B → Y) (a : A) (s : Result B ReadFault) (o : Option Y) (r : Result (A × B) ReadFault) → IfOk r (λ p. (p.0 ≡ a) × (s ≡ Ok p.1)) → IfErr r (λ e. s ≡ Err e) → Gives h s o
-    → Gives {Y = X × Y} (λ p. (g p.0, h p.1)) r (o >>= λ y. Some (g a, y))
-gives_beside g h a s o (Ok p) ok err gives =
-    let is : o ≡ Some (h p.1) = subst (λ q. Gives h q o) ok.1 gives in
-    ap (λ q. q >>= λ y. Some (g a, y)) is ∙ ap (λ x. Some (g x, h p.1)) (sym ok.0)
-gives_beside g h a s o (Err e) ok err gives = fails_on e o (λ y. Some (g a, y)) (subst (λ q. Gives h q o) err gives)
-
 -- a change with the word `attach` is a category
 pub attach_is : (word : Text) (ds : List Data) → bytes_eq word (codes "attach") ≡ true → worded_change_of word ds ≡ attach_of ds
 unfolding worded_change_of
 attach_is word ds e = rw ((bytes_eq-Decides word (codes "attach")).0 e) refl
 
 -- where the receiver and the selector of a send were read, what is left to read decides
-pub send_item_left : {L : Type 0} (d : Data) (vs : List (Value L)) (v : Value L) (receiver : Constant) (selector : Text) → Some (map view vs) ≡ list_at d → 2 ≤ length vs → v ≡ get_or vs 0 v → Some receiver ≡ constant_of (view v) → Some selector ≡ value_of as_str 1 (map view vs)
+pub send_item_left : (d : Data) (vs : List Tree) (v : Tree) (receiver : Constant) (selector : Text) → Some (map view vs) ≡ list_at d → 2 ≤ length vs → v ≡ get_or vs 0 v → Some receiver ≡ constant_of (view v) → Some selector ≡ value_of as_str 1 (map view vs)
     → send_item_of d ≡ (each constant_of (map view (take (length vs - 2) (drop 2 vs))) >>= λ args. Some (send_item receiver selector args))
 unfolding send_item_of
 send_item_left d vs v receiver selector listed two there is selected =

@@ -1,10 +1,10 @@
 -- Tests of the texts and lists of a form.
-use Rattle.std.proofs.Common.{◌≡◌, Bool, List, [], ◌∷◌, length, map, Bor, refl, sym, ap, ◌∙◌, length-append, arith}
+use Rattle.std.proofs.Common.{◌≡◌, List, [], ◌∷◌, length, map, Bor, refl, sym, ap, ◌∙◌, length-append, arith}
 use Rattle.std.specs.List.{flat_map, list_any}
 use Rattle.std.proofs.lemmas.List.{length-map}
 use Rattle.std.proofs.lemmas.Simd.{map-map}
 use Rattle.msg_form.specs.Form.{PairForm}
-use Rattle.msg_form.specs.Text.{Text, has_duplicate, texts_view}
+use Rattle.msg_form.specs.Text.{has_duplicate}
 use Rattle.msg_form.specs.Views.{pair_view, lists_view}
 use Rattle.msg_form.specs.Walk.{list_texts}
 use Rattle.msg_form.specs.declared.form.Pair.{Pair}

@@ -3,10 +3,9 @@ use Rattle.std.proofs.Common.{◌≡◌, ℕ, suc, ◌+◌, ◌<◌, ◌≤◌, 
 use Rattle.std.specs.Prelude.{fold}
 use Rattle.std.specs.List.{list_any}
 use Rattle.std.proofs.lemmas.List.Folds.{list_any-append}
-use Rattle.std.proofs.lemmas.Simd.{map-map}
 use Rattle.std.proofs.lemmas.Slice.Eq.{bytes_eq-Decides}
 use Rattle.msg_names.specs.Numbering.{with_name}
-use Rattle.msg_form.specs.Text.{repeats, Text, is_among, is_unknown, has_duplicate, distinct}
+use Rattle.msg_form.specs.Text.{repeats, Text, is_among, has_duplicate, distinct}
 
 pub or-false : (b : Bool) → (b || false) ≡ b
 or-false true = refl

@@ -1,5 +1,5 @@
 -- The texts of a walk, part after part.
-use Rattle.std.proofs.Common.{◌≡◌, List, [], ◌∷◌, ◌++◌, Bor, Vec, Global, ap, ◌∙◌, append_assoc}
+use Rattle.std.proofs.Common.{◌≡◌, List, [], ◌∷◌, ◌++◌, Bor, ap, ◌∙◌, append_assoc}
 use Rattle.std.specs.List.{flat_map}
 use Rattle.std.proofs.lemmas.List.Folds.{flat_map-map}
 use Rattle.msg_form.specs.ExprView.{constant_view}
@@ -13,11 +13,11 @@ use Rattle.msg_form.specs.declared.form.Item.{Item}
 use Rattle.msg_form.specs.declared.form.Item.TheVariants.{Send}
 
 -- after a send's receiver and its selector come the selectors in its arguments
-pub send_pushed : (item : Item) (receiver : Constant) (selector : Bor Text) (args : Vec Constant Global) (before mid after : List Text) → item ≡ Send receiver selector args → mid ≡ before ++ own_selector (constant_view receiver) → after ≡ mid ++ selector.now ∷ []
-    → before ++ item_texts (item_view item) ≡ after ++ flat_map (λ c. own_selector (constant_view c)) args.items
+pub send_pushed : (item : Item) (receiver : Constant) (selector : Bor Text) (args : Bor (List Constant)) (before mid after : List Text) → item ≡ Send receiver selector args → mid ≡ before ++ own_selector (constant_view receiver) → after ≡ mid ++ selector.now ∷ []
+    → before ++ item_texts (item_view item) ≡ after ++ flat_map (λ c. own_selector (constant_view c)) args.now
 send_pushed item receiver selector args before mid after is first second =
     let pushed : after ≡ before ++ own_selector (constant_view receiver) ++ selector.now ∷ [] = second ∙ ap (λ ts. ts ++ selector.now ∷ []) first in
-    rw (is, pushed, flat_map-map own_selector constant_view args.items) (simp append_assoc)
+    rw (is, pushed, flat_map-map own_selector constant_view args.now) (simp append_assoc)
 
 -- the parts of a form, one kind after the other
 pub form_pushed : (f : Form) (old t₀ t₁ t₂ t₃ t₄ : List Text) → t₀ ≡ old ++ forwarding_text ∷ [] → t₁ ≡ t₀ ++ flat_map (λ c. class_texts (class_view c)) f.classes.items → t₂ ≡ t₁ ++ flat_map (λ c. category_texts (category_view c)) f.categories.items

@@ -21,10 +21,10 @@ abbrev pub expr_step : Expr-F Expression Expression Expression Expression Expres
 expr_step (Expr-F.Const c) = plain.constant (constant_view c)
 expr_step Expr-F.Me = plain.me
 expr_step (Expr-F.Arg k) = plain.arg k
-expr_step (Expr-F.Binary b) = b.value
-expr_step (Expr-F.If c) = c.value
-expr_step (Expr-F.Send s) = s.value
-expr_step (Expr-F.Super s) = s.value
+expr_step (Expr-F.Binary b) = b.now
+expr_step (Expr-F.If c) = c.now
+expr_step (Expr-F.Send s) = s.now
+expr_step (Expr-F.Super s) = s.now
 
 abbrev pub binary_step : BinaryExpr-F Expression Expression Expression Expression Expression → Expression
 binary_step b = plain.binary b.operator b.left b.right
@@ -33,10 +33,10 @@ abbrev pub if_step : IfExpr-F Expression Expression Expression Expression Expres
 if_step c = plain.choice c.condition c.then c.otherwise
 
 abbrev pub send_step : SendExpr-F Expression Expression Expression Expression Expression → Expression
-send_step s = plain.send s.receiver s.selector.now (expressions s.args.items)
+send_step s = plain.send s.receiver s.selector.now (expressions s.args.now)
 
 abbrev pub super_step : SuperExpr-F Expression Expression Expression Expression Expression → Expression
-super_step s = plain.super_send s.selector.now (expressions s.args.items)
+super_step s = plain.super_send s.selector.now (expressions s.args.now)
 
 -- ---- the whole
 

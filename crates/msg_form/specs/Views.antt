@@ -64,7 +64,7 @@ change_view (Make c s) = plain.make c.now (option_map (λ n. n.now) s)
 
 -- an item without its pointers
 abbrev pub item_view : Item → ItemForm
-item_view (items.Send r s args) = plain.send_item (constant_view r) s.now (map constant_view args.items)
+item_view (items.Send r s args) = plain.send_item (constant_view r) s.now (map constant_view args.now)
 item_view (items.Change c) = plain.change_item (change_view c)
 
 abbrev pub items_view : List Item → List ItemForm

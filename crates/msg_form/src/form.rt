@@ -1,4 +1,4 @@
-//! The parts of a document. Their texts are those of the JSON text that they were read from.
+//! The parts of a document. Their texts are those of the JSON text that they were read from, and expressions lie in an arena.
 
 ghost use Rattle.std.specs.Prelude.{◌≡◌, ◌≤◌};
 ghost use Rattle.msg_form.specs.Version as spec;
@@ -67,7 +67,7 @@ pub enum Item<'v> {
     Send {
         receiver: Constant<'v>,
         selector: &'v str,
-        args: Vec<Constant<'v>>,
+        args: &'v [Constant<'v>],
     },
     Change(Change<'v>),
 }
@@ -127,24 +127,24 @@ pub enum Operator {
     Lt,
 }
 
-/// An expression. What is large stands behind one `Box`, so that an `Expr` has 32 bytes.
+/// An expression. What is large stands in an arena, so that an `Expr` has 32 bytes, and is copied.
 #[cycle(expr)]
-#[derive(Drop)]
+#[derive(Clone, Copy)]
 pub enum Expr<'v> {
     Const(Constant<'v>),
     /// The receiver, `self`.
     Me,
     /// The argument of a number, from 0.
     Arg(u64),
-    Binary(Box<BinaryExpr<'v>>),
-    If(Box<IfExpr<'v>>),
-    Send(Box<SendExpr<'v>>),
+    Binary(&'v BinaryExpr<'v>),
+    If(&'v IfExpr<'v>),
+    Send(&'v SendExpr<'v>),
     /// A super send, whose receiver is `self`.
-    Super(Box<SuperExpr<'v>>),
+    Super(&'v SuperExpr<'v>),
 }
 
 #[cycle(expr)]
-#[derive(Drop)]
+#[derive(Clone, Copy)]
 pub struct BinaryExpr<'v> {
     pub operator: Operator,
     pub left: Expr<'v>,
@@ -152,7 +152,7 @@ pub struct BinaryExpr<'v> {
 }
 
 #[cycle(expr)]
-#[derive(Drop)]
+#[derive(Clone, Copy)]
 pub struct IfExpr<'v> {
     pub condition: Expr<'v>,
     pub then: Expr<'v>,
@@ -160,16 +160,16 @@ pub struct IfExpr<'v> {
 }
 
 #[cycle(expr)]
-#[derive(Drop)]
+#[derive(Clone, Copy)]
 pub struct SendExpr<'v> {
     pub receiver: Expr<'v>,
     pub selector: &'v str,
-    pub args: Vec<Expr<'v>>,
+    pub args: &'v [Expr<'v>],
 }
 
 #[cycle(expr)]
-#[derive(Drop)]
+#[derive(Clone, Copy)]
 pub struct SuperExpr<'v> {
     pub selector: &'v str,
-    pub args: Vec<Expr<'v>>,
+    pub args: &'v [Expr<'v>],
 }

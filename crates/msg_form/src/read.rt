@@ -1,10 +1,11 @@
 //! Reading a form from a JSON tree. Each value is looked at once, and texts are borrowed from the JSON text.
 
-ghost use Rattle.std.specs.Prelude.{◌≡◌, Option, map};
+ghost use Rattle.std.specs.Prelude.{◌≡◌, IfErr, IfOk, Option, map};
 ghost use Rattle.serde_json.specs.Data.{Data};
 ghost use Rattle.msg_json.specs.View.{view};
 ghost use Rattle.msg_form.specs.Gives.{Gives};
 ghost use Rattle.msg_form.specs.Json.{each, field_of, list_of, value_of};
+ghost use Rattle.msg_form.specs.declared.faults.ReadFault.TheVariants.{Memory};
 
 mod change;
 mod expr;
@@ -12,7 +13,7 @@ mod parts;
 mod values;
 
 use crate::faults::ReadFault;
-use msg_json::{Tree, get};
+use msg_json::{Bump, Tree, get};
 use std::alloc::Global;
 use values::{list, value_in};
 
@@ -26,16 +27,20 @@ trait FromValue<'v>: Sized + Drop {
     // What a value spells.
     ghost spelled: { Data → Option Plain };
 
-    fn from_value(alloc: Global, value: &Tree<'v, '_>) -> Result<Self, ReadFault>
+    fn from_value(alloc: Global, bump: &'v Bump, value: &Tree<'v, '_>) -> Result<Self, ReadFault>
         ensures { Gives plain result (spelled (view value.now)) };
 }
 
 /// What the values of a list spell.
-fn list_of<'v, T: FromValue<'v>>(alloc: Global, value: &Tree<'v, '_>) -> Result<Vec<T>, ReadFault>
+fn list_of<'v, T: FromValue<'v>>(
+    alloc: Global,
+    bump: &'v Bump,
+    value: &Tree<'v, '_>,
+) -> Result<Vec<T>, ReadFault>
     ensures { Gives (λ v. map T.plain v.items) result (list_of T.spelled (view value.now)) }
 {
     match list(value) {
-        Some(values) => each(alloc, values),
+        Some(values) => each(alloc, bump, values),
         None => Err(ReadFault::Shape),
     }
 }
@@ -43,13 +48,14 @@ fn list_of<'v, T: FromValue<'v>>(alloc: Global, value: &Tree<'v, '_>) -> Result<
 /// What the values of the list at a key spell.
 fn list_at<'v, T: FromValue<'v>>(
     alloc: Global,
+    bump: &'v Bump,
     value: &Tree<'v, '_>,
     key: &str,
 ) -> Result<Vec<T>, ReadFault>
     ensures { Gives (λ v. map T.plain v.items) result (field_of (list_of T.spelled) key.now (view value.now)) }
 {
     match get(value, key) {
-        Some(value) => list_of(alloc, value),
+        Some(value) => list_of(alloc, bump, value),
         None => Err(ReadFault::Shape),
     }
 }
@@ -57,24 +63,40 @@ fn list_at<'v, T: FromValue<'v>>(
 /// What the values of the list at a place spell.
 fn list_in<'v, T: FromValue<'v>>(
     alloc: Global,
+    bump: &'v Bump,
     values: &[Tree<'v, '_>],
     place: usize,
 ) -> Result<Vec<T>, ReadFault>
     ensures { Gives (λ v. map T.plain v.items) result (value_of (list_of T.spelled) place (map view values.now)) }
 {
     match value_in(values, place) {
-        Some(value) => list_of(alloc, value),
+        Some(value) => list_of(alloc, bump, value),
         None => Err(ReadFault::Shape),
     }
 }
 
+/// Parts, kept in the arena.
+fn kept<'v, T: Copy>(bump: &'v Bump, parts: &[T]) -> Result<&'v [T], ReadFault>
+    ensures ok { IfOk result (λ kept. kept.now ≡ parts.now) }
+    ensures err { IfErr result (λ e. e ≡ Memory) }
+{
+    match bump.try_alloc_slice_copy(parts) {
+        Ok(kept) => Ok(kept),
+        Err(_) => Err(ReadFault::Memory),
+    }
+}
+
 /// What each of the values spells.
-fn each<'v, T: FromValue<'v>>(alloc: Global, values: &[Tree<'v, '_>]) -> Result<Vec<T>, ReadFault>
+fn each<'v, T: FromValue<'v>>(
+    alloc: Global,
+    bump: &'v Bump,
+    values: &[Tree<'v, '_>],
+) -> Result<Vec<T>, ReadFault>
     ensures { Gives (λ v. map T.plain v.items) result (each T.spelled (map view values.now)) }
 {
-    let mut parts = Vec::new(alloc);
+    let mut parts = Vec::with_capacity(alloc, values.len())?;
     for value in values {
-        parts.push(T::from_value(alloc, value)?)?;
+        parts.push(T::from_value(alloc, bump, value)?)?;
     }
     Ok(parts)
 }

@@ -155,7 +155,7 @@ impl<'v> HasSelectors<'v> for Item<'v> {
             } => {
                 receiver.push_selectors(texts)?;
                 push_text(*selector, texts)?;
-                push_all(args, texts)
+                push_all(*args, texts)
             }
             Item::Change(change) => change.push_selectors(texts),
         }
@@ -183,11 +183,11 @@ fn push_expr<'v>(expr: &Expr<'v>, texts: &mut Vec<&'v str>) -> Result<(), AllocE
         Expr::Send(send) => {
             push_expr(&send.receiver, texts)?;
             push_text(send.selector, texts)?;
-            push_exprs(&send.args, texts)
+            push_exprs(send.args, texts)
         }
         Expr::Super(send) => {
             push_text(send.selector, texts)?;
-            push_exprs(&send.args, texts)
+            push_exprs(send.args, texts)
         }
     }
 }

@@ -25,7 +25,7 @@ use std::alloc::{AllocError, Global};
 pub const MOST_BYTES: usize = 16_777_216;
 
 // So many bytes for each of a text hold the trees of most texts.
-const TREE_BYTES: usize = 16;
+const TREE_BYTES: usize = 4;
 
 /// An image, and what is to be sent and changed.
 #[derive(Drop)]
@@ -35,6 +35,7 @@ pub struct Document {
 }
 
 fn parsed<'t, 'b>(
+    alloc: Global,
     bump: &'b Bump,
     bytes: &'t [u8],
     scratch: &'t mut Scratch,
@@ -42,7 +43,7 @@ fn parsed<'t, 'b>(
     ensures ok { IfOk result (λ v. IsJson bytes.now (Some (view v))) }
     ensures err { IfErr result (λ e. e ≢ DocumentFault.Memory → (e ≡ DocumentFault.NotJson) × IsJson bytes.now None) }
 {
-    match msg_json::read(bump, bytes, scratch) {
+    match msg_json::read(alloc, bump, bytes, scratch) {
         Ok(value) => Ok(value),
         Err(JsonFault::Memory) => Err(DocumentFault::Memory),
         Err(JsonFault::NotJson) => Err(DocumentFault::NotJson),
@@ -91,7 +92,7 @@ pub fn judge_form(alloc: Global, form: &Form) -> Result<Document, DocumentFault>
     document
 }
 
-// Room for the tree of most texts, taken at once: then the list that grows last grows in place. Where so much can't be had, the arena begins small.
+// Room for the tree of most texts, taken at once. Where so much can't be had, the arena begins small.
 fn arena(alloc: Global, bytes: &[u8]) -> Bump {
     match Bump::try_with_capacity(alloc, bytes.len().saturating_mul(TREE_BYTES)) {
         Ok(bump) => bump,
@@ -99,18 +100,19 @@ fn arena(alloc: Global, bytes: &[u8]) -> Bump {
     }
 }
 
-// The form that a text spells. Its tree lies in a bump arena, and neither is kept beside what is made of the form.
+// The form that a text spells, with its expressions in the arena. Its tree lies in an arena of its own, and neither is kept beside what is made of the form.
 fn spelled<'t>(
     alloc: Global,
+    bump: &'t Bump,
     bytes: &'t [u8],
     scratch: &'t mut Scratch,
 ) -> Result<Form<'t>, DocumentFault>
     ensures ok { IfOk result (λ f. Spells bytes.now (form_view f)) }
     ensures err { IfErr result (λ e. e ≢ DocumentFault.Memory → IsJudged bytes.now (Err e)) }
 {
-    let bump = arena(alloc, bytes);
-    let value = parsed(&bump, bytes, scratch)?;
-    Ok(Form::read(alloc, &value)?)
+    let trees = arena(alloc, bytes);
+    let value = parsed(alloc, &trees, bytes, scratch)?;
+    Ok(Form::read(alloc, bump, &value)?)
 }
 
 /// Reads a document: the image and the items that the bytes spell, or the first fault in the order of [`DocumentFault`].
@@ -127,7 +129,8 @@ pub fn read_document(alloc: Global, bytes: &[u8]) -> Result<Document, DocumentFa
         return Err(DocumentFault::Limit);
     }
     let mut scratch = Scratch::new(alloc);
-    let form = spelled(alloc, bytes, &mut scratch)?;
+    let bump = Bump::new(alloc);
+    let form = spelled(alloc, &bump, bytes, &mut scratch)?;
     judge_form(alloc, &form)
 }
 

@@ -114,11 +114,11 @@ fn expr(alloc: Global, names: &FormNames, form: &form::Expr) -> Result<Expr, All
         }
         form::Expr::Send(send) => {
             let receiver = boxed(alloc, expr(alloc, names, &send.receiver));
-            let (receiver, args) = both(receiver, exprs(alloc, names, &send.args))?;
+            let (receiver, args) = both(receiver, exprs(alloc, names, send.args))?;
             Ok(Expr::Send(receiver, selector_named(names, send.selector), args))
         }
         form::Expr::Super(send) => {
-            let args = exprs(alloc, names, &send.args)?;
+            let args = exprs(alloc, names, send.args)?;
             Ok(Expr::Super(selector_named(names, send.selector), args))
         }
     }
@@ -359,7 +359,7 @@ impl<'v> Resolve<form::Item<'v>> for Item {
             } => Ok(Item::Send {
                 receiver: value(names, receiver),
                 sel: selector_named(names, selector),
-                args: arguments(names, args),
+                args: arguments(names, *args),
             }),
             form::Item::Change(form) => Ok(Item::Change(change(alloc, names, form)?)),
         }

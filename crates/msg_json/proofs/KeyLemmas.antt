@@ -1,19 +1,16 @@
 -- How many keys there are, where some come twice.
-use Rattle.std.proofs.Common.{◌≡◌, ℕ, suc, ◌+◌, ◌<◌, ◌≤◌, List, ◌∷◌, length, drop, take, get_or, Bool, true, false, ◌||◌, cond, Bor, Option, Some, None, is_some, Ordering, Less, Equal, Greater, nat_cmp, bytes_eq, ne_eqb, ◌==◌, drop-cons, add-one, refl, sym, ap, ◌∙◌, arith}
+use Rattle.std.proofs.Common.{◌≡◌, ℕ, suc, ◌+◌, ◌<◌, ◌≤◌, List, [], ◌∷◌, length, drop, take, get_or, Bool, true, false, ◌||◌, cond, Bor, Option, Some, None, is_some, Ordering, Less, Equal, Greater, nat_cmp, bytes_eq, ne_eqb, ◌==◌, drop-cons, add-one, refl, sym, ap, ◌∙◌, arith}
 use Rattle.std.proofs.lemmas.Cmp.{nat_list_cmp_total}
 use Rattle.std.proofs.lemmas.List.Folds.{list_any_more}
 use Rattle.std.specs.Cmp.Lexicographic.{slice_cmp}
 use Rattle.std.specs.List.{list_any}
 use Rattle.std.specs.Ordering.{match_ordering, ordering_reverse}
 use Rattle.std.specs.Prelude.{⊤}
-use Rattle.json.specs.Json as json
-use Rattle.json.specs.Value.{members_view}
-use Rattle.json.specs.declared.value.Value.{Value}
 use Rattle.serde_json.specs.Data.{Data, Members, no_members, member, put}
 use Rattle.serde_json.specs.Events.{members_len}
 use Rattle.serde_json.specs.Find.{get_member}
-use Rattle.msg_json.specs.View.{view, data_of, members_data}
-use Rattle.msg_json.proofs.ViewLemmas.{put_found}
+use Rattle.msg_json.specs.View.{view, entries, with_members}
+use Rattle.msg_json.proofs.ViewLemmas.{Entry, put_found}
 
 abbrev cmp : List ℕ → List ℕ → Ordering
 cmp = slice_cmp nat_cmp
@@ -82,24 +79,21 @@ grows true n = omega arith
 grows false n = omega arith
 
 -- no member goes
-pub members_data-grows : (ms : json.Members) (found : Members) → IsInOrder found → members_len found ≤ members_len (members_data ms found)
-members_data-grows json.no_members found h = omega arith
-members_data-grows (json.member k j ms) found h =
-    let more = members_data-grows ms (put k (data_of j) found) (IsInOrder-put k (data_of j) found h) in
-    let one = members_len-put k (data_of j) found h in
-    let here = grows (is_some (get_member k found)) (members_len found) in
+pub with_members-grows : (ms : List (Bor (List ℕ) × Data)) (found : Members) → IsInOrder found → members_len found ≤ members_len (with_members found ms)
+with_members-grows [] found h = omega arith
+with_members-grows (m ∷ ms) found h =
+    let more = with_members-grows ms (put m.0.now m.1 found) (IsInOrder-put m.0.now m.1 found h) in
+    let one = members_len-put m.0.now m.1 found h in
+    let here = grows (is_some (get_member m.0.now found)) (members_len found) in
     grind arith
 
 -- ---- keys that are counted as they come
 
-abbrev pub Entry : Type 0 → Type 0
-Entry A = Bor (List ℕ) × Value A
-
-abbrev pub among : {A : Type 0} → List ℕ → List (Entry A) → Bool
+abbrev pub among : List ℕ → List Entry → Bool
 among k ms = list_any (λ m. bytes_eq m.0.now k) ms
 
 -- the members have n keys, which are those found
-abbrev pub AreKeysOf : {A : Type 0} → List (Entry A) → ℕ → Members → Type 0
+abbrev pub AreKeysOf : List Entry → ℕ → Members → Type 0
 AreKeysOf ms n found = IsInOrder found × (members_len found ≡ n) × ((k : List ℕ) → is_some (get_member k found) ≡ among k ms)
 
 either : (b : Bool) (d : Data) (o : Option Data) → is_some (cond b (Some d) o) ≡ is_some o || b
@@ -112,35 +106,35 @@ here_or : (k l : List ℕ) (d : Data) (found : Members) → is_some (get_member 
 here_or k l d found = ap is_some (put_found (bytes_eq l k) k l d found refl) ∙ either (bytes_eq l k) d (get_member k found)
 
 -- one more member is put
-answers : {A : Type 0} (ms : List (Entry A)) (i : ℕ) (m : Entry A) (n : ℕ) (found : Members) → i < length ms → m ≡ get_or ms i m → AreKeysOf (take i ms) n found
+answers : (ms : List Entry) (i : ℕ) (m : Entry) (n : ℕ) (found : Members) → i < length ms → m ≡ get_or ms i m → AreKeysOf (take i ms) n found
     → (k : List ℕ) → is_some (get_member k (put m.0.now (view m.1) found)) ≡ among k (take (i + 1) ms)
-answers {A} ms i m n found lt at h k =
+answers ms i m n found lt at h k =
     let last = list_any_more (λ m. bytes_eq m.0.now k) ms i m lt in
-    here_or k m.0.now (view m.1) found ∙ ap (λ b. b || bytes_eq m.0.now k) (h.2 k) ∙ ap (λ (l : Entry A). among k (take i ms) || bytes_eq l.0.now k) at ∙ sym last
+    here_or k m.0.now (view m.1) found ∙ ap (λ b. b || bytes_eq m.0.now k) (h.2 k) ∙ ap (λ (l : Entry). among k (take i ms) || bytes_eq l.0.now k) at ∙ sym last
 
 -- a key that was there
-pub put_old : {A : Type 0} (ms : List (Entry A)) (i : ℕ) (m : Entry A) (n : ℕ) (found : Members) → i < length ms → m ≡ get_or ms i m → AreKeysOf (take i ms) n found → among m.0.now (take i ms) ≡ true
+pub put_old : (ms : List Entry) (i : ℕ) (m : Entry) (n : ℕ) (found : Members) → i < length ms → m ≡ get_or ms i m → AreKeysOf (take i ms) n found → among m.0.now (take i ms) ≡ true
     → AreKeysOf (take (i + 1) ms) n (put m.0.now (view m.1) found)
 put_old ms i m n found lt at h old =
     let len = members_len-put m.0.now (view m.1) found h.0 ∙ ap (λ b. count_after b (members_len found)) (h.2 m.0.now ∙ old) ∙ h.1 in
     (IsInOrder-put m.0.now (view m.1) found h.0, len, answers ms i m n found lt at h)
 
 -- a key that is new
-pub put_new : {A : Type 0} (ms : List (Entry A)) (i : ℕ) (m : Entry A) (n : ℕ) (found : Members) → i < length ms → m ≡ get_or ms i m → AreKeysOf (take i ms) n found → among m.0.now (take i ms) ≡ false
+pub put_new : (ms : List Entry) (i : ℕ) (m : Entry) (n : ℕ) (found : Members) → i < length ms → m ≡ get_or ms i m → AreKeysOf (take i ms) n found → among m.0.now (take i ms) ≡ false
     → AreKeysOf (take (i + 1) ms) (n + 1) (put m.0.now (view m.1) found)
 put_new ms i m n found lt at h new =
     let len = members_len-put m.0.now (view m.1) found h.0 ∙ ap (λ b. count_after b (members_len found)) (h.2 m.0.now ∙ new) ∙ ap suc h.1 ∙ sym (add-one n) in
     (IsInOrder-put m.0.now (view m.1) found h.0, len, answers ms i m n found lt at h)
 
 -- one more than so many
-pub too_many : (ms : json.Members) (n : ℕ) (found : Members) → IsInOrder found → members_len found ≡ n + 1 → (members_len (members_data ms found) == n) ≡ false
+pub too_many : (ms : List (Bor (List ℕ) × Data)) (n : ℕ) (found : Members) → IsInOrder found → members_len found ≡ n + 1 → (members_len (with_members found ms) == n) ≡ false
 too_many ms n found h len =
-    let more = members_data-grows ms found h in
+    let more = with_members-grows ms found h in
     ne_eqb _ n (λ e. omega (arith, more, len, e))
 
 -- a turn of a loop over the members, in which one is put into those found
-pub turn : {A : Type 0} (ms : List (Entry A)) (i : ℕ) (m : Entry A) (found whole : Members) → i < length ms → m ≡ get_or ms i m
-    → members_data (members_view (drop i ms)) found ≡ whole → members_data (members_view (drop (i + 1) ms)) (put m.0.now (view m.1) found) ≡ whole
+pub turn : (ms : List Entry) (i : ℕ) (m : Entry) (found whole : Members) → i < length ms → m ≡ get_or ms i m
+    → with_members found (entries (drop i ms)) ≡ whole → with_members (put m.0.now (view m.1) found) (entries (drop (i + 1) ms)) ≡ whole
 turn ms i m found whole lt at so_far =
     let left : drop i ms ≡ m ∷ drop (i + 1) ms = rw add-one (drop-cons ms i m lt ∙ ap (λ y. y ∷ drop (suc i) ms) (sym at)) in
-    sym (ap (λ l. members_data (members_view l) found) left) ∙ so_far
+    sym (ap (λ l. with_members found (entries l)) left) ∙ so_far

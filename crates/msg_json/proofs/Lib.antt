@@ -1,4 +1,4 @@
 pub mod ViewLemmas
-pub mod ReadableLemmas
+pub mod ReadingLemmas
 pub mod KeyLemmas
 pub mod NumberLemmas

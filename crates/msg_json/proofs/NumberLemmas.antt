@@ -1,16 +1,12 @@
 -- Numbers that are digits alone.
-use Rattle.std.proofs.Common.{◌≡◌, ◌==◌, ℕ, ◌<◌, ◌≤◌, ◌^◌, List, [], ◌∷◌, ◌++◌, length, nat_lt, drop, cond, get_or, Result, Ok, Err, Some, IfSome, true, false, refl, sym, ap, subst, ◌∙◌, append-nil, ne_eqb, is_some, arith}
+use Rattle.std.proofs.Common.{◌≡◌, ◌==◌, ℕ, ◌<◌, ◌^◌, List, [], ◌++◌, length, nat_lt, drop, cond, get_or, Result, Ok, Err, Some, IfSome, true, false, refl, sym, ap, subst, ◌∙◌, append-nil}
 use Rattle.std.specs.Result.{OkIff, result_ok}
 use Rattle.std.specs.Str.Parse.{AllDigits, IsNumeral, ParsesUnsigned, digits_value}
 use Rattle.std.proofs.lemmas.Bool.{lt-ltb}
 use Rattle.std.proofs.lemmas.Float.Parse.{scan_numeral-text_of}
-use Rattle.std.specs.Str.{all_ascii_digits}
-use Rattle.std.specs.Char.{digit_value}
-use Rattle.std.proofs.lemmas.Str.Parse.{IsNumeralModel, numerals_by_value, tells_all_ascii_digits, digits_value_short}
 use Rattle.fast_float.specs.Text.{Parts, scan, text_of, IsWellFormed}
 use Rattle.serde_json.specs.Data.{unsigned}
-use Rattle.serde_json.specs.Read.{number_from, number_of}
-use Rattle.msg_json.specs.declared.numbers.TheConstants.{MOST_DIGITS}
+use Rattle.serde_json.specs.Read.{number_from}
 
 -- a numeral that is all of its whole part
 abbrev whole_alone : List ℕ → Parts
@@ -31,25 +27,6 @@ number_from-digits bs all some small =
     let one : nat_lt 0 (length bs) ≡ true = lt-ltb 0 (length bs) some in
     let fits : nat_lt (digits_value 10 bs) (2 ^ 64) ≡ true = lt-ltb (digits_value 10 bs) (2 ^ 64) small in
     rw (scan-digits bs all, joined, one, fits) refl
-
--- digits alone, as std tells them
-model : IsNumeralModel (λ ds. all_ascii_digits ds ≡ true) (digits_value 10)
-model = numerals_by_value (λ ds. all_ascii_digits ds ≡ true) tells_all_ascii_digits
-
--- a digit isn't a minus
-not_minus : (b : ℕ) → digit_value b < 10 → (b == 45) ≡ false
-not_minus b digit = ne_eqb b 45 (λ e. omega (arith, ap digit_value e, digit))
-
--- a few digits always fit
-pub few_digits : (bs : List ℕ) → 0 < length bs → length bs ≤ MOST_DIGITS → all_ascii_digits bs ≡ true → is_some (number_of bs) ≡ true
-unfolding number_of
-few_digits [] some few all = absurd (omega arith)
-few_digits (b ∷ bs) some few all =
-    let digits : AllDigits 10 (b ∷ bs) = model.to (b ∷ bs) all in
-    let small : digits_value 10 (b ∷ bs) < 10 ^ MOST_DIGITS = digits_value_short model (b ∷ bs) MOST_DIGITS all few in
-    let plain : (b == 45) ≡ false = not_minus b digits.0 in
-    let is = number_from-digits (b ∷ bs) digits some (omega (arith, small)) in
-    rw (plain, is) refl
 
 -- as the value of a text without a plus is parsed
 parsed : {E : Type 0} (bs : List ℕ) (r : Result ℕ E) → OkIff r (IsNumeral 10 bs × (digits_value 10 bs < 2 ^ 64)) (digits_value 10 bs) → IfSome (result_ok r) (λ n. number_from false (scan bs) ≡ Some (unsigned n))

@@ -1,3 +1,3 @@
 pub mod View
-pub mod Readable
+pub mod Reading
 pub mod Keys

@@ -1,35 +1,35 @@
 -- The data that a tree stands for.
-use Rattle.std.specs.Prelude.{ℕ, List, false, unwrap_or}
-use Rattle.std.specs.Float.{binary64}
-use Rattle.fast_float.specs.Text.{scan, nearest}
-use Rattle.json.specs.Json as json
-use Rattle.json.specs.Value.{value_view}
-use Rattle.json.specs.declared.value.Value.{Value}
-use Rattle.serde_json.specs.Data.{Num, float, Data, null, boolean, number, string, array, object, Items, no_items, item, Members, no_members, put}
-use Rattle.serde_json.specs.Read.{number_of}
-
--- what a numeral writes; one that is too large, which no tree has that was read, is a float here
-abbrev pub num_of : List ℕ → Num
-num_of s = unwrap_or (number_of s) (float (nearest binary64 false (scan s)))
+use Rattle.std.specs.Prelude.{ℕ, List, [], ◌∷◌, map}
+use Rattle.std.specs.Borrow.{Bor}
+use Rattle.serde_json.specs.Data.{Data, null, boolean, number, string, array, object, Items, Members, no_members, put}
+use Rattle.serde_json.specs.View.{number_view, items_of}
+use Rattle.msg_json.specs.declared.tree.Tree.{Tree, fold-Tree}
+use Rattle.msg_json.specs.declared.tree.Tree.TheOpen.{Tree-F}
 
 -- The members go in one after another, so the last value of a key stays.
-abbrev mutual
-  pub data_of : json.Json → Data
-  data_of json.null = null
-  data_of (json.boolean b) = boolean b
-  data_of (json.number s) = number (num_of s)
-  data_of (json.string s) = string s
-  data_of (json.array js) = array (items_data js)
-  data_of (json.object ms) = object (members_data ms no_members)
+abbrev pub with_members : Members → List (Bor (List ℕ) × Data) → Members
+with_members found [] = found
+with_members found (m ∷ ms) = with_members (put m.0.now m.1 found) ms
 
-  pub items_data : json.Items → Items
-  items_data json.no_items = no_items
-  items_data (json.item j js) = item (data_of j) (items_data js)
+-- one level, with each value inside already seen as its data
+abbrev pub view_step : Tree-F Data → Data
+view_step Tree-F.Null = null
+view_step (Tree-F.Bool b) = boolean b
+view_step (Tree-F.Number x) = number (number_view x)
+view_step (Tree-F.Text s) = string s.now
+view_step (Tree-F.Array vs) = array (items_of vs.now)
+view_step (Tree-F.Object ms) = object (with_members no_members ms.now)
 
-  pub members_data : json.Members → Members → Members
-  members_data json.no_members found = found
-  members_data (json.member k j ms) found = members_data ms (put k (data_of j) found)
+-- a tree as serde_json has its text's value
+abbrev pub view : Tree → Data
+view = fold-Tree Data view_step
 
--- a value of the reader's tree as serde_json has it, wherever the tree lies
-abbrev pub view : {A : Type 0} → Value A → Data
-view v = data_of (value_view v)
+abbrev pub items_view : List Tree → Items
+items_view vs = items_of (map view vs)
+
+-- the data of members
+abbrev pub entries : List (Bor (List ℕ) × Tree) → List (Bor (List ℕ) × Data)
+entries ms = map (λ m. (m.0, view m.1)) ms
+
+abbrev pub members_view : List (Bor (List ℕ) × Tree) → Members
+members_view ms = with_members no_members (entries ms)

@@ -1,14 +1,17 @@
 //! JSON texts as trees that borrow their strings from the text.
 //!
-//! A tree is the kit's [`json::Value`], which keeps an object's members as they come and a number's text. [`read`] makes one of a text
-//! that is JSON, and [`has_keys`], [`get`] and [`whole`] look into it in the terms of JSON's data: the last member of a key counts.
+//! [`read`] makes a [`Tree`] of a text that is JSON, with its lists in an arena: it is read in one pass, and nothing of it is dropped. It keeps an object's
+//! members as they come. [`has_keys`], [`get`] and [`whole`] look into it in the terms of JSON's data: the last member of a key counts.
 #![tactic(auto)]
 
 mod look;
 mod numbers;
 mod reading;
+mod stack;
+mod tree;
 
 pub use bumpalo::Bump;
-pub use json::{Scratch, Value};
+pub use json::Scratch;
 pub use look::{get, has_keys, whole};
-pub use reading::{JsonFault, Tree, read};
+pub use reading::{JsonFault, read};
+pub use tree::Tree;

@@ -1,7 +1,6 @@
 //! Numbers.
 
-ghost use Rattle.std.specs.Prelude.{◌≡◌, ◌==◌, ◌<◌, length, slice_index, option_map, Some, is_some, true, false, IsTrue, IfSome};
-ghost use Rattle.std.specs.Str.{all_ascii_digits};
+ghost use Rattle.std.specs.Prelude.{◌≡◌, ◌==◌, ◌<◌, length, slice_index, option_map, Some, false, true, IsTrue, IfSome};
 ghost use Rattle.fast_float.specs.Text.{scan};
 ghost use Rattle.serde_json.specs.Data.{unsigned};
 ghost use Rattle.serde_json.specs.Read.{number_of, number_from, float_of};
@@ -9,9 +8,6 @@ ghost use Rattle.serde_json.specs.View.{number_view};
 
 use fast_float::Numeral;
 use serde_json::Number;
-
-// So many digits always write a number of 64 bits.
-const MOST_DIGITS: usize = 19;
 
 /// The number that a numeral writes, or none where it is too large for a float.
 ///
@@ -27,32 +23,6 @@ pub(crate) fn number(text: &str) -> Option<Number>
         Some(number) => Some(Number::from(number)),
         None => unsigned(&Numeral::scan(bytes)),
     }
-}
-
-/// Whether a numeral has a number: one that is too large for a float has none.
-pub(crate) fn is_number(text: &str) -> bool
-    ensures { result ≡ is_some (number_of text.now) }
-{
-    are_few_digits(text.as_bytes()) || number(text).is_some()
-}
-
-// As most numerals are, a few digits that surely fit.
-#[tactic(auto, using(crate::proofs::NumberLemmas::few_digits))]
-fn are_few_digits(bytes: &[u8]) -> bool
-    ensures { IsTrue result → is_some (number_of bytes.now) ≡ true }
-{
-    !bytes.is_empty() && bytes.len() <= MOST_DIGITS && are_digits(bytes)
-}
-
-fn are_digits(bytes: &[u8]) -> bool
-    ensures { result ≡ all_ascii_digits bytes.now }
-{
-    for byte in bytes {
-        if !byte.is_ascii_digit() {
-            return false;
-        }
-    }
-    true
 }
 
 // The number that digits alone write, where it fits. The kit's reader would pass over a plus, which isn't JSON's.

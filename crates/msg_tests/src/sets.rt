@@ -3,7 +3,7 @@
 use crate::documents::FULL;
 use crate::same::{same, same_at};
 use msg_form::{DocumentFault, FORWARDING, Form, NameSet, ReadFault};
-use msg_json::{Bump, Scratch, Value, read};
+use msg_json::{Bump, Scratch, Tree, read};
 use std::alloc::Global;
 use std::process::Abort;
 
@@ -30,8 +30,9 @@ const WALK: [&str; 20] = [
     "low",
 ];
 
-fn walk_is(rt: &impl Abort, alloc: Global, value: &Value<&Bump>, want: &[&str]) {
-    let form = Form::read(alloc, value).expect(rt, "a form");
+fn walk_is(rt: &impl Abort, alloc: Global, value: &Tree, want: &[&str]) {
+    let bump = Bump::new(alloc);
+    let form = Form::read(alloc, &bump, value).expect(rt, "a form");
     let texts = form.selector_texts(alloc).expect(rt, "memory");
     same(rt, texts.as_slice(), want);
 }
@@ -41,7 +42,7 @@ fn selectors_come_in_the_order_of_the_walk(rt: HostRuntime) {
     let alloc = rt.alloc();
     let mut scratch = Scratch::new(alloc);
     let bump = Bump::new(alloc);
-    let value = read(&bump, FULL.as_bytes(), &mut scratch).expect(&rt, "a JSON text");
+    let value = read(alloc, &bump, FULL.as_bytes(), &mut scratch).expect(&rt, "a JSON text");
     walk_is(&rt, alloc, &value, &WALK);
     same(&rt, FORWARDING, "forwardingTargetForSelector:");
 }

@@ -1,11 +1,11 @@
 //! JSON texts as trees.
 
 use crate::same::{same, same_at};
-use msg_json::{JsonFault, Scratch, Value, get, has_keys, read, whole};
+use msg_json::{Bump, JsonFault, Scratch, Tree, get, has_keys, read, whole};
 use std::alloc::Global;
 use std::process::Abort;
 
-fn numbers_are(rt: &impl Abort, numbers: &[Value]) {
+fn numbers_are(rt: &impl Abort, numbers: &[Tree]) {
     for (number, want) in numbers
         .iter()
         .zip([Some(-7), None, None, Some(i64::MAX), None])
@@ -15,7 +15,7 @@ fn numbers_are(rt: &impl Abort, numbers: &[Value]) {
 }
 
 // The tree's keys and what they have.
-fn tree_is(rt: &impl Abort, value: &Value) {
+fn tree_is(rt: &impl Abort, value: &Tree) {
     for (count, is_it) in [(1, false), (2, true), (3, false)] {
         same_at(rt, &count, has_keys(value, count), is_it);
     }
@@ -23,7 +23,7 @@ fn tree_is(rt: &impl Abort, value: &Value) {
     same(rt, whole(last), Some(2));
     same(rt, get(value, "c").is_none(), true);
     match get(value, "b") {
-        Some(Value::Array(numbers)) => numbers_are(rt, numbers),
+        Some(Tree::Array(numbers)) => numbers_are(rt, numbers),
         _ => assert!(rt; false, "no list"),
     }
 }
@@ -32,15 +32,17 @@ fn tree_is(rt: &impl Abort, value: &Value) {
 fn a_tree_is_looked_into(rt: HostRuntime) {
     let alloc = rt.alloc();
     let mut scratch = Scratch::new(alloc);
+    let bump = Bump::new(alloc);
     let text = r#"{"a":1,"b":[-7,1.0,-0,9223372036854775807,9223372036854775808],"\u0061":2}"#;
-    let value = read(alloc, text.as_bytes(), &mut scratch).expect(&rt, "a JSON text");
+    let value = read(alloc, &bump, text.as_bytes(), &mut scratch).expect(&rt, "a JSON text");
     tree_is(&rt, &value);
 }
 
 // The text is no JSON.
 fn is_not_read(rt: &impl Abort, alloc: Global, text: &str) {
     let mut scratch = Scratch::new(alloc);
-    let fault = read(alloc, text.as_bytes(), &mut scratch).err();
+    let bump = Bump::new(alloc);
+    let fault = read(alloc, &bump, text.as_bytes(), &mut scratch).err();
     same_at(rt, &text, fault, Some(JsonFault::NotJson));
 }
 

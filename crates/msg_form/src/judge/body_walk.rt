@@ -60,9 +60,9 @@ impl BodyWalk<'_, '_> {
             }
             Expr::Send(send) => {
                 self.visit(&send.receiver, inner, found);
-                self.visit_all(&send.args, inner, found);
+                self.visit_all(send.args, inner, found);
             }
-            Expr::Super(send) => self.visit_all(&send.args, inner, found),
+            Expr::Super(send) => self.visit_all(send.args, inner, found),
         }
     }
 

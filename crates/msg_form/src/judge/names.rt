@@ -91,7 +91,7 @@ impl<'v> Test<Item<'v>> for ClassOutside<'_, '_> {
     #[tactic(auto, using(crate::proofs::AnyLemmas::anys))]
     fn passes(&self, item: &Item<'v>) -> bool {
         match item {
-            Item::Send { receiver, args, .. } => self.passes(receiver) || any(self, args),
+            Item::Send { receiver, args, .. } => self.passes(receiver) || any(self, *args),
             Item::Change(change) => self.passes(change),
         }
     }
@@ -152,7 +152,7 @@ impl<'v> Test<Item<'v>> for ObjectOutside<'_, '_> {
     #[tactic(auto, using(crate::proofs::AnyLemmas::anys))]
     fn passes(&self, item: &Item<'v>) -> bool {
         match item {
-            Item::Send { receiver, args, .. } => self.passes(receiver) || any(self, args),
+            Item::Send { receiver, args, .. } => self.passes(receiver) || any(self, *args),
             Item::Change(_) => false,
         }
     }

@@ -8,13 +8,13 @@ ghost use Rattle.msg_form.specs.Gives.{Gives};
 ghost use Rattle.msg_form.specs.Shape as spec;
 ghost use Rattle.msg_form.specs.Views.{method_view, change_view, item_view};
 
-use super::expr::constant;
+use super::expr::{constant, constants};
 use super::parts::superclass;
 use super::values::{list, name_in, text_in, truth, value_in};
-use super::{FromValue, each, list_in};
+use super::{FromValue, list_in};
 use crate::faults::ReadFault;
 use crate::form::{Change, Item, MethodName};
-use msg_json::{Tree, get, has_keys};
+use msg_json::{Bump, Tree, get, has_keys};
 use std::alloc::Global;
 
 /// A method's name, which takes three values from a place on.
@@ -55,7 +55,11 @@ fn exchange<'v>(values: &[Tree<'v, '_>]) -> Option<Change<'v>>
 }
 
 #[tactic(auto, unfolding(crate::specs::Shape::attach_of))]
-fn attach<'v>(alloc: Global, values: &[Tree<'v, '_>]) -> Result<Change<'v>, ReadFault>
+fn attach<'v>(
+    alloc: Global,
+    bump: &'v Bump,
+    values: &[Tree<'v, '_>],
+) -> Result<Change<'v>, ReadFault>
     ensures { Gives change_view result (spec.attach_of (map view values.now)) }
 {
     if values.len() != 4 {
@@ -66,8 +70,8 @@ fn attach<'v>(alloc: Global, values: &[Tree<'v, '_>]) -> Result<Change<'v>, Read
     };
     Ok(Change::Attach {
         class,
-        methods: list_in(alloc, values, 2)?,
-        class_methods: list_in(alloc, values, 3)?,
+        methods: list_in(alloc, bump, values, 2)?,
+        class_methods: list_in(alloc, bump, values, 3)?,
     })
 }
 
@@ -111,19 +115,20 @@ fn plain_change<'v>(word: &str, values: &[Tree<'v, '_>]) -> Option<Change<'v>>
 
 fn worded_change<'v>(
     alloc: Global,
+    bump: &'v Bump,
     word: &str,
     values: &[Tree<'v, '_>],
 ) -> Result<Change<'v>, ReadFault>
     ensures { Gives change_view result (spec.worded_change_of word.now (map view values.now)) }
 {
     if word == "attach" {
-        return attach(alloc, values);
+        return attach(alloc, bump, values);
     }
     plain_change(word, values).ok_or(ReadFault::Shape)
 }
 
 #[tactic(auto, unfolding(crate::specs::Shape::change_form_of))]
-fn change<'v>(alloc: Global, value: &Tree<'v, '_>) -> Result<Change<'v>, ReadFault>
+fn change<'v>(alloc: Global, bump: &'v Bump, value: &Tree<'v, '_>) -> Result<Change<'v>, ReadFault>
     ensures { Gives change_view result (spec.change_form_of (view value.now)) }
 {
     let Some(values) = list(value) else {
@@ -132,11 +137,11 @@ fn change<'v>(alloc: Global, value: &Tree<'v, '_>) -> Result<Change<'v>, ReadFau
     let Some(word) = text_in(values, 0) else {
         return Err(ReadFault::Shape);
     };
-    worded_change(alloc, word, values)
+    worded_change(alloc, bump, word, values)
 }
 
 #[tactic(auto, unfolding(crate::specs::Shape::send_item_of))]
-fn send_item<'v>(alloc: Global, value: &Tree<'v, '_>) -> Result<Item<'v>, ReadFault>
+fn send_item<'v>(alloc: Global, bump: &'v Bump, value: &Tree<'v, '_>) -> Result<Item<'v>, ReadFault>
     ensures { Gives item_view result (spec.send_item_of (view value.now)) }
 {
     let Some(values) = list(value) else {
@@ -154,7 +159,7 @@ fn send_item<'v>(alloc: Global, value: &Tree<'v, '_>) -> Result<Item<'v>, ReadFa
     Ok(Item::Send {
         receiver,
         selector,
-        args: each(alloc, &values[2..])?,
+        args: constants(alloc, bump, &values[2..])?,
     })
 }
 
@@ -166,15 +171,19 @@ impl<'v> FromValue<'v> for Item<'v> {
     ghost spelled = { spec.item_form_of };
 
     #[tactic(auto, unfolding(crate::specs::Shape::item_form_of))]
-    fn from_value(alloc: Global, value: &Tree<'v, '_>) -> Result<Item<'v>, ReadFault> {
+    fn from_value(
+        alloc: Global,
+        bump: &'v Bump,
+        value: &Tree<'v, '_>,
+    ) -> Result<Item<'v>, ReadFault> {
         if !has_keys(value, 1) {
             return Err(ReadFault::Shape);
         }
         if let Some(send) = get(value, "send") {
-            return send_item(alloc, send);
+            return send_item(alloc, bump, send);
         }
         match get(value, "change") {
-            Some(value) => Ok(Item::Change(change(alloc, value)?)),
+            Some(value) => Ok(Item::Change(change(alloc, bump, value)?)),
             None => Err(ReadFault::Shape),
         }
     }

@@ -1,19 +1,20 @@
 //! Reading constants and expressions. A body is read once, from the outside in.
 
-ghost use Rattle.std.specs.Prelude.{◌≡◌, ◌≤◌, List, Option, Ok, Err, Some, IfOk, IfErr, map, length, option_and_then, option_map};
+ghost use Rattle.std.specs.Prelude.{◌≡◌, ◌≤◌, Some, map, length, option_map};
 ghost use Rattle.msg_json.specs.View.{view};
 ghost use Rattle.msg_form.specs.Expression as plain;
 ghost use Rattle.msg_form.specs.ExprShape as spec;
 ghost use Rattle.msg_form.specs.ExprShape.{expression_of};
-ghost use Rattle.msg_form.specs.ExprView.{constant_view, expr_view};
+ghost use Rattle.msg_form.specs.ExprView.{constant_view, expr_view, exprs_view};
 ghost use Rattle.msg_form.specs.Gives.{Gives};
+ghost use Rattle.msg_form.specs.Json.{each};
 ghost use Rattle.msg_form.specs.Readings.{readings};
 
-use super::FromValue;
 use super::values::{name_in, text_in};
+use super::{FromValue, each, kept};
 use crate::faults::ReadFault;
 use crate::form::{BinaryExpr, Constant, Expr, IfExpr, Operator, SendExpr, SuperExpr};
-use msg_json::{Tree, Value, whole};
+use msg_json::{Bump, Tree, whole};
 use std::alloc::Global;
 
 impl<'v> FromValue<'v> for Constant<'v> {
@@ -23,7 +24,11 @@ impl<'v> FromValue<'v> for Constant<'v> {
 
     ghost spelled = { spec.constant_of };
 
-    fn from_value(_alloc: Global, value: &Tree<'v, '_>) -> Result<Constant<'v>, ReadFault> {
+    fn from_value(
+        _alloc: Global,
+        _bump: &'v Bump,
+        value: &Tree<'v, '_>,
+    ) -> Result<Constant<'v>, ReadFault> {
         constant(value).ok_or(ReadFault::Shape)
     }
 }
@@ -33,9 +38,9 @@ pub(super) fn constant<'v>(value: &Tree<'v, '_>) -> Option<Constant<'v>>
     ensures { option_map constant_view result ≡ spec.constant_of (view value.now) }
 {
     match value {
-        Value::Null => Some(Constant::Nil),
-        Value::Number(_) => Some(Constant::Whole(whole(value)?)),
-        Value::Array(values) => listed_constant(values),
+        Tree::Null => Some(Constant::Nil),
+        Tree::Number(_) => Some(Constant::Whole(whole(value)?)),
+        Tree::Array(values) => listed_constant(values),
         _ => None,
     }
 }
@@ -97,17 +102,21 @@ impl<'v> FromValue<'v> for Expr<'v> {
 
     ghost spelled = { expression_of };
 
-    fn from_value(alloc: Global, value: &Tree<'v, '_>) -> Result<Expr<'v>, ReadFault> {
-        expr(alloc, value)
+    fn from_value(
+        alloc: Global,
+        bump: &'v Bump,
+        value: &Tree<'v, '_>,
+    ) -> Result<Expr<'v>, ReadFault> {
+        expr(alloc, bump, value)
     }
 }
 
 #[cycle(expr)]
-fn expr<'v>(alloc: Global, value: &Tree<'v, '_>) -> Result<Expr<'v>, ReadFault>
+fn expr<'v>(alloc: Global, bump: &'v Bump, value: &Tree<'v, '_>) -> Result<Expr<'v>, ReadFault>
     ensures { Gives expr_view result (expression_of (view value.now)) }
 {
     match value {
-        Value::Array(values) => listed(alloc, values),
+        Tree::Array(values) => listed(alloc, bump, values),
         _ => match constant(value) {
             Some(constant) => Ok(Expr::Const(constant)),
             None => Err(ReadFault::Shape),
@@ -118,18 +127,23 @@ fn expr<'v>(alloc: Global, value: &Tree<'v, '_>) -> Result<Expr<'v>, ReadFault>
 /// The expression at a place.
 #[cycle(expr)]
 #[tactic(auto, using(crate::proofs::ExprShapeLemmas::reading_there))]
-fn expr_in<'v>(alloc: Global, values: &[Tree<'v, '_>], place: usize) -> Result<Expr<'v>, ReadFault>
+fn expr_in<'v>(
+    alloc: Global,
+    bump: &'v Bump,
+    values: &[Tree<'v, '_>],
+    place: usize,
+) -> Result<Expr<'v>, ReadFault>
     ensures { Gives expr_view result (spec.at place (readings values.now)) }
 {
     if place >= values.len() {
         return Err(ReadFault::Shape);
     }
-    expr(alloc, &values[place])
+    expr(alloc, bump, &values[place])
 }
 
 #[cycle(expr)]
 #[tactic(auto, unfolding(crate::specs::ExprShape::listed_of, crate::specs::ExprShape::worded_of, crate::specs::ExprShape::me_of))]
-fn listed<'v>(alloc: Global, values: &[Tree<'v, '_>]) -> Result<Expr<'v>, ReadFault>
+fn listed<'v>(alloc: Global, bump: &'v Bump, values: &[Tree<'v, '_>]) -> Result<Expr<'v>, ReadFault>
     ensures { Gives expr_view result (spec.listed_of (map view values.now) (readings values.now)) }
 {
     let Some(word) = text_in(values, 0) else {
@@ -144,11 +158,11 @@ fn listed<'v>(alloc: Global, values: &[Tree<'v, '_>]) -> Result<Expr<'v>, ReadFa
             }
         }
         "arg" => arg(values).ok_or(ReadFault::Shape),
-        "if" => choice(alloc, values),
-        "send" => send(alloc, values),
-        "super" => super_send(alloc, values),
+        "if" => choice(alloc, bump, values),
+        "send" => send(alloc, bump, values),
+        "super" => super_send(alloc, bump, values),
         _ => match operator(word) {
-            Some(operator) => binary(alloc, operator, values),
+            Some(operator) => binary(alloc, bump, operator, values),
             None => match named(word, values) {
                 Some(constant) => Ok(Expr::Const(constant)),
                 None => Err(ReadFault::Shape),
@@ -161,20 +175,23 @@ fn listed<'v>(alloc: Global, values: &[Tree<'v, '_>]) -> Result<Expr<'v>, ReadFa
 #[cycle(expr)]
 fn two<'v>(
     alloc: Global,
+    bump: &'v Bump,
     values: &[Tree<'v, '_>],
     first: usize,
     second: usize,
 ) -> Result<(Expr<'v>, Expr<'v>), ReadFault>
     ensures { Gives (λ es. (expr_view es.0, expr_view es.1)) result (spec.two_at first second (readings values.now)) }
 {
-    let left = expr_in(alloc, values, first)?;
-    beside(left, expr_in(alloc, values, second))
+    let left = expr_in(alloc, bump, values, first)?;
+    let right = expr_in(alloc, bump, values, second)?;
+    Ok((left, right))
 }
 
 #[cycle(expr)]
 #[tactic(auto, unfolding(crate::specs::ExprShape::binary_of))]
 fn binary<'v>(
     alloc: Global,
+    bump: &'v Bump,
     operator: Operator,
     values: &[Tree<'v, '_>],
 ) -> Result<Expr<'v>, ReadFault>
@@ -183,25 +200,27 @@ fn binary<'v>(
     if values.len() != 3 {
         return Err(ReadFault::Shape);
     }
-    let left = expr_in(alloc, values, 1)?;
-    boxed_binary(alloc, operator, left, expr_in(alloc, values, 2))
+    let left = expr_in(alloc, bump, values, 1)?;
+    let right = expr_in(alloc, bump, values, 2)?;
+    kept_binary(bump, operator, left, right)
 }
 
 #[cycle(expr)]
 #[tactic(auto, unfolding(crate::specs::ExprShape::choice_of))]
-fn choice<'v>(alloc: Global, values: &[Tree<'v, '_>]) -> Result<Expr<'v>, ReadFault>
+fn choice<'v>(alloc: Global, bump: &'v Bump, values: &[Tree<'v, '_>]) -> Result<Expr<'v>, ReadFault>
     ensures { Gives expr_view result (spec.choice_of (readings values.now)) }
 {
     if values.len() != 4 {
         return Err(ReadFault::Shape);
     }
-    let condition = expr_in(alloc, values, 1)?;
-    boxed_choice(alloc, condition, two(alloc, values, 2, 3))
+    let condition = expr_in(alloc, bump, values, 1)?;
+    let (then, otherwise) = two(alloc, bump, values, 2, 3)?;
+    kept_choice(bump, condition, then, otherwise)
 }
 
 #[cycle(expr)]
 #[tactic(auto, using(crate::proofs::ExprShapeLemmas::unselected), unfolding(crate::specs::ExprShape::send_expression_of))]
-fn send<'v>(alloc: Global, values: &[Tree<'v, '_>]) -> Result<Expr<'v>, ReadFault>
+fn send<'v>(alloc: Global, bump: &'v Bump, values: &[Tree<'v, '_>]) -> Result<Expr<'v>, ReadFault>
     ensures { Gives expr_view result (spec.send_expression_of (map view values.now) (readings values.now)) }
 {
     if values.len() < 3 {
@@ -210,13 +229,18 @@ fn send<'v>(alloc: Global, values: &[Tree<'v, '_>]) -> Result<Expr<'v>, ReadFaul
     let Some(selector) = text_in(values, 2) else {
         return Err(ReadFault::Shape);
     };
-    let receiver = expr_in(alloc, values, 1)?;
-    boxed_send(alloc, receiver, selector, exprs(alloc, values, 3))
+    let receiver = expr_in(alloc, bump, values, 1)?;
+    let args = exprs(alloc, bump, values, 3)?;
+    kept_send(bump, receiver, selector, args)
 }
 
 #[cycle(expr)]
 #[tactic(auto, unfolding(crate::specs::ExprShape::super_expression_of))]
-fn super_send<'v>(alloc: Global, values: &[Tree<'v, '_>]) -> Result<Expr<'v>, ReadFault>
+fn super_send<'v>(
+    alloc: Global,
+    bump: &'v Bump,
+    values: &[Tree<'v, '_>],
+) -> Result<Expr<'v>, ReadFault>
     ensures { Gives expr_view result (spec.super_expression_of (map view values.now) (readings values.now)) }
 {
     if values.len() < 2 {
@@ -225,87 +249,108 @@ fn super_send<'v>(alloc: Global, values: &[Tree<'v, '_>]) -> Result<Expr<'v>, Re
     let Some(selector) = text_in(values, 1) else {
         return Err(ReadFault::Shape);
     };
-    let args = exprs(alloc, values, 2)?;
-    let send = SuperExpr { selector, args };
-    Ok(Expr::Super(Box::new(alloc, send)?))
+    let args = exprs(alloc, bump, values, 2)?;
+    kept_super(bump, selector, args)
 }
 
 /// The expressions from a place on.
 #[cycle(expr)]
 fn exprs<'v>(
     alloc: Global,
+    bump: &'v Bump,
     values: &[Tree<'v, '_>],
     from: usize,
-) -> Result<Vec<Expr<'v>>, ReadFault>
+) -> Result<&'v [Expr<'v>], ReadFault>
     requires { from ≤ length values.now }
-    ensures { Gives (λ v. map expr_view v.items) result (spec.all_from from (readings values.now)) }
+    ensures { Gives (λ v. map expr_view v.now) result (spec.all_from from (readings values.now)) }
 {
-    let mut exprs = Vec::new(alloc);
+    let mut exprs = Vec::with_capacity(alloc, values.len() - from)?;
     for value in &values[from..] {
-        exprs.push(expr(alloc, value)?)?;
+        exprs.push(expr(alloc, bump, value)?)?;
     }
-    Ok(exprs)
+    kept(bump, &exprs)
 }
 
-// An expression is dropped by a jump for each of its variants. So those that were read before one that failed are dropped here, where no variant is known.
-
-/// A value, and one that was read after it.
-fn beside<A: Drop, B>(first: A, second: Result<B, ReadFault>) -> Result<(A, B), ReadFault>
-    ensures ok { IfOk result (λ r. (r.0 ≡ first) × (second ≡ Ok r.1)) }
-    ensures err { IfErr result (λ e. second ≡ Err e) }
-{
-    Ok((first, second?))
-}
-
-fn boxed_binary<'v>(
+/// The constants that the values spell.
+pub(super) fn constants<'v>(
     alloc: Global,
+    bump: &'v Bump,
+    values: &[Tree<'v, '_>],
+) -> Result<&'v [Constant<'v>], ReadFault>
+    ensures { Gives (λ v. map constant_view v.now) result (each spec.constant_of (map view values.now)) }
+{
+    let constants: Vec<Constant> = each(alloc, bump, values)?;
+    kept(bump, &constants)
+}
+
+// ---- what is large, in the arena
+
+fn kept_binary<'v>(
+    bump: &'v Bump,
     operator: Operator,
     left: Expr<'v>,
-    right: Result<Expr<'v>, ReadFault>,
+    right: Expr<'v>,
 ) -> Result<Expr<'v>, ReadFault>
-    ensures { (o : Option plain.Expression) → Gives expr_view right.entry o
-        → Gives expr_view result (option_and_then (λ r. Some (plain.binary operator (expr_view left.entry) r)) o) }
+    ensures { Gives expr_view result (Some (plain.binary operator (expr_view left.entry) (expr_view right.entry))) }
 {
-    let (left, right) = beside(left, right)?;
     let binary = BinaryExpr {
         operator,
         left,
         right,
     };
-    Ok(Expr::Binary(Box::new(alloc, binary)?))
+    match bump.try_alloc(binary) {
+        Ok(binary) => Ok(Expr::Binary(binary)),
+        Err(_) => Err(ReadFault::Memory),
+    }
 }
 
-fn boxed_choice<'v>(
-    alloc: Global,
+fn kept_choice<'v>(
+    bump: &'v Bump,
     condition: Expr<'v>,
-    branches: Result<(Expr<'v>, Expr<'v>), ReadFault>,
+    then: Expr<'v>,
+    otherwise: Expr<'v>,
 ) -> Result<Expr<'v>, ReadFault>
-    ensures { (o : Option (plain.Expression × plain.Expression)) → Gives (λ es. (expr_view es.0, expr_view es.1)) branches.entry o
-        → Gives expr_view result (option_and_then (λ es. Some (plain.choice (expr_view condition.entry) es.0 es.1)) o) }
+    ensures { Gives expr_view result (Some (plain.choice (expr_view condition.entry) (expr_view then.entry) (expr_view otherwise.entry))) }
 {
-    let (condition, (then, otherwise)) = beside(condition, branches)?;
     let choice = IfExpr {
         condition,
         then,
         otherwise,
     };
-    Ok(Expr::If(Box::new(alloc, choice)?))
+    match bump.try_alloc(choice) {
+        Ok(choice) => Ok(Expr::If(choice)),
+        Err(_) => Err(ReadFault::Memory),
+    }
 }
 
-fn boxed_send<'v>(
-    alloc: Global,
+fn kept_send<'v>(
+    bump: &'v Bump,
     receiver: Expr<'v>,
     selector: &'v str,
-    args: Result<Vec<Expr<'v>>, ReadFault>,
+    args: &'v [Expr<'v>],
 ) -> Result<Expr<'v>, ReadFault>
-    ensures { (o : Option (List plain.Expression)) → Gives (λ v. map expr_view v.items) args.entry o
-        → Gives expr_view result (option_and_then (λ es. Some (plain.send (expr_view receiver.entry) selector.now (plain.expressions es))) o) }
+    ensures { Gives expr_view result (Some (plain.send (expr_view receiver.entry) selector.now (exprs_view args.now))) }
 {
-    let (receiver, args) = beside(receiver, args)?;
     let send = SendExpr {
         receiver,
         selector,
         args,
     };
-    Ok(Expr::Send(Box::new(alloc, send)?))
+    match bump.try_alloc(send) {
+        Ok(send) => Ok(Expr::Send(send)),
+        Err(_) => Err(ReadFault::Memory),
+    }
+}
+
+fn kept_super<'v>(
+    bump: &'v Bump,
+    selector: &'v str,
+    args: &'v [Expr<'v>],
+) -> Result<Expr<'v>, ReadFault>
+    ensures { Gives expr_view result (Some (plain.super_send selector.now (exprs_view args.now))) }
+{
+    match bump.try_alloc(SuperExpr { selector, args }) {
+        Ok(send) => Ok(Expr::Super(send)),
+        Err(_) => Err(ReadFault::Memory),
+    }
 }

@@ -15,7 +15,7 @@ use super::values::{list, name, name_at, name_in, text_in, truth};
 use super::{FromValue, list_at};
 use crate::faults::ReadFault;
 use crate::form::{Category, Change, Class, Expr, Form, Imp, Item, Object, Pair, is_second};
-use msg_json::{Tree, Value, get, has_keys, whole};
+use msg_json::{Bump, Tree, get, has_keys, whole};
 use std::alloc::Global;
 
 #[tactic(auto, unfolding(crate::specs::Shape::pair_form_of))]
@@ -39,7 +39,11 @@ impl<'v> FromValue<'v> for Pair<'v> {
 
     ghost spelled = { spec.pair_form_of };
 
-    fn from_value(_alloc: Global, value: &Tree<'v, '_>) -> Result<Pair<'v>, ReadFault> {
+    fn from_value(
+        _alloc: Global,
+        _bump: &'v Bump,
+        value: &Tree<'v, '_>,
+    ) -> Result<Pair<'v>, ReadFault> {
         pair(value).ok_or(ReadFault::Shape)
     }
 }
@@ -49,8 +53,8 @@ pub(super) fn superclass<'v>(value: &Tree<'v, '_>) -> Option<Option<&'v str>>
     ensures { option_map (λ o. option_map (λ s. s.now) o) result ≡ spec.superclass_of (view value.now) }
 {
     match value {
-        Value::Null => Some(None),
-        Value::String(_) => Some(Some(name(value)?)),
+        Tree::Null => Some(None),
+        Tree::Text(_) => Some(Some(name(value)?)),
         _ => None,
     }
 }
@@ -63,7 +67,11 @@ impl<'v> FromValue<'v> for Class<'v> {
     ghost spelled = { spec.class_form_of };
 
     #[tactic(auto, unfolding(crate::specs::Shape::class_form_of))]
-    fn from_value(alloc: Global, value: &Tree<'v, '_>) -> Result<Class<'v>, ReadFault> {
+    fn from_value(
+        alloc: Global,
+        bump: &'v Bump,
+        value: &Tree<'v, '_>,
+    ) -> Result<Class<'v>, ReadFault> {
         if !has_keys(value, 4) {
             return Err(ReadFault::Shape);
         }
@@ -76,8 +84,8 @@ impl<'v> FromValue<'v> for Class<'v> {
         Ok(Class {
             name,
             superclass,
-            methods: list_at(alloc, value, "methods")?,
-            class_methods: list_at(alloc, value, "class_methods")?,
+            methods: list_at(alloc, bump, value, "methods")?,
+            class_methods: list_at(alloc, bump, value, "class_methods")?,
         })
     }
 }
@@ -90,7 +98,11 @@ impl<'v> FromValue<'v> for Category<'v> {
     ghost spelled = { spec.category_form_of };
 
     #[tactic(auto, unfolding(crate::specs::Shape::category_form_of))]
-    fn from_value(alloc: Global, value: &Tree<'v, '_>) -> Result<Category<'v>, ReadFault> {
+    fn from_value(
+        alloc: Global,
+        bump: &'v Bump,
+        value: &Tree<'v, '_>,
+    ) -> Result<Category<'v>, ReadFault> {
         if !has_keys(value, 3) {
             return Err(ReadFault::Shape);
         }
@@ -99,8 +111,8 @@ impl<'v> FromValue<'v> for Category<'v> {
         };
         Ok(Category {
             class,
-            methods: list_at(alloc, value, "methods")?,
-            class_methods: list_at(alloc, value, "class_methods")?,
+            methods: list_at(alloc, bump, value, "methods")?,
+            class_methods: list_at(alloc, bump, value, "class_methods")?,
         })
     }
 }
@@ -125,7 +137,11 @@ impl<'v> FromValue<'v> for Object<'v> {
 
     ghost spelled = { spec.object_form_of };
 
-    fn from_value(_alloc: Global, value: &Tree<'v, '_>) -> Result<Object<'v>, ReadFault> {
+    fn from_value(
+        _alloc: Global,
+        _bump: &'v Bump,
+        value: &Tree<'v, '_>,
+    ) -> Result<Object<'v>, ReadFault> {
         object(value).ok_or(ReadFault::Shape)
     }
 }
@@ -150,7 +166,11 @@ impl<'v> FromValue<'v> for Imp<'v> {
     ghost spelled = { spec.imp_form_of };
 
     #[tactic(auto, unfolding(crate::specs::Shape::imp_form_of))]
-    fn from_value(alloc: Global, value: &Tree<'v, '_>) -> Result<Imp<'v>, ReadFault> {
+    fn from_value(
+        alloc: Global,
+        bump: &'v Bump,
+        value: &Tree<'v, '_>,
+    ) -> Result<Imp<'v>, ReadFault> {
         if !has_keys(value, 5) {
             return Err(ReadFault::Shape);
         }
@@ -172,7 +192,7 @@ impl<'v> FromValue<'v> for Imp<'v> {
             class,
             meta,
             args,
-            body: Expr::from_value(alloc, body)?,
+            body: Expr::from_value(alloc, bump, body)?,
         })
     }
 }
@@ -184,7 +204,11 @@ impl<'v> FromValue<'v> for &'v str {
 
     ghost spelled = { name_of };
 
-    fn from_value(_alloc: Global, value: &Tree<'v, '_>) -> Result<&'v str, ReadFault> {
+    fn from_value(
+        _alloc: Global,
+        _bump: &'v Bump,
+        value: &Tree<'v, '_>,
+    ) -> Result<&'v str, ReadFault> {
         name(value).ok_or(ReadFault::Shape)
     }
 }
@@ -211,14 +235,14 @@ fn makes_class(items: &[Item]) -> bool
 impl<'v> Form<'v> {
     /// The form that a JSON value spells.
     #[tactic(auto, unfolding(crate::specs::Shape::form_of, crate::specs::Json::whole_of))]
-    pub fn read(alloc: Global, value: &Tree<'v, '_>) -> Result<Form<'v>, ReadFault>
+    pub fn read(alloc: Global, bump: &'v Bump, value: &Tree<'v, '_>) -> Result<Form<'v>, ReadFault>
         ensures { Gives form_view result (spec.form_of (view value.now)) }
     {
         let Some(version) = version(value) else {
             return Err(ReadFault::Shape);
         };
         let mut form = Form::empty(alloc, version);
-        form.fill(alloc, value).and(Ok(form))
+        form.fill(alloc, bump, value).and(Ok(form))
     }
 
     fn empty(alloc: Global, version: i64) -> Form<'v>
@@ -237,27 +261,32 @@ impl<'v> Form<'v> {
     }
 
     // The lists stay where they are, so that none is dropped where another can't be read.
-    fn fill(&mut self, alloc: Global, value: &Tree<'v, '_>) -> Result<(), ReadFault>
+    fn fill(&mut self, alloc: Global, bump: &'v Bump, value: &Tree<'v, '_>) -> Result<(), ReadFault>
         requires { self.old.made.items ≡ [] }
         ensures { Gives (λ _. form_view self.new) result (spec.form_by self.old.version (view value.now)) }
     {
         if is_second(self.version) {
-            self.fill_second(alloc, value)
+            self.fill_second(alloc, bump, value)
         } else {
-            self.fill_first(alloc, value)
+            self.fill_first(alloc, bump, value)
         }
     }
 
     /// Fills in a form of version 1, which makes no classes.
     #[tactic(auto, using(crate::proofs::AnyLemmas::anys), unfolding(crate::specs::Shape::first_form_of))]
-    fn fill_first(&mut self, alloc: Global, value: &Tree<'v, '_>) -> Result<(), ReadFault>
+    fn fill_first(
+        &mut self,
+        alloc: Global,
+        bump: &'v Bump,
+        value: &Tree<'v, '_>,
+    ) -> Result<(), ReadFault>
         requires { self.old.made.items ≡ [] }
         ensures { Gives (λ _. form_view self.new) result (spec.first_form_of self.old.version (view value.now)) }
     {
         if !has_keys(value, 6) {
             return Err(ReadFault::Shape);
         }
-        self.fill_parts(alloc, value)?;
+        self.fill_parts(alloc, bump, value)?;
         if makes_class(&self.items) {
             return Err(ReadFault::Shape);
         }
@@ -266,26 +295,36 @@ impl<'v> Form<'v> {
 
     /// Fills in a form of version 2, which names the classes that may be made.
     #[tactic(auto, unfolding(crate::specs::Shape::second_form_of))]
-    fn fill_second(&mut self, alloc: Global, value: &Tree<'v, '_>) -> Result<(), ReadFault>
+    fn fill_second(
+        &mut self,
+        alloc: Global,
+        bump: &'v Bump,
+        value: &Tree<'v, '_>,
+    ) -> Result<(), ReadFault>
         ensures { Gives (λ _. form_view self.new) result (spec.second_form_of self.old.version (view value.now)) }
     {
         if !has_keys(value, 7) {
             return Err(ReadFault::Shape);
         }
-        self.made = list_at(alloc, value, "made")?;
-        self.fill_parts(alloc, value)
+        self.made = list_at(alloc, bump, value, "made")?;
+        self.fill_parts(alloc, bump, value)
     }
 
     /// Fills in what the versions share.
     #[tactic(auto, unfolding(crate::specs::Shape::parts_of))]
-    fn fill_parts(&mut self, alloc: Global, value: &Tree<'v, '_>) -> Result<(), ReadFault>
+    fn fill_parts(
+        &mut self,
+        alloc: Global,
+        bump: &'v Bump,
+        value: &Tree<'v, '_>,
+    ) -> Result<(), ReadFault>
         ensures { Gives (λ _. form_view self.new) result (spec.parts_of self.old.version (texts_view self.old.made.items) (view value.now)) }
     {
-        self.classes = list_at(alloc, value, "classes")?;
-        self.categories = list_at(alloc, value, "categories")?;
-        self.objects = list_at(alloc, value, "objects")?;
-        self.imps = list_at(alloc, value, "imps")?;
-        self.items = list_at(alloc, value, "items")?;
+        self.classes = list_at(alloc, bump, value, "classes")?;
+        self.categories = list_at(alloc, bump, value, "categories")?;
+        self.objects = list_at(alloc, bump, value, "objects")?;
+        self.imps = list_at(alloc, bump, value, "imps")?;
+        self.items = list_at(alloc, bump, value, "items")?;
         Ok(())
     }
 }

@@ -5,7 +5,7 @@ ghost use Rattle.serde_json.specs.Find.{as_bool, as_str};
 ghost use Rattle.msg_json.specs.View.{view};
 ghost use Rattle.msg_form.specs.Json as spec;
 
-use msg_json::{Tree, Value, get};
+use msg_json::{Tree, get};
 
 /// The name at a key.
 pub(super) fn name_at<'v>(value: &Tree<'v, '_>, key: &str) -> Option<&'v str>
@@ -42,11 +42,11 @@ pub(super) fn name_in<'v>(values: &[Tree<'v, '_>], place: usize) -> Option<&'v s
 }
 
 /// The values of a list.
-pub(super) fn list<'a, 'v, 'b>(value: &'a Tree<'v, 'b>) -> Option<&'a [Tree<'v, 'b>]>
+pub(super) fn list<'v, 'b>(value: &Tree<'v, 'b>) -> Option<&'b [Tree<'v, 'b>]>
     ensures { option_map (λ vs. map view vs.now) result ≡ spec.list_at (view value.now) }
 {
     match value {
-        Value::Array(values) => Some(values.as_slice()),
+        Tree::Array(values) => Some(*values),
         _ => None,
     }
 }
@@ -55,7 +55,7 @@ fn text<'v>(value: &Tree<'v, '_>) -> Option<&'v str>
     ensures { option_map (λ s. s.now) result ≡ as_str (view value.now) }
 {
     match value {
-        Value::String(text) => Some(*text),
+        Tree::Text(text) => Some(*text),
         _ => None,
     }
 }
@@ -66,7 +66,7 @@ pub(super) fn name<'v>(value: &Tree<'v, '_>) -> Option<&'v str>
     ensures { option_map (λ s. s.now) result ≡ spec.name_of (view value.now) }
 {
     match value {
-        Value::String(text) if msg_names::is_identifier(*text) => Some(*text),
+        Tree::Text(text) if msg_names::is_identifier(*text) => Some(*text),
         _ => None,
     }
 }
@@ -75,7 +75,7 @@ pub(super) fn truth(value: &Tree<'_, '_>) -> Option<bool>
     ensures { result ≡ as_bool (view value.now) }
 {
     match value {
-        Value::Bool(truth) => Some(*truth),
+        Tree::Bool(truth) => Some(*truth),
         _ => None,
     }
 }

@@ -16,16 +16,16 @@ push_expr-returns-in-Me t c = leaf_pushed c.args.expr.now (texts_view c.args.tex
 
 pub push_expr-returns-in_ok-push_expr-in-Binary : goal.push_expr-returns-in_ok-push_expr-in-Binary
 push_expr-returns-in_ok-push_expr-in-Binary t c =
-    let left = rw c.deref.ensures at c.in_ok-push_expr-in-Binary.ensures in
-    let right = rw c.deref-in-Binary.ensures at c.push_expr-in-Binary.ensures in
+    let left = c.in_ok-push_expr-in-Binary.ensures in
+    let right = c.push_expr-in-Binary.ensures in
     on_ok_weaker c.push_expr-in-Binary.result
     (two_pushed (texts_view c.args.texts.now.items) (texts_view c.push_expr.new.texts.items) (texts_view c.push_expr-in-Binary.new.texts.items) _ _ _ (texts-Binary c.args.expr.now c.in-Binary.binary c.in-Binary.is) left) right
 
 pub push_expr-returns-in_ok-push_expr-in-If-2 : goal.push_expr-returns-in_ok-push_expr-in-If-2
 push_expr-returns-in_ok-push_expr-in-If-2 t c =
-    let condition = rw c.deref-in-If.ensures at c.in_ok-push_expr-in-If.ensures in
-    let then = rw c.deref-in-If-2.ensures at c.in_ok-push_expr-in-If-2.ensures in
-    let otherwise = rw c.deref-in-If-3.ensures at c.push_expr-in-If-3.ensures in
+    let condition = c.in_ok-push_expr-in-If.ensures in
+    let then = c.in_ok-push_expr-in-If-2.ensures in
+    let otherwise = c.push_expr-in-If-3.ensures in
     on_ok_weaker c.push_expr-in-If-3.result
     (three_pushed (texts_view c.args.texts.now.items) (texts_view c.push_expr-in-If.new.texts.items) (texts_view c.push_expr-in-If-2.new.texts.items) (texts_view c.push_expr-in-If-3.new.texts.items) _ _ _ _
     (texts-If c.args.expr.now c.in-If.choice c.in-If.is) condition then)
@@ -33,16 +33,16 @@ push_expr-returns-in_ok-push_expr-in-If-2 t c =
 
 pub push_expr-returns-in_ok-push_text-in-Send : goal.push_expr-returns-in_ok-push_text-in-Send
 push_expr-returns-in_ok-push_text-in-Send t c =
-    let receiver = rw c.deref-in-Send.ensures at c.in_ok-push_expr-in-Send.ensures in
-    let selector = rw c.deref-in-Send-2.ensures at c.in_ok-push_text-in-Send.ensures in
-    let args = rw (c.deref-in-Send-4.ensures.value, c.deref-in-Send-3.ensures) at c.push_exprs.ensures in
+    let receiver = c.in_ok-push_expr-in-Send.ensures in
+    let selector = c.in_ok-push_text-in-Send.ensures in
+    let args = c.push_exprs.ensures in
     on_ok_weaker c.push_exprs.result
     (send_pushed _ (texts_view c.args.texts.now.items) (texts_view c.push_expr-in-Send.new.texts.items) (texts_view c.push_text.new.texts.items) (texts_view c.push_exprs.new.texts.items) _ _ _ (texts-Send c.args.expr.now c.in-Send.send c.in-Send.is) receiver selector) args
 
 pub push_expr-returns-in_ok-push_text-in-Super : goal.push_expr-returns-in_ok-push_text-in-Super
 push_expr-returns-in_ok-push_text-in-Super t c =
-    let selector = rw c.deref-in-Super.ensures at c.in_ok-push_text-in-Super.ensures in
-    let args = rw (c.deref-in-Super-3.ensures.value, c.deref-in-Super-2.ensures) at c.push_exprs-in-Super.ensures in
+    let selector = c.in_ok-push_text-in-Super.ensures in
+    let args = c.push_exprs-in-Super.ensures in
     on_ok_weaker c.push_exprs-in-Super.result
     (selector_pushed _ (texts_view c.args.texts.now.items) (texts_view c.push_text-in-Super.new.texts.items) (texts_view c.push_exprs-in-Super.new.texts.items) _ _ (texts-Super c.args.expr.now c.in-Super.send c.in-Super.is) selector) args
 

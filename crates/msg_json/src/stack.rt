@@ -1,0 +1,39 @@
+//! The values of the lists and objects that are still open.
+
+ghost use Rattle.std.specs.Prelude.{◌≡◌, ◌++◌, ◌∷◌, ◌≤◌, [], drop, length, take, IfOk, IfSome, OnOk};
+
+use crate::tree::Tree;
+use bumpalo::Bump;
+use std::alloc::{AllocError, Global};
+
+/// The values of open lists and the members of open objects, those of the innermost last.
+#[derive(Drop)]
+pub(crate) struct Stack<'t, 'b> {
+    pub(crate) values: Vec<Tree<'t, 'b>>,
+    pub(crate) members: Vec<(&'t str, Tree<'t, 'b>)>,
+}
+
+impl<'t, 'b> Stack<'t, 'b> {
+    pub(crate) fn new(alloc: Global) -> Stack<'t, 'b> {
+        Stack {
+            values: Vec::new(alloc),
+            members: Vec::new(alloc),
+        }
+    }
+}
+
+/// Takes what was pushed from a place on, and keeps it in the arena.
+#[inline(always)]
+pub(crate) fn kept<'b, T: Copy>(
+    bump: &'b Bump,
+    stack: &mut Vec<T>,
+    from: usize,
+) -> Result<&'b [T], AllocError>
+    requires { from ≤ length stack.old.items }
+    ensures kept { IfOk result (λ vs. vs.now ≡ drop from stack.old.items) }
+    ensures left { stack.new.items ≡ take from stack.old.items }
+{
+    let kept = bump.try_alloc_slice_copy(&stack[from..]);
+    stack.truncate(from);
+    Ok(kept?)
+}
