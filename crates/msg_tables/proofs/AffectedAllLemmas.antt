@@ -4,8 +4,6 @@ use Rattle.std.specs.Prelude.{◌||◌, ◌==◌, slice_index_or}
 use Rattle.std.proofs.lemmas.List.{take_more}
 use Rattle.std.proofs.lemmas.List.Folds.{list_any-append}
 use Rattle.msg_names.specs.declared.value.ClassRef.{ClassRef}
-use Rattle.msg_names.specs.ClassRef.{same_class}
-use Rattle.msg_names.proofs.ClassRefLemmas.{same_class-is, same_class-refl}
 use Rattle.msg_tables.specs.Origin.{IsSound}
 use Rattle.msg_tables.specs.declared.change.Change.{Change}
 use Rattle.msg_tables.specs.declared.change.Change.TheVariants.{Add, Replace, SetImp, Exchange, Attach, AddClass}
@@ -37,25 +35,6 @@ or-cases false b e f g = g e
 
 pub below-append : (h : Log) (ps qs : List ClassRef) (c : ClassRef) → is_below h (ps ++ qs) c ≡ (is_below h ps c || is_below h qs c)
 below-append h ps qs c = list_any-append (λ p. is_member p (chain_at h c)) ps qs
-
--- one of the places is enough
-pub below-one : (h : Log) (ps : List ClassRef) (c p : ClassRef) → is_member p ps ≡ true → is_member p (chain_at h c) ≡ true → is_below h ps c ≡ true
-below-one h [] c p among e = cc
-below-one h (q ∷ qs) c p among e =
-    or-cases (same_class p q) (is_member p qs) among
-    (λ here. or-left (is_member q (chain_at h c)) (is_below h qs c) (subst (λ z. is_member z (chain_at h c) ≡ true) (same_class-is p q here) e))
-    (λ there. or-right (is_member q (chain_at h c)) (is_below h qs c) (below-one h qs c p there e))
-
--- the same places in another order find the same
-pub below-same : (h : Log) (ps qs : List ClassRef) (c : ClassRef) → ((p : ClassRef) → is_member p qs ≡ is_member p ps) → is_below h ps c ≡ true → is_below h qs c ≡ true
-below-same h ps qs c same e = walk ps (λ p among. same p ∙ among) e
-  where
-    walk : (rs : List ClassRef) → ((p : ClassRef) → is_member p rs ≡ true → is_member p qs ≡ true) → is_below h rs c ≡ true → is_below h qs c ≡ true
-    walk [] all e = cc
-    walk (r ∷ rs) all e =
-        or-cases (is_member r (chain_at h c)) (is_below h rs c) e
-        (λ here. below-one h qs c r (all r (or-left (same_class r r) (is_member r rs) (same_class-refl r))) here)
-        (λ there. walk rs (λ p among. all p (or-right (same_class p r) (is_member p rs) among)) there)
 
 -- what is below a place stays there
 below-on : (h : Log) (xs : List Change) (ps : List ClassRef) (c : ClassRef) → IsSound h.origin → IsLog h → AreAccepted h xs → is_below h ps c ≡ true → is_below (and_all h xs) ps c ≡ true
@@ -101,14 +80,6 @@ affected-all h (x ∷ xs) c sound is all e =
 
     at : (is_below end (written_refs h x) c || is_below end (written_by_all (and_then h x) xs) c) ≡ true → (is_of_one (made_by_all (x ∷ xs)) c || is_below end (written_by_all h (x ∷ xs)) c) ≡ true
     at e = or-right (is_of_one (made_by_all (x ∷ xs)) c) (is_below end (written_by_all h (x ∷ xs)) c) (below-append end (written_refs h x) (written_by_all (and_then h x) xs) c ∙ e)
-
--- with the same places, and the classes that were made
-pub told-all : (h : Log) (xs : List Change) (ks : List ℕ) (ps : List ClassRef) (c : ClassRef) → IsSound h.origin → IsLog h → AreAccepted h xs → ks ≡ made_by_all xs → ((p : ClassRef) → is_member p ps ≡ is_member p (written_by_all h xs))
-    → is_affected_by_all h xs c ≡ true → (is_of_one ks c || is_below (and_all h xs) ps c) ≡ true
-told-all h xs ks ps c sound is all classes same e =
-    or-cases (is_of_one (made_by_all xs) c) (is_below (and_all h xs) (written_by_all h xs) c) (affected-all h xs c sound is all e)
-    (λ made. or-left (is_of_one ks c) (is_below (and_all h xs) ps c) (ap (λ js. is_of_one js c) classes ∙ made))
-    (λ below. or-right (is_of_one ks c) (is_below (and_all h xs) ps c) (below-same (and_all h xs) (written_by_all h xs) ps c same below))
 
 -- ---- one entry more
 

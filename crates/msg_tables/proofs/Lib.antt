@@ -41,6 +41,8 @@ pub mod WalkLemmas
 pub mod PlacedLemmas
 pub mod BelowAllLemmas
 pub mod RowSetLemmas
+pub mod RewriteLemmas
+pub mod UndoJournalLemmas
 pub mod SeveralLemmas
 pub mod UndoLemmas
 pub mod ReachLemmas

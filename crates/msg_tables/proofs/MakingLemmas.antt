@@ -1,25 +1,25 @@
 -- Changes of a list that are made one after another.
-use Rattle.std.proofs.Common.{◌≡◌, ◌<◌, ◌≤◌, ◌+◌, ℕ, zero, suc, List, [], ◌∷◌, ◌++◌, take, length, length-append, append_assoc, append-nil, Bool, true, false, Some, None, refl, sym, ap, ap₂, ◌∙◌, subst, slice_index_or, arith}
-use Rattle.std.specs.Prelude.{◌||◌}
+use Rattle.std.proofs.Common.{◌≡◌, ◌<◌, ◌≤◌, ◌+◌, ℕ, zero, suc, List, [], ◌∷◌, ◌++◌, take, length, length-append, append_assoc, append-nil, Some, None, refl, sym, ap, ap₂, ◌∙◌, subst, slice_index_or, arith}
 use Rattle.std.proofs.lemmas.List.{take_more}
-use Rattle.msg_names.specs.declared.value.ClassRef.{ClassRef}
 use Rattle.msg_tables.specs.declared.change.Change.{Change}
 use Rattle.msg_tables.specs.declared.edit.Edit.{Edit}
 use Rattle.msg_tables.specs.declared.edit.Edit.TheVariants.{Append, Rewrite, RewriteBoth, Attach, Make}
 use Rattle.msg_tables.specs.declared.entry.Entry.{Entry}
 use Rattle.msg_tables.specs.declared.fault.ChangeFault.{ChangeFault}
 use Rattle.msg_tables.specs.Affected.{written_refs}
-use Rattle.msg_tables.specs.Chain.{is_member}
 use Rattle.msg_tables.specs.Edits.{supers_edited}
-use Rattle.msg_tables.specs.Log.{Log, and_then}
-use Rattle.msg_tables.specs.Journal.{Journals, edit_made, WritesAt, IsJournalOf, entry_count, places_of, classes_of}
+use Rattle.msg_tables.specs.Log.{Log, and_then, table}
+use Rattle.msg_tables.specs.Journal.{Journals, edit_made, undo_journal, IsUndoneBy, WritesAt, IsJournalOf, entry_count, places_of, classes_of}
 use Rattle.msg_tables.specs.Making.{IsBeside, IsPart, IsMade}
 use Rattle.msg_tables.specs.Refusal.{refusal, AreAccepted}
 use Rattle.msg_tables.specs.Several.{and_all, refused_from, made_by, made_by_all, written_by_all}
 use Rattle.msg_tables.specs.Stands.{StandsAt}
+use Rattle.msg_tables.specs.Undo.{and_before, undo, undo_all}
 use Rattle.msg_tables.specs.View.{TablesView}
+use Rattle.msg_tables.proofs.SeveralLemmas.{table-and_all}
+use Rattle.msg_tables.proofs.UndoJournalLemmas.{undo_all-snoc, undo_journal-append}
 use Rattle.msg_tables.proofs.JournalLemmas.{journal-append}
-use Rattle.msg_tables.proofs.NoteLemmas.{member-append, member-places, classes-append}
+use Rattle.msg_tables.proofs.NoteLemmas.{places-append, classes-append}
 use Rattle.std.proofs.Math.ListN.{length-set}
 
 -- ---- one change
@@ -39,17 +39,18 @@ length-edited_supers (Attach k ms cs) t = refl
 length-edited_supers (Make k d) t = length-set t.supers k (Some (record { superclass = d }))
 
 -- an edit was made and noted, and the change is counted
-pub part-made : (x : Change) (e : Edit) (journal longer : List Entry) (old new : TablesView) → ((h : Log) → StandsAt old h → WritesAt h x e) → edit_made e ≡ made_by x → Journals e journal longer old new
+pub part-made : (x : Change) (e : Edit) (journal longer : List Entry) (old new : TablesView) → WritesAt old x e → edit_made e ≡ made_by x → IsUndoneBy old x e → Journals e journal longer old new
     → IsPart x journal longer old (record new { change_count = new.change_count + 1 })
-part-made x e journal longer old new written makes journals =
+part-made x e journal longer old new written makes undoes journals =
     let few = few-entries e in
     record {
       entries = journals.entries;
       is = journals.is;
       few = omega (arith, few, journals.few);
       back = record { lists = journals.back.lists; supers = journals.back.supers; order = journals.back.order };
-      places = λ h stands c. journals.places c ∙ ap (is_member c) (written h stands);
+      places = λ h stands. journals.places ∙ written h stands;
       made = journals.made ∙ makes;
+      undone = λ h stands. journals.undone ∙ undoes h stands;
       beside = record {
         count = ap (λ (t : TablesView). length t.supers) journals.writes.rest ∙ length-edited_supers e old;
         rest = sym (ap (λ (t : TablesView). record t { supers = old.supers; order = old.order; lists = old.lists; row_count = old.row_count; change_count = old.change_count }) journals.writes.rest);
@@ -66,21 +67,9 @@ and_all-snoc : (h : Log) (xs : List Change) (x : Change) → and_all h (xs ++ x 
 and_all-snoc h [] x = refl
 and_all-snoc h (y ∷ ys) x = and_all-snoc (and_then h y) ys x
 
-member-snoc : (h : Log) (xs : List Change) (x : Change) (c : ClassRef) → is_member c (written_by_all h (xs ++ x ∷ [])) ≡ (is_member c (written_by_all h xs) || is_member c (written_refs (and_all h xs) x))
-member-snoc h [] x c = member-append c (written_refs h x) [] ∙ or-none (is_member c (written_refs h x))
-  where
-    or-none : (b : Bool) → (b || false) ≡ b
-    or-none true = refl
-    or-none false = refl
-member-snoc h (y ∷ ys) x c =
-    member-append c (written_refs h y) (written_by_all (and_then h y) (ys ++ x ∷ []))
-    ∙ ap (λ b. is_member c (written_refs h y) || b) (member-snoc (and_then h y) ys x c)
-    ∙ or-assoc (is_member c (written_refs h y)) (is_member c (written_by_all (and_then h y) ys)) (is_member c (written_refs (and_all h (y ∷ ys)) x))
-    ∙ sym (ap (λ b. b || is_member c (written_refs (and_all h (y ∷ ys)) x)) (member-append c (written_refs h y) (written_by_all (and_then h y) ys)))
-  where
-    or-assoc : (a b d : Bool) → (a || (b || d)) ≡ ((a || b) || d)
-    or-assoc true b d = refl
-    or-assoc false b d = refl
+written-snoc : (h : Log) (xs : List Change) (x : Change) → written_by_all h (xs ++ x ∷ []) ≡ written_by_all h xs ++ written_refs (and_all h xs) x
+written-snoc h [] x = append-nil (written_refs h x)
+written-snoc h (y ∷ ys) x = ap (λ ps. written_refs h y ++ ps) (written-snoc (and_then h y) ys x) ∙ sym (append_assoc (written_refs h y) (written_by_all (and_then h y) ys) (written_refs (and_all h (y ∷ ys)) x))
 
 made-snoc : (xs : List Change) (x : Change) → made_by_all (xs ++ x ∷ []) ≡ made_by_all xs ++ made_by x
 made-snoc [] x = append-nil (made_by x)
@@ -97,8 +86,9 @@ made-none t [] e = record {
   few = omega arith;
   back = record { lists = refl; supers = refl; order = refl };
   stands = λ h stands. (tt, stands);
-  places = λ h stands c. refl;
+  places = λ h stands. refl;
   made = refl;
+  undone = λ h stands. refl;
   beside = record { count = refl; rest = refl };
 }
 made-none t (x ∷ journal) e = cc
@@ -113,12 +103,18 @@ made-next xs i x journal longer old between new inside is so-far ok part =
           let (all, now) = so-far.stands h stands in
           let (none, after) = ok (and_all h (take i xs)) now in
           (accepted-snoc h (take i xs) x all none, subst (StandsAt new) (sym (and_all-snoc h (take i xs) x)) after);
-      places = λ h stands c.
+      places = λ h stands.
           let now = (so-far.stands h stands).1 in
-          ap (λ es. is_member c (places_of es)) part.is ∙ member-places c journal part.entries
-          ∙ ap₂ (λ a b. a || b) (so-far.places h stands c) (part.places (and_all h (take i xs)) now c)
-          ∙ sym (member-snoc h (take i xs) x c);
+          ap places_of part.is ∙ places-append journal part.entries
+          ∙ ap₂ (λ a b. a ++ b) (so-far.places h stands) (part.places (and_all h (take i xs)) now)
+          ∙ sym (written-snoc h (take i xs) x);
       made = ap classes_of part.is ∙ classes-append journal part.entries ∙ ap₂ (λ a b. a ++ b) so-far.made part.made ∙ sym (made-snoc (take i xs) x);
+      undone = λ h stands.
+          let now = (so-far.stands h stands).1 in
+          undo_all-snoc (table h) (take i xs) x
+          ∙ ap (λ t. and_before (undo_all (table h) (take i xs)) (undo t x)) (sym (table-and_all h (take i xs)))
+          ∙ ap₂ (λ a b. and_before a b) (so-far.undone h stands) (sym (part.undone (and_all h (take i xs)) now))
+          ∙ sym (ap undo_journal part.is ∙ undo_journal-append journal part.entries);
       beside = beside-on old between new so-far.beside part.beside;
     }
 

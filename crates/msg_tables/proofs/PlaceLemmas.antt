@@ -9,17 +9,17 @@ use Rattle.msg_tables.specs.declared.edit.MethodRow.{MethodRow}
 use Rattle.msg_tables.specs.declared.edit.Edit.TheVariants as edit
 use Rattle.msg_tables.specs.Affected.{at_most_one, written_refs}
 use Rattle.msg_tables.specs.Log.{Log, holder}
-use Rattle.msg_tables.specs.Journal.{WritesAt}
+use Rattle.msg_tables.specs.Journal.{edit_places}
 
-pub places-add : (h : Log) (r : MethodRow) → WritesAt h (Add r.class r.sel r.imp) (edit.Append r)
+pub places-add : (h : Log) (r : MethodRow) → edit_places (edit.Append r) ≡ written_refs h (Add r.class r.sel r.imp)
 unfolding written_refs
 places-add h r = refl
 
-pub places-replace-add : (h : Log) (r : MethodRow) → WritesAt h (Replace r.class r.sel r.imp) (edit.Append r)
+pub places-replace-add : (h : Log) (r : MethodRow) → edit_places (edit.Append r) ≡ written_refs h (Replace r.class r.sel r.imp)
 unfolding written_refs
 places-replace-add h r = refl
 
-pub places-replace : (h : Log) (r : MethodRow) → WritesAt h (Replace r.class r.sel r.imp) (edit.Rewrite r)
+pub places-replace : (h : Log) (r : MethodRow) → edit_places (edit.Rewrite r) ≡ written_refs h (Replace r.class r.sel r.imp)
 unfolding written_refs
 places-replace h r = refl
 
@@ -31,10 +31,10 @@ pub places-exchange : (h : Log) (c d : ClassRef) (s u : Selector) (p q : ClassRe
 unfolding written_refs
 places-exchange h c d s u p q first second = sym (ap₂ (λ a b. at_most_one a ++ at_most_one b) first second)
 
-pub places-attach : (h : Log) (k : ℕ) (ms cs : Bor (List (ℕ × ℕ))) → WritesAt h (Attach k ms.now cs.now) (edit.Attach k ms cs)
+pub places-attach : (h : Log) (k : ℕ) (ms cs : Bor (List (ℕ × ℕ))) → edit_places (edit.Attach k ms cs) ≡ written_refs h (Attach k ms.now cs.now)
 unfolding written_refs
 places-attach h k ms cs = refl
 
-pub places-make : (h : Log) (k : ℕ) (d : Option ℕ) → WritesAt h (AddClass k d) (edit.Make k d)
+pub places-make : (h : Log) (k : ℕ) (d : Option ℕ) → edit_places (edit.Make k d) ≡ written_refs h (AddClass k d)
 unfolding written_refs
 places-make h k d = refl

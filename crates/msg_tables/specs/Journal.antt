@@ -1,11 +1,14 @@
 -- What a list of changes wrote, from the first entry to the last, and how it is taken back.
-use Rattle.std.specs.Prelude.{◌≡◌, ◌<◌, ◌≤◌, ◌*◌, ◌-◌, ℕ, zero, suc, Bool, true, false, List, [], ◌∷◌, ◌++◌, Option, Some, None, length, slice_set, take}
+use Rattle.std.specs.Prelude.{◌≡◌, ◌<◌, ◌≤◌, ◌*◌, ◌-◌, ℕ, zero, suc, Bool, true, false, List, [], ◌∷◌, ◌++◌, Option, Some, None, option_map, length, slice_set, take}
 use Rattle.std.specs.List.{list_all}
 use Rattle.msg_names.specs.declared.value.ClassRef.{ClassRef}
+use Rattle.msg_names.specs.declared.value.ImpRef.{ImpRef}
 use Rattle.msg_names.specs.ClassRef.{slot_of}
-use Rattle.msg_names.specs.Number.{selector_number, imp_number}
+use Rattle.msg_names.specs.Number.{selector_number, imp_number, imp_ref_of}
 use Rattle.msg_tables.specs.declared.change.Change.{Change}
+use Rattle.msg_tables.specs.declared.change.Change.TheVariants.{Replace}
 use Rattle.msg_tables.specs.declared.edit.Edit.{Edit}
+use Rattle.msg_tables.specs.declared.edit.MethodRow.{MethodRow}
 use Rattle.msg_tables.specs.declared.edit.Edit.TheVariants.{Append, Rewrite, RewriteBoth, Attach, Make}
 use Rattle.msg_tables.specs.declared.entry.Entry.{Entry}
 use Rattle.msg_tables.specs.declared.entry.Entry.TheVariants.{Added, Rewrote, Made}
@@ -13,12 +16,13 @@ use Rattle.msg_tables.specs.declared.limits.TheConstants.{MAX_CLASSES}
 use Rattle.msg_tables.specs.declared.presence.Presence.{Presence}
 use Rattle.msg_tables.specs.Affected.{at_most_one, if_any, written_refs}
 use Rattle.msg_tables.specs.After.{of_class, of_meta}
-use Rattle.msg_tables.specs.Chain.{is_member}
 use Rattle.msg_tables.specs.Edits.{Writes}
-use Rattle.msg_tables.specs.Log.{Log}
+use Rattle.msg_tables.specs.Log.{Log, table}
 use Rattle.msg_tables.specs.Order.{IsOrder}
 use Rattle.msg_tables.specs.Origin.{last_imp, are_listed}
-use Rattle.msg_tables.specs.RowList.{set_last, without_last}
+use Rattle.msg_tables.specs.RowList.{own_in, set_last, without_last}
+use Rattle.msg_tables.specs.Stands.{StandsAt}
+use Rattle.msg_tables.specs.Undo.{and_before, undo}
 use Rattle.msg_tables.specs.View.{TablesView, kept}
 
 -- the class reference at which rows were added or rewritten
@@ -51,6 +55,18 @@ abbrev pub lists_before : Entry → List (List (ℕ × ℕ)) → List (List (ℕ
 lists_before (Added c n) lists = slice_set lists (slot_of c) (without_last n (kept lists c))
 lists_before (Rewrote c s i) lists = slice_set lists (slot_of c) (set_last (selector_number s) (imp_number i) (kept lists c))
 lists_before (Made k) lists = lists
+
+-- the lists of rows after a row was rewritten
+abbrev pub lists_rewritten : MethodRow → List (List (ℕ × ℕ)) → List (List (ℕ × ℕ))
+lists_rewritten r lists = slice_set lists (slot_of r.class) (set_last (selector_number r.sel) (imp_number r.imp) (kept lists r.class))
+
+-- the entry of a row that was rewritten, with the implementation that it had
+abbrev pub rewrote : MethodRow → ImpRef → Entry
+rewrote r was = Rewrote r.class r.sel was
+
+-- the own row that is named has this implementation
+abbrev pub IsImpOf : TablesView → MethodRow → ImpRef → Type 0
+IsImpOf t r i = own_in (selector_number r.sel) (kept t.lists r.class) ≡ Some (imp_number i)
 
 -- the classes before it
 abbrev pub supers_before : Entry → List (Option Presence) → List (Option Presence)
@@ -97,9 +113,40 @@ entry_count (RewriteBoth first second) = 2
 entry_count (Attach k methods class_methods) = 2
 entry_count _ = 1
 
+-- the changes that take an entry back: a row that was rewritten gets its implementation again, and rows that were added and a class that was made have no way back
+abbrev pub undo_entry : Entry → Option (List Change)
+undo_entry (Added c zero) = Some []
+undo_entry (Added c (suc n)) = None
+undo_entry (Rewrote c s i) = Some (Replace c s i ∷ [])
+undo_entry (Made k) = None
+
+-- those that take a journal back, the last entry first
+abbrev pub undo_journal : List Entry → Option (List Change)
+undo_journal [] = Some []
+undo_journal (e ∷ es) = and_before (undo_entry e) (undo_journal es)
+
+-- those that take an edit back, of the tables before it
+abbrev pub undo_own : TablesView → MethodRow → Option (List Change)
+undo_own t r = option_map (λ i. Replace r.class r.sel (imp_ref_of i) ∷ []) (own_in (selector_number r.sel) (kept t.lists r.class))
+
+abbrev pub undo_attached : List (ℕ × ℕ) → List (ℕ × ℕ) → Option (List Change)
+undo_attached [] [] = Some []
+undo_attached _ _ = None
+
+abbrev pub edit_undo : TablesView → Edit → Option (List Change)
+edit_undo t (Append r) = None
+edit_undo t (Rewrite r) = undo_own t r
+edit_undo t (RewriteBoth first second) = and_before (undo_own t first) (undo_own t second)
+edit_undo t (Attach k methods class_methods) = undo_attached methods.now class_methods.now
+edit_undo t (Make k d) = None
+
 -- an edit writes where the change does
-abbrev pub WritesAt : Log → Change → Edit → Type 0
-WritesAt h x e = edit_places e ≡ written_refs h x
+abbrev pub WritesAt : TablesView → Change → Edit → Type 0
+WritesAt t x e = (h : Log) → StandsAt t h → edit_places e ≡ written_refs h x
+
+-- and what takes it back is what takes the change back
+abbrev pub IsUndoneBy : TablesView → Change → Edit → Type 0
+IsUndoneBy t x e = (h : Log) → StandsAt t h → edit_undo t e ≡ undo (table h) x
 
 -- an edit was made, and the journal is longer by what it wrote
 pub record Journals (e : Edit) (journal longer : List Entry) (old new : TablesView) : Type 0 where
@@ -108,8 +155,9 @@ pub record Journals (e : Edit) (journal longer : List Entry) (old new : TablesVi
   pub is : longer ≡ journal ++ entries
   pub few : length entries ≤ entry_count e
   pub back : IsJournalOf entries old new
-  pub places : (c : ClassRef) → is_member c (places_of entries) ≡ is_member c (edit_places e)
+  pub places : places_of entries ≡ edit_places e
   pub made : classes_of entries ≡ edit_made e
+  pub undone : undo_journal entries ≡ edit_undo old e
 
 -- what tables keep, as far as contracts see it
 pub record IsSoundView (t : TablesView) : Type 0 where

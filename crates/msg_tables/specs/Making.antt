@@ -5,13 +5,13 @@ use Rattle.msg_tables.specs.declared.change.Change.{Change}
 use Rattle.msg_tables.specs.declared.apply_all.Refused.{Refused}
 use Rattle.msg_tables.specs.declared.entry.Entry.{Entry}
 use Rattle.msg_tables.specs.Affected.{written_refs}
-use Rattle.msg_tables.specs.Chain.{is_member}
-use Rattle.msg_tables.specs.Log.{Log}
-use Rattle.msg_tables.specs.Journal.{IsJournalOf, classes_of, places_of}
+use Rattle.msg_tables.specs.Log.{Log, table}
+use Rattle.msg_tables.specs.Journal.{IsJournalOf, classes_of, places_of, undo_journal}
 use Rattle.msg_tables.specs.Origin.{IsSound}
 use Rattle.msg_tables.specs.Refusal.{AreAccepted}
 use Rattle.msg_tables.specs.Several.{and_all, is_affected_by_all, is_below, is_of_one, made_by, made_by_all, refused_from, written_by_all}
 use Rattle.msg_tables.specs.Stands.{StandsAt}
+use Rattle.msg_tables.specs.Undo.{undo, undo_all}
 use Rattle.msg_tables.specs.View.{TablesView}
 
 -- what no change alters
@@ -25,13 +25,18 @@ pub record IsPart (x : Change) (journal longer : List Entry) (old new : TablesVi
   pub is : longer ≡ journal ++ entries
   pub few : length entries ≤ 2
   pub back : IsJournalOf entries old new
-  pub places : (h : Log) → StandsAt old h → (c : ClassRef) → is_member c (places_of entries) ≡ is_member c (written_refs h x)
+  pub places : (h : Log) → StandsAt old h → places_of entries ≡ written_refs h x
   pub made : classes_of entries ≡ made_by x
+  pub undone : (h : Log) → StandsAt old h → undo_journal entries ≡ undo (table h) x
   pub beside : IsBeside old new
 
--- a journal has the class references at which a list adds or rewrites rows
+-- a journal has the class references at which a list adds or rewrites rows, in their order
 abbrev pub HasPlaces : List Change → TablesView → List Entry → Type 0
-HasPlaces xs old journal = (h : Log) → StandsAt old h → (c : ClassRef) → is_member c (places_of journal) ≡ is_member c (written_by_all h xs)
+HasPlaces xs old journal = (h : Log) → StandsAt old h → places_of journal ≡ written_by_all h xs
+
+-- a journal has what takes a list back
+abbrev pub IsUndone : List Change → TablesView → List Entry → Type 0
+IsUndone xs old journal = (h : Log) → StandsAt old h → undo_all (table h) xs ≡ undo_journal journal
 
 -- changes were made, and the journal tells what they wrote
 pub record IsMade (xs : List Change) (journal : List Entry) (old new : TablesView) : Type 0 where
@@ -40,6 +45,7 @@ pub record IsMade (xs : List Change) (journal : List Entry) (old new : TablesVie
   pub stands : (h : Log) → StandsAt old h → AreAccepted h xs × StandsAt new (and_all h xs)
   pub places : HasPlaces xs old journal
   pub made : classes_of journal ≡ made_by_all xs
+  pub undone : IsUndone xs old journal
   pub beside : IsBeside old new
 
 -- the tables stood at a log, and stand at the one after a list, of which none was refused

@@ -2,7 +2,6 @@
 
 ghost use Rattle.std.specs.Prelude.{◌≡◌, ◌≢◌, ◌<◌, ◌≤◌, Option, Some, None, OnOk, OnErr, IfErr, IsErrOf, length, ◌+◌, [], ◌∷◌};
 ghost use Rattle.msg_names.specs.declared.value.ImpRef.{ImpRef};
-ghost use Rattle.msg_names.specs.Number.{selector_number, imp_number};
 ghost use Rattle.msg_tables.specs.After.{of_class, of_meta};
 ghost use Rattle.msg_tables.specs.declared.entry.Entry.{Entry};
 ghost use Rattle.msg_tables.specs.declared.fault.ChangeFault.{ChangeFault};
@@ -10,11 +9,9 @@ ghost use Rattle.msg_tables.specs.declared.edit.Edit.{Edit};
 ghost use Rattle.msg_tables.specs.declared.edit.MethodRow.{MethodRow};
 ghost use Rattle.msg_tables.specs.Edits.{Fits, IsOwn, Writes, AddsRows, added};
 ghost use Rattle.msg_tables.specs.Log.{Log, and_then};
-ghost use Rattle.msg_tables.specs.Journal.{IsJournalOf};
+ghost use Rattle.msg_tables.specs.Journal.{IsImpOf, IsJournalOf, lists_rewritten, rewrote};
 ghost use Rattle.msg_tables.specs.Refusal.{refusal};
-ghost use Rattle.msg_tables.specs.RowList.{own_in};
 ghost use Rattle.msg_tables.specs.Stands.{StandsAt};
-ghost use Rattle.msg_tables.specs.View.{kept};
 
 use crate::change::Change;
 use crate::edit::{Edit, MethodRow};
@@ -41,15 +38,17 @@ impl Tables {
         requires { IsOwn self.old row }
         ensures writes { Writes self.old self.new (Edit.Rewrite row) }
         ensures own { (other : MethodRow) → IsOwn self.old other → IsOwn self.new other }
-        ensures back { (was : ImpRef) → own_in (selector_number row.sel) (kept self.old.lists row.class) ≡ Some (imp_number was) → IsJournalOf (Entry.Rewrote row.class row.sel was ∷ []) self.old self.new }
+        ensures value { self.new ≡ record self.old { lists = lists_rewritten row self.old.lists } }
+        ensures back { (was : ImpRef) → IsImpOf self.old row was → IsJournalOf (rewrote row was ∷ []) self.old self.new }
     {
         self.lists.rewrite_row(row.class.slot(), row.sel, row.imp);
     }
 
-    fn rewrite_both(&mut self, first: MethodRow, second: MethodRow)
+    pub(crate) fn rewrite_both(&mut self, first: MethodRow, second: MethodRow)
         requires first { IsOwn self.old first }
         requires second { IsOwn self.old second }
-        ensures { Writes self.old self.new (Edit.RewriteBoth first second) }
+        ensures writes { Writes self.old self.new (Edit.RewriteBoth first second) }
+        ensures back { (one two : ImpRef) → IsImpOf self.old first one → IsImpOf self.old second two → IsJournalOf (rewrote first one ∷ rewrote second two ∷ []) self.old self.new }
     {
         self.rewrite(second);
         self.rewrite(first);

@@ -5,7 +5,7 @@ ghost use Rattle.std.specs.Vec.{vec_capacity};
 ghost use Rattle.msg_tables.specs.declared.fault.ChangeFault.{ChangeFault};
 ghost use Rattle.msg_tables.specs.Log.{Log, and_then};
 ghost use Rattle.msg_tables.specs.Journal.{classes_of};
-ghost use Rattle.msg_tables.specs.Making.{AreMadeBefore, HasPlaces, IsMade, IsPart, IsRefused, StandAfter, TellsAll};
+ghost use Rattle.msg_tables.specs.Making.{AreMadeBefore, HasPlaces, IsMade, IsPart, IsRefused, IsUndone, StandAfter, TellsAll};
 ghost use Rattle.msg_tables.specs.Refusal.{refusal};
 ghost use Rattle.msg_tables.specs.Several.{made_by_all};
 ghost use Rattle.msg_tables.specs.Stands.{StandsAt};
@@ -67,6 +67,7 @@ impl Tables {
         ensures within { IfErr result (λ r. r.place < length changes.now) }
         ensures places { IfOk result (HasPlaces changes.now self.old) }
         ensures made { IfOk result (λ w. classes_of w ≡ made_by_all changes.now) }
+        ensures undo { IfOk result (IsUndone changes.now self.old) }
         ensures affected { IfOk result (TellsAll changes.now self.old) }
         ensures classes { length self.new.supers ≡ length self.old.supers }
         ensures counts { self.new.counts ≡ self.old.counts }

@@ -1,9 +1,12 @@
 //! What a list of changes wrote.
 
-ghost use Rattle.std.specs.Prelude.{◌≡◌};
-ghost use Rattle.msg_tables.specs.Journal.{place_of};
+ghost use Rattle.std.specs.Prelude.{◌≡◌, IfOk, None, Some, false, option_map, true};
+ghost use Rattle.msg_tables.specs.Journal.{place_of, undo_entry, undo_journal};
+ghost use Rattle.msg_tables.specs.Undo.{and_before};
 
+use crate::change::Change;
 use msg_names::{ClassRef, ImpRef, Selector};
+use std::alloc::{AllocError, Global};
 use std::marker::Model;
 
 /// One thing that a change of a list wrote. A change has at most two of them.
@@ -40,6 +43,23 @@ impl Entry {
     }
 }
 
+impl Entry {
+    // What takes the entry back, behind other changes. Answers whether anything does.
+    fn give_back(self, changes: &mut Vec<Change>) -> Result<bool, AllocError>
+        ensures back { IfOk result (λ has. has ≡ true → and_before (undo_entry self) (Some changes.old.items) ≡ Some changes.new.items) }
+        ensures none { IfOk result (λ has. has ≡ false → undo_entry self ≡ None) }
+    {
+        match self {
+            Entry::Added { count, .. } => Ok(count == 0),
+            Entry::Rewrote { class, sel, imp } => {
+                changes.push(Change::Replace { class, sel, imp })?;
+                Ok(true)
+            }
+            Entry::Made { .. } => Ok(false),
+        }
+    }
+}
+
 /// What a list of changes wrote, from the first entry to the last.
 #[derive(Drop)]
 pub struct Written {
@@ -56,6 +76,22 @@ impl Model for Written {
 }
 
 impl Written {
+    /// The changes that take the list back directly after it, the last first: each own row that was rewritten gets its implementation again. None where rows were added or a class was made, which have no way back.
+    pub fn undo(&self, alloc: Global) -> Result<Option<Vec<Change>>, AllocError>
+        ensures { IfOk result (λ undo. option_map (λ changes. changes.items) undo ≡ undo_journal self.now) }
+    {
+        let mut changes = Vec::with_capacity(alloc, self.entries.len())?;
+        let mut left = self.entries.len();
+        while left > 0 {
+            left -= 1;
+            let entry = self.entries[left];
+            if !entry.give_back(&mut changes)? {
+                return Ok(None);
+            }
+        }
+        Ok(Some(changes))
+    }
+
     /// The entries.
     pub fn as_slice(&self) -> &[Entry]
         ensures { result.now ≡ self.now }

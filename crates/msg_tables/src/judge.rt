@@ -8,7 +8,7 @@ ghost use Rattle.msg_tables.specs.declared.change.Change.{Change};
 ghost use Rattle.msg_tables.specs.Log.{Log};
 ghost use Rattle.msg_tables.specs.Refusal as spec;
 ghost use Rattle.msg_tables.specs.Edits.{Fits, Judges};
-ghost use Rattle.msg_tables.specs.Journal.{WritesAt, edit_made};
+ghost use Rattle.msg_tables.specs.Journal.{IsUndoneBy, WritesAt, edit_made};
 ghost use Rattle.msg_tables.specs.Several.{made_by};
 ghost use Rattle.msg_tables.specs.Stands.{StandsAt};
 ghost use Rattle.msg_tables.specs.RowList.{own_in};
@@ -126,8 +126,9 @@ impl Tables {
     fn judge_add<'c>(&self, row: MethodRow) -> Result<Edit<'c>, ChangeFault>
         ensures meaning { (h : Log) → StandsAt self.now h → Judges h (Change.Add row.class row.sel row.imp) result }
         ensures fits { IfOk result (Fits self.now) }
-        ensures places { (h : Log) → StandsAt self.now h → IfOk result (WritesAt h (Change.Add row.class row.sel row.imp)) }
+        ensures places { IfOk result (WritesAt self.now (Change.Add row.class row.sel row.imp)) }
         ensures made { IfOk result (λ e. edit_made e ≡ made_by (Change.Add row.class row.sel row.imp)) }
+        ensures undo { IfOk result (IsUndoneBy self.now (Change.Add row.class row.sel row.imp)) }
     {
         if let Some(fault) = self.unfit(row) {
             return Err(fault);
@@ -144,8 +145,9 @@ impl Tables {
     fn judge_replace<'c>(&self, row: MethodRow) -> Result<Edit<'c>, ChangeFault>
         ensures meaning { (h : Log) → StandsAt self.now h → Judges h (Change.Replace row.class row.sel row.imp) result }
         ensures fits { IfOk result (Fits self.now) }
-        ensures places { (h : Log) → StandsAt self.now h → IfOk result (WritesAt h (Change.Replace row.class row.sel row.imp)) }
+        ensures places { IfOk result (WritesAt self.now (Change.Replace row.class row.sel row.imp)) }
         ensures made { IfOk result (λ e. edit_made e ≡ made_by (Change.Replace row.class row.sel row.imp)) }
+        ensures undo { IfOk result (IsUndoneBy self.now (Change.Replace row.class row.sel row.imp)) }
     {
         if let Some(fault) = self.unfit(row) {
             return Err(fault);
@@ -165,8 +167,9 @@ impl Tables {
     fn judge_set<'c>(&self, row: MethodRow) -> Result<Edit<'c>, ChangeFault>
         ensures meaning { (h : Log) → StandsAt self.now h → Judges h (Change.SetImp row.class row.sel row.imp) result }
         ensures fits { IfOk result (Fits self.now) }
-        ensures places { (h : Log) → StandsAt self.now h → IfOk result (WritesAt h (Change.SetImp row.class row.sel row.imp)) }
+        ensures places { IfOk result (WritesAt self.now (Change.SetImp row.class row.sel row.imp)) }
         ensures made { IfOk result (λ e. edit_made e ≡ made_by (Change.SetImp row.class row.sel row.imp)) }
+        ensures undo { IfOk result (IsUndoneBy self.now (Change.SetImp row.class row.sel row.imp)) }
     {
         if let Some(fault) = self.unfit(row) {
             return Err(fault);
@@ -201,8 +204,9 @@ impl Tables {
     ) -> Result<Edit<'c>, ChangeFault>
         ensures meaning { (h : Log) → StandsAt self.now h → Judges h (Change.Exchange class sel other other_sel) result }
         ensures fits { IfOk result (Fits self.now) }
-        ensures places { (h : Log) → StandsAt self.now h → IfOk result (WritesAt h (Change.Exchange class sel other other_sel)) }
+        ensures places { IfOk result (WritesAt self.now (Change.Exchange class sel other other_sel)) }
         ensures made { IfOk result (λ e. edit_made e ≡ made_by (Change.Exchange class sel other other_sel)) }
+        ensures undo { IfOk result (IsUndoneBy self.now (Change.Exchange class sel other other_sel)) }
     {
         if self.no_class_of_two(class, other) {
             return Err(ChangeFault::NoClass);
@@ -283,8 +287,9 @@ impl Tables {
     ) -> Result<Edit<'c>, ChangeFault>
         ensures meaning { (h : Log) → StandsAt self.now h → Judges h (Change.Attach class methods.now class_methods.now) result }
         ensures fits { IfOk result (Fits self.now) }
-        ensures places { (h : Log) → StandsAt self.now h → IfOk result (WritesAt h (Change.Attach class methods.now class_methods.now)) }
+        ensures places { IfOk result (WritesAt self.now (Change.Attach class methods.now class_methods.now)) }
         ensures made { IfOk result (λ e. edit_made e ≡ made_by (Change.Attach class methods.now class_methods.now)) }
+        ensures undo { IfOk result (IsUndoneBy self.now (Change.Attach class methods.now class_methods.now)) }
     {
         if self.no_class(ClassRef { class, meta: false }) {
             return Err(ChangeFault::NoClass);
@@ -307,8 +312,9 @@ impl Tables {
     fn judge_make<'c>(&self, class: u32, superclass: Option<u32>) -> Result<Edit<'c>, ChangeFault>
         ensures meaning { (h : Log) → StandsAt self.now h → Judges h (Change.AddClass class superclass) result }
         ensures fits { IfOk result (Fits self.now) }
-        ensures places { (h : Log) → StandsAt self.now h → IfOk result (WritesAt h (Change.AddClass class superclass)) }
+        ensures places { IfOk result (WritesAt self.now (Change.AddClass class superclass)) }
         ensures made { IfOk result (λ e. edit_made e ≡ made_by (Change.AddClass class superclass)) }
+        ensures undo { IfOk result (IsUndoneBy self.now (Change.AddClass class superclass)) }
     {
         if self.no_number(class) {
             return Err(ChangeFault::NoClass);
@@ -329,8 +335,9 @@ impl Tables {
     pub(crate) fn judge<'c>(&self, change: &'c Change) -> Result<Edit<'c>, ChangeFault>
         ensures meaning { (h : Log) → StandsAt self.now h → Judges h change.now result }
         ensures fits { IfOk result (Fits self.now) }
-        ensures places { (h : Log) → StandsAt self.now h → IfOk result (WritesAt h change.now) }
+        ensures places { IfOk result (WritesAt self.now change.now) }
         ensures made { IfOk result (λ e. edit_made e ≡ made_by change.now) }
+        ensures undo { IfOk result (IsUndoneBy self.now change.now) }
     {
         match change {
             Change::Add { class, sel, imp } => self.judge_add(row(*class, *sel, *imp)),

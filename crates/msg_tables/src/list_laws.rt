@@ -1,13 +1,13 @@
 //! Laws of lists of changes, which are made as one or undone.
 
-ghost use Rattle.std.specs.Prelude.{◌≡◌, ◌≢◌, ◌<◌, ℕ, List, length, Option, option_map, ◌∷◌, [], ◌++◌, Some, None, true, false, take, drop};
+ghost use Rattle.std.specs.Prelude.{◌≡◌, ◌≢◌, ◌<◌, ◌||◌, ℕ, List, length, Option, option_map, ◌∷◌, [], ◌++◌, Some, None, true, false, take, drop};
 ghost use Rattle.msg_names.specs.declared.value.ClassRef.{ClassRef};
 ghost use Rattle.msg_tables.specs.Origin.{IsSound};
 ghost use Rattle.msg_tables.specs.declared.change.Change.{Change};
 ghost use Rattle.msg_tables.specs.declared.fault.ChangeFault.{ChangeFault};
 ghost use Rattle.msg_tables.specs.Log.{Log, and_then, chain_at, table, table_after_all, lookup};
 ghost use Rattle.msg_tables.specs.Refusal.{IsLog, AreAccepted, refusal};
-ghost use Rattle.msg_tables.specs.Several.{and_all, refused_from, is_affected_by_all};
+ghost use Rattle.msg_tables.specs.Several.{and_all, refused_from, is_affected_by_all, is_below, is_of_one, made_by_all, written_by_all};
 ghost use Rattle.msg_tables.specs.Chain.{is_member};
 ghost use Rattle.msg_tables.specs.Undo.{undo, undo_all};
 
@@ -42,6 +42,12 @@ pub fn a_change_of_parts_affects_no_more()
 /// What stands below a class reference stays there while parts are made: what a part affects can be sought once all are made.
 pub fn what_is_below_stays_below()
     ensures { (h : Log) (xs : List Change) (c p : ClassRef) → IsSound h.origin → IsLog h → AreAccepted h xs → is_member p (chain_at h c) ≡ true → is_member p (chain_at (and_all h xs) c) ≡ true }
+{}
+
+/// What some change of a list affects is, once all are made, of a class that was made, or is a class reference at which one wrote, or below one.
+pub fn what_is_affected_is_at_its_places()
+    ensures { (h : Log) (xs : List Change) (c : ClassRef) → IsSound h.origin → IsLog h → AreAccepted h xs → is_affected_by_all h xs c ≡ true
+        → (is_of_one (made_by_all xs) c || is_below (and_all h xs) (written_by_all h xs) c) ≡ true }
 {}
 
 /// A change and what takes it back leave the tables, and so each lookup, as they were.

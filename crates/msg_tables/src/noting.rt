@@ -4,6 +4,7 @@ ghost use Rattle.std.specs.Prelude.{◌≡◌, ◌<◌, ◌≤◌, ◌+◌, [], 
 ghost use Rattle.std.specs.Vec.{vec_capacity};
 ghost use Rattle.msg_tables.specs.declared.edit.Edit.{Edit};
 ghost use Rattle.msg_tables.specs.declared.edit.MethodRow.{MethodRow};
+ghost use Rattle.msg_tables.specs.declared.entry.Entry.{Entry};
 ghost use Rattle.msg_tables.specs.Edits.{Fits, IsOwn};
 ghost use Rattle.msg_tables.specs.Journal.{Journals};
 
@@ -11,7 +12,7 @@ use crate::edit::{Edit, MethodRow};
 use crate::entry::Entry;
 use crate::methods::MethodList;
 use crate::tables::Tables;
-use msg_names::ClassRef;
+use msg_names::{ClassRef, ImpRef};
 use std::alloc::AllocError;
 
 // One more entry, for which there is room.
@@ -22,6 +23,20 @@ fn note(journal: &mut Vec<Entry>, entry: Entry)
 {
     let pushed: Result<_, _> = journal.push(entry);
     pushed.unwrap();
+}
+
+// A row that was rewritten, with the implementation that it had.
+fn note_rewritten(journal: &mut Vec<Entry>, row: MethodRow, was: ImpRef)
+    requires { length journal.old.items < vec_capacity journal.old }
+    ensures items { journal.new.items ≡ journal.old.items ++ Entry.Rewrote row.class row.sel was ∷ [] }
+    ensures room { vec_capacity journal.old ≤ vec_capacity journal.new }
+{
+    let rewrote = Entry::Rewrote {
+        class: row.class,
+        sel: row.sel,
+        imp: was,
+    };
+    note(journal, rewrote);
 }
 
 impl Tables {
@@ -47,19 +62,11 @@ impl Tables {
         requires own { IsOwn self.old row }
         requires room { length journal.old.items < vec_capacity journal.old }
         ensures journals { Journals (Edit.Rewrite row) journal.old.items journal.new.items self.old self.new }
-        ensures own { (other : MethodRow) → IsOwn self.old other → IsOwn self.new other }
         ensures room { vec_capacity journal.old ≤ vec_capacity journal.new }
     {
         let was = self.own(row.class, row.sel).unwrap();
         self.rewrite(row);
-        note(
-            journal,
-            Entry::Rewrote {
-                class: row.class,
-                sel: row.sel,
-                imp: was,
-            },
-        );
+        note_rewritten(journal, row, was);
     }
 
     fn rewrite_both_noted(&mut self, first: MethodRow, second: MethodRow, journal: &mut Vec<Entry>)
@@ -69,8 +76,11 @@ impl Tables {
         ensures journals { Journals (Edit.RewriteBoth first second) journal.old.items journal.new.items self.old self.new }
         ensures room { vec_capacity journal.old ≤ vec_capacity journal.new }
     {
-        self.rewrite_noted(second, journal);
-        self.rewrite_noted(first, journal);
+        let one = self.own(first.class, first.sel).unwrap();
+        let two = self.own(second.class, second.sel).unwrap();
+        self.rewrite_both(first, second);
+        note_rewritten(journal, first, one);
+        note_rewritten(journal, second, two);
     }
 
     fn attach_noted(

@@ -12,6 +12,8 @@ mod forms;
 #[cfg(test)]
 mod images;
 #[cfg(test)]
+mod lists;
+#[cfg(test)]
 mod machine;
 #[cfg(test)]
 mod names;

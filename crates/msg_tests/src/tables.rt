@@ -13,22 +13,22 @@ use std::alloc::Global;
 use std::fmt::Debug;
 use std::process::Abort;
 
-const ROOT: ClassRef = ClassRef {
+pub(crate) const ROOT: ClassRef = ClassRef {
     class: 0,
     meta: false,
 };
 
-const CHILD: ClassRef = ClassRef {
+pub(crate) const CHILD: ClassRef = ClassRef {
     class: 1,
     meta: false,
 };
 
-const GRAND: ClassRef = ClassRef {
+pub(crate) const GRAND: ClassRef = ClassRef {
     class: 2,
     meta: false,
 };
 
-const SIDE: ClassRef = ClassRef {
+pub(crate) const SIDE: ClassRef = ClassRef {
     class: 3,
     meta: false,
 };
@@ -38,7 +38,7 @@ const PROXY: ClassRef = ClassRef {
     meta: false,
 };
 
-fn metaclass(class: ClassRef) -> ClassRef
+pub(crate) fn metaclass(class: ClassRef) -> ClassRef
     ensures { result.class ≡ class.class }
 {
     ClassRef {
@@ -48,19 +48,19 @@ fn metaclass(class: ClassRef) -> ClassRef
 }
 
 // What a test owns lies in a box, since each way out of the test drops it by one call there.
-fn image(rt: &impl Abort, alloc: Global) -> Box<Image> {
+pub(crate) fn image(rt: &impl Abort, alloc: Global) -> Box<Image> {
     let document = read_document(alloc, IMAGE.as_bytes()).expect(rt, "a document");
     Box::new(alloc, document.image).expect(rt, "memory")
 }
 
-fn opened(rt: &impl Abort, alloc: Global, image: &Image) -> Box<Tables>
+pub(crate) fn opened(rt: &impl Abort, alloc: Global, image: &Image) -> Box<Tables>
     ensures { length result.value.supers ≡ class_total (origin_of image.now) }
 {
     let tables = Tables::open(alloc, image).expect(rt, "memory");
     Box::new(alloc, tables).expect(rt, "memory")
 }
 
-fn selector(rt: &impl Abort, image: &Image, name: &str) -> Selector {
+pub(crate) fn selector(rt: &impl Abort, image: &Image, name: &str) -> Selector {
     image.names().find(name).expect(rt, "a selector")
 }
 
@@ -330,7 +330,7 @@ fn are_found_after(
 }
 
 // A category with two entries of one selector.
-fn category(rt: &impl Abort, alloc: Global, tag: Selector, value: Selector) -> Change {
+pub(crate) fn category(rt: &impl Abort, alloc: Global, tag: Selector, value: Selector) -> Change {
     let methods = vec![in alloc; (tag, ImpRef::of(1)), (tag, ImpRef::of(2))].expect(rt, "memory");
     let class_methods = vec![in alloc; (value, ImpRef::of(2))].expect(rt, "memory");
     Change::Attach {

@@ -1,6 +1,5 @@
 use Rattle.std.proofs.Common.{take}
-use Rattle.msg_tables.proofs.AffectedAllLemmas.{told-all}
-use Rattle.msg_tables.specs.Journal.{classes_of, places_of}
+use Rattle.msg_tables.proofs.AffectedAllLemmas.{affected-all}
 use Rattle.msg_tables.proofs.SeveralLemmas.{accepted-none}
 use Rattle.msg_tables.proofs.tables.Tables.apply_all.Goals as goal
 
@@ -17,5 +16,5 @@ returns-in-Err-clause-before c = λ h stands.
 pub returns-in-Ok-apply_each-clause-affected : goal.returns-in-Ok-apply_each-clause-affected
 returns-in-Ok-apply_each-clause-affected c = λ h sound stands d affected.
     let made = c.in-Ok-apply_each.ensures.ok in
-    let journal = c.apply_each.new.journal.items in
-    told-all h c.args.changes.now (classes_of journal) (places_of journal) d sound stands.log (made.stands h stands).0 made.made (made.places h stands) affected
+    let (all, now) = made.stands h stands in
+    rw (made.made, made.places h stands) (affected-all h c.args.changes.now d sound stands.log all affected)

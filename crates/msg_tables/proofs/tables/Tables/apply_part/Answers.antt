@@ -10,5 +10,5 @@ returns-clause-ok c h stands =
 
 pub returns-clause-part : goal.returns-clause-part
 returns-clause-part c =
-    let part = part-made c.args.change.now c.in_ok-edit.edit c.args.journal.now.items c.write_noted.new.journal.items c.args.self.now c.write_noted.new.self (λ h stands. rw (c.in_ok-edit.was) at (c.judge.ensures.places h stands)) (rw (c.in_ok-edit.was) at c.judge.ensures.made) c.in_ok-write_noted.ensures.ok in
+    let part = part-made c.args.change.now c.in_ok-edit.edit c.args.journal.now.items c.write_noted.new.journal.items c.args.self.now c.write_noted.new.self (rw (c.in_ok-edit.was) at c.judge.ensures.places) (rw (c.in_ok-edit.was) at c.judge.ensures.made) (rw (c.in_ok-edit.was) at c.judge.ensures.undo) c.in_ok-write_noted.ensures.ok in
     rw (← c.self.view_is) at part

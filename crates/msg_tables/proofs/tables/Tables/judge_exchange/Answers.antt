@@ -7,6 +7,7 @@ use Rattle.msg_tables.specs.Refusal.{unlike, is_full}
 use Rattle.msg_tables.proofs.JudgeLemmas.{refusal-exchange, rows-exchange}
 use Rattle.msg_tables.proofs.LookupLemmas.{holder-stands, lookup-stands}
 use Rattle.msg_tables.proofs.PlaceLemmas.{places-exchange}
+use Rattle.msg_tables.proofs.UndoJournalLemmas.{undo-exchange}
 use Rattle.msg_tables.proofs.tables.Tables.judge_exchange.Goals as goal
 
 pub returns-then-no_class_of_two-clause-meaning : goal.returns-then-no_class_of_two-clause-meaning
@@ -54,3 +55,12 @@ returns-clause-places c = λ h stands.
     let first : holder h c.args.class (selector_number c.args.sel) ≡ Some c.in-Some.first.holder = holder-stands c.args.self.now h stands c.args.class (selector_number c.args.sel) ∙ ap (λ o. option_map (λ (m : ClassRef × ℕ). m.0) o) (sym c.in-Some.ensures.method) in
     let second : holder h c.args.other (selector_number c.args.other_sel) ≡ Some c.in-Some-method.second.holder = holder-stands c.args.self.now h stands c.args.other (selector_number c.args.other_sel) ∙ ap (λ o. option_map (λ (m : ClassRef × ℕ). m.0) o) (sym c.in-Some-method.ensures.method) in
     places-exchange h c.args.class c.args.other c.args.sel c.args.other_sel c.in-Some.first.holder c.in-Some-method.second.holder first second
+
+pub returns-clause-undo : goal.returns-clause-undo
+returns-clause-undo c = λ h stands.
+    let first : holder h c.args.class (selector_number c.args.sel) ≡ Some c.in-Some.first.holder = holder-stands c.args.self.now h stands c.args.class (selector_number c.args.sel) ∙ ap (λ o. option_map (λ (m : ClassRef × ℕ). m.0) o) (sym c.in-Some.ensures.method) in
+    let second : holder h c.args.other (selector_number c.args.other_sel) ≡ Some c.in-Some-method.second.holder = holder-stands c.args.self.now h stands c.args.other (selector_number c.args.other_sel) ∙ ap (λ o. option_map (λ (m : ClassRef × ℕ). m.0) o) (sym c.in-Some-method.ensures.method) in
+    let i : lookup h c.args.class (selector_number c.args.sel) ≡ imp_number c.in-Some.first.imp = lookup-stands c.args.self.now h stands c.args.class (selector_number c.args.sel) ∙ ap (λ o. option_map_or (λ (m : ClassRef × ℕ). m.1) o 0) (sym c.in-Some.ensures.method) in
+    let j : lookup h c.args.other (selector_number c.args.other_sel) ≡ imp_number c.in-Some-method.second.imp = lookup-stands c.args.self.now h stands c.args.other (selector_number c.args.other_sel) ∙ ap (λ o. option_map_or (λ (m : ClassRef × ℕ). m.1) o 0) (sym c.in-Some-method.ensures.method) in
+    undo-exchange c.args.self.now h stands c.args.class c.args.other c.in-Some.first.holder c.in-Some-method.second.holder c.args.sel c.args.other_sel c.in-Some-method.second.imp c.in-Some.first.imp c.in-Some.first.imp c.in-Some-method.second.imp
+    first i c.in-Some.ensures.own second j c.in-Some-method.ensures.own

@@ -5,6 +5,7 @@ use Rattle.msg_tables.specs.RowList.{rows_of, set_last}
 use Rattle.msg_tables.specs.After.{set_own}
 use Rattle.msg_tables.specs.Stands.{Holds}
 use Rattle.msg_names.specs.ClassRef.{slot_of}
+use Rattle.msg_tables.specs.Inside.{view_of}
 use Rattle.msg_tables.specs.View.{kept}
 use Rattle.msg_tables.proofs.ListedLemmas.{listed-set_last}
 use Rattle.msg_names.proofs.ClassRefLemmas.{slot_of-inside}
@@ -86,3 +87,13 @@ returns-clause-back c old known =
       supers = refl;
       order = refl;
     }
+
+pub returns-clause-value : goal.returns-clause-value
+returns-clause-value c =
+    let was = c.self.inside.lists in
+    let class = c.args.row.class in
+    let s = selector_number c.args.row.sel in
+    let i = imp_number c.args.row.imp in
+    let is : rows_of c.rewrite_row.new.self ≡ slice_set (rows_of was) (slot_of class) (set_last s i (kept (rows_of was) class)) =
+    c.rewrite_row.ensures ∙ ap (λ p. slice_set (rows_of was) p (set_last s i (slice_index_or (rows_of was) p []))) c.slot.ensures in
+    rw (← c.self.view_is) (ap (λ lists. record (view_of c.self.inside) { lists = lists }) is)

@@ -1,5 +1,25 @@
-use Rattle.msg_tables.proofs.NoteLemmas.{journals-both}
+use Rattle.std.proofs.Common.{[], ◌∷◌, ◌++◌, append_assoc, option_map, refl, sym, ap, ◌∙◌, arith}
+use Rattle.msg_names.specs.Number.{imp_number}
+use Rattle.msg_tables.specs.declared.entry.Entry.TheVariants.{Rewrote}
+use Rattle.msg_tables.proofs.UndoJournalLemmas.{undone-both}
 use Rattle.msg_tables.proofs.tables.Tables.rewrite_both_noted.Goals as goal
 
 pub returns-clause-journals : goal.returns-clause-journals
-returns-clause-journals c = journals-both c.args.first c.args.second _ _ _ _ _ _ c.rewrite_noted.ensures.journals c.rewrite_noted-2.ensures.journals
+returns-clause-journals c =
+    let one = c.unwrap-one.result in
+    let two = c.unwrap-two.result in
+    let first = c.args.first in
+    let second = c.args.second in
+    let is = sym c.own.ensures.own ∙ ap (option_map imp_number) c.unwrap-one.ensures in
+    let js = sym c.own-2.ensures.own ∙ ap (option_map imp_number) c.unwrap-two.ensures in
+    let b = Rewrote second.class second.sel two ∷ [] in
+    record {
+      writes = c.rewrite_both.ensures.writes;
+      entries = Rewrote first.class first.sel one ∷ b;
+      is = c.note_rewritten-2.ensures.items ∙ ap (λ es. es ++ b) c.note_rewritten.ensures.items ∙ append_assoc c.args.journal.now.items (Rewrote first.class first.sel one ∷ []) b;
+      few = omega arith;
+      back = c.rewrite_both.ensures.back one two is js;
+      places = refl;
+      made = refl;
+      undone = undone-both c.args.self.now first second one two is js;
+    }
