@@ -26,7 +26,7 @@ flush_written-requires-clause-listed c =
     let places = done.places h was.tables in
     subst (λ m. All (IsOfFirst m) c.in_ok-written.written) (sym (done.classes ∙ class_count c.self.inside.tables h was.tables))
         (entries-inside n c.in_ok-written.written
-        (λ p among. written_all-inside h xs p was.keeper.1.tidy.kept.accepted.origin was.tables.log accepted (sym (places p) ∙ among))
+        (λ p among. written_all-inside h xs p was.keeper.1.tidy.kept.accepted.origin was.tables.log accepted (ap (is_member p) (sym places) ∙ among))
         (subst (All (λ k. k < n)) (sym done.made) (made_all-inside h xs accepted)))
 
 pub commit_all-requires-clause-accepted : goal.commit_all-requires-clause-accepted
