@@ -2,8 +2,10 @@
 use Rattle.std.specs.Prelude.{List, map}
 use Rattle.msg_form.specs.Expression as plain
 use Rattle.msg_form.specs.Expression.{Expression, Expressions, expressions}
+use Rattle.msg_form.specs.Text.{Text}
 use Rattle.msg_form.specs.declared.form.Constant.{Constant}
 use Rattle.msg_form.specs.declared.form.Constant.TheVariants.{Whole, Nil, Object, Class, Selector}
+use Rattle.msg_form.specs.declared.form.Operator.{Operator}
 use Rattle.msg_form.specs.declared.form.Expr.{Expr, fold-Expr}
 use Rattle.msg_form.specs.declared.form.Expr.TheOpen.{Expr-F, BinaryExpr-F, IfExpr-F, SendExpr-F, SuperExpr-F}
 
@@ -46,3 +48,14 @@ expr_view = fold-Expr Expression Expression Expression Expression Expression exp
 
 abbrev pub exprs_view : List Expr → Expressions
 exprs_view es = expressions (map expr_view es)
+
+-- ---- what is made of expressions
+
+abbrev pub binary_view : Operator → Expr → Expr → Expression
+binary_view operator left right = plain.binary operator (expr_view left) (expr_view right)
+
+abbrev pub choice_view : Expr → Expr → Expr → Expression
+choice_view condition then otherwise = plain.choice (expr_view condition) (expr_view then) (expr_view otherwise)
+
+abbrev pub send_view : Expr → Text → List Expr → Expression
+send_view receiver selector args = plain.send (expr_view receiver) selector (exprs_view args)

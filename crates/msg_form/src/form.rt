@@ -1,4 +1,5 @@
-//! The parts of a document. Their texts are those of the JSON text that they were read from, and expressions lie in an arena.
+//! The parts of a document. Their texts are those of the JSON text that they were read from, and
+//! expressions lie in an arena.
 
 ghost use Rattle.std.specs.Prelude.{◌≡◌, ◌≤◌};
 ghost use Rattle.msg_form.specs.Version as spec;

@@ -1,6 +1,6 @@
 //! The values of the lists and objects that are still open.
 
-ghost use Rattle.std.specs.Prelude.{◌≡◌, ◌++◌, ◌∷◌, ◌≤◌, [], drop, length, take, IfOk, IfSome, OnOk};
+ghost use Rattle.std.specs.Prelude.{◌≡◌, ◌≤◌, IfOk, drop, length, take};
 
 use crate::tree::Tree;
 use bumpalo::Bump;

@@ -5,7 +5,7 @@ ghost use Rattle.msg_json.specs.View.{view};
 ghost use Rattle.msg_form.specs.Expression as plain;
 ghost use Rattle.msg_form.specs.ExprShape as spec;
 ghost use Rattle.msg_form.specs.ExprShape.{expression_of};
-ghost use Rattle.msg_form.specs.ExprView.{constant_view, expr_view, exprs_view};
+ghost use Rattle.msg_form.specs.ExprView.{binary_view, choice_view, constant_view, expr_view, exprs_view, send_view};
 ghost use Rattle.msg_form.specs.Gives.{Gives};
 ghost use Rattle.msg_form.specs.Json.{each};
 ghost use Rattle.msg_form.specs.Readings.{readings};
@@ -291,7 +291,7 @@ fn kept_binary<'v>(
     left: Expr<'v>,
     right: Expr<'v>,
 ) -> Result<Expr<'v>, ReadFault>
-    ensures { Gives expr_view result (Some (plain.binary operator (expr_view left.entry) (expr_view right.entry))) }
+    ensures { Gives expr_view result (Some (binary_view operator left.entry right.entry)) }
 {
     let binary = BinaryExpr {
         operator,
@@ -310,7 +310,7 @@ fn kept_choice<'v>(
     then: Expr<'v>,
     otherwise: Expr<'v>,
 ) -> Result<Expr<'v>, ReadFault>
-    ensures { Gives expr_view result (Some (plain.choice (expr_view condition.entry) (expr_view then.entry) (expr_view otherwise.entry))) }
+    ensures { Gives expr_view result (Some (choice_view condition.entry then.entry otherwise.entry)) }
 {
     let choice = IfExpr {
         condition,
@@ -329,7 +329,7 @@ fn kept_send<'v>(
     selector: &'v str,
     args: &'v [Expr<'v>],
 ) -> Result<Expr<'v>, ReadFault>
-    ensures { Gives expr_view result (Some (plain.send (expr_view receiver.entry) selector.now (exprs_view args.now))) }
+    ensures { Gives expr_view result (Some (send_view receiver.entry selector.now args.now)) }
 {
     let send = SendExpr {
         receiver,
