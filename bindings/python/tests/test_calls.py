@@ -71,6 +71,7 @@ class Calls(unittest.TestCase):
                 self.assertEqual(imp, sender.find(of, selector))
             runtime.change_all([])
             self.assertEqual((5, 5, 5), (runtime.change_count, sender.find(CHILDREN, VALUE), sender.recall(CHILDREN, VALUE, 5)))
+            self.assertEqual(5, runtime._shared.begun, "else no note would be found any more")
 
     def test_a_refused_list_changes_nothing(self):
         first = Change.replace(CHILDREN, VALUE, 5)
@@ -87,6 +88,7 @@ class Calls(unittest.TestCase):
                 self.assertEqual(place, caught.exception.place)
             self.assertRaises(OverflowError, runtime.change_all, [first, Change.add(CHILDREN, TAKE, 2**32)])
             self.assertEqual((4, 1, 1), (runtime.change_count, sender.find(CHILDREN, VALUE), sender.recall(CHILDREN, VALUE, 4)))
+            self.assertEqual(4, runtime._shared.begun)
             runtime.close()
             for changes in ([first], []):
                 with self.assertRaises(yeldrost.Closed) as caught:

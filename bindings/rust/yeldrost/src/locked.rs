@@ -230,3 +230,28 @@ impl<'r> Locked<'r> {
         answer.map(|()| self)
     }
 }
+
+#[cfg(test)]
+mod tests {
+    use crate::{Change, Config, Runtime};
+    use std::sync::atomic::Ordering;
+
+    /// Else no note would be found any more, and each send would be slow.
+    #[test]
+    fn what_was_begun_is_the_count_of_changes() {
+        let runtime = Runtime::open(Config::default()).unwrap();
+        let root = |number| Change::MakeRootClass { number };
+        let lists: [&[Change]; 5] = [
+            &[root(0)],
+            &[],
+            &[root(1), root(0)],
+            &[],
+            &[root(1), root(2)],
+        ];
+        for (list, made) in lists.into_iter().zip([1, 1, 1, 1, 2]) {
+            let _ = runtime.lock().change_all(list);
+            assert_eq!(Ok(made), runtime.lock().change_count());
+            assert_eq!(made, runtime.0.begun.load(Ordering::Relaxed));
+        }
+    }
+}
