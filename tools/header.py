@@ -67,10 +67,14 @@ def structures(text):
     return {one or other: list(fields_of(inner or body)) for inner, one, other, body in STRUCTURE.findall(code(text))}
 
 
+def enumerations(text):
+    """The numbers of each enumeration."""
+    return [{name: int(value) for name, value in CONSTANT.findall(body)} for body in re.findall(r"\benum \{([^}]*)\}", code(text))]
+
+
 def constants(text):
-    """The numbers of the enumerations."""
-    bodies = re.findall(r"\benum \{([^}]*)\}", code(text))
-    return {name: int(value) for body in bodies for name, value in CONSTANT.findall(body)}
+    """The numbers of all enumerations."""
+    return {name: value for it in enumerations(text) for name, value in it.items()}
 
 
 def version(text):

@@ -20,11 +20,17 @@ namespace msg {
 // What a call answered that isn't MSG_DONE. Nothing has changed by it.
 class fault : public std::runtime_error {
 public:
-    explicit fault(std::uint32_t number) : std::runtime_error(msg_fault_text(number)), number_(number) {}
+    explicit fault(std::uint32_t number, std::optional<std::size_t> place = {})
+        : std::runtime_error(msg_fault_text(number)), number_(number), place_(place)
+    {
+    }
     std::uint32_t number() const noexcept { return number_; }
+    // Of locked::change_all: which change of the list is refused, from 0.
+    std::optional<std::size_t> place() const noexcept { return place_; }
 
 private:
     std::uint32_t number_;
+    std::optional<std::size_t> place_;
 };
 
 inline void must(std::uint32_t answer)
@@ -44,6 +50,35 @@ constexpr class_ref instances_of(std::uint32_t number) noexcept { return {number
 constexpr class_ref class_itself(std::uint32_t number) noexcept { return {number, true}; }
 constexpr bool operator==(class_ref one, class_ref other) noexcept { return one.slot() == other.slot(); }
 constexpr bool operator!=(class_ref one, class_ref other) noexcept { return !(one == other); }
+
+// The changes of a list that locked::change_all makes as one, each what the call of its name makes alone.
+namespace change {
+constexpr msg_change add(class_ref to, std::uint32_t selector, std::uint32_t imp) noexcept
+{
+    return {MSG_ADDS, to.number, to.meta, selector, imp, 0, 0, 0};
+}
+constexpr msg_change replace(class_ref in, std::uint32_t selector, std::uint32_t imp) noexcept
+{
+    return {MSG_REPLACES, in.number, in.meta, selector, imp, 0, 0, 0};
+}
+constexpr msg_change set_imp(class_ref of, std::uint32_t selector, std::uint32_t imp) noexcept
+{
+    return {MSG_SETS_IMP, of.number, of.meta, selector, imp, 0, 0, 0};
+}
+constexpr msg_change exchange(class_ref of, std::uint32_t selector, class_ref other,
+                              std::uint32_t other_selector) noexcept
+{
+    return {MSG_EXCHANGES, of.number, of.meta, selector, 0, other.number, other.meta, other_selector};
+}
+constexpr msg_change make_class(std::uint32_t number, std::uint32_t superclass) noexcept
+{
+    return {MSG_MAKES_CLASS, number, 0, 0, 0, superclass, 0, 0};
+}
+constexpr msg_change make_root_class(std::uint32_t number) noexcept
+{
+    return {MSG_MAKES_ROOT_CLASS, number, 0, 0, 0, 0, 0, 0};
+}
+} // namespace change
 
 class sender;
 
@@ -120,8 +155,8 @@ public:
     void attach(std::uint32_t number, const Methods &methods, const ClassMethods &class_methods)
     {
         change([&] {
-            return msg_attach(&at->handle, number, pointer(methods), std::size(methods), pointer(class_methods),
-                              std::size(class_methods));
+            return msg_attach(&at->handle, number, pointer<msg_method>(methods), std::size(methods),
+                              pointer<msg_method>(class_methods), std::size(class_methods));
         });
     }
     template <class Methods> void attach(std::uint32_t number, const Methods &methods)
@@ -132,6 +167,23 @@ public:
                 std::initializer_list<msg_method> class_methods = {})
     {
         attach<std::initializer_list<msg_method>, std::initializer_list<msg_method>>(number, methods, class_methods);
+    }
+
+    // Several as one: each lookup answers from before all of them or after all. Where one is refused nothing has
+    // changed, and the fault that is thrown has its place. The list lies in one piece, as those of attach.
+    template <class Changes> void change_all(const Changes &changes)
+    {
+        std::size_t place = 0;
+        auto made = [&] {
+            return msg_change_all(&at->handle, pointer<msg_change>(changes), std::size(changes), &place);
+        };
+        std::uint32_t answer = std::size(changes) ? answer_of(made) : made(); // an empty list is no change
+        if (answer == MSG_CLOSED) throw fault(answer);
+        if (answer != MSG_DONE) throw fault(answer, place);
+    }
+    void change_all(std::initializer_list<msg_change> changes)
+    {
+        change_all<std::initializer_list<msg_change>>(changes);
     }
 
     // The lookup after all changes, which the sender has then seen, and notes. The sender is of this runtime.
@@ -157,19 +209,20 @@ private:
         return class_ref{found.number, found.meta};
     }
     // Never NULL, also of an empty list.
-    template <class Methods> static const msg_method *pointer(const Methods &methods)
+    template <class Row, class Rows> static const Row *pointer(const Rows &rows)
     {
-        static const msg_method none{};
-        return std::size(methods) ? std::data(methods) : &none;
+        static const Row none{};
+        return std::size(rows) ? std::data(rows) : &none;
     }
+    template <class Change> void change(Change made) { must(answer_of(made)); }
     // No sender goes by a note from before, once the change has begun.
-    template <class Change> void change(Change made)
+    template <class Change> std::uint32_t answer_of(Change made)
     {
         std::uint64_t before = at->begun.load(std::memory_order_relaxed);
         at->begun.store(before + 1, std::memory_order_release);
         std::uint32_t answer = made();
         if (answer != MSG_DONE) at->begun.store(before, std::memory_order_release);
-        must(answer);
+        return answer;
     }
 
     std::shared_ptr<inner::shared> at;

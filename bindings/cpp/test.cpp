@@ -86,6 +86,40 @@ static void changes()
     CHECK(now.change_count() == count);
 }
 
+static void lists_of_changes()
+{
+    namespace change = msg::change;
+    msg::runtime runtime = opened();
+    msg::sender sender(runtime);
+    constexpr auto other = msg::instances_of(OTHER);
+    CHECK(sender.find(child, VALUE) == 1);
+    runtime.lock().change_all({change::make_class(OTHER, CHILD), change::add(other, TAKE, 7),
+                               change::replace(child, VALUE, 5), change::set_imp(root, NAME, 6),
+                               change::exchange(child, NAME, child_itself, NEW), change::make_root_class(LATER)});
+    CHECK(runtime.lock().change_count() == 5);
+    CHECK(sender.find(other, TAKE) == 7 && sender.find(child, VALUE) == 5 && sender.find(root, NAME) == 6);
+    CHECK(sender.find(child, NAME) == 4 && sender.find(child_itself, NEW) == 3);
+    std::vector<msg_change> changes;
+    runtime.lock().change_all(changes);
+    CHECK(runtime.lock().change_count() == 5 && sender.recall(child, VALUE, 5) == 5 && sender.find(child, VALUE) == 5);
+    changes = {change::replace(child, VALUE, 8), change::set_imp(child, 99, 8), change::replace(child, NAME, 8)};
+    auto refused = [&](std::uint32_t number, std::size_t place) {
+        try {
+            runtime.lock().change_all(changes);
+        } catch (const msg::fault &fault) {
+            return fault.number() == number && fault.place() == place;
+        }
+        return false;
+    };
+    CHECK(refused(MSG_NO_METHOD, 1));
+    changes[2].kind = 7; // found before any is made
+    CHECK(refused(MSG_BAD_CHANGE, 2));
+    CHECK(runtime.lock().change_count() == 5 && sender.recall(child, VALUE, 5) == 5 && sender.find(child, VALUE) == 5);
+    runtime.close();
+    FAULT(MSG_CLOSED, runtime.lock().change_all({change::replace(child, VALUE, 8)}));
+    FAULT(MSG_CLOSED, runtime.lock().change_all({}));
+}
+
 static void configs()
 {
     msg_config config{};
@@ -185,11 +219,12 @@ int main()
 {
     questions();
     changes();
+    lists_of_changes();
     configs();
     senders();
     a_refused_change_is_no_change();
     moves_and_closes();
     threads_beside_changes();
-    std::puts("7 tests passed");
+    std::puts("8 tests passed");
     return 0;
 }

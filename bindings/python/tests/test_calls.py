@@ -4,7 +4,7 @@ import threading
 import unittest
 
 import yeldrost
-from yeldrost import class_itself, instances_of
+from yeldrost import Change, class_itself, instances_of
 
 ROOT, CHILD, OTHER, LATER = range(4)
 VALUE, NAME, NEW, TAKE = range(1, 5)
@@ -58,6 +58,42 @@ class Calls(unittest.TestCase):
                 self.assertRaises(yeldrost.NoMethod, runtime.set_imp, CHILDREN, 99, 1)
                 self.assertRaises(yeldrost.DuplicateClass, runtime.make_root_class, ROOT)
                 self.assertEqual(count, runtime.change_count)
+
+    def test_lists_of_changes(self):
+        others = instances_of(OTHER)
+        changes = [Change.make_class(OTHER, CHILD), Change.add(others, TAKE, 7), Change.replace(CHILDREN, VALUE, 5), Change.set_imp(ROOTS, NAME, 6)]
+        changes += [Change.exchange(CHILDREN, NAME, CHILD_ITSELF, NEW), Change.make_root_class(LATER)]
+        with self.opened() as runtime, runtime.sender() as sender:
+            self.assertEqual(1, sender.find(CHILDREN, VALUE))
+            runtime.change_all(changes)
+            found = [(others, TAKE, 7), (CHILDREN, VALUE, 5), (ROOTS, NAME, 6), (CHILDREN, NAME, 4), (CHILD_ITSELF, NEW, 3)]
+            for of, selector, imp in found:
+                self.assertEqual(imp, sender.find(of, selector))
+            runtime.change_all([])
+            self.assertEqual((5, 5, 5), (runtime.change_count, sender.find(CHILDREN, VALUE), sender.recall(CHILDREN, VALUE, 5)))
+            self.assertEqual(5, runtime._shared.begun, "else no note would be found any more")
+
+    def test_a_refused_list_changes_nothing(self):
+        first = Change.replace(CHILDREN, VALUE, 5)
+        refused = [
+            (yeldrost.NoSuchClass, 1, [first, Change.replace(instances_of(LATER), NAME, 5)]),
+            (yeldrost.BadChange, 2, [first, first, Change(7, CHILD)]),
+            (yeldrost.NoSelector, 0, [Change.add(CHILDREN, 0, 5)]),
+        ]
+        with self.opened() as runtime, runtime.sender() as sender:
+            sender.find(CHILDREN, VALUE)
+            for kind, place, changes in refused:
+                with self.assertRaises(kind) as caught:
+                    runtime.change_all(changes)
+                self.assertEqual(place, caught.exception.place)
+            self.assertRaises(OverflowError, runtime.change_all, [first, Change.add(CHILDREN, TAKE, 2**32)])
+            self.assertEqual((4, 1, 1), (runtime.change_count, sender.find(CHILDREN, VALUE), sender.recall(CHILDREN, VALUE, 4)))
+            self.assertEqual(4, runtime._shared.begun)
+            runtime.close()
+            for changes in ([first], []):
+                with self.assertRaises(yeldrost.Closed) as caught:
+                    runtime.change_all(changes)
+                self.assertIsNone(caught.exception.place)
 
     def test_faults(self):
         with self.opened() as runtime:

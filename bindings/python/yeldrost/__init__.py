@@ -18,15 +18,16 @@ import weakref
 
 from . import _header, _library
 
-__all__ = ["Runtime", "Sender", "ClassRef", "Fault", "instances_of", "class_itself", *_header.FAULTS]
+__all__ = ["Runtime", "Sender", "ClassRef", "Change", "Fault", "instances_of", "class_itself", *_header.FAULTS]
 _NONE, _MISSED = _header.FAULTS["None_"][0], _header.FAULTS["Missed"][0]
 _MOST = 2**32 - 1
 
 
 class Fault(Exception):
-    """Why a call was refused: nothing has changed by it. Each kind is a class of its own below this one, as `yeldrost.NoSender`; `number` is the header's."""
+    """Why a call was refused: nothing has changed by it. Each kind is a class of its own below this one, as `yeldrost.NoSender`; `number` is the header's. `place`: of `Runtime.change_all`
+    which change of the list is refused, from 0."""
 
-    number = 0
+    number, place = 0, None
 
     def __init__(self, number=None):
         self.number = self.number if number is None else number
@@ -38,9 +39,13 @@ globals().update({kind.__name__: kind for kind in _kinds.values()})
 _CLOSED = _kinds[_header.FAULTS["Closed"][0]]
 
 
+def _fault(answer):
+    return _kinds[answer]() if answer in _kinds else Fault(answer)
+
+
 def _must(answer):
     if answer:
-        raise _kinds[answer]() if answer in _kinds else Fault(answer)
+        raise _fault(answer)
 
 
 def _checked(*numbers):
@@ -63,6 +68,43 @@ def instances_of(number):
 
 def class_itself(number):
     return ClassRef(number, True)
+
+
+class Change(typing.NamedTuple):
+    """A change of a list that `Runtime.change_all` makes as one: what the runtime's method of the name makes alone. It is made by `Change.add` and those that follow."""
+
+    kind: int
+    number: int
+    meta: int = 0
+    selector: int = 0
+    imp: int = 0
+    other: int = 0
+    other_meta: int = 0
+    other_selector: int = 0
+
+    @classmethod
+    def add(cls, to, selector, imp):
+        return cls(_header.KINDS["ADDS"], *to, selector, imp)
+
+    @classmethod
+    def replace(cls, of, selector, imp):
+        return cls(_header.KINDS["REPLACES"], *of, selector, imp)
+
+    @classmethod
+    def set_imp(cls, of, selector, imp):
+        return cls(_header.KINDS["SETS_IMP"], *of, selector, imp)
+
+    @classmethod
+    def exchange(cls, of, selector, other, other_selector):
+        return cls(_header.KINDS["EXCHANGES"], *of, selector, 0, *other, other_selector)
+
+    @classmethod
+    def make_class(cls, number, superclass):
+        return cls(_header.KINDS["MAKES_CLASS"], number, other=superclass)
+
+    @classmethod
+    def make_root_class(cls, number):
+        return cls(_header.KINDS["MAKES_ROOT_CLASS"], number)
 
 
 class _Shared:
@@ -122,14 +164,17 @@ class Runtime:
         return told
 
     def _change(self, name, *words):
-        """No sender goes by a note from before, once the change has begun."""
+        _must(self._answer(1, name, *words))
+
+    def _answer(self, changes, name, *words):
+        """No sender goes by a note from before, once the change has begun. `changes`: 1, or 0 for what changes nothing."""
         shared = self._shared
         with shared.lock:
-            shared.begun += 1
+            shared.begun += changes
             answer = getattr(shared.library, name)(shared.handle, *words)
             if answer:
-                shared.begun -= 1
-        _must(answer)
+                shared.begun -= changes
+        return answer
 
     @property
     def class_count(self):
@@ -196,6 +241,20 @@ class Runtime:
         """Attaches pairs of a selector and an implementation, as a category does: before those that are there."""
         _checked(number)
         self._change("msg_attach", number, *_methods(methods), *_methods(class_methods))
+
+
+    def change_all(self, changes):
+        """Makes several changes as one: each lookup answers from before all of them or after all. It is refused as the first is that would be refused where those before it were
+        made; then nothing has changed, and the fault that is raised has its `place`."""
+        changes = list(changes)
+        for it in changes:
+            _checked(*it)
+        rows, place = (_header.msg_change * max(1, len(changes)))(*changes), ctypes.c_size_t()
+        answer = self._answer(min(1, len(changes)), "msg_change_all", rows, len(changes), ctypes.byref(place))
+        if answer:
+            fault = _fault(answer)
+            fault.place = None if isinstance(fault, _CLOSED) else place.value
+            raise fault
 
 
 def _methods(pairs):

@@ -24,6 +24,13 @@ class msg_method(c.Structure):
     _fields_ = [("sel", c.c_uint32), ("imp", c.c_uint32)]
 
 
+class msg_change(c.Structure):
+    _fields_ = [(name, c.c_uint32) for name in ("kind", "number", "meta", "sel", "imp", "other", "other_meta", "other_sel")]
+
+
+KINDS = {"ADDS": 1, "REPLACES": 2, "SETS_IMP": 3, "EXCHANGES": 4, "MAKES_CLASS": 5, "MAKES_ROOT_CLASS": 6}
+
+
 class msg_config(c.Structure):
     _fields_ = [("classes", c.c_uint32), ("senders", c.c_uint32), ("arrays", c.c_uint32 * 9)]
 
@@ -42,7 +49,7 @@ class msg_report_row(c.Structure):
     ]
 
 
-STRUCTURES = (msg_note, msg_runtime, msg_sender, msg_class, msg_method, msg_config, msg_report_row)
+STRUCTURES = (msg_note, msg_runtime, msg_sender, msg_class, msg_method, msg_change, msg_config, msg_report_row)
 
 FAULTS = {
     "NoSuchClass": (1, "no such class, or it isn't made"),
@@ -62,6 +69,7 @@ FAULTS = {
     "None_": (70, "there is none"),
     "Missed": (71, "not cached"),
     "BadConfig": (73, "the config asks for too much"),
+    "BadChange": (75, "no such kind of change"),
     "LockHeld": (74, "the thread has the lock already"),
 }
 
@@ -88,6 +96,7 @@ CALLS = {
     "msg_attach": (_answer, (_runtime, _number, _methods, c.c_size_t, _methods, c.c_size_t)),
     "msg_make_class": (_answer, (_runtime, _number, _number)),
     "msg_make_root_class": (_answer, (_runtime, _number)),
+    "msg_change_all": (_answer, (_runtime, c.POINTER(msg_change), c.c_size_t, c.POINTER(c.c_size_t))),
     "msg_sender_open": (_answer, (_runtime, _sender)),
     "msg_sender_close": (_answer, (_runtime, _sender)),
     "msg_fill": (_answer, (_runtime, _sender, _number, _meta, _selector, _told32)),

@@ -44,6 +44,26 @@ pub struct msg_method {
 
 #[repr(C)]
 #[derive(Clone, Copy, Debug, Default, PartialEq, Eq)]
+pub struct msg_change {
+    pub kind: u32,
+    pub number: u32,
+    pub meta: u32,
+    pub sel: u32,
+    pub imp: u32,
+    pub other: u32,
+    pub other_meta: u32,
+    pub other_sel: u32,
+}
+
+pub const MSG_ADDS: u32 = 1;
+pub const MSG_REPLACES: u32 = 2;
+pub const MSG_SETS_IMP: u32 = 3;
+pub const MSG_EXCHANGES: u32 = 4;
+pub const MSG_MAKES_CLASS: u32 = 5;
+pub const MSG_MAKES_ROOT_CLASS: u32 = 6;
+
+#[repr(C)]
+#[derive(Clone, Copy, Debug, Default, PartialEq, Eq)]
 pub struct msg_config {
     pub classes: u32,
     pub senders: u32,
@@ -88,6 +108,7 @@ pub const MSG_NO_MEMORY: u32 = 69;
 pub const MSG_NONE: u32 = 70;
 pub const MSG_MISSED: u32 = 71;
 pub const MSG_BAD_CONFIG: u32 = 73;
+pub const MSG_BAD_CHANGE: u32 = 75;
 pub const MSG_LOCK_HELD: u32 = 74;
 
 extern "C" {
@@ -150,6 +171,12 @@ extern "C" {
     ) -> u32;
     pub fn msg_make_class(runtime: *mut msg_runtime, number: u32, superclass: u32) -> u32;
     pub fn msg_make_root_class(runtime: *mut msg_runtime, number: u32) -> u32;
+    pub fn msg_change_all(
+        runtime: *mut msg_runtime,
+        changes: *const msg_change,
+        count: usize,
+        place: *mut usize,
+    ) -> u32;
     pub fn msg_sender_open(runtime: *mut msg_runtime, sender: *mut msg_sender) -> u32;
     pub fn msg_sender_close(runtime: *mut msg_runtime, sender: *mut msg_sender) -> u32;
     pub fn msg_fill(
@@ -239,3 +266,4 @@ pub unsafe fn msg_recall_inline(sender: *const msg_sender, slot: u32, sel: u32, 
 use core::mem::size_of;
 const _: () =
     assert!(size_of::<msg_note>() == 24 && size_of::<msg_sender>() == 16 + 24 * MSG_NOTES);
+const _: () = assert!(size_of::<msg_change>() == 32);

@@ -24,6 +24,8 @@ pub enum Fault {
     /// Not cached: calls answer it as `Ok(None)`.
     Missed,
     BadConfig,
+    /// Of a list in numbers, which no call here takes.
+    BadChange,
     /// Of a layer that no call here goes by.
     LockHeld,
     /// The sender is of another runtime. No call of the library was made.
@@ -53,6 +55,7 @@ impl Fault {
             sys::MSG_NONE => Fault::None,
             sys::MSG_MISSED => Fault::Missed,
             sys::MSG_BAD_CONFIG => Fault::BadConfig,
+            sys::MSG_BAD_CHANGE => Fault::BadChange,
             sys::MSG_LOCK_HELD => Fault::LockHeld,
             other => Fault::Unknown(other),
         })
@@ -86,6 +89,7 @@ impl Fault {
             Fault::None => "there is none",
             Fault::Missed => "not cached",
             Fault::BadConfig => "the config asks for too much",
+            Fault::BadChange => "no such kind of change",
             Fault::LockHeld => "the thread has the lock already",
             Fault::OtherRuntime => "the sender is of another runtime",
             Fault::Unknown(_) => "a fault that this crate doesn't know",

@@ -19,10 +19,12 @@
 //! # Ok(())
 //! # }
 //! ```
+mod change;
 mod fault;
 mod locked;
 mod sender;
 
+pub use change::{Change, Refused};
 pub use fault::Fault;
 pub use locked::Locked;
 pub use sender::Sender;

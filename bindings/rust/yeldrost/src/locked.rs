@@ -1,4 +1,6 @@
-use crate::{ClassRef, Fault, Handle, Imp, Method, Report, Selector, Sender, Shared};
+use crate::{
+    Change, ClassRef, Fault, Handle, Imp, Method, Refused, Report, Selector, Sender, Shared,
+};
 use std::sync::atomic::Ordering;
 use std::sync::{Arc, MutexGuard};
 use yeldrost_sys as sys;
@@ -167,6 +169,25 @@ impl<'r> Locked<'r> {
         })
     }
 
+    /// Makes several changes as one: each lookup answers from before all of them or after all. It is refused as the
+    /// first is that would be refused where those before it were made.
+    pub fn change_all(&mut self, changes: &[Change]) -> Result<&mut Self, Refused> {
+        let rows: Vec<sys::msg_change> = changes.iter().map(|it| it.row()).collect();
+        let mut place = 0;
+        let mut made = |runtime: *mut sys::msg_runtime| unsafe {
+            sys::msg_change_all(runtime, rows.as_ptr(), rows.len(), &mut place)
+        };
+        // an empty list is no change
+        let answer = if rows.is_empty() {
+            Fault::of(made(&mut self.handle.0))
+        } else {
+            self.change(made).map(|_| ())
+        };
+        answer
+            .map(|()| self)
+            .map_err(|fault| Refused::of(fault, place))
+    }
+
     /// The lookup after all changes, which the sender has then seen, and notes.
     pub fn fill(
         &mut self,
@@ -207,5 +228,30 @@ impl<'r> Locked<'r> {
             self.shared.begun.store(before, Ordering::Release);
         }
         answer.map(|()| self)
+    }
+}
+
+#[cfg(test)]
+mod tests {
+    use crate::{Change, Config, Runtime};
+    use std::sync::atomic::Ordering;
+
+    /// Else no note would be found any more, and each send would be slow.
+    #[test]
+    fn what_was_begun_is_the_count_of_changes() {
+        let runtime = Runtime::open(Config::default()).unwrap();
+        let root = |number| Change::MakeRootClass { number };
+        let lists: [&[Change]; 5] = [
+            &[root(0)],
+            &[],
+            &[root(1), root(0)],
+            &[],
+            &[root(1), root(2)],
+        ];
+        for (list, made) in lists.into_iter().zip([1, 1, 1, 1, 2]) {
+            let _ = runtime.lock().change_all(list);
+            assert_eq!(Ok(made), runtime.lock().change_count());
+            assert_eq!(made, runtime.0.begun.load(Ordering::Relaxed));
+        }
     }
 }

@@ -1,6 +1,6 @@
 //! Each call of the header through the safe crate, each kind of fault, and threads beside changes.
 use std::sync::atomic::{AtomicBool, Ordering};
-use yeldrost::{ClassRef, Config, Fault, Imp, Method, Runtime, Selector, Sender};
+use yeldrost::{Change, ClassRef, Config, Fault, Imp, Method, Refused, Runtime, Selector, Sender};
 
 const ROOT: u32 = 0;
 const CHILD: u32 = 1;
@@ -116,6 +116,83 @@ fn changes() {
     ];
     assert_eq!(faults.map(Some), refused);
     assert_eq!(Ok(count), now.change_count());
+}
+
+fn replace(of: ClassRef, selector: u32, imp: u32) -> Change {
+    Change::Replace {
+        of,
+        selector: s(selector),
+        imp: i(imp),
+    }
+}
+
+#[test]
+fn lists_of_changes() {
+    let runtime = opened();
+    let mut sender = runtime.sender().unwrap();
+    let others = ClassRef::instances_of(OTHER);
+    let changes = [
+        Change::MakeClass {
+            number: OTHER,
+            superclass: CHILD,
+        },
+        Change::Add {
+            to: others,
+            selector: s(TAKE),
+            imp: i(7),
+        },
+        replace(CHILDREN, VALUE, 5),
+        Change::SetImp {
+            of: ROOTS,
+            selector: s(NAME),
+            imp: i(6),
+        },
+        Change::Exchange {
+            of: CHILDREN,
+            selector: s(NAME),
+            other: CHILD_ITSELF,
+            other_selector: s(NEW),
+        },
+        Change::MakeRootClass { number: LATER },
+    ];
+    assert_eq!(Ok(Some(i(1))), sender.find(CHILDREN, s(VALUE)));
+    runtime.lock().change_all(&changes).unwrap();
+    for (of, selector, found) in [
+        (others, TAKE, 7),
+        (CHILDREN, VALUE, 5),
+        (ROOTS, NAME, 6),
+        (CHILDREN, NAME, 4),
+        (CHILD_ITSELF, NEW, 3),
+    ] {
+        assert_eq!(Ok(Imp::new(found)), sender.find(of, s(selector)));
+    }
+    runtime.lock().change_all(&[]).unwrap();
+    assert_eq!(Ok(5), runtime.lock().change_count());
+    assert_eq!(Ok(Some(i(5))), sender.find(CHILDREN, s(VALUE)));
+    assert_eq!(Some(i(5)), sender.recall(CHILDREN, s(VALUE), 5));
+}
+
+#[test]
+fn a_refused_list_changes_nothing() {
+    let runtime = opened();
+    let changes = [
+        replace(CHILDREN, VALUE, 5),
+        replace(ClassRef::instances_of(LATER), NAME, 5),
+    ];
+    let refused = |fault, place| Some(Refused { fault, place });
+    let answer = runtime.lock().change_all(&changes).err();
+    assert_eq!(refused(Fault::NoSuchClass, Some(1)), answer);
+    assert_eq!(
+        "change 1: no such class, or it isn't made",
+        answer.unwrap().to_string()
+    );
+    assert_eq!(Ok(4), runtime.lock().change_count());
+    assert_eq!(Ok(Some(i(1))), runtime.lookup(CHILDREN, s(VALUE)));
+    runtime.close().unwrap();
+    for list in [&changes[..1], &[]] {
+        let answer = runtime.lock().change_all(list).err();
+        assert_eq!(refused(Fault::Closed, None), answer);
+    }
 }
 
 #[test]

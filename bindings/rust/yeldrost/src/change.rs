@@ -1,0 +1,122 @@
+use crate::{ClassRef, Fault, Imp, Selector};
+use std::fmt;
+use yeldrost_sys as sys;
+
+/// A change of a list that [`Locked::change_all`](crate::Locked::change_all) makes as one: what the call of its name
+/// makes alone.
+#[derive(Clone, Copy, Debug, PartialEq, Eq, Hash)]
+pub enum Change {
+    Add {
+        to: ClassRef,
+        selector: Selector,
+        imp: Imp,
+    },
+    Replace {
+        of: ClassRef,
+        selector: Selector,
+        imp: Imp,
+    },
+    SetImp {
+        of: ClassRef,
+        selector: Selector,
+        imp: Imp,
+    },
+    Exchange {
+        of: ClassRef,
+        selector: Selector,
+        other: ClassRef,
+        other_selector: Selector,
+    },
+    MakeClass {
+        number: u32,
+        superclass: u32,
+    },
+    MakeRootClass {
+        number: u32,
+    },
+}
+
+fn of_method(kind: u32, of: ClassRef, selector: Selector) -> sys::msg_change {
+    sys::msg_change {
+        kind,
+        number: of.number,
+        meta: of.meta.into(),
+        sel: selector.get(),
+        ..sys::msg_change::default()
+    }
+}
+
+fn with_imp(kind: u32, of: ClassRef, selector: Selector, imp: Imp) -> sys::msg_change {
+    sys::msg_change {
+        imp: imp.get(),
+        ..of_method(kind, of, selector)
+    }
+}
+
+fn of_class(kind: u32, number: u32, superclass: u32) -> sys::msg_change {
+    sys::msg_change {
+        kind,
+        number,
+        other: superclass,
+        ..sys::msg_change::default()
+    }
+}
+
+impl Change {
+    pub(crate) fn row(self) -> sys::msg_change {
+        match self {
+            Change::Add { to, selector, imp } => with_imp(sys::MSG_ADDS, to, selector, imp),
+            Change::Replace { of, selector, imp } => with_imp(sys::MSG_REPLACES, of, selector, imp),
+            Change::SetImp { of, selector, imp } => with_imp(sys::MSG_SETS_IMP, of, selector, imp),
+            Change::Exchange {
+                of,
+                selector,
+                other,
+                other_selector,
+            } => sys::msg_change {
+                other: other.number,
+                other_meta: other.meta.into(),
+                other_sel: other_selector.get(),
+                ..of_method(sys::MSG_EXCHANGES, of, selector)
+            },
+            Change::MakeClass { number, superclass } => {
+                of_class(sys::MSG_MAKES_CLASS, number, superclass)
+            }
+            Change::MakeRootClass { number } => of_class(sys::MSG_MAKES_ROOT_CLASS, number, 0),
+        }
+    }
+}
+
+/// Why a list of changes was refused. Nothing has changed by it.
+#[derive(Clone, Copy, Debug, PartialEq, Eq, Hash)]
+pub struct Refused {
+    pub fault: Fault,
+    /// Which change of the list is refused, from 0; or none, where the runtime isn't open.
+    pub place: Option<usize>,
+}
+
+impl Refused {
+    pub(crate) fn of(fault: Fault, place: usize) -> Refused {
+        Refused {
+            fault,
+            place: Some(place).filter(|_| fault != Fault::Closed),
+        }
+    }
+}
+
+impl From<Refused> for Fault {
+    fn from(it: Refused) -> Fault {
+        it.fault
+    }
+}
+
+impl fmt::Display for Refused {
+    fn fmt(&self, f: &mut fmt::Formatter<'_>) -> fmt::Result {
+        match self.place {
+            Some(place) => write!(f, "change {place}: {}", self.fault),
+            None => self.fault.fmt(f),
+        }
+    }
+}
+
+impl std::error::Error for Refused {}
