@@ -2,7 +2,7 @@
 
 ghost use Rattle.std.specs.Prelude.{◌≡◌, ◌<◌, ◌≤◌, [], ◌∷◌, All, length, true};
 ghost use Rattle.msg_names.specs.declared.value.ClassRef.{ClassRef};
-ghost use Rattle.msg_tables.specs.Journal.{IsOfFirst};
+ghost use Rattle.msg_tables.specs.Journal.{NamesListed};
 ghost use Rattle.msg_tables.specs.Log.{Log};
 ghost use Rattle.msg_tables.specs.Making.{is_told};
 ghost use Rattle.msg_tables.specs.Origin.{class_total};
@@ -22,7 +22,7 @@ fn flush_entry(
     below: &mut Below,
 )
     requires arena { IsKeeperOf arena.now keeper.old }
-    requires listed { IsOfFirst (length tables.now.supers) entry }
+    requires listed { NamesListed (length tables.now.supers) entry }
     requires classes { length tables.now.supers ≡ class_total (keeper_history keeper.old).origin }
     requires room { length tables.now.supers ≤ below.old.room }
     ensures arena { IsKeeperOf arena.now keeper.new }
@@ -49,7 +49,7 @@ pub(crate) fn flush_written(
     below: &mut Below,
 )
     requires arena { IsKeeperOf arena.now keeper.old }
-    requires listed { All (IsOfFirst (length tables.now.supers)) written.now }
+    requires listed { All (NamesListed (length tables.now.supers)) written.now }
     requires classes { length tables.now.supers ≡ class_total (keeper_history keeper.old).origin }
     requires room { length tables.now.supers ≤ below.old.room }
     ensures arena { IsKeeperOf arena.now keeper.new }

@@ -1,5 +1,5 @@
 -- What a journal tells of is taken back.
-use Rattle.std.proofs.Common.{◌≡◌, ◌<◌, ◌≤◌, ◌+◌, ◌-◌, ℕ, zero, suc, List, [], ◌∷◌, ◌++◌, length, length-append, take, Option, Some, None, Bool, true, false, cond, refl, sym, ap, ◌∙◌, subst, arith}
+use Rattle.std.proofs.Common.{◌≡◌, ◌<◌, ◌+◌, ◌-◌, ℕ, zero, suc, List, [], ◌∷◌, ◌++◌, length, length-append, take, Option, Some, None, Bool, true, false, cond, refl, sym, ap, ◌∙◌, subst, arith}
 use Rattle.std.specs.Prelude.{slice_set, slice_index_or, ◌==◌, ◌&&◌, is_none, is_some}
 use Rattle.std.proofs.lemmas.List.{get_or-set_same, length-set}
 use Rattle.std.proofs.lemmas.Option.{same_Some}
@@ -61,11 +61,6 @@ pub set-as_was : {A : Type 0} (xs : List A) (k : ℕ) (d : A) → slice_set xs k
 set-as_was [] k d = refl
 set-as_was (x ∷ xs) zero d = refl
 set-as_was (x ∷ xs) (suc k) d = ap (λ ys. x ∷ ys) (set-as_was xs k d)
-
-pub set-outside : {A : Type 0} (xs : List A) (k : ℕ) (v : A) → length xs ≤ k → slice_set xs k v ≡ xs
-set-outside [] k v past = refl
-set-outside (x ∷ xs) zero v past = absurd (omega (arith, past))
-set-outside (x ∷ xs) (suc k) v past = ap (λ ys. x ∷ ys) (set-outside xs k v (omega (arith, past)))
 
 -- ---- rows that were added
 

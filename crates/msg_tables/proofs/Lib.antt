@@ -36,7 +36,6 @@ pub mod NoteLemmas
 pub mod PlaceLemmas
 pub mod PopLemmas
 pub mod PreorderLemmas
-pub mod WrittenLemmas
 pub mod WalkLemmas
 pub mod PlacedLemmas
 pub mod BelowAllLemmas

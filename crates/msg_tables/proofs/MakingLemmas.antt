@@ -9,7 +9,7 @@ use Rattle.msg_tables.specs.declared.fault.ChangeFault.{ChangeFault}
 use Rattle.msg_tables.specs.Affected.{written_refs}
 use Rattle.msg_tables.specs.Edits.{supers_edited}
 use Rattle.msg_tables.specs.Log.{Log, and_then, table}
-use Rattle.msg_tables.specs.Journal.{Journals, edit_made, undo_journal, IsUndoneBy, WritesAt, IsJournalOf, entry_count, places_of, classes_of}
+use Rattle.msg_tables.specs.Journal.{AllNameListed, Journals, edit_made, undo_journal, IsUndoneBy, WritesAt, IsJournalOf, entry_count, places_of, classes_of}
 use Rattle.msg_tables.specs.Making.{IsBeside, IsPart, IsMade}
 use Rattle.msg_tables.specs.Refusal.{refusal, AreAccepted}
 use Rattle.msg_tables.specs.Several.{and_all, refused_from, made_by, made_by_all, written_by_all}
@@ -19,7 +19,7 @@ use Rattle.msg_tables.specs.View.{TablesView}
 use Rattle.msg_tables.proofs.SeveralLemmas.{table-and_all}
 use Rattle.msg_tables.proofs.UndoJournalLemmas.{undo_all-snoc, undo_journal-append}
 use Rattle.msg_tables.proofs.JournalLemmas.{journal-append}
-use Rattle.msg_tables.proofs.NoteLemmas.{places-append, classes-append}
+use Rattle.msg_tables.proofs.NoteLemmas.{listed-append, places-append, classes-append}
 use Rattle.std.proofs.Math.ListN.{length-set}
 
 -- ---- one change
@@ -51,6 +51,7 @@ part-made x e journal longer old new written makes undoes journals =
       places = λ h stands. journals.places ∙ written h stands;
       made = journals.made ∙ makes;
       undone = λ h stands. journals.undone ∙ undoes h stands;
+      listed = journals.listed;
       beside = record {
         count = ap (λ (t : TablesView). length t.supers) journals.writes.rest ∙ length-edited_supers e old;
         rest = sym (ap (λ (t : TablesView). record t { supers = old.supers; order = old.order; lists = old.lists; row_count = old.row_count; change_count = old.change_count }) journals.writes.rest);
@@ -89,6 +90,7 @@ made-none t [] e = record {
   places = λ h stands. refl;
   made = refl;
   undone = λ h stands. refl;
+  listed = tt;
   beside = record { count = refl; rest = refl };
 }
 made-none t (x ∷ journal) e = cc
@@ -115,6 +117,7 @@ made-next xs i x journal longer old between new inside is so-far ok part =
           ∙ ap (λ t. and_before (undo_all (table h) (take i xs)) (undo t x)) (sym (table-and_all h (take i xs)))
           ∙ ap₂ (λ a b. and_before a b) (so-far.undone h stands) (sym (part.undone (and_all h (take i xs)) now))
           ∙ sym (ap undo_journal part.is ∙ undo_journal-append journal part.entries);
+      listed = subst (AllNameListed (length old.supers)) (sym part.is) (listed-append (length old.supers) journal part.entries so-far.listed (subst (λ n. AllNameListed n part.entries) so-far.beside.count part.listed));
       beside = beside-on old between new so-far.beside part.beside;
     }
 

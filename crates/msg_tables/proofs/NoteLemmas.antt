@@ -1,10 +1,10 @@
 -- What an edit wrote is noted.
-use Rattle.std.proofs.Common.{◌≡◌, ℕ, List, [], ◌∷◌, ◌++◌, length, append_assoc, append-nil, refl, sym, ap, ◌∙◌}
-use Rattle.msg_names.specs.declared.value.ClassRef.{ClassRef}
+use Rattle.std.specs.Prelude.{All}
+use Rattle.std.proofs.Common.{arith, zero, suc, ◌≡◌, ℕ, List, [], ◌∷◌, ◌++◌, append_assoc, refl, sym, ap, ◌∙◌}
 use Rattle.msg_tables.specs.declared.entry.Entry.{Entry}
 use Rattle.msg_tables.specs.declared.entry.Entry.TheVariants.{Added, Rewrote, Made}
-use Rattle.msg_tables.specs.Affected.{at_most_one, if_any}
-use Rattle.msg_tables.specs.Journal.{place_of, places_of, classes_of}
+use Rattle.msg_tables.specs.Affected.{at_most_one}
+use Rattle.msg_tables.specs.Journal.{NamesListed, AllNameListed, place_of, places_of, classes_of}
 
 pub places-append : (xs ys : List Entry) → places_of (xs ++ ys) ≡ places_of xs ++ places_of ys
 places-append [] ys = refl
@@ -16,10 +16,12 @@ classes-append (Added c n ∷ xs) ys = classes-append xs ys
 classes-append (Rewrote c s i ∷ xs) ys = classes-append xs ys
 classes-append (Made k ∷ xs) ys = ap (λ ks. k ∷ ks) (classes-append xs ys)
 
--- methods that are added stand at a place, where there are any
-if-added : (c : ClassRef) (ms : List (ℕ × ℕ)) → at_most_one (place_of (Added c (length ms))) ≡ if_any ms c
-if-added c [] = refl
-if-added c (m ∷ ms) = refl
+-- classes that are listed
+pub listed-append : (n : ℕ) (xs ys : List Entry) → AllNameListed n xs → AllNameListed n ys → AllNameListed n (xs ++ ys)
+listed-append n [] ys a b = b
+listed-append n (x ∷ xs) ys a b = (a.0, listed-append n xs ys a.1 b)
 
-pub places-attached : (c d : ClassRef) (ms cs : List (ℕ × ℕ)) → places_of (Added c (length ms) ∷ Added d (length cs) ∷ []) ≡ if_any ms c ++ if_any cs d
-places-attached c d ms cs = rw (if-added c ms, if-added d cs) (ap (λ ps. if_any ms c ++ ps) (append-nil (if_any cs d)))
+pub listed-all : (n : ℕ) (xs : List Entry) → AllNameListed n xs → All (NamesListed n) xs
+listed-all n [] a k d inside = absurd (omega (arith, inside))
+listed-all n (x ∷ xs) a zero d inside = a.0
+listed-all n (x ∷ xs) a (suc k) d inside = listed-all n xs a.1 k d (omega (arith, inside))

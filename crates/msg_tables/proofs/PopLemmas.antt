@@ -63,10 +63,6 @@ indexed-last own rows rest m is index =
 pub without-empty : (n : ℕ) → without_last n [] ≡ []
 without-empty n = take_all (length {A = ℕ × ℕ} [] - n) [] (omega arith)
 
-pub none-left : (ms : List (ℕ × ℕ)) (n : ℕ) → length ms ≡ 0 → ms ≡ without_last n ms
-none-left [] n e = sym (without-empty n)
-none-left (m ∷ ms) n e = cc
-
 -- writing a key that is there takes no memory
 pub known-ok : {A B : Type 0} (r : Result A B) (o : Option ℕ) → OnErr r (o ≡ None) → IsSome o → IsOk r
 known-ok (Ok a) o absent some = refl

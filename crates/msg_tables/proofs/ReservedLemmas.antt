@@ -1,10 +1,10 @@
 -- Lists of rows of which the last ones aren't written.
-use Rattle.std.proofs.Common.{◌≡◌, ◌<◌, ◌≤◌, ◌+◌, ◌-◌, ℕ, zero, suc, List, [], ◌∷◌, ◌++◌, length, length-append, replicate, append_assoc, None, refl, sym, ap, ◌∙◌, subst, arith}
-use Rattle.std.specs.Prelude.{Bool, true, false, nat_lt, Result, Ok, Err, OnOk, OnErr, IsSome, slice_index_or, slice_set}
+use Rattle.std.proofs.Common.{◌≡◌, ◌<◌, ◌≤◌, ◌+◌, ◌-◌, ℕ, zero, suc, List, [], ◌∷◌, ◌++◌, length, length-append, replicate, append_assoc, refl, sym, ap, ◌∙◌, arith}
+use Rattle.std.specs.Prelude.{Result, Ok, Err, OnOk, OnErr, slice_index_or, slice_set}
 use Rattle.std.proofs.Math.ListN.{length-set}
 use Rattle.std.proofs.lemmas.List.{length-map, length-replicate, map-append, replicate-append-replicate}
 use Rattle.msg_tables.specs.Kept.{no_rows}
-use Rattle.msg_tables.specs.RowList.{RowList, rows_of, own_in}
+use Rattle.msg_tables.specs.RowList.{RowList, rows_of}
 
 -- all of them, of which so many are written
 abbrev pub all : List RowList → ℕ → List RowList
@@ -54,20 +54,6 @@ all-read xs n k inside = ap (λ rs. slice_index_or rs k []) (all-rows xs n) ∙ 
 -- and one that isn't
 pub all-none : (xs : List RowList) (n k : ℕ) → length xs ≤ k → slice_index_or (rows_of (all xs n)) k [] ≡ []
 all-none xs n k past = ap (λ rs. slice_index_or rs k []) (all-rows xs n) ∙ read-back (rows_of xs) (n - length xs) k (omega (arith, past, length-rows xs))
-
-none-is-none : {k n : ℕ} → IsSome {T = ℕ} None → k < n
-none-is-none h = cc
-
--- a list with a row is written
-pub all-some : (xs : List RowList) (n k s : ℕ) → IsSome (own_in s (slice_index_or (rows_of (all xs n)) k [])) → k < length xs
-all-some xs n k s some = inside (nat_lt k (length xs)) refl
-  where
-    inside : (b : Bool) → nat_lt k (length xs) ≡ b → k < length xs
-    inside true e = grind arith
-    inside false e =
-        let past : length xs ≤ k = grind arith in
-        let none : own_in s (slice_index_or (rows_of (all xs n)) k []) ≡ None = ap (own_in s) (all-none xs n k past) in
-        none-is-none (subst IsSome none some)
 
 -- one of those that are written is written again
 pub all-set : (xs ys : List RowList) (n k : ℕ) (v : List (ℕ × ℕ)) → k < length xs → rows_of ys ≡ slice_set (rows_of xs) k v → rows_of (all ys n) ≡ slice_set (rows_of (all xs n)) k v

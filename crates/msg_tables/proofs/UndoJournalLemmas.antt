@@ -1,5 +1,5 @@
 -- What takes a journal back is what takes its list back.
-use Rattle.std.proofs.Common.{◌≡◌, ◌≢◌, ◌<◌, ◌+◌, zero, suc, take, arith, ℕ, List, [], ◌∷◌, ◌++◌, append_assoc, append-nil, length, Option, Some, None, refl, sym, ap, ◌∙◌}
+use Rattle.std.proofs.Common.{◌≡◌, ◌<◌, ◌+◌, take, ℕ, List, [], ◌∷◌, ◌++◌, append_assoc, append-nil, length, Option, Some, None, refl, sym, ap, ◌∙◌}
 use Rattle.std.proofs.lemmas.List.{take_more}
 use Rattle.std.specs.Prelude.{slice_index_or, is_some, false, option_map}
 use Rattle.msg_names.specs.declared.value.ClassRef.{ClassRef}
@@ -11,7 +11,6 @@ use Rattle.msg_tables.specs.declared.change.Change.TheVariants.{Replace, SetImp,
 use Rattle.msg_tables.specs.declared.edit.MethodRow.{MethodRow}
 use Rattle.msg_tables.specs.declared.edit.Edit.TheVariants as edit
 use Rattle.msg_tables.specs.declared.entry.Entry.{Entry}
-use Rattle.msg_tables.specs.declared.entry.Entry.TheVariants.{Added}
 use Rattle.msg_tables.specs.Log.{Log, table, table_after_all, holder, lookup}
 use Rattle.msg_tables.specs.After.{table_after}
 use Rattle.msg_tables.specs.Journal.{undo_entry, undo_journal, undo_own, undo_attached, edit_undo, IsImpOf}
@@ -53,14 +52,6 @@ before-none (Some ys) = refl
 
 -- ---- an entry after others
 
-pub added-none : (c : ClassRef) (n : ℕ) → n ≢ 0 → undo_entry (Added c n) ≡ None
-added-none c zero some = absurd (some refl)
-added-none c (suc n) some = refl
-
-pub added-back : (c : ClassRef) (n : ℕ) (ys : List Change) → n ≡ 0 → and_before (undo_entry (Added c n)) (Some ys) ≡ Some ys
-added-back c zero ys e = ap Some (append-nil ys)
-added-back c (suc n) ys e = absurd (omega (arith, e))
-
 last-entry : (xs : List Entry) (at : ℕ) (e : Entry) → at < length xs → e ≡ slice_index_or xs at e → undo_journal (take (at + 1) xs) ≡ and_before (undo_journal (take at xs)) (undo_entry e)
 last-entry xs at e inside is =
     ap undo_journal (take_more xs at e inside ∙ ap (λ y. take at xs ++ y ∷ []) (sym is)) ∙ undo_journal-append (take at xs) (e ∷ []) ∙ ap (and_before (undo_journal (take at xs))) (before-last (undo_entry e))
@@ -76,11 +67,6 @@ not-given xs at e old all inside is none so-far =
     sym (ap (λ o. and_before o (Some old)) (last-entry xs at e inside is ∙ ap (and_before (undo_journal (take at xs))) none ∙ before-none (undo_journal (take at xs)))) ∙ so-far
 
 -- ---- what an edit's entries give back
-
-pub undone-attached : (c d : ClassRef) (ms cs : List (ℕ × ℕ)) → undo_journal (Added c (length ms) ∷ Added d (length cs) ∷ []) ≡ undo_attached ms cs
-undone-attached c d [] [] = refl
-undone-attached c d (m ∷ ms) cs = refl
-undone-attached c d [] (m ∷ cs) = refl
 
 pub undone-own : (t : TablesView) (r : MethodRow) (i : ImpRef) → IsImpOf t r i → Some (Replace r.class r.sel i ∷ []) ≡ undo_own t r
 undone-own t r i is = rw is refl

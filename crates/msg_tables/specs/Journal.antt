@@ -43,12 +43,16 @@ classes_of [] = []
 classes_of (Made k ∷ es) = k ∷ classes_of es
 classes_of (_ ∷ es) = classes_of es
 
--- what an entry tells of is of one of the first n classes
-abbrev pub IsOfFirst : ℕ → Entry → Type 0
-IsOfFirst n (Added c zero) = Unit {0}
-IsOfFirst n (Added c (suc m)) = c.class < n
-IsOfFirst n (Rewrote c s i) = c.class < n
-IsOfFirst n (Made k) = k < n
+-- the class of an entry is one of the first n
+abbrev pub NamesListed : ℕ → Entry → Type 0
+NamesListed n (Added c k) = c.class < n
+NamesListed n (Rewrote c s i) = c.class < n
+NamesListed n (Made k) = k < n
+
+-- of each entry
+abbrev pub AllNameListed : ℕ → List Entry → Type 0
+AllNameListed n [] = Unit {0}
+AllNameListed n (e ∷ es) = NamesListed n e × AllNameListed n es
 
 -- the lists of rows before an entry
 abbrev pub lists_before : Entry → List (List (ℕ × ℕ)) → List (List (ℕ × ℕ))
@@ -158,6 +162,7 @@ pub record Journals (e : Edit) (journal longer : List Entry) (old new : TablesVi
   pub places : places_of entries ≡ edit_places e
   pub made : classes_of entries ≡ edit_made e
   pub undone : undo_journal entries ≡ edit_undo old e
+  pub listed : AllNameListed (length old.supers) entries
 
 -- what tables keep, as far as contracts see it
 pub record IsSoundView (t : TablesView) : Type 0 where

@@ -6,7 +6,7 @@ use Rattle.msg_tables.specs.declared.apply_all.Refused.{Refused}
 use Rattle.msg_tables.specs.declared.entry.Entry.{Entry}
 use Rattle.msg_tables.specs.Affected.{written_refs}
 use Rattle.msg_tables.specs.Log.{Log, table}
-use Rattle.msg_tables.specs.Journal.{IsJournalOf, classes_of, places_of, undo_journal}
+use Rattle.msg_tables.specs.Journal.{AllNameListed, IsJournalOf, classes_of, places_of, undo_journal}
 use Rattle.msg_tables.specs.Origin.{IsSound}
 use Rattle.msg_tables.specs.Refusal.{AreAccepted}
 use Rattle.msg_tables.specs.Several.{and_all, is_affected_by_all, is_below, is_of_one, made_by, made_by_all, refused_from, written_by_all}
@@ -28,6 +28,7 @@ pub record IsPart (x : Change) (journal longer : List Entry) (old new : TablesVi
   pub places : (h : Log) → StandsAt old h → places_of entries ≡ written_refs h x
   pub made : classes_of entries ≡ made_by x
   pub undone : (h : Log) → StandsAt old h → undo_journal entries ≡ undo (table h) x
+  pub listed : AllNameListed (length old.supers) entries
   pub beside : IsBeside old new
 
 -- a journal has the class references at which a list adds or rewrites rows, in their order
@@ -46,6 +47,7 @@ pub record IsMade (xs : List Change) (journal : List Entry) (old new : TablesVie
   pub places : HasPlaces xs old journal
   pub made : classes_of journal ≡ made_by_all xs
   pub undone : IsUndone xs old journal
+  pub listed : AllNameListed (length old.supers) journal
   pub beside : IsBeside old new
 
 -- the tables stood at a log, and stand at the one after a list, of which none was refused

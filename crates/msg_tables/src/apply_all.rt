@@ -1,10 +1,10 @@
 //! Making a list of changes as one.
 
-ghost use Rattle.std.specs.Prelude.{◌≡◌, ◌≢◌, ◌<◌, ◌≤◌, ◌+◌, ◌*◌, [], IfErr, IfOk, None, OnErr, OnOk, Some, length, take};
+ghost use Rattle.std.specs.Prelude.{◌≡◌, ◌≢◌, ◌<◌, ◌≤◌, ◌+◌, ◌*◌, [], All, IfErr, IfOk, None, OnErr, OnOk, Some, length, take};
 ghost use Rattle.std.specs.Vec.{vec_capacity};
 ghost use Rattle.msg_tables.specs.declared.fault.ChangeFault.{ChangeFault};
 ghost use Rattle.msg_tables.specs.Log.{Log, and_then};
-ghost use Rattle.msg_tables.specs.Journal.{classes_of};
+ghost use Rattle.msg_tables.specs.Journal.{NamesListed, classes_of};
 ghost use Rattle.msg_tables.specs.Making.{AreMadeBefore, HasPlaces, IsMade, IsPart, IsRefused, IsUndone, StandAfter, TellsAll};
 ghost use Rattle.msg_tables.specs.Refusal.{refusal};
 ghost use Rattle.msg_tables.specs.Several.{made_by_all};
@@ -69,6 +69,7 @@ impl Tables {
         ensures made { IfOk result (λ w. classes_of w ≡ made_by_all changes.now) }
         ensures undo { IfOk result (IsUndone changes.now self.old) }
         ensures affected { IfOk result (TellsAll changes.now self.old) }
+        ensures listed { IfOk result (All (NamesListed (length self.new.supers))) }
         ensures classes { length self.new.supers ≡ length self.old.supers }
         ensures counts { self.new.counts ≡ self.old.counts }
     {

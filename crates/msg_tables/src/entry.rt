@@ -1,7 +1,7 @@
 //! What a list of changes wrote.
 
-ghost use Rattle.std.specs.Prelude.{◌≡◌, IfOk, None, Some, false, option_map, true};
-ghost use Rattle.msg_tables.specs.Journal.{place_of, undo_entry, undo_journal};
+ghost use Rattle.std.specs.Prelude.{◌≡◌, ◌<◌, ℕ, IfOk, IfSome, None, Some, false, option_map, true};
+ghost use Rattle.msg_tables.specs.Journal.{NamesListed, place_of, undo_entry, undo_journal};
 ghost use Rattle.msg_tables.specs.Undo.{and_before};
 
 use crate::change::Change;
@@ -32,7 +32,8 @@ pub enum Entry {
 impl Entry {
     /// The class reference at which rows were added or rewritten: what finds others lies at it and below.
     pub fn place(self) -> Option<ClassRef>
-        ensures { result ≡ place_of self }
+        ensures place { result ≡ place_of self }
+        ensures listed { (n : ℕ) → NamesListed n self → IfSome result (λ p. p.class < n) }
     {
         match self {
             Entry::Added { count: 0, .. } => None,
@@ -41,9 +42,7 @@ impl Entry {
             Entry::Made { .. } => None,
         }
     }
-}
 
-impl Entry {
     // What takes the entry back, behind other changes. Answers whether anything does.
     fn give_back(self, changes: &mut Vec<Change>) -> Result<bool, AllocError>
         ensures back { IfOk result (λ has. has ≡ true → and_before (undo_entry self) (Some changes.old.items) ≡ Some changes.new.items) }

@@ -1,4 +1,7 @@
-use Rattle.std.proofs.Common.{take}
+use Rattle.std.proofs.Common.{length, take, sym, subst}
+use Rattle.std.specs.Prelude.{All}
+use Rattle.msg_tables.specs.Journal.{NamesListed}
+use Rattle.msg_tables.proofs.NoteLemmas.{listed-all}
 use Rattle.msg_tables.proofs.AffectedAllLemmas.{affected-all}
 use Rattle.msg_tables.proofs.SeveralLemmas.{accepted-none}
 use Rattle.msg_tables.proofs.tables.Tables.apply_all.Goals as goal
@@ -18,3 +21,8 @@ returns-in-Ok-apply_each-clause-affected c = λ h sound stands d affected.
     let made = c.in-Ok-apply_each.ensures.ok in
     let (all, now) = made.stands h stands in
     rw (made.made, made.places h stands) (affected-all h c.args.changes.now d sound stands.log all affected)
+
+pub returns-in-Ok-apply_each-clause-listed : goal.returns-in-Ok-apply_each-clause-listed
+returns-in-Ok-apply_each-clause-listed c =
+    let made = c.in-Ok-apply_each.ensures.ok in
+    subst (λ n. All (NamesListed n) c.apply_each.new.journal.items) (sym made.beside.count) (listed-all (length c.args.self.now.supers) c.apply_each.new.journal.items made.listed)

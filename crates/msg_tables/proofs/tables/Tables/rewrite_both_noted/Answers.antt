@@ -22,4 +22,5 @@ returns-clause-journals c =
       places = refl;
       made = refl;
       undone = undone-both c.args.self.now first second one two is js;
+      listed = (c.requires.first.class, (c.requires.second.class, tt));
     }

@@ -17,4 +17,5 @@ returns-clause-journals c =
       places = refl;
       made = refl;
       undone = undone-own c.args.self.now c.args.row was is;
+      listed = (c.requires.own.class, tt);
     }
