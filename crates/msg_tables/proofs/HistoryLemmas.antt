@@ -5,7 +5,6 @@ use Rattle.msg_tables.specs.declared.change.Change.{Change}
 use Rattle.msg_tables.specs.Log as logs
 use Rattle.msg_tables.specs.Log.{Log}
 use Rattle.msg_tables.specs.History.{History, BeginsWith, and_then, one_by_one, log}
-use Rattle.msg_tables.specs.Made.{and_as_one}
 use Rattle.msg_tables.specs.Refusal.{AreAccepted, IsLog}
 use Rattle.msg_tables.specs.Several.{and_all}
 use Rattle.msg_tables.proofs.LogLemmas.{log-and_then, log-before}
@@ -48,10 +47,6 @@ is-longer h xs is all = subst IsLog (sym (log-all h xs)) (accepted-all_then (log
 -- a history with which another begins
 pub is-before : (h g : History) → BeginsWith h g → IsLog (log h) → IsLog (log g)
 is-before h g begins is = log-before (log h) (log g) (log-begins h g begins) is
-
-pub as-one : (h : History) (xs : List Change) → 0 < length xs → and_as_one h xs ≡ and_then h xs
-as-one h [] some = absurd (omega (arith, some))
-as-one h (x ∷ xs) some = refl
 
 -- where no list is empty, there are no more lists than changes
 pub few-lists : (xs : List (List Change)) → All (λ ys. 0 < length ys) xs → length xs ≤ length (one_by_one xs)
