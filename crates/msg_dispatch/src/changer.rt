@@ -76,12 +76,10 @@ impl<'d, N: ArenaName> Changer<'d, N> {
         ensures refused { IfErr result (AreRefused changes.now self.old) }
     {
         let dispatcher = self.dispatcher;
-        let count = dispatcher.desk.lock(rt).change_all(
-            alloc,
-            &dispatcher.arena,
-            &mut self.turn,
-            changes,
-        )?;
+        let count = dispatcher
+            .desk
+            .lock(rt)
+            .change_all(alloc, &dispatcher.arena, &mut self.turn, changes)?;
         self.count = count;
         Ok(Receipt { count })
     }

@@ -14,13 +14,7 @@ use msg_cache::{Arena, Keeper};
 use msg_tables::{Below, Entry, Tables, Written};
 
 // Flushes the caches that an entry tells of: of a class that was made, or of where rows were written and of all below.
-fn flush_entry(
-    keeper: &mut Keeper,
-    arena: &Arena,
-    tables: &Tables,
-    entry: Entry,
-    below: &mut Below,
-)
+fn flush_entry(keeper: &mut Keeper, arena: &Arena, tables: &Tables, entry: Entry, below: &mut Below)
     requires arena { IsKeeperOf arena.now keeper.old }
     requires listed { NamesListed (length tables.now.supers) entry }
     requires classes { length tables.now.supers ≡ class_total (keeper_history keeper.old).origin }

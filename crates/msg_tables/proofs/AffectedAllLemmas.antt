@@ -93,8 +93,8 @@ told-append : (h : Log) (xs ys : List Entry) (c : ClassRef) → is_told h (xs ++
 told-append h xs ys c e =
     parted (is_of_one (classes_of xs) c) (is_of_one (classes_of ys) c) (is_below h (places_of xs) c) (is_below h (places_of ys) c)
     (sym (ap₂ (λ a b. a || b)
-        (ap (λ ks. is_of_one ks c) (classes-append xs ys) ∙ list_any-append (λ k. c.class == k) (classes_of xs) (classes_of ys))
-        (ap (λ ps. is_below h ps c) (places-append xs ys) ∙ below-append h (places_of xs) (places_of ys) c)) ∙ e)
+    (ap (λ ks. is_of_one ks c) (classes-append xs ys) ∙ list_any-append (λ k. c.class == k) (classes_of xs) (classes_of ys))
+    (ap (λ ps. is_below h ps c) (places-append xs ys) ∙ below-append h (places_of xs) (places_of ys) c)) ∙ e)
 
 pub told-next : (h : Log) (es : List Entry) (i : ℕ) (e : Entry) (c : ClassRef) → i < length es → e ≡ slice_index_or es i e → is_told h (take (i + 1) es) c ≡ true
     → (is_told h (take i es) c ≡ true) ⊎ (is_told h (e ∷ []) c ≡ true)

@@ -26,7 +26,7 @@ and_all-longer g (x ∷ xs) =
 pub log-all : (h : History) (xs : List Change) → log (and_then h xs) ≡ and_all (log h) xs
 log-all h xs =
     ap (λ (cs : List Change). (let l : Log = record { origin = h.origin; changes = cs } in l))
-        (one_by_one-append h.changes (xs ∷ []) ∙ ap (λ ys. one_by_one h.changes ++ ys) (append-nil xs))
+    (one_by_one-append h.changes (xs ∷ []) ∙ ap (λ ys. one_by_one h.changes ++ ys) (append-nil xs))
     ∙ sym (and_all-longer (log h) xs)
 
 -- or by one change

@@ -127,7 +127,11 @@ impl Tables {
     }
 
     // Writes what an edit says, and notes it.
-    pub(crate) fn write_noted(&mut self, edit: Edit, journal: &mut Vec<Entry>) -> Result<(), AllocError>
+    pub(crate) fn write_noted(
+        &mut self,
+        edit: Edit,
+        journal: &mut Vec<Entry>,
+    ) -> Result<(), AllocError>
         requires fits { Fits self.old edit }
         requires room { length journal.old.items + 2 ≤ vec_capacity journal.old }
         ensures ok { OnOk result (Journals edit.entry journal.old.items journal.new.items self.old self.new) }
