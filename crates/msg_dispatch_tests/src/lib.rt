@@ -12,6 +12,8 @@ mod exchange;
 #[cfg(test)]
 mod images;
 #[cfg(test)]
+mod lists;
+#[cfg(test)]
 mod memory;
 #[cfg(test)]
 mod noting;

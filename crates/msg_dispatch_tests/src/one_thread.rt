@@ -7,6 +7,7 @@ use crate::asker::Asker;
 use crate::counts::five;
 use crate::exchange::an_exchange_is_seen_below;
 use crate::images::{CHILD, GRAND, ROOT, selector};
+use crate::lists::makes_lists;
 use crate::opening::{Steps, open};
 use crate::same::same;
 use msg_dispatch::{ArenaName, Changer, Dispatcher, Receipt};
@@ -14,6 +15,7 @@ use msg_image::Change;
 use msg_names::{ClassRef, ImpRef, Selector};
 use msg_samples::{IMAGE, SMALL};
 use msg_tables::ChangeFault;
+use std::alloc::Global;
 use std::process::Abort;
 use std::sync::Wait;
 
@@ -29,6 +31,7 @@ pub(crate) enum Row {
     // what is then reported, and what is cached of the last selector
     FillAClass([u64; 5], Option<ImpRef>),
     ExchangeAbove,
+    MakeLists(Global),
 }
 
 /// Does a row. The selector `value` is the second one of both documents.
@@ -55,6 +58,7 @@ pub(crate) fn take<N: ArenaName, R: Wait + Abort>(
             fills_a_class(rt, dispatcher, sender, report, cached);
         }
         Row::ExchangeAbove => an_exchange_is_seen_below(rt, sender, changer, value),
+        Row::MakeLists(alloc) => makes_lists(rt, alloc, sender, changer, value),
     }
 }
 
