@@ -30,9 +30,14 @@ const WALK: [&str; 20] = [
     "low",
 ];
 
-fn walk_is(rt: &impl Abort, alloc: Global, value: &Tree, want: &[&str]) {
-    let bump = Bump::new(alloc);
-    let form = Form::read(alloc, &bump, value).expect(rt, "a form");
+fn walk_is<'v>(
+    rt: &impl Abort,
+    alloc: Global,
+    bump: &'v Bump,
+    value: &Tree<'v, '_>,
+    want: &[&str],
+) {
+    let form = Form::read(alloc, bump, value).expect(rt, "a form");
     let texts = form.selector_texts(alloc).expect(rt, "memory");
     same(rt, texts.as_slice(), want);
 }
@@ -43,7 +48,8 @@ fn selectors_come_in_the_order_of_the_walk(rt: HostRuntime) {
     let mut scratch = Scratch::new(alloc);
     let bump = Bump::new(alloc);
     let value = read(alloc, &bump, FULL.as_bytes(), &mut scratch).expect(&rt, "a JSON text");
-    walk_is(&rt, alloc, &value, &WALK);
+    let expressions = Bump::new(alloc);
+    walk_is(&rt, alloc, &expressions, &value, &WALK);
     same(&rt, FORWARDING, "forwardingTargetForSelector:");
 }
 
