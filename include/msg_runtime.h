@@ -105,7 +105,8 @@ enum {
     MSG_NONE = 70,              /* there is none: no superclass, no method */
     MSG_MISSED = 71,            /* of msg_probe: not cached. Ask msg_fill under the lock */
     MSG_BAD_CONFIG = 73,        /* of msg_open: beyond the most that is said beside a field, or a field that the library doesn't know */
-    MSG_BAD_CHANGE = 75,        /* of msg_change_all: a part of a kind that the library doesn't know, or whose meta isn't 0 or 1 */
+    MSG_BAD_CHANGE = 75,        /* of lists of changes: a part of a kind that the library doesn't know, or whose meta isn't 0 or 1 */
+    MSG_NO_ROOM = 76,           /* of msg_change_all_with_undo and msg_reach: the array for the answer has too few places, or for msg_reach too many */
     MSG_LOCK_HELD = 74          /* of msg_process.h alone: the calling thread has the runtime lock already, as where a handler of a signal interrupted it there */
 };
 
@@ -142,6 +143,13 @@ uint32_t msg_make_root_class(msg_runtime *runtime, uint32_t number);
  * part is that would be refused if those before it were made; that part's place is written, from 0. A part that means no change (67, 75) is found before any is made. Then, and where
  * memory is wanting, nothing has changed. Of no parts nothing is made, and the count stays. */
 uint32_t msg_change_all(msg_runtime *runtime, const msg_change *changes, size_t count, size_t *place);
+/* The same, and `undone` parts are written to `undo`, which has room for two for each: made as one directly afterwards they take it back. `undone` is 0 where there is no way back, since a
+ * method was added or a class made. */
+uint32_t msg_change_all_with_undo(msg_runtime *runtime, const msg_change *changes, size_t count, msg_change *undo, size_t room, size_t *undone, size_t *place);
+/* Which lookups msg_change_all would alter, without making it: in `reached`, which has two places for each class number, that of a class at twice its number and its metaclass's next, those
+ * are set of which lookups may change, and the others stay as they were. It costs a walk over the classes that it sets. A fault is msg_change_all's, with its place; then what the parts
+ * before it would alter is set. */
+uint32_t msg_reach(msg_runtime *runtime, const msg_change *changes, size_t count, bool *reached, size_t room, size_t *place);
 
 /* A sender of the runtime, for one thread: it has seen all changes made so far. It may be closed after its runtime was. */
 uint32_t msg_sender_open(msg_runtime *runtime, msg_sender *sender);
@@ -153,6 +161,8 @@ uint32_t msg_meet(msg_runtime *runtime, msg_sender *sender);
 
 /* ---- without a lock ---- */
 
+/* MSG_VERSION_NUMBER of the header that the library was made with: a host that may meet another library compares it with its own. */
+uint32_t msg_version(void);
 /* How many bytes a msg_sender has, for hosts that don't compile this header. */
 size_t msg_sender_size(void);
 /* What the sender has noted of the lookup after the first `count` changes, for the slot 2 * number + meta: the implementation's number; or 0 where it has none
@@ -227,6 +237,7 @@ static inline const char *msg_fault_text(uint32_t fault)
     case MSG_MISSED: return "not cached";
     case MSG_BAD_CONFIG: return "the config asks for too much";
     case MSG_BAD_CHANGE: return "no such kind of change";
+    case MSG_NO_ROOM: return "another count of places is needed for the answer";
     case MSG_LOCK_HELD: return "the thread has the lock already";
     default: return "unknown fault";
     }

@@ -20,7 +20,7 @@ static void start(void)
     const char *said = getenv("MSG_CLASSES");
     unsigned long number = said ? strtoul(said, NULL, 10) : 0;
     uint32_t classes = !number ? CLASS_NUMBERS : number > MOST_CLASSES ? MOST_CLASSES + 1 : (uint32_t)number;
-    if (msg_sender_size() != sizeof(msg_sender)) shim_stop("the library is of another header", "msg_sender");
+    if (msg_version() != MSG_VERSION_NUMBER || msg_sender_size() != sizeof(msg_sender)) shim_stop("the library is of another header", "msg_version");
     shim_class_room = classes - 1;
     uint32_t fault = msg_process_start(&(msg_config){.classes = classes, .senders = SENDERS});
     if (fault == MSG_ALREADY_OPEN) return;

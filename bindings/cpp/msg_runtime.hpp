@@ -14,6 +14,7 @@
 #include <optional>
 #include <stdexcept>
 #include <utility>
+#include <vector>
 
 namespace msg {
 
@@ -177,13 +178,46 @@ public:
         auto made = [&] {
             return msg_change_all(&at->handle, pointer<msg_change>(changes), std::size(changes), &place);
         };
-        std::uint32_t answer = std::size(changes) ? answer_of(made) : made(); // an empty list is no change
-        if (answer == MSG_CLOSED) throw fault(answer);
-        if (answer != MSG_DONE) throw fault(answer, place);
+        listed(std::size(changes) ? answer_of(made) : made(), place); // an empty list is no change
     }
     void change_all(std::initializer_list<msg_change> changes)
     {
         change_all<std::initializer_list<msg_change>>(changes);
+    }
+    // The same, and what takes them back if change_all makes it directly afterwards; none where there is no way back,
+    // since a method was added or a class made.
+    template <class Changes> std::vector<msg_change> change_all_with_undo(const Changes &changes)
+    {
+        std::vector<msg_change> undo(2 * std::size(changes) + 1);
+        std::size_t place = 0, undone = 0;
+        auto made = [&] {
+            return msg_change_all_with_undo(&at->handle, pointer<msg_change>(changes), std::size(changes), undo.data(),
+                                            undo.size(), &undone, &place);
+        };
+        listed(std::size(changes) ? answer_of(made) : made(), place);
+        undo.resize(undone);
+        return undo;
+    }
+    std::vector<msg_change> change_all_with_undo(std::initializer_list<msg_change> changes)
+    {
+        return change_all_with_undo<std::initializer_list<msg_change>>(changes);
+    }
+    // Which lookups change_all would alter, without making it; what it wouldn't make it throws. It takes memory for
+    // all class numbers.
+    template <class Changes> std::vector<class_ref> reach(const Changes &changes)
+    {
+        std::size_t room = 2 * std::size_t{class_count()}, place = 0;
+        std::unique_ptr<bool[]> reached(new bool[room]());
+        listed(msg_reach(&at->handle, pointer<msg_change>(changes), std::size(changes), reached.get(), room, &place),
+               place);
+        std::vector<class_ref> found;
+        for (std::size_t slot = 0; slot < room; slot++)
+            if (reached[slot]) found.push_back({static_cast<std::uint32_t>(slot / 2), slot % 2 == 1});
+        return found;
+    }
+    std::vector<class_ref> reach(std::initializer_list<msg_change> changes)
+    {
+        return reach<std::initializer_list<msg_change>>(changes);
     }
 
     // The lookup after all changes, which the sender has then seen, and notes. The sender is of this runtime.
@@ -196,6 +230,11 @@ private:
     friend class sender;
     explicit locked(std::shared_ptr<inner::shared> of) : at(std::move(of)), held(at->lock) {}
 
+    static void listed(std::uint32_t answer, std::size_t place)
+    {
+        if (answer == MSG_CLOSED) throw fault(answer);
+        if (answer != MSG_DONE) throw fault(answer, place);
+    }
     template <class Number> Number told(std::uint32_t (*call)(msg_runtime *, Number *))
     {
         Number number = 0;

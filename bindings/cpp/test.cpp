@@ -115,6 +115,12 @@ static void lists_of_changes()
     changes[2].kind = 7; // found before any is made
     CHECK(refused(MSG_BAD_CHANGE, 2));
     CHECK(runtime.lock().change_count() == 5 && sender.recall(child, VALUE, 5) == 5 && sender.find(child, VALUE) == 5);
+    CHECK(runtime.lock().reach({change::replace(child, VALUE, 8)}) == std::vector<msg::class_ref>({child, other}));
+    auto undo = runtime.lock().change_all_with_undo({change::replace(child, VALUE, 8), change::set_imp(root, NAME, 9)});
+    CHECK(sender.find(other, VALUE) == 5 && sender.find(child, VALUE) == 8 && undo.size() == 2);
+    runtime.lock().change_all(undo);
+    CHECK(runtime.lock().change_count() == 7 && sender.find(child, VALUE) == 5);
+    CHECK(runtime.lock().change_all_with_undo({change::add(other, 99, 8)}).empty());
     runtime.close();
     FAULT(MSG_CLOSED, runtime.lock().change_all({change::replace(child, VALUE, 8)}));
     FAULT(MSG_CLOSED, runtime.lock().change_all({}));
@@ -140,7 +146,7 @@ static void senders()
 {
     msg::runtime runtime = opened(), other = opened();
     msg::sender sender(runtime);
-    CHECK(sizeof(msg_sender) == msg_sender_size());
+    CHECK(sizeof(msg_sender) == msg_sender_size() && msg_version() == MSG_VERSION_NUMBER);
     CHECK(!sender.probe(root, VALUE) && sender.recall(child, VALUE, 4) == 0);
     CHECK(runtime.lock().fill(sender, child, VALUE) == 1);
     CHECK(sender.probe(child, VALUE) == 1u && sender.recall(child, VALUE, 4) == 1);

@@ -226,6 +226,35 @@ static void take_back(struct tables *tables, const struct log *log)
     }
 }
 
+/* A class reference. */
+struct mark { int64_t number; bool meta; };
+
+/* Those at which a part writes rows: what stands below them is the same before and after. */
+static size_t places_of(const struct tables *tables, const msg_change *it, struct mark *marks)
+{
+    struct mark first = {it->number, it->meta}, other = {it->other, it->other_meta};
+    if (it->kind >= MSG_MAKES_CLASS || !is_made(tables, it->number)) return 0;
+    if (it->kind >= MSG_SETS_IMP) first.number = holder(tables, it->number, &first.meta, it->sel);
+    marks[0] = first;
+    if (it->kind != MSG_EXCHANGES || !is_made(tables, it->other)) return 1;
+    other.number = holder(tables, it->other, &other.meta, it->other_sel);
+    marks[1] = other;
+    return 2;
+}
+
+static void mark_below(const struct tables *tables, struct mark place, bool *reached)
+{
+    for (uint32_t slot = 0; slot < 2 * tables->classes; slot++) {
+        int64_t at = is_made(tables, slot / 2) ? (int64_t)(slot / 2) : -1;
+        bool meta = slot % 2;
+        while (at >= 0 && !(at == place.number && meta == place.meta)) {
+            if (tables->of[at].above < 0 && meta) meta = false;
+            else at = tables->of[at].above;
+        }
+        if (at >= 0) reached[slot] = true;
+    }
+}
+
 static void commit(struct tables *tables, const msg_change *changes, size_t count)
 {
     for (size_t i = 0; i < count; i++) {
@@ -235,22 +264,61 @@ static void commit(struct tables *tables, const msg_change *changes, size_t coun
     atomic_fetch_add(&tables->version, 1);
 }
 
-uint32_t msg_change_all(msg_runtime *runtime, const msg_change *changes, size_t count, size_t *place)
+/* Makes the parts, as far as one that is refused, and marks before each what it reaches, where that is asked. */
+static uint32_t change_each(struct tables *tables, struct log *log, const msg_change *changes, size_t count, bool *reached, size_t *place)
 {
-    if (!runtime->open) return MSG_CLOSED;
-    struct tables *tables = runtime->at;
     uint32_t fault = MSG_DONE;
     size_t at = 0;
     while (at < count && !(fault = meaning(&changes[at]))) at++;
+    if (!fault) at = 0;
+    while (at < count && !fault) {
+        struct mark marks[2];
+        size_t marked = reached ? places_of(tables, &changes[at], marks) : 0;
+        if ((fault = change(tables, log, &changes[at], tables->version + at >= CHANGES))) break;
+        for (size_t i = 0; i < marked; i++) mark_below(tables, marks[i], reached);
+        if (reached && changes[at].kind >= MSG_MAKES_CLASS) reached[2 * changes[at].number] = reached[2 * changes[at].number + 1] = true;
+        at++;
+    }
     if (fault) *place = at;
-    if (fault || !count) return fault;
+    return fault;
+}
+
+uint32_t msg_change_all_with_undo(msg_runtime *runtime, const msg_change *changes, size_t count, msg_change *undo, size_t room, size_t *undone, size_t *place)
+{
+    if (!runtime->open) return MSG_CLOSED;
+    if (undone && room < 2 * count) return MSG_NO_ROOM;
+    struct tables *tables = runtime->at;
     struct log log = {zeros(2 * count + 1, sizeof *log.rows), 0};
-    at = 0;
-    while (at < count && !(fault = change(tables, &log, &changes[at], tables->version + at >= CHANGES))) at++;
-    if (fault) {
-        *place = at;
-        take_back(tables, &log);
-    } else commit(tables, changes, count);
+    uint32_t fault = change_each(tables, &log, changes, count, NULL, place);
+    if (fault) take_back(tables, &log);
+    else if (count) commit(tables, changes, count);
+    for (size_t i = log.count; undone && !fault && i--;) {
+        struct was was = log.rows[i];
+        uint32_t slot = (uint32_t)(was.key >> 32);
+        if (!was.key || !was.imp) {
+            *undone = 0;
+            break;
+        }
+        *undone = log.count - i;
+        undo[log.count - i - 1] = (msg_change){MSG_REPLACES, slot / 2, slot % 2, (uint32_t)was.key, was.imp, 0, 0, 0};
+    }
+    free(log.rows);
+    return fault;
+}
+
+uint32_t msg_change_all(msg_runtime *runtime, const msg_change *changes, size_t count, size_t *place)
+{
+    return msg_change_all_with_undo(runtime, changes, count, NULL, 0, NULL, place);
+}
+
+uint32_t msg_reach(msg_runtime *runtime, const msg_change *changes, size_t count, bool *reached, size_t room, size_t *place)
+{
+    if (!runtime->open) return MSG_CLOSED;
+    struct tables *tables = runtime->at;
+    if (room != 2 * tables->classes) return MSG_NO_ROOM;
+    struct log log = {zeros(2 * count + 1, sizeof *log.rows), 0};
+    uint32_t fault = change_each(tables, &log, changes, count, reached, place);
+    take_back(tables, &log);
     free(log.rows);
     return fault;
 }
@@ -342,6 +410,8 @@ uint32_t msg_sender_close(msg_runtime *runtime, msg_sender *sender)
     memset(sender, 0, sizeof *sender);
     return MSG_DONE;
 }
+
+uint32_t msg_version(void) { return MSG_VERSION_NUMBER; }
 
 size_t msg_sender_size(void) { return sizeof(msg_sender); }
 

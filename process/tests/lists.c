@@ -1,4 +1,4 @@
-/* What include/msg_runtime.h says of msg_change_all: all or nothing, the first fault and its place, one more change, and each kind as the call of its name. */
+/* What include/msg_runtime.h says of lists of changes: all or nothing, the first fault and its place, one more change, each kind as the call of its name, the way back, and what is reached. */
 #include "msg_runtime.h"
 #include <stdio.h>
 
@@ -96,6 +96,60 @@ static void all_refused(void)
     refused((msg_change){.kind = MSG_REPLACES, .number = ROOT, .meta = 2, .sel = ONE, .imp = 1}, MSG_BAD_CHANGE);
 }
 
+/* Two replaced methods and an exchange of them, taken back; a method that is added has no way back. */
+static void undone(void)
+{
+    const msg_change parts[] = {
+        {.kind = MSG_REPLACES, .number = ROOT, .sel = ONE, .imp = 41},
+        {.kind = MSG_SETS_IMP, .number = ROOT, .meta = 1, .sel = TWO, .imp = 42},
+        {.kind = MSG_EXCHANGES, .number = ROOT, .sel = ONE, .other = ROOT, .other_meta = 1, .other_sel = TWO},
+        {.kind = MSG_ADDS, .number = ROOT, .sel = NOBODYS, .imp = 43},
+    };
+    msg_change back[8];
+    size_t place = 99, count = 99;
+    uint64_t before = changes();
+    uint32_t one = look(CHILD, false, ONE), two = look(ROOT, true, TWO);
+    WANT(msg_change_all_with_undo(&runtime, parts, 3, back, 5, &count, &place), MSG_NO_ROOM);
+    WANT(changes(), before);
+    WANT(msg_change_all_with_undo(&runtime, parts, 3, back, 6, &count, &place), MSG_DONE);
+    WANT(count, 4);
+    WANT(changes(), before + 1);
+    WANT(look(CHILD, false, ONE), 42);
+    WANT(look(ROOT, true, TWO), 41);
+    WANT(msg_change_all(&runtime, back, count, &place), MSG_DONE);
+    WANT(changes(), before + 2);
+    WANT(look(CHILD, false, ONE), one);
+    WANT(look(ROOT, true, TWO), two);
+    WANT(msg_change_all_with_undo(&runtime, parts, 4, back, 8, &count, &place), MSG_DONE);
+    WANT(count, 0);
+    WANT(look(CHILD, false, NOBODYS), 43);
+}
+
+/* As slots: of a root with its child and the child's, all three and their metaclasses, for a method of the root stands for metaclasses too. */
+static void reached(void)
+{
+    const msg_change parts[] = {
+        {.kind = MSG_REPLACES, .number = MADE, .sel = TWO, .imp = 51},
+        {.kind = MSG_MAKES_CLASS, .number = MADE + 2, .other = MADE},
+        {.kind = MSG_SETS_IMP, .number = CHILD, .meta = 1, .sel = TWO, .imp = 52}, /* found at the root's metaclass */
+        {.kind = MSG_ADDS, .number = MADE + 2, .sel = TWO, .imp = 53},
+        {.kind = MSG_ADDS, .number = MADE + 2, .sel = TWO, .imp = 54}, /* refused */
+    };
+    bool found[2 * CLASSES] = {false};
+    const bool wanted[2 * CLASSES] = {[2 * ROOT + 1] = true, [2 * CHILD + 1] = true, [2 * MADE] = true, [2 * MADE + 1] = true,
+                                      [2 * (MADE + 1) + 1] = true, [2 * (MADE + 2)] = true, [2 * (MADE + 2) + 1] = true};
+    size_t place = 99;
+    uint64_t before = changes();
+    WANT(msg_reach(&runtime, parts, 4, found, 2 * CLASSES - 1, &place), MSG_NO_ROOM);
+    WANT(msg_reach(&runtime, parts, 4, found, 2 * CLASSES, &place), MSG_DONE);
+    for (size_t slot = 0; slot < 2 * CLASSES; slot++) WANT(found[slot], wanted[slot]);
+    WANT(msg_reach(&runtime, parts, 5, found, 2 * CLASSES, &place), MSG_METHOD_PRESENT);
+    WANT(place, 4);
+    WANT(changes(), before);
+    msg_class above;
+    WANT(msg_holder(&runtime, MADE + 2, false, TWO, &above), MSG_NONE); /* not made */
+}
+
 int main(void)
 {
     size_t place = 99;
@@ -109,6 +163,8 @@ int main(void)
     all_refused();
     WANT(msg_make_class(&runtime, MADE + 1, ROOT), MSG_DONE);
     WANT(look(MADE + 1, false, ONE), 24);
+    undone();
+    reached();
     printf("lists: %d wrong\n", wrong);
     return wrong != 0;
 }

@@ -66,6 +66,7 @@ static void texts(void)
             if (!strcmp(text, msg_fault_text(numbers[k])) && numbers[i] != numbers[k]) WANT(numbers[i], numbers[k]);
     }
     WANT(COUNT >= 19, 1);
+    WANT(msg_version(), MSG_VERSION_NUMBER);
     WANT(MSG_VERSION_NUMBER, 1000000 * MSG_VERSION_MAJOR + 1000 * MSG_VERSION_MINOR + MSG_VERSION_PATCH);
 }
 

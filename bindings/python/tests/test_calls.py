@@ -73,6 +73,26 @@ class Calls(unittest.TestCase):
             self.assertEqual((5, 5, 5), (runtime.change_count, sender.find(CHILDREN, VALUE), sender.recall(CHILDREN, VALUE, 5)))
             self.assertEqual(5, runtime._shared.begun, "else no note would be found any more")
 
+    def test_the_way_back(self):
+        with self.opened() as runtime, runtime.sender() as sender:
+            changes = [Change.set_imp(CHILDREN, VALUE, 5), Change.replace(CHILDREN, NAME, 6)]
+            before = [sender.find(CHILDREN, VALUE), sender.find(CHILDREN, NAME)]
+            back = runtime.change_all_with_undo(changes)
+            self.assertEqual([5, 6], [sender.find(CHILDREN, VALUE), sender.find(CHILDREN, NAME)])
+            runtime.change_all(back)
+            self.assertEqual(before, [sender.find(CHILDREN, VALUE), sender.find(CHILDREN, NAME)])
+            self.assertIsNone(runtime.change_all_with_undo([Change.add(CHILDREN, 99, 5)]))
+            self.assertEqual([], runtime.change_all_with_undo([]))
+
+    def test_what_is_reached(self):
+        with self.opened() as runtime:
+            count = runtime.change_count
+            self.assertEqual([CHILDREN], runtime.reach([Change.replace(CHILDREN, VALUE, 5)]))
+            self.assertEqual([CHILDREN, instances_of(OTHER), class_itself(OTHER)], runtime.reach([Change.make_class(OTHER, CHILD), Change.add(CHILDREN, 99, 5)]))
+            with self.assertRaises(yeldrost.NoMethod) as caught:
+                runtime.reach([Change.replace(CHILDREN, VALUE, 5), Change.set_imp(CHILDREN, 99, 5)])
+            self.assertEqual((1, count), (caught.exception.place, runtime.change_count))
+
     def test_a_refused_list_changes_nothing(self):
         first = Change.replace(CHILDREN, VALUE, 5)
         refused = [

@@ -246,15 +246,44 @@ class Runtime:
     def change_all(self, changes):
         """Makes several changes as one: each lookup answers from before all of them or after all. It is refused as the first is that would be refused where those before it were
         made; then nothing has changed, and the fault that is raised has its `place`."""
-        changes = list(changes)
-        for it in changes:
-            _checked(*it)
-        rows, place = (_header.msg_change * max(1, len(changes)))(*changes), ctypes.c_size_t()
-        answer = self._answer(min(1, len(changes)), "msg_change_all", rows, len(changes), ctypes.byref(place))
-        if answer:
-            fault = _fault(answer)
-            fault.place = None if isinstance(fault, _CLOSED) else place.value
-            raise fault
+        rows, count = _changes(changes)
+        place = ctypes.c_size_t()
+        answer = self._answer(min(1, count), "msg_change_all", rows, count, ctypes.byref(place))
+        _must_at(answer, place)
+
+    def change_all_with_undo(self, changes):
+        """The same, and answers the changes that take these back if `change_all` makes them directly afterwards; None where there is no way back, since a method was added or a class
+        made."""
+        rows, count = _changes(changes)
+        undo, undone, place = (_header.msg_change * (2 * count + 1))(), ctypes.c_size_t(), ctypes.c_size_t()
+        answer = self._answer(min(1, count), "msg_change_all_with_undo", rows, count, undo, len(undo), ctypes.byref(undone), ctypes.byref(place))
+        _must_at(answer, place)
+        back = [Change(*(getattr(it, name) for name, _ in it._fields_)) for it in undo[: undone.value]]
+        return back if back or not count else None
+
+    def reach(self, changes):
+        """Which lookups `change_all` would alter, without making the changes: those of these class references and no others. It takes memory for all class numbers."""
+        rows, count = _changes(changes)
+        reached, place = (ctypes.c_bool * (2 * self.class_count))(), ctypes.c_size_t()
+        with self._shared.lock:
+            answer = self._shared.library.msg_reach(self._shared.handle, rows, count, reached, len(reached), ctypes.byref(place))
+        _must_at(answer, place)
+        return [ClassRef(slot // 2, slot % 2 == 1) for slot, it in enumerate(reached) if it]
+
+
+def _must_at(answer, place):
+    if answer:
+        fault = _fault(answer)
+        fault.place = None if isinstance(fault, _CLOSED) else place.value
+        raise fault
+
+
+def _changes(changes):
+    """A list of the header's changes, never without a place, and how many there are."""
+    changes = list(changes)
+    for it in changes:
+        _checked(*it)
+    return (_header.msg_change * max(1, len(changes)))(*changes), len(changes)
 
 
 def _methods(pairs):

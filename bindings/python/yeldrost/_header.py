@@ -1,7 +1,7 @@
 """`msg_runtime.h` as ctypes see it. What each call answers, and what its caller is trusted with, stands in that header."""
 import ctypes as c
 
-NOTES = 2048
+VERSION, NOTES = 1000, 2048
 
 
 class msg_note(c.Structure):
@@ -70,13 +70,14 @@ FAULTS = {
     "Missed": (71, "not cached"),
     "BadConfig": (73, "the config asks for too much"),
     "BadChange": (75, "no such kind of change"),
+    "NoRoom": (76, "another count of places is needed for the answer"),
     "LockHeld": (74, "the thread has the lock already"),
 }
 
 _runtime, _sender = c.POINTER(msg_runtime), c.POINTER(msg_sender)
 _number, _meta, _selector, _imp = c.c_uint32, c.c_bool, c.c_uint32, c.c_uint32
 _told32, _told64 = c.POINTER(c.c_uint32), c.POINTER(c.c_uint64)
-_methods = c.POINTER(msg_method)
+_methods, _changes, _size = c.POINTER(msg_method), c.POINTER(msg_change), c.POINTER(c.c_size_t)
 _answer = c.c_uint32
 
 # What each call gives, and what it takes.
@@ -96,11 +97,14 @@ CALLS = {
     "msg_attach": (_answer, (_runtime, _number, _methods, c.c_size_t, _methods, c.c_size_t)),
     "msg_make_class": (_answer, (_runtime, _number, _number)),
     "msg_make_root_class": (_answer, (_runtime, _number)),
-    "msg_change_all": (_answer, (_runtime, c.POINTER(msg_change), c.c_size_t, c.POINTER(c.c_size_t))),
+    "msg_change_all": (_answer, (_runtime, _changes, c.c_size_t, _size)),
+    "msg_change_all_with_undo": (_answer, (_runtime, _changes, c.c_size_t, _changes, c.c_size_t, _size, _size)),
+    "msg_reach": (_answer, (_runtime, _changes, c.c_size_t, c.POINTER(c.c_bool), c.c_size_t, _size)),
     "msg_sender_open": (_answer, (_runtime, _sender)),
     "msg_sender_close": (_answer, (_runtime, _sender)),
     "msg_fill": (_answer, (_runtime, _sender, _number, _meta, _selector, _told32)),
     "msg_meet": (_answer, (_runtime, _sender)),
+    "msg_version": (c.c_uint32, ()),
     "msg_sender_size": (c.c_size_t, ()),
     "msg_recall": (c.c_size_t, (_sender, c.c_size_t, _selector, c.c_uint64)),
     "msg_probe": (_answer, (_sender, _number, _meta, _selector, _told32)),

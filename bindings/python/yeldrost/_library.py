@@ -36,6 +36,6 @@ def load(holds_gil):
     for name, (result, parameters) in _header.CALLS.items():
         call = getattr(library, name)
         call.restype, call.argtypes = result, parameters
-    if library.msg_sender_size() != ctypes.sizeof(_header.msg_sender):
+    if library.msg_version() != _header.VERSION or library.msg_sender_size() != ctypes.sizeof(_header.msg_sender):
         raise ImportError("the library of Yeldrost is of another version than this package")
     return library

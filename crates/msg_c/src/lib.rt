@@ -27,3 +27,4 @@ mod sender_tests;
 mod sending;
 #[cfg(test)]
 mod tests;
+mod version;

@@ -1,8 +1,9 @@
 //! Several changes as one.
 
-ghost use Rattle.std.specs.Prelude.{◌≡◌, ◌≢◌, ◌<◌, ◌⊎◌, Some, None, length};
-ghost use Rattle.msg_host.specs.Asking.{want_of_memory};
-ghost use Rattle.msg_host.specs.Listing.{IsBadRow, IsRefusedRow, MakesRows};
+ghost use Rattle.std.specs.Prelude.{◌≡◌, ◌≢◌, ◌<◌, ◌*◌, Some, None, length};
+ghost use Rattle.msg_cache.specs.Views.{classes};
+ghost use Rattle.msg_host.specs.Asking.{want_of_memory, want_of_room};
+ghost use Rattle.msg_host.specs.Listing.{AreRefusedRows, MakesRows, ReachesRows, UndoesRows};
 ghost use Rattle.msg_host.specs.View.{RuntimeView};
 ghost use Rattle.msg_c.specs.Answers.{runtime_arena};
 
@@ -28,12 +29,69 @@ pub extern "C" fn msg_change_all(
     ensures kept { result ≡ 0 → place.new ≡ place.old }
     ensures place { result ≢ 0 → (v : RuntimeView) → runtime.old.held.state ≡ Some v → place.new < length changes.now }
     ensures fault { result ≢ 0 → result ≢ want_of_memory → (v : RuntimeView) → runtime.old.held.state ≡ Some v
-        → IsBadRow changes.now place.new result ⊎ IsRefusedRow changes.now v.history place.new result }
+        → AreRefusedRows changes.now v.history place.new result }
 {
     let Some(mut held) = runtime.take(alloc) else {
         return CLOSED;
     };
     let answer = held.make_all(alloc, changes, place);
+    *runtime = RuntimeHandle::of(held);
+    answer
+}
+
+/// As `msg_change_all`, and writes the changes that take these back directly after them, made as one too; their count is written, and is 0 where there is no way back: a method was added, or
+/// a class made. `undo` has two places for each change, or else 76 is answered and nothing done.
+#[unsafe(no_mangle)]
+pub extern "C" fn msg_change_all_with_undo(
+    alloc: Global,
+    runtime: &mut RuntimeHandle,
+    changes: &[ChangeRow],
+    undo: &mut [ChangeRow],
+    undone: &mut usize,
+    place: &mut usize,
+) -> u32
+    ensures arena { runtime_arena runtime.new.held.state ≡ runtime_arena runtime.old.held.state }
+    ensures closed { runtime.old.held.state ≡ None → result ≡ CLOSED }
+    ensures left { result ≢ 0 → runtime.new.held.state ≡ runtime.old.held.state }
+    ensures made { result ≡ 0 → (v w : RuntimeView) → runtime.old.held.state ≡ Some v → runtime.new.held.state ≡ Some w → MakesRows changes.now v.history w.history }
+    ensures undo { result ≡ 0 → (v : RuntimeView) → runtime.old.held.state ≡ Some v → UndoesRows changes.now v.history undo.new undone.new }
+    ensures room { length undo.old < 2 * length changes.now → (v : RuntimeView) → runtime.old.held.state ≡ Some v → result ≡ want_of_room }
+    ensures place { result ≢ 0 → result ≢ want_of_room → (v : RuntimeView) → runtime.old.held.state ≡ Some v → place.new < length changes.now }
+    ensures fault { result ≢ 0 → result ≢ want_of_memory → result ≢ want_of_room → (v : RuntimeView) → runtime.old.held.state ≡ Some v
+        → AreRefusedRows changes.now v.history place.new result }
+{
+    let Some(mut held) = runtime.take(alloc) else {
+        return CLOSED;
+    };
+    let answer = held.make_all_with_undo(alloc, changes, undo, undone, place);
+    *runtime = RuntimeHandle::of(held);
+    answer
+}
+
+/// Marks the class references whose lookups the changes may alter if they are made as one, beside those that are marked, and makes none: outside what is marked no lookup would be altered. A
+/// class has its place at twice its number and its metaclass the next; there are so many places, or else 76 is answered and nothing marked. 0, or the number of the fault for which
+/// `msg_change_all` would refuse them, with its place; what those before it may alter is then marked, and where memory is wanting (7) the marks say nothing.
+#[unsafe(no_mangle)]
+pub extern "C" fn msg_reach(
+    alloc: Global,
+    runtime: &mut RuntimeHandle,
+    changes: &[ChangeRow],
+    reached: &mut [bool],
+    place: &mut usize,
+) -> u32
+    ensures same { runtime.new.held.state ≡ runtime.old.held.state }
+    ensures closed { runtime.old.held.state ≡ None → (result ≡ CLOSED) × (reached.new ≡ reached.old) }
+    ensures reached { result ≡ 0 → (v : RuntimeView) → runtime.old.held.state ≡ Some v → ReachesRows changes.now v.history (classes v.arena) reached.old reached.new }
+    ensures room { (v : RuntimeView) → runtime.old.held.state ≡ Some v → length reached.old ≢ 2 * classes v.arena → result ≡ want_of_room }
+    ensures unmarked { result ≡ want_of_room → reached.new ≡ reached.old }
+    ensures place { result ≢ 0 → result ≢ want_of_room → (v : RuntimeView) → runtime.old.held.state ≡ Some v → place.new < length changes.now }
+    ensures fault { result ≢ 0 → result ≢ want_of_memory → result ≢ want_of_room → (v : RuntimeView) → runtime.old.held.state ≡ Some v
+        → AreRefusedRows changes.now v.history place.new result }
+{
+    let Some(mut held) = runtime.take(alloc) else {
+        return CLOSED;
+    };
+    let answer = held.reach_rows(alloc, changes, reached, place);
     *runtime = RuntimeHandle::of(held);
     answer
 }

@@ -1,15 +1,19 @@
 //! The changer.
 
-ghost use Rattle.std.specs.Prelude.{[], ◌∷◌, ◌≡◌, ◌≢◌, length, IfOk, IfErr, IsErrOf, OnErr, OnOk, None, Some};
+ghost use Rattle.std.specs.Prelude.{[], ◌∷◌, ◌≡◌, ◌≢◌, ◌*◌, length, take, IfOk, IfErr, IsErrOf, OnErr, OnOk, None, Some};
 ghost use Rattle.msg_tables.specs.History.{BeginsWith, and_then, log};
-ghost use Rattle.msg_tables.specs.Made.{AreMade, AreRefused};
+ghost use Rattle.msg_tables.specs.Made.{AreMade, AreRefused, TellsWayBack};
+ghost use Rattle.msg_tables.specs.Marking.{MarksAffectedByAll};
+ghost use Rattle.msg_tables.specs.Origin.{class_total};
 ghost use Rattle.msg_tables.specs.Refusal.{refusal};
+ghost use Rattle.msg_tables.specs.Several.{refused_from};
 ghost use Rattle.msg_tables.specs.declared.fault.ChangeFault.{ChangeFault};
 
 use crate::dispatcher::Dispatcher;
 use crate::name::ArenaName;
 use crate::sender::Sender;
 use msg_cache::Turn;
+use msg_runtime::Made;
 use msg_tables::{Change, ChangeFault, Refused};
 use std::alloc::Global;
 use std::marker::Model;
@@ -69,19 +73,45 @@ impl<'d, N: ArenaName> Changer<'d, N> {
         alloc: Global,
         rt: &R,
         changes: &[Change],
-    ) -> Result<Receipt, Refused>
+    ) -> Result<Made, Refused>
         ensures ok { OnOk result (AreMade changes.now self.old self.new) }
-        ensures count { IfOk result (λ r. r.count ≡ length self.new.changes) }
+        ensures count { IfOk result (λ made. made.count ≡ length self.new.changes) }
+        ensures back { IfOk result (λ made. TellsWayBack changes.now self.old made.written) }
         ensures err { OnErr result (self.new ≡ self.old) }
         ensures refused { IfErr result (AreRefused changes.now self.old) }
     {
         let dispatcher = self.dispatcher;
-        let count = dispatcher
+        let made = dispatcher
             .desk
             .lock(rt)
             .change_all(alloc, &dispatcher.arena, &mut self.turn, changes)?;
-        self.count = count;
-        Ok(Receipt { count })
+        self.count = made.count;
+        Ok(made)
+    }
+
+    /// Marks the class references whose lookups [`change_all`](Changer::change_all) may alter, beside those that are marked, each at its slot, and makes no change; or says which would be
+    /// refused. Then what those before it may alter is marked; where memory is wanting, the marks say nothing.
+    pub fn reach<R: Wait>(
+        &mut self,
+        alloc: Global,
+        rt: &R,
+        changes: &[Change],
+        marked: &mut [bool],
+    ) -> Result<(), Refused>
+        requires { length marked.old ≡ 2 * class_total self.old.origin }
+        ensures same { self.new ≡ self.old }
+        ensures ok { OnOk result (refused_from 0 (log self.old) changes.now ≡ None) }
+        ensures marks { OnOk result (MarksAffectedByAll (class_total self.old.origin) (log self.old) changes.now marked.old marked.new) }
+        ensures refused { IfErr result (AreRefused changes.now self.old) }
+        ensures before { IfErr result (λ r. r.fault ≢ ChangeFault.Memory
+            → MarksAffectedByAll (class_total self.old.origin) (log self.old) (take r.place changes.now) marked.old marked.new) }
+        ensures length { length marked.new ≡ length marked.old }
+    {
+        let dispatcher = self.dispatcher;
+        dispatcher
+            .desk
+            .lock(rt)
+            .reach_all(alloc, &dispatcher.arena, &mut self.turn, changes, marked)
     }
 
     /// How many times changes were accepted: a list of them counts as one.

@@ -1,11 +1,13 @@
 //! What stands behind the runtime lock.
 
-ghost use Rattle.std.specs.Prelude.{[], ◌∷◌, ◌≡◌, ◌≢◌, ◌<◌, ◌≤◌, length, IfOk, IfErr, IfSome, IsErrOf, IsNone, OnErr, OnOk, None, Some};
+ghost use Rattle.std.specs.Prelude.{[], ◌∷◌, ◌≡◌, ◌≢◌, ◌<◌, ◌≤◌, ◌*◌, length, take, IfOk, IfErr, IfSome, IsErrOf, IsNone, OnErr, OnOk, None, Some};
 ghost use Rattle.msg_tables.specs.Origin.{last_imp};
 ghost use Rattle.msg_names.specs.Number.{selector_number, imp_number};
 ghost use Rattle.msg_tables.specs.History.{BeginsWith, and_then, empty, lookup, log};
-ghost use Rattle.msg_tables.specs.Made.{AreMade, AreRefused};
+ghost use Rattle.msg_tables.specs.Made.{AreMade, AreRefused, TellsWayBack};
+ghost use Rattle.msg_tables.specs.Marking.{MarksAffectedByAll};
 ghost use Rattle.msg_tables.specs.Refusal.{refusal};
+ghost use Rattle.msg_tables.specs.Several.{refused_from};
 ghost use Rattle.msg_tables.specs.declared.fault.ChangeFault.{ChangeFault};
 ghost use Rattle.msg_cache.specs.Counts.{AreCounts, after_refusal};
 ghost use Rattle.msg_cache.specs.Plays.{taken_in};
@@ -17,7 +19,7 @@ use crate::name::ArenaName;
 use msg_cache::{Arena, Report, Turn};
 use msg_names::{ClassRef, ImpRef, Selector};
 use msg_reader::{Notes, Reader};
-use msg_runtime::Runtime;
+use msg_runtime::{Made, Runtime};
 use msg_tables::{Change, ChangeFault, Refused};
 use std::alloc::Global;
 use std::marker::{Model, PhantomData};
@@ -111,16 +113,40 @@ impl<N: ArenaName> Desk<N> {
         arena: &Arena,
         turn: &mut Turn,
         changes: &[Change],
-    ) -> Result<u64, Refused>
+    ) -> Result<Made, Refused>
         requires arena { arena.now ≡ N.arena }
         requires turn { turn.old.table ≡ N.arena.table }
         ensures turn { turn.new.table ≡ N.arena.table }
         ensures ok { OnOk result (AreMade changes.now turn.old.history turn.new.history) }
-        ensures count { IfOk result (λ count. count ≡ length turn.new.history.changes) }
+        ensures count { IfOk result (λ made. made.count ≡ length turn.new.history.changes) }
+        ensures back { IfOk result (λ made. TellsWayBack changes.now turn.old.history made.written) }
         ensures err { OnErr result (turn.new.history ≡ turn.old.history) }
         ensures refused { IfErr result (AreRefused changes.now turn.old.history) }
     {
         self.runtime.change_all(alloc, arena, turn, changes)
+    }
+
+    pub(crate) fn reach_all(
+        &mut self,
+        alloc: Global,
+        arena: &Arena,
+        turn: &mut Turn,
+        changes: &[Change],
+        marked: &mut [bool],
+    ) -> Result<(), Refused>
+        requires arena { arena.now ≡ N.arena }
+        requires turn { turn.old.table ≡ N.arena.table }
+        requires marks { length marked.old ≡ 2 * classes N.arena }
+        ensures turn { turn.new.table ≡ N.arena.table }
+        ensures same { turn.new.history ≡ turn.old.history }
+        ensures ok { OnOk result (refused_from 0 (log turn.old.history) changes.now ≡ None) }
+        ensures marks { OnOk result (MarksAffectedByAll (classes N.arena) (log turn.old.history) changes.now marked.old marked.new) }
+        ensures refused { IfErr result (AreRefused changes.now turn.old.history) }
+        ensures before { IfErr result (λ r. r.fault ≢ ChangeFault.Memory
+            → MarksAffectedByAll (classes N.arena) (log turn.old.history) (take r.place changes.now) marked.old marked.new) }
+        ensures length { length marked.new ≡ length marked.old }
+    {
+        self.runtime.reach_all(alloc, arena, turn, changes, marked)
     }
 
     // The reader has then seen the turn's history, which begins with what it had seen.

@@ -1,3 +1,4 @@
 pub mod ChangingLemmas
 pub mod ConfigLemmas
 pub mod CrossingLemmas
+pub mod ListingLemmas

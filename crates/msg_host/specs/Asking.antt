@@ -7,13 +7,18 @@ use Rattle.msg_tables.specs.Refusal.{refusal}
 use Rattle.msg_host.specs.View.{RuntimeView}
 use Rattle.msg_host.specs.declared.changing.MethodRow.{MethodRow}
 use Rattle.msg_host.specs.declared.fault.AskFault.{AskFault}
-use Rattle.msg_host.specs.declared.fault.AskFault.TheVariants.{NoClass, NoSelector, BadRow}
+use Rattle.msg_host.specs.declared.fault.AskFault.TheVariants.{NoClass, NoSelector, BadRow, NoRoom}
 
 -- the numbers of the faults of questions
 abbrev pub ask_fault_number : AskFault → ℕ
 ask_fault_number NoClass = 66
 ask_fault_number NoSelector = 67
 ask_fault_number BadRow = 75
+ask_fault_number NoRoom = 76
+
+-- the number that says that an array has too few places
+abbrev pub want_of_room : ℕ
+want_of_room = ask_fault_number NoRoom
 
 -- why so many classes aren't asked for this class and selector
 abbrev pub ask_fault : ℕ → ℕ → ℕ → Option AskFault

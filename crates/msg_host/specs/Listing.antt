@@ -1,16 +1,22 @@
 -- Lists of changes in numbers.
-use Rattle.std.specs.Prelude.{◌≡◌, ◌≢◌, ◌<◌, ◌⊎◌, ℕ, ◌==◌, if◌then◌else◌, List, map, take, length, slice_get, Option, Some, None, Result, Ok, Err}
+use Rattle.std.specs.Prelude.{◌≡◌, ◌≢◌, ◌<◌, ◌⊎◌, ℕ, ◌==◌, if◌then◌else◌, Bool, List, map, take, length, slice_get, Option, Some, None, Result, Ok, Err}
 use Rattle.msg_names.specs.declared.value.ClassRef.{ClassRef}
+use Rattle.msg_names.specs.declared.value.ImpRef.{ImpRef}
 use Rattle.msg_names.specs.declared.value.Selector.{Selector}
-use Rattle.msg_names.specs.Number.{imp_ref_of, selector_of}
+use Rattle.msg_names.specs.Number.{imp_number, imp_ref_of, selector_number, selector_of}
 use Rattle.msg_tables.specs.After.{of_class, of_meta}
 use Rattle.msg_tables.specs.declared.change.Change.{Change}
 use Rattle.msg_tables.specs.declared.change.Change.TheVariants.{Add, Replace, SetImp, Exchange, AddClass}
+use Rattle.msg_tables.specs.declared.entry.Entry.{Entry}
 use Rattle.msg_tables.specs.declared.fault.ChangeFault.{ChangeFault}
 use Rattle.msg_tables.specs.FaultNumber.{change_fault_number}
 use Rattle.msg_tables.specs.History.{History, log}
+use Rattle.msg_tables.specs.Log.{table}
 use Rattle.msg_tables.specs.Made.{AreMade}
+use Rattle.msg_tables.specs.Marking.{MarksAffectedByAll}
 use Rattle.msg_tables.specs.Several.{refused_from}
+use Rattle.msg_tables.specs.Journal.{undo_entry}
+use Rattle.msg_tables.specs.Undo.{and_before, undo_all}
 use Rattle.msg_host.specs.Asking.{ask_fault_number, want_of_memory}
 use Rattle.msg_host.specs.declared.fault.AskFault.{AskFault}
 use Rattle.msg_host.specs.declared.fault.AskFault.TheVariants.{NoSelector, BadRow}
@@ -33,6 +39,10 @@ both (Err f) o = Err f
 -- the method that numbers name
 abbrev pub method_in : ℕ → ℕ → ℕ → Result (ClassRef × Selector) AskFault
 method_in k meta s = both (ref_in k meta) (selector_in s)
+
+-- the row that means a replacement
+abbrev pub replacing : ClassRef → Selector → ImpRef → ChangeRow
+replacing c s i = record { kind = 2; class = c.class; meta = if c.meta then 1 else 0; sel = selector_number s; imp = imp_number i; other = 0; other_meta = 0; other_sel = 0 }
 
 -- a change of what numbers name
 abbrev pub change_of : {A : Type 0} → (A → Change) → Result A AskFault → Result Change AskFault
@@ -65,3 +75,24 @@ IsBadRow rows place n = (before : List Change) × AreMeant (take place rows) bef
 -- the change of this place is the first that would be refused, and this is the number of its fault
 abbrev pub IsRefusedRow : List ChangeRow → History → ℕ → ℕ → Type 0
 IsRefusedRow rows h place n = (xs : List Change) × AreMeant rows xs × (f : ChangeFault) × (refused_from 0 (log h) xs ≡ Some (place, f)) × (n ≡ change_fault_number f)
+
+-- rows are taken as changes of which one is refused at a history: the row of this place means none, or is the first that would be refused
+abbrev pub AreRefusedRows : List ChangeRow → History → ℕ → ℕ → Type 0
+AreRefusedRows rows h place n = IsBadRow rows place n ⊎ IsRefusedRow rows h place n
+
+-- the first rows mean what takes changes back, where there is a way back; else there are none
+abbrev pub AreWayBack : Option (List Change) → List ChangeRow → ℕ → Type 0
+AreWayBack None undo n = n ≡ 0
+AreWayBack (Some ys) undo n = AreMeant (take n undo) ys
+
+-- so many rows mean what takes back the changes that these mean, directly after they are made at a history
+abbrev pub UndoesRows : List ChangeRow → History → List ChangeRow → ℕ → Type 0
+UndoesRows rows h undo n = (xs : List Change) × AreMeant rows xs × AreWayBack (undo_all (table (log h)) xs) undo n
+
+-- the changes that the rows mean would be made, and what they may alter is marked beside what was
+abbrev pub ReachesRows : List ChangeRow → History → ℕ → List Bool → List Bool → Type 0
+ReachesRows rows h n old new = (xs : List Change) × AreMeant rows xs × (refused_from 0 (log h) xs ≡ None) × MarksAffectedByAll n (log h) xs old new
+
+-- an entry that has a way back was given back behind the first `count` rows: the rows up to `n` then mean that too
+abbrev pub GivesBack : Entry → ℕ → List ChangeRow → ℕ → List ChangeRow → Type 0
+GivesBack e count old n new = (ys : List Change) → AreMeant (take count old) ys → (zs : List Change) × (and_before (undo_entry e) (Some ys) ≡ Some zs) × AreMeant (take n new) zs

@@ -18,6 +18,8 @@ pub enum AskFault {
     NoSelector,
     /// A row of a list of changes is of no kind, or names neither a class nor its metaclass.
     BadRow,
+    /// The array for the answer has fewer places than it may need.
+    NoRoom,
 }
 
 impl AskFault {
@@ -29,6 +31,7 @@ impl AskFault {
             AskFault::NoClass => 66,
             AskFault::NoSelector => 67,
             AskFault::BadRow => 75,
+            AskFault::NoRoom => 76,
         }
     }
 }

@@ -10,9 +10,11 @@ mod crossing;
 mod fault;
 mod listing;
 mod opening;
+mod reaching;
 mod runtime;
 mod sender;
 mod sending;
+mod undoing;
 
 pub use changing::MethodRow;
 pub use config::{

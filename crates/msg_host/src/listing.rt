@@ -29,9 +29,9 @@ pub struct ChangeRow {
 
 // Why rows aren't taken as a list of changes: the place of the first that means none, and the number of its fault.
 #[derive(Clone, Copy)]
-struct BadRow {
-    place: usize,
-    number: u32,
+pub(crate) struct BadRow {
+    pub(crate) place: usize,
+    pub(crate) number: u32,
 }
 
 // The class reference of a number and of what stands beside it.
@@ -45,19 +45,12 @@ fn class_ref(class: u32, meta: u32) -> Result<ClassRef, AskFault>
     }
 }
 
-// The selector of a number.
-fn selector_of_row(number: u32) -> Result<Selector, AskFault>
-    ensures { result ≡ selector_in number }
-{
-    selector(number)
-}
-
 // The method that numbers name.
 fn method_of_row(class: u32, meta: u32, sel: u32) -> Result<(ClassRef, Selector), AskFault>
     ensures { result ≡ method_in class meta sel }
 {
     let class = class_ref(class, meta)?;
-    let sel = selector_of_row(sel)?;
+    let sel = selector(sel)?;
     Ok((class, sel))
 }
 
@@ -118,7 +111,7 @@ impl ChangeRow {
 }
 
 // The changes that rows mean.
-fn changes_of(alloc: Global, rows: &[ChangeRow]) -> Result<Vec<Change>, BadRow>
+pub(crate) fn changes_of(alloc: Global, rows: &[ChangeRow]) -> Result<Vec<Change>, BadRow>
     ensures ok { IfOk result (λ changes. AreMeant rows.now changes.items) }
     ensures err { IfErr result (λ r. r.number ≢ want_of_memory → IsBadRow rows.now r.place r.number) }
     ensures fault { IfErr result (λ r. r.number ≢ 0) }

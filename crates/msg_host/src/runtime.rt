@@ -1,12 +1,13 @@
 //! The runtime.
 
-ghost use Rattle.std.specs.Prelude.{[], ◌∷◌, ◌≡◌, ◌≢◌, ◌<◌, ◌≤◌, ◌*◌, length, replicate, None, Some, IfOk, IfErr, IsErrOf, OnErr, OnOk, false, true};
+ghost use Rattle.std.specs.Prelude.{[], ◌∷◌, ◌≡◌, ◌≢◌, ◌<◌, ◌≤◌, ◌*◌, length, take, replicate, None, Some, IfOk, IfErr, IsErrOf, OnErr, OnOk, false, true};
 ghost use Rattle.msg_names.specs.Number.{selector_number, imp_number};
 ghost use Rattle.msg_tables.specs.Origin.{last_imp};
 ghost use Rattle.msg_tables.specs.History.{BeginsWith, and_then, lookup, log};
-ghost use Rattle.msg_tables.specs.Marking.{MarksAffected};
-ghost use Rattle.msg_tables.specs.Made.{AreMade, AreRefused};
+ghost use Rattle.msg_tables.specs.Marking.{MarksAffected, MarksAffectedByAll};
+ghost use Rattle.msg_tables.specs.Made.{AreMade, AreRefused, TellsWayBack};
 ghost use Rattle.msg_tables.specs.Refusal.{refusal};
+ghost use Rattle.msg_tables.specs.Several.{refused_from};
 ghost use Rattle.msg_tables.specs.declared.fault.ChangeFault.{ChangeFault};
 ghost use Rattle.msg_cache.specs.Counts.{AreCounts};
 ghost use Rattle.msg_cache.specs.Views.{classes};
@@ -24,7 +25,7 @@ use msg_cache::{Arena, Report, Turn};
 use msg_names::{ClassRef, ImpRef, Selector};
 use msg_reader::Notes;
 use msg_reader::laws::a_slot_of_few_classes_is_short;
-use msg_runtime::Runtime;
+use msg_runtime::{Made, Runtime};
 use msg_tables::{Change, ChangeFault, Marks, Refused};
 use std::alloc::{AllocError, Global};
 use std::marker::Model;
@@ -109,6 +110,27 @@ impl HostedRuntime {
         self.runtime.reach(change, marks)
     }
 
+    /// Marks the class references whose lookups a list of changes may alter if it is made as one, beside those that are marked, each at its slot, and doesn't make it; or says which of them
+    /// would be refused. Then what those before it may alter is marked; where memory is wanting, the marks say nothing.
+    pub fn reach_all(
+        &mut self,
+        alloc: Global,
+        changes: &[Change],
+        marked: &mut [bool],
+    ) -> Result<(), Refused>
+        requires { length marked.old ≡ 2 * classes self.old.arena }
+        ensures same { self.new ≡ self.old }
+        ensures ok { OnOk result (refused_from 0 (log self.old.history) changes.now ≡ None) }
+        ensures marks { OnOk result (MarksAffectedByAll (classes self.old.arena) (log self.old.history) changes.now marked.old marked.new) }
+        ensures refused { IfErr result (AreRefused changes.now self.old.history) }
+        ensures before { IfErr result (λ r. r.fault ≢ ChangeFault.Memory
+            → MarksAffectedByAll (classes self.old.arena) (log self.old.history) (take r.place changes.now) marked.old marked.new) }
+        ensures length { length marked.new ≡ length marked.old }
+    {
+        self.runtime
+            .reach_all(alloc, &self.arena, &mut self.turn, changes, marked)
+    }
+
     /// Makes a change, flushes the caches that it reaches, and answers how many times changes were made. After an error nothing was changed or flushed.
     pub fn change(&mut self, change: &Change) -> Result<u64, ChangeFault>
         ensures arena { self.new.arena ≡ self.old.arena }
@@ -120,12 +142,13 @@ impl HostedRuntime {
         self.runtime.change(&self.arena, &mut self.turn, change)
     }
 
-    /// Makes a list of changes as one, flushes the caches that it reaches, and answers how many times changes were made; or says which of them would be refused. After an
+    /// Makes a list of changes as one, flushes the caches that it reaches, and answers how many times changes were made and what was written; or says which of them would be refused. After an
     /// error nothing was changed or flushed. An empty list changes nothing and isn't counted.
-    pub fn change_all(&mut self, alloc: Global, changes: &[Change]) -> Result<u64, Refused>
+    pub fn change_all(&mut self, alloc: Global, changes: &[Change]) -> Result<Made, Refused>
         ensures arena { self.new.arena ≡ self.old.arena }
         ensures ok { OnOk result (AreMade changes.now self.old.history self.new.history) }
-        ensures count { IfOk result (λ count. count ≡ length self.new.history.changes) }
+        ensures count { IfOk result (λ made. made.count ≡ length self.new.history.changes) }
+        ensures back { IfOk result (λ made. TellsWayBack changes.now self.old.history made.written) }
         ensures err { OnErr result (self.new ≡ self.old) }
         ensures refused { IfErr result (AreRefused changes.now self.old.history) }
     {

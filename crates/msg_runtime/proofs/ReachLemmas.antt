@@ -22,7 +22,8 @@ use Rattle.msg_tables.proofs.LimitLemmas.{none_holds}
 use Rattle.msg_tables.proofs.OrderLemmas.{present-inside}
 use Rattle.msg_tables.proofs.OwnLemmas.{holder-same}
 use Rattle.msg_tables.proofs.PresenceLemmas.{may_be_made}
-use Rattle.msg_runtime.specs.Reach.{are_reached, is_below, is_flushed, unless_counted}
+use Rattle.msg_tables.specs.Several.{is_below}
+use Rattle.msg_runtime.specs.Reach.{are_reached, is_flushed, unless_counted}
 
 -- ---- below a place
 
@@ -32,7 +33,7 @@ module _ (h : Log) (x : Change) (c : ClassRef) where
   unfolding chain_at table_after
   chain-kept same = ap (λ t. chain_of t.supers c) (table-and_then h x) ∙ ap (λ supers. chain_of supers c) same
 
-  below-kept : (places : List ClassRef) → supers_after (table h).supers x ≡ (table h).supers → is_below h c places ≡ true → is_below (and_then h x) c places ≡ true
+  below-kept : (places : List ClassRef) → supers_after (table h).supers x ≡ (table h).supers → is_below h places c ≡ true → is_below (and_then h x) places c ≡ true
   below-kept places same below = ap (λ cs. list_any (λ place. is_member place cs) places) (chain-kept same) ∙ below
 
 -- ---- where a method stands that is set or exchanged
@@ -61,7 +62,7 @@ module _ (h : Log) where
         ∙ some-set_method (holder_at (table h) d m) m (lookup_at (table h) c n) (table h).rows f v)
 
 -- where all are flushed one is, and else those below the places
-unless_counted-flushed : (h : Log) (c : ClassRef) (counts : Option CountsView) (places : List ClassRef) → is_below h c places ≡ true → are_reached h c (unless_counted counts places) ≡ true
+unless_counted-flushed : (h : Log) (c : ClassRef) (counts : Option CountsView) (places : List ClassRef) → is_below h places c ≡ true → are_reached h c (unless_counted counts places) ≡ true
 unless_counted-flushed h c None places below = below
 unless_counted-flushed h c (Some counts) places below = refl
 
@@ -73,13 +74,13 @@ affected-flushed h (SetImp d s i) c accepted e =
     let n = selector_number s in
     let x = SetImp d s i in
     let below = below-kept h x c (at_most_one (holder h d n)) refl e in
-    unless_counted-flushed (and_then h x) c h.origin.counts (at_most_one (holder (and_then h x) d n)) (ap (λ o. is_below (and_then h x) c (at_most_one o)) (holder-set h d s i) ∙ below)
+    unless_counted-flushed (and_then h x) c h.origin.counts (at_most_one (holder (and_then h x) d n)) (ap (λ o. is_below (and_then h x) (at_most_one o) c) (holder-set h d s i) ∙ below)
 affected-flushed h (Exchange d s f u) c accepted e =
     let n = selector_number s in
     let m = selector_number u in
     let x = Exchange d s f u in
     let below = below-kept h x c (at_most_one (holder h d n) ++ at_most_one (holder h f m)) refl e in
     unless_counted-flushed (and_then h x) c h.origin.counts (at_most_one (holder (and_then h x) d n) ++ at_most_one (holder (and_then h x) f m))
-    (ap₂ (λ o p. is_below (and_then h x) c (at_most_one o ++ at_most_one p)) (holder-exchanged h d f s u d n) (holder-exchanged h d f s u f m) ∙ below)
+    (ap₂ (λ o p. is_below (and_then h x) (at_most_one o ++ at_most_one p) c) (holder-exchanged h d f s u d n) (holder-exchanged h d f s u f m) ∙ below)
 affected-flushed h (Attach k ms cs) c accepted e = below-kept h (Attach k ms cs) c (if_any ms (of_class k) ++ if_any cs (of_meta k)) refl e
 affected-flushed h (AddClass k d) c accepted e = e

@@ -1,6 +1,5 @@
 -- Which caches a change flushes.
 use Rattle.std.specs.Prelude.{◌||◌, Bool, true, List, [], ◌∷◌, ◌++◌, Option, Some, None}
-use Rattle.std.specs.List.{list_any}
 use Rattle.std.specs.Option.{option_map_or}
 use Rattle.msg_names.specs.declared.value.ClassRef.{ClassRef}
 use Rattle.msg_tables.specs.declared.change.Change.{Change}
@@ -8,9 +7,9 @@ use Rattle.msg_tables.specs.declared.change.Change.TheVariants.{Add, Replace, Se
 use Rattle.msg_tables.specs.After.{of_class, of_meta}
 use Rattle.msg_names.specs.Number.{selector_number}
 use Rattle.msg_tables.specs.Affected.{at_most_one, if_any, is_of_made}
-use Rattle.msg_tables.specs.Chain.{is_member}
-use Rattle.msg_tables.specs.Log.{Log, chain_at, holder}
+use Rattle.msg_tables.specs.Log.{Log, holder}
 use Rattle.msg_tables.specs.Origin.{CountsView}
+use Rattle.msg_tables.specs.Several.{is_below}
 
 -- where methods that are set or exchanged stand, of a host's classes: of a document's all caches are flushed
 abbrev pub unless_counted : Option CountsView → List ClassRef → Option (List ClassRef)
@@ -26,13 +25,9 @@ flushed_places h (Exchange c s d u) = unless_counted h.origin.counts (at_most_on
 flushed_places h (Attach k methods class_methods) = Some (if_any methods (of_class k) ++ if_any class_methods (of_meta k))
 flushed_places h (AddClass k d) = Some []
 
--- one of the places, or below one
-abbrev pub is_below : Log → ClassRef → List ClassRef → Bool
-is_below h c places = list_any (λ place. is_member place (chain_at h c)) places
-
 -- all caches are meant, or the class reference is one of the places or below one
 abbrev pub are_reached : Log → ClassRef → Option (List ClassRef) → Bool
-are_reached h c places = option_map_or (is_below h c) places true
+are_reached h c places = option_map_or (λ ps. is_below h ps c) places true
 
 -- a change after which this is the log flushes the cache of a class reference: it is of the class that is made, or one that is flushed, or below such a one
 abbrev pub is_flushed : Log → Change → ClassRef → Bool

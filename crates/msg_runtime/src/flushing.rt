@@ -10,9 +10,10 @@ ghost use Rattle.msg_tables.specs.Chain.{is_member};
 ghost use Rattle.msg_tables.specs.Log.{Log, and_then, chain_at, holder};
 ghost use Rattle.msg_tables.specs.Preorder.{is_in};
 ghost use Rattle.msg_tables.specs.Refusal.{refusal};
+ghost use Rattle.msg_tables.specs.Several.{is_below};
 ghost use Rattle.msg_tables.specs.Stands.{StandsAt};
 ghost use Rattle.msg_runtime.specs.Parts.{IsKeeperOf, keeper_history, HasNoArray};
-ghost use Rattle.msg_runtime.specs.Reach.{are_reached, is_below, is_flushed, unless_counted};
+ghost use Rattle.msg_runtime.specs.Reach.{are_reached, is_flushed, unless_counted};
 
 use msg_cache::{Arena, Keeper};
 use msg_names::{ClassRef, Selector};
@@ -93,7 +94,7 @@ fn flush_methods(
     requires room { length tables.now.supers ≤ below.old.room }
     ensures arena { IsKeeperOf arena.now keeper.new }
     ensures history { keeper_history keeper.new ≡ keeper_history keeper.old }
-    ensures flushed { (h : Log) → StandsAt tables.now h → (c : ClassRef) → is_below h c (if_any methods.now class) ≡ true → HasNoArray arena.now keeper.new c }
+    ensures flushed { (h : Log) → StandsAt tables.now h → (c : ClassRef) → is_below h (if_any methods.now class) c ≡ true → HasNoArray arena.now keeper.new c }
     ensures others { (c : ClassRef) → HasNoArray arena.now keeper.old c → HasNoArray arena.now keeper.new c }
     ensures room { length tables.now.supers ≤ below.new.room }
 {
@@ -130,7 +131,7 @@ fn flush_holder(
     requires room { length tables.now.supers ≤ below.old.room }
     ensures arena { IsKeeperOf arena.now keeper.new }
     ensures history { keeper_history keeper.new ≡ keeper_history keeper.old }
-    ensures flushed { (h : Log) → StandsAt tables.now h → (c : ClassRef) → is_below h c (at_most_one (holder h class (selector_number sel))) ≡ true → HasNoArray arena.now keeper.new c }
+    ensures flushed { (h : Log) → StandsAt tables.now h → (c : ClassRef) → is_below h (at_most_one (holder h class (selector_number sel))) c ≡ true → HasNoArray arena.now keeper.new c }
     ensures others { (c : ClassRef) → HasNoArray arena.now keeper.old c → HasNoArray arena.now keeper.new c }
     ensures room { length tables.now.supers ≤ below.new.room }
 {

@@ -6,4 +6,4 @@ mod flushing;
 mod flushing_all;
 mod runtime;
 
-pub use runtime::Runtime;
+pub use runtime::{Made, Runtime};

@@ -1,12 +1,13 @@
 //! The runtime behind a lock.
 
-ghost use Rattle.std.specs.Prelude.{[], ◌∷◌, ◌≡◌, ◌≢◌, ◌<◌, ◌≤◌, ◌*◌, length, cond, not, is_some, replicate, false, IfOk, IfErr, IfSome, IsErrOf, IsNone, OnErr, OnOk, None, Some};
+ghost use Rattle.std.specs.Prelude.{[], ◌∷◌, ◌≡◌, ◌≢◌, ◌<◌, ◌≤◌, ◌*◌, length, take, cond, not, is_some, replicate, false, IfOk, IfErr, IfSome, IsErrOf, IsNone, OnErr, OnOk, None, Some};
 ghost use Rattle.msg_names.specs.Number.{selector_number, imp_number};
 ghost use Rattle.msg_tables.specs.Origin.{last_imp};
 ghost use Rattle.msg_tables.specs.History.{BeginsWith, and_then, empty, holder, log, lookup, superclass};
-ghost use Rattle.msg_tables.specs.Marking.{MarksAffected};
-ghost use Rattle.msg_tables.specs.Made.{AreMade, AreRefused};
+ghost use Rattle.msg_tables.specs.Marking.{MarksAffected, MarksAffectedByAll};
+ghost use Rattle.msg_tables.specs.Made.{AreMade, AreRefused, TellsWayBack};
 ghost use Rattle.msg_tables.specs.Refusal.{refusal};
+ghost use Rattle.msg_tables.specs.Several.{refused_from};
 ghost use Rattle.msg_tables.specs.declared.fault.ChangeFault.{ChangeFault};
 ghost use Rattle.msg_cache.specs.Counts.{AreCounts, after_refusal};
 ghost use Rattle.msg_cache.specs.Plays.{given_out, taken_in, lent, is_lent};
@@ -22,10 +23,19 @@ use msg_names::{ClassRef, ImpRef, Selector};
 use msg_reader::laws::notes_are_of_longer_histories;
 use msg_reader::{Notes, Reader};
 use msg_tables::laws::{an_accepted_change_is_within_the_limit, tables_are_of_their_origin};
-use msg_tables::{Below, Change, ChangeFault, HasOrigin, Marks, Origin, Refused, Tables};
+use msg_tables::{Below, Change, ChangeFault, HasOrigin, Marks, Origin, Refused, Tables, Written};
 use std::alloc::{AllocError, Global};
 use std::marker::Model;
 use std::snapshot::Snapshot;
+
+/// What is said of a list of changes that was made as one.
+#[derive(Drop)]
+pub struct Made {
+    /// How many times changes were made, this time included: a list of them counts as one.
+    pub count: u64,
+    /// What the list wrote, which tells the way back where there is one.
+    pub written: Written,
+}
 
 /// The keeper of an arena's method caches, and class tables that stand at its history.
 ///
@@ -211,6 +221,38 @@ impl Runtime {
         self.tables.reach(change, marks)
     }
 
+    /// Marks the class references whose lookups a list of changes may alter if it is made as one, beside those that are marked, each at its slot, and doesn't make it; or says which of them
+    /// would be refused. Then what those before it may alter is marked; where memory is wanting, the marks say nothing.
+    ///
+    /// No cache is touched. It costs the walk over the classes that it marks, and what it costs the tables to make the list and to take it back. The turn's history is the runtime's.
+    pub fn reach_all(
+        &mut self,
+        alloc: Global,
+        arena: &Arena,
+        turn: &mut Turn,
+        changes: &[Change],
+        marked: &mut [bool],
+    ) -> Result<(), Refused>
+        requires arena { arena.now ≡ self.old.arena }
+        requires turn { turn.old.table ≡ self.old.arena.table }
+        requires marks { length marked.old ≡ 2 * classes self.old.arena }
+        ensures turn { turn.new.table ≡ self.old.arena.table }
+        ensures was { turn.old.history ≡ self.old.keeper.history }
+        ensures is { turn.new.history ≡ self.old.keeper.history }
+        ensures same { self.new ≡ record self.old { keeper = lent self.old.keeper } }
+        ensures ok { OnOk result (refused_from 0 (log self.old.keeper.history) changes.now ≡ None) }
+        ensures marks { OnOk result (MarksAffectedByAll (classes self.old.arena) (log self.old.keeper.history) changes.now marked.old marked.new) }
+        ensures refused { IfErr result (AreRefused changes.now self.old.keeper.history) }
+        ensures before { IfErr result (λ r. r.fault ≢ ChangeFault.Memory
+            → MarksAffectedByAll (classes self.old.arena) (log self.old.keeper.history) (take r.place changes.now) marked.old marked.new) }
+        ensures length { length marked.new ≡ length marked.old }
+    {
+        tables_are_of_their_origin();
+        self.keeper.face(arena, turn);
+        self.tables
+            .reach_all(alloc, changes, marked, &mut self.below)
+    }
+
     /// Makes a change, flushes the caches that it reaches, and answers how many times changes were made. After an error nothing was changed or flushed.
     ///
     /// The turn's history is the runtime's, before and after.
@@ -248,7 +290,7 @@ impl Runtime {
         Ok(self.keeper.commit(arena, turn, change))
     }
 
-    /// Makes a list of changes as one, flushes the caches that it reaches, and answers how many times changes were made; or says which of them would be refused. After an
+    /// Makes a list of changes as one, flushes the caches that it reaches, and answers how many times changes were made and what was written; or says which of them would be refused. After an
     /// error nothing was changed or flushed. An empty list changes nothing and isn't counted.
     ///
     /// The turn's history is the runtime's, before and after. It costs what its changes cost, and the room for what they write, but for one count that is stored.
@@ -258,7 +300,7 @@ impl Runtime {
         arena: &Arena,
         turn: &mut Turn,
         changes: &[Change],
-    ) -> Result<u64, Refused>
+    ) -> Result<Made, Refused>
         requires arena { arena.now ≡ self.old.arena }
         requires turn { turn.old.table ≡ self.old.arena.table }
         ensures arena { self.new.arena ≡ self.old.arena }
@@ -266,7 +308,8 @@ impl Runtime {
         ensures was { turn.old.history ≡ self.old.keeper.history }
         ensures is { turn.new.history ≡ self.new.keeper.history }
         ensures ok { OnOk result (AreMade changes.now self.old.keeper.history self.new.keeper.history) }
-        ensures count { IfOk result (λ count. count ≡ length self.new.keeper.history.changes) }
+        ensures count { IfOk result (λ made. made.count ≡ length self.new.keeper.history.changes) }
+        ensures back { IfOk result (λ made. TellsWayBack changes.now self.old.keeper.history made.written) }
         ensures err { OnErr result (self.new.keeper.history ≡ self.old.keeper.history) }
         ensures caches { OnErr result ((self.new.keeper ≡ lent self.old.keeper) × (self.new.remembered ≡ self.old.remembered)) }
         ensures report { OnErr result (self.new.report ≡ self.old.report) }
@@ -274,10 +317,11 @@ impl Runtime {
     {
         tables_are_of_their_origin();
         self.keeper.face(arena, turn);
-        if changes.is_empty() {
-            return Ok(self.keeper.count());
-        }
         let written = self.tables.apply_all(alloc, changes)?;
+        if changes.is_empty() {
+            let count = self.keeper.count();
+            return Ok(Made { count, written });
+        }
         flush_written(
             &mut self.keeper,
             arena,
@@ -285,7 +329,8 @@ impl Runtime {
             &written,
             &mut self.below,
         );
-        Ok(self.keeper.commit_all(arena, turn, changes))
+        let count = self.keeper.commit_all(arena, turn, changes);
+        Ok(Made { count, written })
     }
 
     /// A reader of a sender number that isn't given out, where there is one. It has seen the whole history.

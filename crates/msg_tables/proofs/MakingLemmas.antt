@@ -82,6 +82,11 @@ beside-on old between new a b = record {
   rest = a.rest ∙ ap (λ (t : TablesView). record t { supers = old.supers; order = old.order; lists = old.lists; row_count = old.row_count; change_count = old.change_count }) b.rest;
 }
 
+-- a place farther
+pub accepted-next : (h : Log) (xs : List Change) (i : ℕ) (x : Change) → i < length xs → x ≡ slice_index_or xs i x → AreAccepted h (take i xs) → refusal (and_all h (take i xs)) x ≡ None → AreAccepted h (take (i + 1) xs)
+accepted-next h xs i x inside is all none =
+    subst (AreAccepted h) (sym (take_more xs i x inside ∙ ap (λ y. take i xs ++ y ∷ []) (sym is))) (accepted-snoc h (take i xs) x all none)
+
 pub made-none : (t : TablesView) (journal : List Entry) → journal ≡ [] → IsMade [] journal t t
 made-none t [] e = record {
   few = omega arith;

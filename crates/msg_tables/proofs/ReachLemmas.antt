@@ -1,5 +1,6 @@
 -- What a change would reach.
-use Rattle.std.proofs.Common.{◌≡◌, ℕ, ◌<◌, List, [], ◌∷◌, ◌++◌, Bool, true, false, Option, refl, sym, ap, ◌∙◌}
+use Rattle.std.proofs.Common.{◌≡◌, ℕ, ◌<◌, ◌+◌, List, [], ◌∷◌, ◌++◌, Bool, true, false, Option, length, refl, slice_index_or, sym, ap, subst, take, ◌∙◌}
+use Rattle.std.proofs.lemmas.List.{take_more}
 use Rattle.std.specs.Prelude.{◌||◌, ◌==◌}
 use Rattle.std.specs.List.{list_any}
 use Rattle.std.proofs.lemmas.List.Folds.{list_any-append}
@@ -11,8 +12,13 @@ use Rattle.msg_tables.specs.After.{of_class, of_meta}
 use Rattle.msg_tables.specs.Affected.{at_most_one, if_any, is_affected, written_refs}
 use Rattle.msg_tables.specs.Chain.{is_member}
 use Rattle.msg_tables.specs.declared.change.Change.TheVariants.{Add, Replace, SetImp, Exchange, Attach, AddClass}
-use Rattle.msg_tables.specs.Log.{Log, chain_at, holder}
-use Rattle.msg_tables.specs.Marking.{is_marked, MarksBelow, MarksAffected}
+use Rattle.msg_tables.specs.declared.change.Change.{Change}
+use Rattle.msg_tables.specs.Log.{Log, and_then, chain_at, holder}
+use Rattle.msg_tables.specs.Making.{Reaches, ReachesAll}
+use Rattle.msg_tables.specs.Marking.{is_marked, MarksBelow, MarksAffected, MarksAffectedByAll}
+use Rattle.msg_tables.specs.Several.{and_all, is_affected_by_all}
+use Rattle.msg_tables.specs.Stands.{StandsAt}
+use Rattle.msg_tables.specs.View.{TablesView}
 
 or_none : (a : Bool) → (a || false) ≡ a
 or_none true = refl
@@ -59,3 +65,26 @@ module _ (n : ℕ) (h : Log) where
     pub affected_make : (k : ℕ) (d : Option ℕ) → ((c : ClassRef) → is_marked new c ≡ (is_marked old c || (c.class == k))) → MarksAffected n h (AddClass k d) old new
     unfolding is_affected written_refs
     affected_make k d marks c lt = marks c ∙ ap (λ b. is_marked old c || b) (sym (or_none (c.class == k)))
+
+-- ---- of a list
+
+all_none : (n : ℕ) (h : Log) (marks : List Bool) → MarksAffectedByAll n h [] marks marks
+all_none n h marks c lt = sym (or_none (is_marked marks c))
+
+affected-snoc : (h : Log) (xs : List Change) (x : Change) (c : ClassRef) → is_affected_by_all h (xs ++ x ∷ []) c ≡ (is_affected_by_all h xs c || is_affected (and_all h xs) x c)
+affected-snoc h [] x c = or_none (is_affected h x c)
+affected-snoc h (y ∷ ys) x c = ap (λ b. is_affected h y c || b) (affected-snoc (and_then h y) ys x c) ∙ sym (or_over (is_affected h y c) (is_affected_by_all (and_then h y) ys c) (is_affected (and_all h (y ∷ ys)) x c))
+
+-- no change was made
+pub reaches_none : (t : TablesView) (marks : List Bool) → ReachesAll [] t marks marks
+reaches_none t marks h stands = all_none (length t.supers) h marks
+
+-- one change more
+pub reaches_next : (xs : List Change) (i : ℕ) (x : Change) (old between : TablesView) (first mid last : List Bool) → i < length xs → x ≡ slice_index_or xs i x → length between.supers ≡ length old.supers
+    → ((h : Log) → StandsAt old h → StandsAt between (and_all h (take i xs))) → ReachesAll (take i xs) old first mid → Reaches x between mid last → ReachesAll (take (i + 1) xs) old first last
+reaches_next xs i x old between first mid last inside is same stand so-far part h stands c lt =
+    part (and_all h (take i xs)) (stand h stands) c (subst (λ n. c.class < n) (sym same) lt)
+    ∙ ap (λ b. b || is_affected (and_all h (take i xs)) x c) (so-far h stands c lt)
+    ∙ or_over (is_marked first c) (is_affected_by_all h (take i xs) c) (is_affected (and_all h (take i xs)) x c)
+    ∙ ap (λ b. is_marked first c || b) (sym (affected-snoc h (take i xs) x c))
+    ∙ ap (λ ys. is_marked first c || is_affected_by_all h ys c) (sym (take_more xs i x inside ∙ ap (λ y. take i xs ++ y ∷ []) (sym is)))

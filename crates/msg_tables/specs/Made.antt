@@ -1,10 +1,14 @@
 -- What becomes of a list of changes that is made as one.
-use Rattle.std.specs.Prelude.{◌≡◌, ◌≢◌, ◌<◌, List, [], ◌∷◌, Some, None, length, take}
+use Rattle.std.specs.Prelude.{◌≡◌, ◌≢◌, ◌<◌, ◌≤◌, ◌+◌, ◌*◌, List, [], ◌∷◌, Some, None, length, take}
 use Rattle.msg_tables.specs.declared.apply_all.Refused.{Refused}
 use Rattle.msg_tables.specs.declared.change.Change.{Change}
+use Rattle.msg_tables.specs.declared.entry.Entry.{Entry}
 use Rattle.msg_tables.specs.declared.fault.ChangeFault.TheVariants.{Memory}
 use Rattle.msg_tables.specs.History.{History, and_then, log}
+use Rattle.msg_tables.specs.Journal.{undo_journal}
+use Rattle.msg_tables.specs.Log.{table}
 use Rattle.msg_tables.specs.Several.{refused_from}
+use Rattle.msg_tables.specs.Undo.{undo_all}
 
 -- the history longer by changes that are made as one, where there are any
 abbrev pub and_as_one : History → List Change → History
@@ -16,8 +20,14 @@ pub record AreMade (xs : List Change) (old new : History) : Type 0 where
   pub accepted : refused_from 0 (log old) xs ≡ None
   pub history : new ≡ and_as_one old xs
 
--- The first that would be refused is named, with its fault. Where memory was wanting, it is one before which none would be.
+-- The first that would be refused is named, with its fault. Where memory was wanting, neither those before it would be refused nor it itself.
 pub record AreRefused (xs : List Change) (h : History) (r : Refused) : Type 0 where
   pub fault : r.fault ≢ Memory → refused_from 0 (log h) xs ≡ Some (r.place, r.fault)
+  pub memory : r.fault ≡ Memory → refused_from 0 (log h) (take (r.place + 1) xs) ≡ None
   pub before : refused_from 0 (log h) (take r.place xs) ≡ None
   pub place : r.place < length xs
+
+-- What was written tells the way back from changes that are made at a history, where there is one, in two entries for each at most.
+pub record TellsWayBack (xs : List Change) (h : History) (entries : List Entry) : Type 0 where
+  pub undo : undo_all (table (log h)) xs ≡ undo_journal entries
+  pub few : length entries ≤ 2 * length xs

@@ -1,11 +1,13 @@
 -- Changes of a list that were made, and the journal of what they wrote.
-use Rattle.std.specs.Prelude.{◌≡◌, ◌≤◌, ◌*◌, ◌||◌, Bool, true, List, ◌++◌, Some, None, length, take}
+use Rattle.std.specs.Prelude.{◌≡◌, ◌≤◌, ◌+◌, ◌*◌, ◌||◌, Bool, true, List, ◌++◌, Some, None, length, take}
 use Rattle.msg_names.specs.declared.value.ClassRef.{ClassRef}
 use Rattle.msg_tables.specs.declared.change.Change.{Change}
 use Rattle.msg_tables.specs.declared.apply_all.Refused.{Refused}
 use Rattle.msg_tables.specs.declared.entry.Entry.{Entry}
+use Rattle.msg_tables.specs.declared.fault.ChangeFault.TheVariants.{Memory}
 use Rattle.msg_tables.specs.Affected.{written_refs}
 use Rattle.msg_tables.specs.Log.{Log, table}
+use Rattle.msg_tables.specs.Marking.{MarksAffected, MarksAffectedByAll}
 use Rattle.msg_tables.specs.Journal.{AllNameListed, IsJournalOf, classes_of, places_of, undo_journal}
 use Rattle.msg_tables.specs.Origin.{IsSound}
 use Rattle.msg_tables.specs.Refusal.{AreAccepted}
@@ -61,6 +63,18 @@ IsRefused xs old r = (h : Log) → StandsAt old h → refused_from 0 h xs ≡ So
 -- those before it would be made
 abbrev pub AreMadeBefore : List Change → TablesView → Refused → Type 0
 AreMadeBefore xs old r = (h : Log) → StandsAt old h → refused_from 0 h (take r.place xs) ≡ None
+
+-- where memory was wanting, the change at that place would be made too
+abbrev pub LacksMemory : List Change → TablesView → Refused → Type 0
+LacksMemory xs old r = r.fault ≡ Memory → (h : Log) → StandsAt old h → refused_from 0 h (take (r.place + 1) xs) ≡ None
+
+-- what a change affects is marked, beside what was
+abbrev pub Reaches : Change → TablesView → List Bool → List Bool → Type 0
+Reaches x t old new = (h : Log) → StandsAt t h → MarksAffected (length t.supers) h x old new
+
+-- what a list affects is marked, beside what was
+abbrev pub ReachesAll : List Change → TablesView → List Bool → List Bool → Type 0
+ReachesAll xs t old new = (h : Log) → StandsAt t h → MarksAffectedByAll (length t.supers) h xs old new
 
 -- the class reference is of a class that a journal tells of, or is one of its places or below one
 abbrev pub is_told : Log → List Entry → ClassRef → Bool

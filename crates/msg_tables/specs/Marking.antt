@@ -8,6 +8,7 @@ use Rattle.msg_tables.specs.declared.marks.Marks.TheInside.{Inside}
 use Rattle.msg_tables.specs.Affected.{is_affected}
 use Rattle.msg_tables.specs.Chain.{is_member}
 use Rattle.msg_tables.specs.Log.{Log, chain_at}
+use Rattle.msg_tables.specs.Several.{is_affected_by_all}
 
 -- whether a class reference is marked
 abbrev pub is_marked : List Bool → ClassRef → Bool
@@ -29,3 +30,7 @@ MarksBelow n h places old new = (c : ClassRef) → c.class < n → is_marked new
 -- of the class references of n classes those that a change affects are marked, beside those that were
 abbrev pub MarksAffected : ℕ → Log → Change → List Bool → List Bool → Type 0
 MarksAffected n h x old new = (c : ClassRef) → c.class < n → is_marked new c ≡ (is_marked old c || is_affected h x c)
+
+-- and those that a list of changes affects
+abbrev pub MarksAffectedByAll : ℕ → Log → List Change → List Bool → List Bool → Type 0
+MarksAffectedByAll n h xs old new = (c : ClassRef) → c.class < n → is_marked new c ≡ (is_marked old c || is_affected_by_all h xs c)

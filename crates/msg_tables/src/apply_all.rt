@@ -1,11 +1,11 @@
 //! Making a list of changes as one.
 
-ghost use Rattle.std.specs.Prelude.{◌≡◌, ◌≢◌, ◌<◌, ◌≤◌, ◌+◌, ◌*◌, [], All, IfErr, IfOk, None, OnErr, OnOk, Some, length, take};
+ghost use Rattle.std.specs.Prelude.{◌≡◌, ◌≢◌, ◌<◌, ◌≤◌, ◌+◌, ◌*◌, [], All, IfErr, IfOk, IsErrOf, None, OnErr, OnOk, Some, length, take};
 ghost use Rattle.std.specs.Vec.{vec_capacity};
 ghost use Rattle.msg_tables.specs.declared.fault.ChangeFault.{ChangeFault};
 ghost use Rattle.msg_tables.specs.Log.{Log, and_then};
 ghost use Rattle.msg_tables.specs.Journal.{NamesListed, classes_of};
-ghost use Rattle.msg_tables.specs.Making.{AreMadeBefore, HasPlaces, IsMade, IsPart, IsRefused, IsUndone, StandAfter, TellsAll};
+ghost use Rattle.msg_tables.specs.Making.{AreMadeBefore, HasPlaces, IsMade, IsPart, IsRefused, IsUndone, LacksMemory, StandAfter, TellsAll};
 ghost use Rattle.msg_tables.specs.Refusal.{refusal};
 ghost use Rattle.msg_tables.specs.Several.{made_by_all};
 ghost use Rattle.msg_tables.specs.Stands.{StandsAt};
@@ -24,13 +24,35 @@ pub struct Refused {
 }
 
 impl Tables {
+    // Why a list isn't made for which there is no room: its first change would be refused, or else for want of memory.
+    pub(crate) fn lacks_room(&self, changes: &[Change]) -> Refused
+        ensures place { result.place ≡ 0 }
+        ensures fault { result.fault ≢ ChangeFault.Memory → IsRefused changes.now self.now result }
+        ensures memory { LacksMemory changes.now self.now result }
+    {
+        if let [first, ..] = changes {
+            if let Some(fault) = self.refusal(first) {
+                return Refused { place: 0, fault };
+            }
+        }
+        Refused {
+            place: 0,
+            fault: ChangeFault::Memory,
+        }
+    }
+
     // Makes a change of a list, and notes what it wrote.
-    fn apply_part(&mut self, change: &Change, journal: &mut Vec<Entry>) -> Result<(), ChangeFault>
+    pub(crate) fn apply_part(
+        &mut self,
+        change: &Change,
+        journal: &mut Vec<Entry>,
+    ) -> Result<(), ChangeFault>
         requires { length journal.old.items + 2 ≤ vec_capacity journal.old }
         ensures ok { OnOk result ((h : Log) → StandsAt self.old h → (refusal h change.now ≡ None) × StandsAt self.new (and_then h change.now)) }
         ensures part { OnOk result (IsPart change.now journal.old.items journal.new.items self.old self.new) }
         ensures err { OnErr result ((self.new ≡ self.old) × (journal.new.items ≡ journal.old.items)) }
         ensures fault { IfErr result (λ f. f ≢ ChangeFault.Memory → (h : Log) → StandsAt self.old h → refusal h change.now ≡ Some f) }
+        ensures memory { IsErrOf result ChangeFault.Memory → (h : Log) → StandsAt self.old h → refusal h change.now ≡ None }
         ensures room { vec_capacity journal.old ≤ vec_capacity journal.new }
     {
         let edit = self.judge(change)?;
@@ -46,6 +68,7 @@ impl Tables {
         ensures ok { OnOk result (IsMade changes.now journal.new.items self.old self.new) }
         ensures err { IfErr result (λ r. (r.place < length changes.now) × IsMade (take r.place changes.now) journal.new.items self.old self.new) }
         ensures fault { IfErr result (λ r. r.fault ≢ ChangeFault.Memory → IsRefused changes.now self.old r) }
+        ensures memory { IfErr result (LacksMemory changes.now self.old) }
     {
         for (place, change) in changes.iter().enumerate() {
             if let Err(fault) = self.apply_part(change, journal) {
@@ -63,11 +86,13 @@ impl Tables {
         ensures ok { OnOk result (StandAfter changes.now self.old self.new) }
         ensures err { OnErr result (self.new ≡ self.old) }
         ensures fault { IfErr result (λ r. r.fault ≢ ChangeFault.Memory → IsRefused changes.now self.old r) }
+        ensures memory { IfErr result (LacksMemory changes.now self.old) }
         ensures before { IfErr result (AreMadeBefore changes.now self.old) }
         ensures within { IfErr result (λ r. r.place < length changes.now) }
         ensures places { IfOk result (HasPlaces changes.now self.old) }
         ensures made { IfOk result (λ w. classes_of w ≡ made_by_all changes.now) }
         ensures undo { IfOk result (IsUndone changes.now self.old) }
+        ensures few { IfOk result (λ w. length w ≤ 2 * length changes.now) }
         ensures affected { IfOk result (TellsAll changes.now self.old) }
         ensures listed { IfOk result (All (NamesListed (length self.new.supers))) }
         ensures classes { length self.new.supers ≡ length self.old.supers }
@@ -75,10 +100,7 @@ impl Tables {
     {
         let start = self.start();
         let Ok(mut entries) = Vec::with_capacity(alloc, 2 * changes.len()) else {
-            return Err(Refused {
-                place: 0,
-                fault: ChangeFault::Memory,
-            });
+            return Err(self.lacks_room(changes));
         };
         match self.apply_each(changes, &mut entries) {
             Ok(()) => Ok(Written { entries }),

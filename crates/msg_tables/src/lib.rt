@@ -24,6 +24,7 @@ mod origin;
 mod preorder;
 mod presence;
 mod reach;
+mod reach_all;
 mod row_lists;
 mod rows;
 mod tables;

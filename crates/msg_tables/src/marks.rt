@@ -1,6 +1,6 @@
 //! Marks on class references, and the descendants of one.
 
-ghost use Rattle.std.specs.Prelude.{◌≡◌, ◌==◌, ◌<◌, ◌+◌, ◌*◌, ◌||◌, ◌&&◌, IfOk, if◌then◌else◌, ℕ, length, count_by, replicate, false, true};
+ghost use Rattle.std.specs.Prelude.{◌≡◌, ◌==◌, ◌<◌, ◌≤◌, ◌+◌, ◌*◌, ◌||◌, ◌&&◌, IfOk, if◌then◌else◌, ℕ, length, count_by, replicate, false, true};
 ghost use Rattle.msg_names.specs.declared.value.ClassRef.{ClassRef};
 ghost use Rattle.msg_names.specs.ClassRef.{slot_of};
 ghost use Rattle.msg_tables.specs.Below.{is_among};
@@ -21,8 +21,8 @@ use std::marker::Model;
 /// The room for what is found while descendants are sought is made with the marks, so that none is taken later.
 #[derive(Drop)]
 pub struct Marks {
-    marked: Vec<bool>,
-    below: Below,
+    pub(crate) marked: Vec<bool>,
+    pub(crate) below: Below,
 }
 
 impl Model for Marks {
@@ -53,15 +53,6 @@ impl Marks {
         self.marked.iter().filter(|mark| **mark).count()
     }
 
-    // Marks a class and its metaclass.
-    pub(crate) fn mark(&mut self, class: u32)
-        requires { 2 * class + 1 < length self.old }
-        ensures marks { (c : ClassRef) → is_marked self.new c ≡ (is_marked self.old c || (c.class == class)) }
-        ensures length { length self.new ≡ length self.old }
-    {
-        mark_class(&mut self.marked, class, true, true);
-    }
-
     /// Takes all marks away.
     pub fn clear(&mut self)
         ensures { self.new ≡ replicate (length self.old) false }
@@ -79,6 +70,15 @@ fn mark_class(marked: &mut [bool], class: u32, own: bool, meta: bool)
     let place = ClassRef { class, meta: false }.slot();
     marked[place] |= own;
     marked[place + 1] |= meta;
+}
+
+// Marks a class and its metaclass.
+pub(crate) fn mark_made(marked: &mut [bool], class: u32)
+    requires { 2 * class + 1 < length marked.old }
+    ensures marks { (c : ClassRef) → is_marked marked.new c ≡ (is_marked marked.old c || (c.class == class)) }
+    ensures length { length marked.new ≡ length marked.old }
+{
+    mark_class(marked, class, true, true);
 }
 
 // Marks class references beside those that are marked.
@@ -103,6 +103,20 @@ impl Tables {
         })
     }
 
+    // Marks a class reference and all below it, beside those that are marked.
+    pub(crate) fn mark_below(&self, class: ClassRef, marked: &mut [bool], below: &mut Below)
+        requires class { class.class < length self.now.supers }
+        requires marks { length marked.old ≡ 2 * length self.now.supers }
+        requires room { length self.now.supers ≤ below.old.room }
+        ensures marks { (h : Log) → StandsAt self.now h → (c : ClassRef) → c.class < length self.now.supers
+            → is_marked marked.new c ≡ (is_marked marked.old c || is_member class (chain_at h c)) }
+        ensures length { length marked.new ≡ length marked.old }
+        ensures room { below.old.room ≤ below.new.room }
+    {
+        self.below(class, below);
+        mark_each(marked, below);
+    }
+
     /// Marks a class reference and all below it, beside those that are marked.
     ///
     /// Below a root class stand its metaclass and all metaclasses of its subclasses too. It looks at the classes that it marks and at one more, and takes no memory.
@@ -113,7 +127,6 @@ impl Tables {
             → is_marked marks.new c ≡ (is_marked marks.old c || is_member class (chain_at h c)) }
         ensures room { length marks.new ≡ length marks.old }
     {
-        self.below(class, &mut marks.below);
-        mark_each(&mut marks.marked, &marks.below);
+        self.mark_below(class, &mut marks.marked, &mut marks.below);
     }
 }

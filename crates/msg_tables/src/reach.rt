@@ -1,6 +1,6 @@
 //! What a change would reach.
 
-ghost use Rattle.std.specs.Prelude.{◌≡◌, ◌<◌, ◌*◌, OnOk, OnErr, IfErr, None, Some, length};
+ghost use Rattle.std.specs.Prelude.{◌≡◌, ◌<◌, ◌≤◌, ◌*◌, OnOk, OnErr, IfErr, None, Some, length};
 ghost use Rattle.msg_names.specs.Number.{selector_number};
 ghost use Rattle.msg_tables.specs.Affected.{at_most_one, if_any};
 ghost use Rattle.msg_tables.specs.Log.{Log, holder};
@@ -8,57 +8,73 @@ ghost use Rattle.msg_tables.specs.Marking.{MarksBelow, MarksAffected};
 ghost use Rattle.msg_tables.specs.Refusal.{refusal};
 ghost use Rattle.msg_tables.specs.Stands.{StandsAt};
 
+use crate::below::Below;
 use crate::change::Change;
 use crate::fault::ChangeFault;
-use crate::marks::Marks;
+use crate::marks::{Marks, mark_made};
 use crate::methods::MethodList;
 use crate::tables::Tables;
 use msg_names::{ClassRef, Selector};
 
 impl Tables {
     // Marks the class reference at which a method is found, and all below it.
-    fn mark_holder(&self, class: ClassRef, sel: Selector, marks: &mut Marks)
+    fn mark_holder(&self, class: ClassRef, sel: Selector, marked: &mut [bool], below: &mut Below)
         requires class { class.class < length self.now.supers }
-        requires marks { length marks.old ≡ 2 * length self.now.supers }
-        ensures marks { (h : Log) → StandsAt self.now h → MarksBelow (length self.now.supers) h (at_most_one (holder h class (selector_number sel))) marks.old marks.new }
-        ensures room { length marks.new ≡ length marks.old }
+        requires marks { length marked.old ≡ 2 * length self.now.supers }
+        requires room { length self.now.supers ≤ below.old.room }
+        ensures marks { (h : Log) → StandsAt self.now h
+            → MarksBelow (length self.now.supers) h (at_most_one (holder h class (selector_number sel))) marked.old marked.new }
+        ensures length { length marked.new ≡ length marked.old }
+        ensures room { below.old.room ≤ below.new.room }
     {
         if let Some(place) = self.holder(class, sel) {
-            self.descendants(place, marks);
+            self.mark_below(place, marked, below);
         }
     }
 
     // Marks a class reference and all below it, where it gets methods.
-    fn mark_attached(&self, class: ClassRef, methods: &MethodList, marks: &mut Marks)
+    fn mark_attached(
+        &self,
+        class: ClassRef,
+        methods: &MethodList,
+        marked: &mut [bool],
+        below: &mut Below,
+    )
         requires class { class.class < length self.now.supers }
-        requires marks { length marks.old ≡ 2 * length self.now.supers }
-        ensures marks { (h : Log) → StandsAt self.now h → MarksBelow (length self.now.supers) h (if_any methods.now class) marks.old marks.new }
-        ensures room { length marks.new ≡ length marks.old }
+        requires marks { length marked.old ≡ 2 * length self.now.supers }
+        requires room { length self.now.supers ≤ below.old.room }
+        ensures marks { (h : Log) → StandsAt self.now h
+            → MarksBelow (length self.now.supers) h (if_any methods.now class) marked.old marked.new }
+        ensures length { length marked.new ≡ length marked.old }
+        ensures room { below.old.room ≤ below.new.room }
     {
         if !methods.as_slice().is_empty() {
-            self.descendants(class, marks);
+            self.mark_below(class, marked, below);
         }
     }
 
     // Marks what an accepted change affects, beside what is marked.
-    fn mark_affected(&self, change: &Change, marks: &mut Marks)
+    pub(crate) fn mark_affected(&self, change: &Change, marked: &mut [bool], below: &mut Below)
         requires accepted { (h : Log) × StandsAt self.now h × (refusal h change.now ≡ None) }
-        requires marks { length marks.old ≡ 2 * length self.now.supers }
-        ensures marks { (h : Log) → StandsAt self.now h → MarksAffected (length self.now.supers) h change.now marks.old marks.new }
-        ensures room { length marks.new ≡ length marks.old }
+        requires marks { length marked.old ≡ 2 * length self.now.supers }
+        requires room { length self.now.supers ≤ below.old.room }
+        ensures marks { (h : Log) → StandsAt self.now h
+            → MarksAffected (length self.now.supers) h change.now marked.old marked.new }
+        ensures length { length marked.new ≡ length marked.old }
+        ensures room { below.old.room ≤ below.new.room }
     {
         match change {
-            Change::Add { class, .. } => self.descendants(*class, marks),
-            Change::Replace { class, .. } => self.descendants(*class, marks),
-            Change::SetImp { class, sel, .. } => self.mark_holder(*class, *sel, marks),
+            Change::Add { class, .. } => self.mark_below(*class, marked, below),
+            Change::Replace { class, .. } => self.mark_below(*class, marked, below),
+            Change::SetImp { class, sel, .. } => self.mark_holder(*class, *sel, marked, below),
             Change::Exchange {
                 class,
                 sel,
                 other,
                 other_sel,
             } => {
-                self.mark_holder(*class, *sel, marks);
-                self.mark_holder(*other, *other_sel, marks);
+                self.mark_holder(*class, *sel, marked, below);
+                self.mark_holder(*other, *other_sel, marked, below);
             }
             Change::Attach {
                 class,
@@ -73,10 +89,10 @@ impl Tables {
                     class: *class,
                     meta: true,
                 };
-                self.mark_attached(own, methods, marks);
-                self.mark_attached(meta, class_methods, marks);
+                self.mark_attached(own, methods, marked, below);
+                self.mark_attached(meta, class_methods, marked, below);
             }
-            Change::AddClass { class, .. } => marks.mark(*class),
+            Change::AddClass { class, .. } => mark_made(marked, *class),
         }
     }
 
@@ -92,7 +108,7 @@ impl Tables {
         ensures room { length marks.new ≡ length marks.old }
     {
         self.judge(change)?;
-        self.mark_affected(change, marks);
+        self.mark_affected(change, &mut marks.marked, &mut marks.below);
         Ok(())
     }
 }

@@ -3,13 +3,14 @@
 ghost use Rattle.std.specs.Prelude.{◌≡◌, ◌*◌, length};
 ghost use Rattle.msg_image.specs.Opened.{origin_of};
 ghost use Rattle.msg_tables.specs.Log.{Log, empty};
+ghost use Rattle.msg_tables.specs.Origin.{class_total};
 ghost use Rattle.msg_tables.specs.Stands.{StandsAt};
 
 use crate::same::same;
 use msg_image::{Change, Image, MethodList, read_document};
 use msg_names::{ClassRef, ImpRef, Selector};
 use msg_samples::IMAGE;
-use msg_tables::{ChangeFault, Marks, Tables};
+use msg_tables::{ChangeFault, Marks, Refused, Tables};
 use std::alloc::Global;
 use std::process::Abort;
 
@@ -37,7 +38,8 @@ fn image(rt: &impl Abort, alloc: Global) -> Box<Image> {
 }
 
 fn opened(rt: &impl Abort, alloc: Global, image: &Image) -> Box<Tables>
-    ensures { StandsAt result.value (empty (origin_of image.now)) }
+    ensures stands { StandsAt result.value (empty (origin_of image.now)) }
+    ensures classes { length result.value.supers ≡ class_total (origin_of image.now) }
 {
     let tables = Tables::open(alloc, image).expect(rt, "memory");
     Box::new(alloc, tables).expect(rt, "memory")
@@ -152,4 +154,33 @@ fn a_change_reaches_what_it_may_alter(rt: HostRuntime) {
     let mut marks = tables.marks(rt.alloc()).expect(&rt, "memory");
     methods_reach_what_is_below(&rt, &tables, &mut marks);
     categories_reach_where_they_have_methods(&rt, rt.alloc(), &tables, &mut marks);
+}
+
+fn set(class: ClassRef, sel: Selector) -> Change {
+    Change::SetImp {
+        class,
+        sel,
+        imp: ImpRef::of(2),
+    }
+}
+
+// Each change of a list reaches what it would where those before it were made: `value` is then found at `Child`.
+#[test]
+fn a_list_reaches_what_its_changes_may_alter(rt: HostRuntime) {
+    let image = image(&rt, rt.alloc());
+    let mut tables = opened(&rt, rt.alloc(), &image);
+    let mut below = tables.room_below(rt.alloc()).expect(&rt, "memory");
+    let places = 2 * image.class_count() as usize;
+    let mut marked = vec![in rt.alloc(); false; places].expect(&rt, "memory");
+    let value = selector(&rt, 2);
+    let list = [added(CHILD, value), set(GRAND, value), added(CHILD, value)];
+    let reached = tables.reach_all(rt.alloc(), &list[..2], &mut marked, &mut below);
+    same(&rt, reached, Ok(()));
+    same(&rt, marked.iter().filter(|mark| **mark).count(), 2);
+    let refused = Refused {
+        place: 2,
+        fault: ChangeFault::MethodPresent,
+    };
+    let again = tables.reach_all(rt.alloc(), &list, &mut marked, &mut below);
+    same(&rt, again, Err(refused));
 }

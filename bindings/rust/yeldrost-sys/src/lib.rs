@@ -109,6 +109,7 @@ pub const MSG_NONE: u32 = 70;
 pub const MSG_MISSED: u32 = 71;
 pub const MSG_BAD_CONFIG: u32 = 73;
 pub const MSG_BAD_CHANGE: u32 = 75;
+pub const MSG_NO_ROOM: u32 = 76;
 pub const MSG_LOCK_HELD: u32 = 74;
 
 extern "C" {
@@ -177,6 +178,23 @@ extern "C" {
         count: usize,
         place: *mut usize,
     ) -> u32;
+    pub fn msg_change_all_with_undo(
+        runtime: *mut msg_runtime,
+        changes: *const msg_change,
+        count: usize,
+        undo: *mut msg_change,
+        room: usize,
+        undone: *mut usize,
+        place: *mut usize,
+    ) -> u32;
+    pub fn msg_reach(
+        runtime: *mut msg_runtime,
+        changes: *const msg_change,
+        count: usize,
+        reached: *mut bool,
+        room: usize,
+        place: *mut usize,
+    ) -> u32;
     pub fn msg_sender_open(runtime: *mut msg_runtime, sender: *mut msg_sender) -> u32;
     pub fn msg_sender_close(runtime: *mut msg_runtime, sender: *mut msg_sender) -> u32;
     pub fn msg_fill(
@@ -188,6 +206,7 @@ extern "C" {
         imp: *mut u32,
     ) -> u32;
     pub fn msg_meet(runtime: *mut msg_runtime, sender: *mut msg_sender) -> u32;
+    pub fn msg_version() -> u32;
     pub fn msg_sender_size() -> usize;
     pub fn msg_recall(sender: *const msg_sender, slot: usize, sel: u32, count: u64) -> usize;
     pub fn msg_probe(

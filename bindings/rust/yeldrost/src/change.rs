@@ -63,6 +63,18 @@ fn of_class(kind: u32, number: u32, superclass: u32) -> sys::msg_change {
 }
 
 impl Change {
+    // The replacement that a row means which takes a change back.
+    pub(crate) fn of_replacement(row: &sys::msg_change) -> Option<Change> {
+        Some(Change::Replace {
+            of: ClassRef {
+                number: row.number,
+                meta: row.meta == 1,
+            },
+            selector: Selector::new(row.sel)?,
+            imp: Imp::new(row.imp)?,
+        })
+    }
+
     pub(crate) fn row(self) -> sys::msg_change {
         match self {
             Change::Add { to, selector, imp } => with_imp(sys::MSG_ADDS, to, selector, imp),

@@ -26,6 +26,8 @@ pub enum Fault {
     BadConfig,
     /// Of a list in numbers, which no call here takes.
     BadChange,
+    /// Of an array for an answer, which no call here takes.
+    NoRoom,
     /// Of a layer that no call here goes by.
     LockHeld,
     /// The sender is of another runtime. No call of the library was made.
@@ -56,6 +58,7 @@ impl Fault {
             sys::MSG_MISSED => Fault::Missed,
             sys::MSG_BAD_CONFIG => Fault::BadConfig,
             sys::MSG_BAD_CHANGE => Fault::BadChange,
+            sys::MSG_NO_ROOM => Fault::NoRoom,
             sys::MSG_LOCK_HELD => Fault::LockHeld,
             other => Fault::Unknown(other),
         })
@@ -90,6 +93,7 @@ impl Fault {
             Fault::Missed => "not cached",
             Fault::BadConfig => "the config asks for too much",
             Fault::BadChange => "no such kind of change",
+            Fault::NoRoom => "another count of places is needed for the answer",
             Fault::LockHeld => "the thread has the lock already",
             Fault::OtherRuntime => "the sender is of another runtime",
             Fault::Unknown(_) => "a fault that this crate doesn't know",

@@ -188,6 +188,69 @@ impl<'r> Locked<'r> {
             .map_err(|fault| Refused::of(fault, place))
     }
 
+    /// As [`change_all`](Locked::change_all), and answers what takes the changes back if it is made as one directly
+    /// afterwards; nothing where there is no way back, since a method was added or a class made.
+    pub fn change_all_with_undo(
+        &mut self,
+        changes: &[Change],
+    ) -> Result<Option<Vec<Change>>, Refused> {
+        let rows: Vec<sys::msg_change> = changes.iter().map(|it| it.row()).collect();
+        let mut undo = vec![sys::msg_change::default(); 2 * rows.len()];
+        let (mut undone, mut place) = (0, 0);
+        let mut made = |runtime: *mut sys::msg_runtime| unsafe {
+            let (undo, room) = (undo.as_mut_ptr(), undo.len());
+            sys::msg_change_all_with_undo(
+                runtime,
+                rows.as_ptr(),
+                rows.len(),
+                undo,
+                room,
+                &mut undone,
+                &mut place,
+            )
+        };
+        // an empty list is no change
+        let answer = if rows.is_empty() {
+            Fault::of(made(&mut self.handle.0))
+        } else {
+            self.change(made).map(|_| ())
+        };
+        answer.map_err(|fault| Refused::of(fault, place))?;
+        if undone == 0 && !rows.is_empty() {
+            return Ok(None);
+        }
+        Ok(undo[..undone].iter().map(Change::of_replacement).collect())
+    }
+
+    /// Which lookups [`change_all`](Locked::change_all) would alter, without making the changes: those of these class
+    /// references and no others. It takes memory for all class numbers.
+    pub fn reach(&mut self, changes: &[Change]) -> Result<Vec<ClassRef>, Refused> {
+        let rows: Vec<sys::msg_change> = changes.iter().map(|it| it.row()).collect();
+        let classes = self
+            .class_count()
+            .map_err(|fault| Refused::of(fault, 0))?;
+        let mut reached = vec![false; 2 * classes as usize];
+        let mut place = 0;
+        Fault::of(unsafe {
+            sys::msg_reach(
+                &mut self.handle.0,
+                rows.as_ptr(),
+                rows.len(),
+                reached.as_mut_ptr(),
+                reached.len(),
+                &mut place,
+            )
+        })
+        .map_err(|fault| Refused::of(fault, place))?;
+        let found = (0..).zip(reached).filter(|(_, reached)| *reached);
+        Ok(found
+            .map(|(slot, _): (u32, bool)| ClassRef {
+                number: slot / 2,
+                meta: slot % 2 == 1,
+            })
+            .collect())
+    }
+
     /// The lookup after all changes, which the sender has then seen, and notes.
     pub fn fill(
         &mut self,

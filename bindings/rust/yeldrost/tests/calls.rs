@@ -173,6 +173,26 @@ fn lists_of_changes() {
 }
 
 #[test]
+fn the_way_back_and_what_is_reached() {
+    let runtime = opened();
+    let mut sender = runtime.sender().unwrap();
+    let changes = [replace(CHILDREN, NAME, 5)];
+    assert_eq!(Ok(vec![CHILDREN]), runtime.lock().reach(&changes));
+    assert_eq!(Ok(Some(i(3))), sender.find(CHILDREN, s(NAME)));
+    let undo = runtime.lock().change_all_with_undo(&changes);
+    assert_eq!(Ok(Some(vec![replace(CHILDREN, NAME, 3)])), undo);
+    assert_eq!(Ok(Some(i(5))), sender.find(CHILDREN, s(NAME)));
+    runtime.lock().change_all(&undo.unwrap().unwrap()).unwrap();
+    assert_eq!(Ok(Some(i(3))), sender.find(CHILDREN, s(NAME)));
+    let made = [Change::MakeClass {
+        number: OTHER,
+        superclass: CHILD,
+    }];
+    assert_eq!(Ok(None), runtime.lock().change_all_with_undo(&made));
+    assert_eq!(Ok(Some(vec![])), runtime.lock().change_all_with_undo(&[]));
+}
+
+#[test]
 fn a_refused_list_changes_nothing() {
     let runtime = opened();
     let changes = [
@@ -226,6 +246,7 @@ fn senders() {
     assert_eq!(size_of::<yeldrost_sys::msg_sender>(), unsafe {
         yeldrost_sys::msg_sender_size()
     });
+    assert_eq!(1_000, unsafe { yeldrost_sys::msg_version() });
     assert_eq!(
         (Ok(None), None),
         (

@@ -10,8 +10,8 @@ use Rattle.msg_cache.specs.declared.view.KeeperView.{KeeperView}
 use Rattle.msg_runtime.specs.Parts.{IsKeeperOf, keeper_history}
 use Rattle.msg_runtime.proofs.runtime.Runtime.change_all.Goals as goal
 
-pub commit_all-requires-clause-accepted : goal.commit_all-requires-clause-accepted
-commit_all-requires-clause-accepted c =
+pub commit_all-count-requires-clause-accepted : goal.commit_all-count-requires-clause-accepted
+commit_all-count-requires-clause-accepted c =
     let h = keeper_history c.self.inside.keeper in
     let same : keeper_history c.flush_written.new.keeper ≡ h = c.flush_written.ensures.history ∙ ap (λ (k : KeeperView). k.history) c.face.ensures.same in
     ap (λ (g : History). refusal_of_all (log g) c.args.changes.now) same ∙ none-refused (log h) c.args.changes.now (c.in_ok-written.ensures.ok (log h) c.self.invariant.tables).0
@@ -22,8 +22,8 @@ invariant_of-self-2 c =
     let was = c.self.invariant in
     let h = keeper_history c.self.inside.keeper in
     let same : keeper_history c.flush_written.new.keeper ≡ h = c.flush_written.ensures.history ∙ ap (λ (k : KeeperView). k.history) c.face.ensures.same in
-    let longer : keeper_history c.commit_all.new.self ≡ and_then h xs = ap (λ (k : KeeperView). k.history) c.commit_all.ensures.committed ∙ ap (λ (g : History). and_then g xs) same in
-    let keeper : IsKeeperOf c.self.inside.arena.value c.commit_all.new.self = search rules in
+    let longer : keeper_history c.commit_all-count.new.self ≡ and_then h xs = ap (λ (k : KeeperView). k.history) c.commit_all-count.ensures.committed ∙ ap (λ (g : History). and_then g xs) same in
+    let keeper : IsKeeperOf c.self.inside.arena.value c.commit_all-count.new.self = search rules in
     let room : c.self.inside.classes ≤ c.flush_written.new.below.room = search rules in
     record {
       keeper = keeper;

@@ -1,7 +1,8 @@
-use Rattle.std.proofs.Common.{take, ◌+◌, ◌≡◌, Some, ap, ◌∙◌, arith}
+use Rattle.std.proofs.Common.{take, ◌+◌, ◌≡◌, Some, Err, ap, ◌∙◌, arith}
 use Rattle.std.proofs.lemmas.List.{length-take-le}
 use Rattle.msg_tables.specs.Several.{and_all}
-use Rattle.msg_tables.proofs.MakingLemmas.{made-none, made-next, refused-place}
+use Rattle.msg_tables.proofs.MakingLemmas.{accepted-next, made-none, made-next, refused-place}
+use Rattle.msg_tables.proofs.SeveralLemmas.{accepted-none}
 use Rattle.msg_tables.proofs.tables.Tables.apply_each.Goals as goal
 
 pub loop-place-init : goal.loop-place-init
@@ -28,3 +29,11 @@ returns-in-Err-clause-fault c = λ other h stands.
     let from : 0 + place ≡ place = omega arith in
     refused-place 0 h changes place c.index-changes-place.result c.in-Err.fault c.loop-place-test.true c.index-changes-place.is so-far.0 (c.in-Err.ensures.fault other (and_all h (take place changes)) so-far.1)
     ∙ ap (λ n. Some (n, c.in-Err.fault)) from
+
+pub returns-in-Err-clause-memory : goal.returns-in-Err-clause-memory
+returns-in-Err-clause-memory c = λ wanting h stands.
+    let changes = c.args.changes.now in
+    let place = c.loop-place.place in
+    let so-far = c.loop-place.invariant.made.stands h stands in
+    accepted-none h (take (place + 1) changes) 0
+    (accepted-next h changes place c.index-changes-place.result c.loop-place-test.true c.index-changes-place.is so-far.0 (c.in-Err.ensures.memory (ap Err wanting) (and_all h (take place changes)) so-far.1))

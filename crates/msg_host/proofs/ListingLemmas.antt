@@ -1,0 +1,33 @@
+-- Rows that take changes back.
+use Rattle.std.proofs.Common.{◌≡◌, ◌<◌, ◌+◌, ℕ, zero, suc, List, [], ◌∷◌, ◌++◌, Bool, true, false, Some, None, Option, Ok, length, map, take, refl, sym, ap, ap₂, ◌∙◌, arith}
+use Rattle.std.specs.Prelude.{◌==◌, if◌then◌else◌, slice_set}
+use Rattle.std.proofs.lemmas.Bool.Decides.{nat_tests}
+use Rattle.std.proofs.lemmas.List.{map-append, take_more_set}
+use Rattle.msg_names.specs.declared.value.ClassRef.{ClassRef}
+use Rattle.msg_names.specs.declared.value.ImpRef.{ImpRef}
+use Rattle.msg_names.specs.declared.value.Selector.{Selector}
+use Rattle.msg_names.specs.Number.{selector_of, selector_number}
+use Rattle.msg_tables.specs.declared.change.Change.{Change}
+use Rattle.msg_tables.specs.declared.change.Change.TheVariants.{Replace}
+use Rattle.msg_host.specs.Listing.{AreMeant, change_in, ref_in, replacing, selector_in}
+use Rattle.msg_host.specs.declared.listing.ChangeRow.{ChangeRow}
+
+selector-in : (n : ℕ) (s : Selector) → 0 < n → selector_of n ≡ s → selector_in n ≡ Ok s
+selector-in n s lt e =
+    let some : (n == 0) ≡ false = grind (arith, nat_tests) in
+    rw some (ap Ok e)
+
+ref-in : (c : ClassRef) (b : Bool) → c.meta ≡ b → ref_in c.class (if b then 1 else 0) ≡ Ok c
+ref-in c true e = ap (λ m. Ok (record { class = c.class; meta = m })) (sym e)
+ref-in c false e = ap (λ m. Ok (record { class = c.class; meta = m })) (sym e)
+
+-- the row means the replacement
+pub replacing-meant : (c : ClassRef) (s : Selector) (i : ImpRef) → selector_of (selector_number s) ≡ s → change_in (replacing c s i) ≡ Ok (Replace c s i)
+replacing-meant c s i same = rw (ref-in c c.meta refl, selector-in (selector_number s) s s.positive same) refl
+
+-- one row more
+pub one-more : (rows : List ChangeRow) (count : ℕ) (r : ChangeRow) (xs : List Change) (x : Change) → count < length rows → change_in r ≡ Ok x → AreMeant (take count rows) xs
+    → AreMeant (take (count + 1) (slice_set rows count r)) (xs ++ x ∷ [])
+one-more rows count r xs x inside is meant =
+    ap (map change_in) (take_more_set rows count r inside) ∙ map-append change_in (take count rows) (r ∷ [])
+    ∙ ap₂ (λ a b. a ++ b ∷ []) meant is ∙ sym (map-append Ok xs (x ∷ []))

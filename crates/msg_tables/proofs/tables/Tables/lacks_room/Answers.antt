@@ -1,0 +1,6 @@
+use Rattle.std.proofs.Common.{Some, sym, ap, ◌∙◌}
+use Rattle.msg_tables.proofs.ApplyLemmas.{refused-not_memory}
+use Rattle.msg_tables.proofs.tables.Tables.lacks_room.Goals as goal
+
+pub returns-in-Some-clause-memory : goal.returns-in-Some-clause-memory
+returns-in-Some-clause-memory c memory h stands = absurd (refused-not_memory h _ (sym (c.in-Some.ensures h stands) ∙ ap Some memory))
