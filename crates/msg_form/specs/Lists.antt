@@ -39,6 +39,7 @@ category_lists c = c.methods ∷ c.class_methods ∷ []
 abbrev pub method_lists : Form → List (List PairForm)
 method_lists f = flat_map class_lists f.classes ++ flat_map category_lists f.categories
 
+-- the method lists of a change: those of a category that it attaches
 abbrev pub change_lists : ChangeForm → List (List PairForm)
 change_lists (add m i) = []
 change_lists (replace m i) = []
@@ -120,6 +121,7 @@ body_objects f = flat_map (λ i. objects_in i.body) f.imps
 abbrev pub objects_named : Form → List Text
 objects_named f = body_objects f ++ flat_map item_objects f.items
 
+-- the implementations that a change names, its lists aside
 abbrev pub change_imps : ChangeForm → List Text
 change_imps (add m i) = i ∷ []
 change_imps (replace m i) = i ∷ []

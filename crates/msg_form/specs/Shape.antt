@@ -127,6 +127,7 @@ worded_change_of word ds =
     (if is_word word (codes "make") then make_of ds else
     None)))))
 
+-- X, by its word
 unfoldable pub change_form_of : Data → Option ChangeForm
 change_form_of d = do
   ds ← list_at d

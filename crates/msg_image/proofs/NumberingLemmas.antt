@@ -1,6 +1,7 @@
 -- Names that are numbered one after another.
-use Rattle.std.proofs.Common.{◌≡◌, ℕ, List, [], map, drop, refl}
+use Rattle.std.proofs.Common.{◌≡◌, ◌<◌, ◌≤◌, ◌+◌, ℕ, List, [], ◌∷◌, map, drop, drop-cons, add-one, get_or, suc, length, refl, sym, ap, ◌∙◌}
 use Rattle.std.specs.Prelude.{fold}
+use Rattle.std.proofs.lemmas.List.{drop_all}
 use Rattle.msg_names.specs.Numbering.{with_name}
 use Rattle.msg_form.specs.Text.{Text, distinct}
 

@@ -79,6 +79,7 @@ imp n i = record { home = record { class = class_named n i.class; meta = i.meta 
 abbrev pub class_ref : Numbers → MethodForm → ClassRef
 class_ref n m = record { class = class_named n m.class; meta = m.meta }
 
+-- a change with numbers for names
 abbrev pub change : Numbers → ChangeForm → Change
 change n (add m i) = changes.Add (class_ref n m) (selector_named n m.selector) (imp_named n i)
 change n (replace m i) = changes.Replace (class_ref n m) (selector_named n m.selector) (imp_named n i)
