@@ -10,6 +10,8 @@ pub data ItemParts : Type 0 where
   -- receiver, selector, arguments
   SendItem : Value → Selector → List Value → ItemParts
   ChangeItem : Change → ItemParts
+  -- changes that are made as one
+  ChangeAllItem : List Change → ItemParts
 
 -- a document: an image and what is to be done with it
 pub record DocumentParts : Type 0 where

@@ -2,7 +2,7 @@
 use Rattle.std.specs.Prelude.{ℕ, ◌*◌, List, [], ◌∷◌, Option, drop, length, map, string_bytes}
 use Rattle.msg_tables.specs.Attached.{categories_in}
 use Rattle.msg_tables.specs.Methods.{MethodsOf}
-use Rattle.msg_image.specs.Items.{ItemParts, SendItem, ChangeItem}
+use Rattle.msg_image.specs.Items.{ItemParts, SendItem, ChangeItem, ChangeAllItem}
 use Rattle.msg_image.specs.Parts.{Add, Sub, Mul, Eq, Lt, Expression, Expressions, Const, Me, Arg, Two, If, Send, Super, in_row, ClassParts, ObjectParts, ImpParts, ImageParts}
 use Rattle.msg_image.specs.declared.expr.Expr.{Expr, fold-Expr}
 use Rattle.msg_image.specs.declared.expr.Expr.TheOpen.{Expr-F}
@@ -62,3 +62,4 @@ image_parts i = record {
 abbrev pub item_parts : Item → ItemParts
 item_parts (items.Send r s args) = SendItem r s args.items
 item_parts (items.Change x) = ChangeItem x
+item_parts (items.ChangeAll xs) = ChangeAllItem xs.items

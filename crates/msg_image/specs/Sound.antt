@@ -13,7 +13,7 @@ use Rattle.msg_names.specs.declared.value.Selector.{Selector}
 use Rattle.msg_names.specs.declared.value.Value.{Value}
 use Rattle.msg_names.specs.declared.value.Value.TheVariants.{Number, Object, Class, Sel, Nil}
 use Rattle.msg_tables.specs.declared.origin.Category.{Category}
-use Rattle.msg_image.specs.Items.{ItemParts, SendItem, ChangeItem}
+use Rattle.msg_image.specs.Items.{ItemParts, SendItem, ChangeItem, ChangeAllItem}
 use Rattle.msg_image.specs.Parts.{ImageParts, class_total, ClassParts, ObjectParts, ImpParts, Expression, Expressions, Const, Me, Arg, Two, If, Send, Super, NoMore, More, superclass_in, superclasses}
 use Rattle.msg_image.specs.Contents.{own_selector, selectors_in, arguments_in, has_super_send}
 use Rattle.msg_image.specs.Sizes.{count, depth, arity}
@@ -126,3 +126,4 @@ IsSoundChange image (AddClass k d) = (k < class_total image) × IfSome d (λ e. 
 abbrev pub IsSoundItem : ImageParts → ItemParts → Type 0
 IsSoundItem image (SendItem r s args) = IsOf image r × All (IsOf image) args × Takes image s (length args) × All (HasSelector image) (flat_map own_selector (r ∷ args))
 IsSoundItem image (ChangeItem c) = IsSoundChange image c
+IsSoundItem image (ChangeAllItem cs) = All (IsSoundChange image) cs
