@@ -77,7 +77,7 @@ pub(crate) fn answer_share<'r, 'd, N: ArenaName, G: Gate, R: Wait>(
                 answer_one(asking, &mut replies, share, *receiver, *sel, args, place)?;
                 place += 1;
             }
-            Item::Change(_) => {}
+            Item::Change(_) | Item::ChangeAll(_) => {}
         }
         rest = later;
     }

@@ -1,11 +1,11 @@
 use Rattle.std.proofs.Common.{◌≡◌, [], map, ap, refl, ◌∙◌}
 use Rattle.std.proofs.lemmas.List.{nil_from_length}
-use Rattle.msg_image.specs.Items.{SendItem, ChangeItem}
+use Rattle.msg_image.specs.Items.{SendItem}
 use Rattle.msg_image.specs.Plain.{item_parts}
 use Rattle.msg_image.specs.Sound.{IsSoundItem}
 use Rattle.msg_runner.specs.Serving.{sends_of}
-use Rattle.msg_runner.proofs.ServingLemmas.{all_head}
-use Rattle.msg_runner.proofs.WrittenLemmas.{writing_start, writing_here, writing_send, writing_change, writing_end}
+use Rattle.msg_runner.proofs.ServingLemmas.{all_head, not_a_send}
+use Rattle.msg_runner.proofs.WrittenLemmas.{writing_start, writing_here, writing_send, writing_changes, writing_end}
 use Rattle.msg_runner.proofs.alone.answer_piece.Goals as goal
 
 pub loop-item-init : goal.loop-item-init
@@ -37,8 +37,8 @@ loop-item-preserved g c =
     let image = c.args.image.now in
     let front = c.args.asking.now.sender.seen.front in
     let all = sends_of image (map item_parts c.args.items.now) in
-    let here = writing_here image front all c.args.text.now.items c.loop-item.asking.sender.seen.front c.loop-item.rest.now c.loop-item.text.items c.in-Some.item.now (ChangeItem c.in-Change.field-0) c.in-Some.later.now c.loop-item.invariant c.in-Some.ensures.cases.0 (ap item_parts c.in-Change.is) in
-    writing_change image front all c.args.text.now.items c.loop-item.asking.sender.seen.front c.loop-item.text.items c.in-Change.field-0 (map item_parts c.in-Some.later.now) here
+    let here = writing_here image front all c.args.text.now.items c.loop-item.asking.sender.seen.front c.loop-item.rest.now c.loop-item.text.items c.in-Some.item.now (item_parts c.in-Some.item.now) c.in-Some.later.now c.loop-item.invariant c.in-Some.ensures.cases.0 refl in
+    writing_changes image front all c.args.text.now.items c.loop-item.asking.sender.seen.front c.loop-item.text.items (item_parts c.in-Some.item.now) (map item_parts c.in-Some.later.now) (not_a_send c.in-Some.item.now c.in-Change.is) here
 
 pub returns-clause-written : goal.returns-clause-written
 returns-clause-written g c =
