@@ -1,5 +1,5 @@
 -- What workers serve.
-use Rattle.std.proofs.Common.{◌≡◌, ◌≢◌, ◌<◌, ◌+◌, ◌⊎◌, inl, inr, ℕ, zero, suc, Bool, true, false, cond, Result, Ok, Err, List, [], ◌∷◌, ◌++◌, map, length, refl, sym, ap, ◌∙◌, subst, append_assoc, arith, Vec, Global}
+use Rattle.std.proofs.Common.{◌≡◌, ◌≢◌, ◌<◌, ◌+◌, ℕ, zero, suc, Bool, true, false, cond, Result, Ok, Err, List, [], ◌∷◌, ◌++◌, map, length, refl, sym, ap, ◌∙◌, subst, append_assoc, arith}
 use Rattle.std.specs.Prelude.{All, ◌==◌, IfOk, MatchResult}
 use Rattle.std.proofs.lemmas.List.{append-nil}
 use mathlib.Core.Logic.{dite}
@@ -8,7 +8,6 @@ use Rattle.msg_names.specs.declared.value.Selector.{Selector}
 use Rattle.msg_names.specs.declared.value.Value.{Value}
 use Rattle.msg_image.specs.declared.change.Item.{Item}
 use Rattle.msg_image.specs.declared.change.Item.TheVariants as items
-use Rattle.msg_tables.specs.declared.change.Change.{Change}
 use Rattle.msg_image.specs.Plain.{item_parts}
 use Rattle.msg_image.specs.Sound.{IsSoundItem}
 use Rattle.msg_eval.specs.Evaluation.{send_of}
@@ -56,9 +55,10 @@ pub all_tail : (P : ItemParts → Type 0) (x : ItemParts) (xs : List ItemParts) 
 all_tail P x xs all = λ i y lt. all (suc i) y (omega (arith, lt))
 
 -- what isn't a send, as code that looks at an item sees it
-pub not_a_send : (item : Item) → ((x : Change) × (item ≡ items.Change x)) ⊎ ((xs : Vec Change Global) × (item ≡ items.ChangeAll xs)) → is_send (item_parts item) ≡ false
-not_a_send item (inl (x, is)) = ap (λ (i : Item). is_send (item_parts i)) is
-not_a_send item (inr (xs, is)) = ap (λ (i : Item). is_send (item_parts i)) is
+pub not_a_send : (item : Item) → ((r : Value) (s : Selector) (args : _) → item ≢ items.Send r s args) → is_send (item_parts item) ≡ false
+not_a_send (items.Send r s args) other = absurd (other r s args refl)
+not_a_send (items.Change x) other = refl
+not_a_send (items.ChangeAll xs) other = refl
 
 -- a worker is at a place, with these items left, and with these replies done
 pub record IsServing (image : ImageParts) (who : ℕ → ℕ) (me : ℕ) (h0 : History) (start : List Meaning) (h : History) (place : ℕ) (rest : List ItemParts) (done : List Reply) : Type 0 where

@@ -41,16 +41,14 @@ fn answer_piece<'r, 'd, N: ArenaName, G: Gate, R: Wait>(
 {
     let mut rest = items;
     while let Some((item, later)) = rest.split_first() {
-        match item {
-            Item::Send {
-                receiver,
-                sel,
-                args,
-            } => {
-                let reply = send(asking, image, *receiver, *sel, args);
-                push_reply(text, image, reply)?;
-            }
-            Item::Change(_) | Item::ChangeAll(_) => {}
+        if let Item::Send {
+            receiver,
+            sel,
+            args,
+        } = item
+        {
+            let reply = send(asking, image, *receiver, *sel, args);
+            push_reply(text, image, reply)?;
         }
         rest = later;
     }

@@ -23,14 +23,14 @@ send-reply-requires-clause-args_of g c =
     let here = writing_here image c.args.asking.now.sender.seen.front (sends_of image (map item_parts c.args.items.now)) c.args.text.now.items c.loop-item.asking.sender.seen.front c.loop-item.rest.now c.loop-item.text.items c.in-Some.item.now (SendItem c.in-Send.receiver c.in-Send.sel c.in-Send.args.items) c.in-Some.later.now c.loop-item.invariant c.in-Some.ensures.cases.0 (ap item_parts c.in-Send.is) in
     (all_head (IsSoundItem image) (SendItem c.in-Send.receiver c.in-Send.sel c.in-Send.args.items) (map item_parts c.in-Some.later.now) here.sound).1
 
-pub loop-item-preserved-in_ok-push_reply-in-Send : goal.loop-item-preserved-in_ok-push_reply-in-Send
-loop-item-preserved-in_ok-push_reply-in-Send g c =
+pub loop-item-preserved-in_ok-push_reply : goal.loop-item-preserved-in_ok-push_reply
+loop-item-preserved-in_ok-push_reply g c =
     let image = c.args.image.now in
     let front = c.args.asking.now.sender.seen.front in
     let all = sends_of image (map item_parts c.args.items.now) in
     let here = writing_here image front all c.args.text.now.items c.loop-item.asking.sender.seen.front c.loop-item.rest.now c.loop-item.text.items c.in-Some.item.now (SendItem c.in-Send.receiver c.in-Send.sel c.in-Send.args.items) c.in-Some.later.now c.loop-item.invariant c.in-Some.ensures.cases.0 (ap item_parts c.in-Send.is) in
     let x = c.send-reply.ensures.meaning c.loop-item.asking.sender.seen.front refl in
-    writing_send image front all c.args.text.now.items c.loop-item.asking.sender.seen.front c.send-reply.new.finder.sender.seen.front c.loop-item.text.items c.push_reply.new.text.items c.in-Send.receiver c.in-Send.sel c.in-Send.args.items (map item_parts c.in-Some.later.now) x.points c.send-reply.result here (c.send-reply.ensures.kept ∙ here.same) x.rise x.ends x.there c.in_ok-push_reply-in-Send.ensures
+    writing_send image front all c.args.text.now.items c.loop-item.asking.sender.seen.front c.send-reply.new.finder.sender.seen.front c.loop-item.text.items c.push_reply.new.text.items c.in-Send.receiver c.in-Send.sel c.in-Send.args.items (map item_parts c.in-Some.later.now) x.points c.send-reply.result here (c.send-reply.ensures.kept ∙ here.same) x.rise x.ends x.there c.in_ok-push_reply.ensures
 
 pub loop-item-preserved : goal.loop-item-preserved
 loop-item-preserved g c =
@@ -38,7 +38,7 @@ loop-item-preserved g c =
     let front = c.args.asking.now.sender.seen.front in
     let all = sends_of image (map item_parts c.args.items.now) in
     let here = writing_here image front all c.args.text.now.items c.loop-item.asking.sender.seen.front c.loop-item.rest.now c.loop-item.text.items c.in-Some.item.now (item_parts c.in-Some.item.now) c.in-Some.later.now c.loop-item.invariant c.in-Some.ensures.cases.0 refl in
-    writing_changes image front all c.args.text.now.items c.loop-item.asking.sender.seen.front c.loop-item.text.items (item_parts c.in-Some.item.now) (map item_parts c.in-Some.later.now) (not_a_send c.in-Some.item.now c.in-Change.is) here
+    writing_changes image front all c.args.text.now.items c.loop-item.asking.sender.seen.front c.loop-item.text.items (item_parts c.in-Some.item.now) (map item_parts c.in-Some.later.now) (not_a_send c.in-Some.item.now c.in_default-item.not-Send) here
 
 pub returns-clause-written : goal.returns-clause-written
 returns-clause-written g c =
