@@ -1,18 +1,18 @@
 -- From what workers served to the answers of one thread.
-use Rattle.std.proofs.Common.{◌≡◌, ◌<◌, ◌≤◌, ◌+◌, ◌⊎◌, ℕ, suc, List, [], ◌∷◌, ◌++◌, map, length, Option, refl, sym, ap, ap₂, ◌∙◌, subst, append_assoc, arith, length-append, inl, inr}
+use Rattle.std.proofs.Common.{◌≡◌, ◌<◌, ◌≤◌, ◌+◌, ◌⊎◌, ℕ, suc, List, [], ◌∷◌, ◌++◌, map, length, refl, sym, ap, ap₂, ◌∙◌, subst, append_assoc, arith, length-append, inl, inr}
 use Rattle.std.proofs.lemmas.List.{length-map}
-use Rattle.msg_image.specs.Items.{ItemParts, SendItem, ChangeItem}
+use Rattle.msg_image.specs.Items.{ItemParts, SendItem}
 use Rattle.msg_image.specs.Parts.{ImageParts}
 use Rattle.msg_tables.specs.History.{History, BeginsWith}
-use Rattle.msg_tables.specs.declared.fault.ChangeFault.{ChangeFault}
 use Rattle.msg_eval.specs.declared.reply.Reply.{Reply}
 use Rattle.msg_eval.specs.Evaluation.{send_of}
 use Rattle.msg_eval.specs.Meaning.{Meaning}
 use Rattle.msg_eval.specs.Points.{Rise, last_of, AllAre, plain_reply}
 use Rattle.msg_eval.proofs.PointLemmas.{all_one, plain_only}
 use Rattle.msg_runner.specs.Serial.{Answer, Replied, answer_at, history_after, serial_from}
-use Rattle.msg_runner.specs.Serving.{sends_of, history_of, refusals_of, woven, Served, share_of, count_of, at_worker, IsGathered, IsServed, IsAnswered, AllSends, IsOneChange}
+use Rattle.msg_runner.specs.Serving.{sends_of, history_of, outcomes_of, woven, Served, share_of, count_of, at_worker, IsGathered, IsServed, IsAnswered, AllSends, IsOneChange}
 use Rattle.msg_runner.specs.Text.{text_of, answer_line}
+use Rattle.msg_runner.specs.declared.changes.Outcome.{Outcome}
 use Rattle.msg_runner.proofs.GatherLemmas.{shares_same, share_count, share_map}
 
 -- ---- points that rise no further
@@ -58,7 +58,7 @@ served_count h (m ∷ ms) (r ∷ rs) last s = ap suc (served_count (last_of h s.
 
 -- ---- what was served and gathered is answered
 
-module _ (image : ImageParts) (who : ℕ → ℕ) (workers : ℕ) (h : History) (items : List ItemParts) (lists : List (List Reply)) (outcomes : List (Option ChangeFault)) (now : History) where
+module _ (image : ImageParts) (who : ℕ → ℕ) (workers : ℕ) (h : History) (items : List ItemParts) (lists : List (List Reply)) (outcomes : List Outcome) (now : History) where
   pub served_counts : IsServed image who workers h items lists outcomes now → (w : ℕ) → w < workers → length (at_worker lists w) ≡ count_of who w 0 (length (sends_of image items))
   served_counts served w below =
       let (last, s, b) = served.each w below in
@@ -74,23 +74,23 @@ module _ (image : ImageParts) (who : ℕ → ℕ) (workers : ℕ) (h : History) 
         (last, subst (λ rs. Served h (share_of who w 0 (sends_of image items)) rs last) (sym (gathered.shares w below)) s, subst (λ k. BeginsWith k last) served.history b);
   }
 
--- ---- sends alone, or one change
+-- ---- sends alone, or one item of changes
 
 pub sends_stay : (h : History) (items : List ItemParts) → AllSends items → history_of h items ≡ h
 sends_stay h [] all = refl
 sends_stay h (SendItem r s args ∷ items) all = sends_stay h items all
-sends_stay h (ChangeItem x ∷ items) all = absurd all
+sends_stay h (changes ∷ items) all = absurd all
 
-sends_serial : (image : ImageParts) (h : History) (items : List ItemParts) (os : List (Option ChangeFault)) → AllSends items → woven items (map (plain_reply h) (sends_of image items)) os ≡ serial_from image h items
+sends_serial : (image : ImageParts) (h : History) (items : List ItemParts) (os : List Outcome) → AllSends items → woven items (map (plain_reply h) (sends_of image items)) os ≡ serial_from image h items
 sends_serial image h [] os all = refl
 sends_serial image h (SendItem r s args ∷ items) os all = ap (λ zs. Replied (plain_reply h (send_of image r s args)) ∷ zs) (sends_serial image h items os all)
-sends_serial image h (ChangeItem x ∷ items) os all = absurd all
+sends_serial image h (changes ∷ items) os all = absurd all
 
-change_serial : (image : ImageParts) (h : History) (items : List ItemParts) (replies : List Reply) → IsOneChange items → length replies ≡ length (sends_of image items) → woven items replies (refusals_of h items) ≡ serial_from image h items
+change_serial : (image : ImageParts) (h : History) (items : List ItemParts) (replies : List Reply) → IsOneChange items → length replies ≡ length (sends_of image items) → woven items replies (outcomes_of h items) ≡ serial_from image h items
 change_serial image h [] replies one count = absurd one
 change_serial image h (SendItem r s args ∷ items) replies one count = absurd one
-change_serial image h (ChangeItem x ∷ []) replies one count = refl
-change_serial image h (ChangeItem x ∷ item ∷ items) replies one count = absurd (cc one)
+change_serial image h (changes ∷ []) replies one count = refl
+change_serial image h (changes ∷ item ∷ items) replies one count = absurd (cc one)
 
 -- the lines of sends that were answered are those of one thread
 pub answers_serial : (image : ImageParts) (who : ℕ → ℕ) (workers : ℕ) (h : History) (items : List ItemParts) (old new : List ℕ) → ((i : ℕ) → who i < workers) → AllSends items ⊎ IsOneChange items
@@ -101,7 +101,7 @@ answers_serial image who workers h items old new few (inl all) a =
     λ w below. let (last, s, b) = a.points w below in
     served_plain h (share_of who w 0 sends) (share_of who w 0 a.replies) last s (subst (λ k. BeginsWith k last) (sends_stay h items all) b) ∙ sym (share_map (plain_reply h) who w 0 sends) in
     let is : a.replies ≡ map (plain_reply h) sends = shares_same who workers few 0 a.replies (map (plain_reply h) sends) (a.count ∙ sym (length-map sends (plain_reply h))) each in
-    a.text ∙ ap (λ rs. old ++ text_of image (woven items rs (refusals_of h items))) is ∙ ap (λ zs. old ++ text_of image zs) (sends_serial image h items (refusals_of h items) all)
+    a.text ∙ ap (λ rs. old ++ text_of image (woven items rs (outcomes_of h items))) is ∙ ap (λ zs. old ++ text_of image zs) (sends_serial image h items (outcomes_of h items) all)
 answers_serial image who workers h items old new few (inr one) a =
     a.text ∙ ap (λ zs. old ++ text_of image zs) (change_serial image h items a.replies one a.count)
 

@@ -1,20 +1,19 @@
 -- Taking the workers' replies in the order of the places.
-use Rattle.std.proofs.Common.{◌≡◌, ◌≢◌, ◌<◌, ◌+◌, ℕ, zero, suc, Bool, true, false, cond, List, [], ◌∷◌, ◌++◌, map, drop, length, Option, Some, slice_get, refl, sym, ap, ap₂, ◌∙◌, subst, append_assoc, arith, eq-eqb, add-one, length-set}
+use Rattle.std.proofs.Common.{◌≡◌, ◌≢◌, ◌<◌, ◌+◌, ℕ, zero, suc, Bool, true, false, cond, List, [], ◌∷◌, ◌++◌, map, drop, length, Some, slice_get, refl, sym, ap, ap₂, ◌∙◌, subst, append_assoc, arith, eq-eqb, add-one, length-set}
 use Rattle.std.specs.Prelude.{◌==◌, slice_index, slice_set}
 use Rattle.std.proofs.lemmas.List.{append-nil, drop_all, get_or-set_same, get_or-set_other}
 use Rattle.std.proofs.lemmas.Bool.{eqb-true, eqb-false}
 use Rattle.msg_eval.specs.declared.reply.Reply.{Reply}
 use Rattle.msg_names.specs.declared.value.Selector.{Selector}
 use Rattle.msg_names.specs.declared.value.Value.{Value}
-use Rattle.msg_tables.specs.declared.change.Change.{Change}
 use Rattle.msg_image.specs.declared.change.Item.{Item}
-use Rattle.msg_image.specs.Items.{ItemParts, SendItem, ChangeItem}
+use Rattle.msg_image.specs.Items.{ItemParts, SendItem}
 use Rattle.msg_image.specs.Parts.{ImageParts}
 use Rattle.msg_image.specs.Plain.{item_parts}
-use Rattle.msg_tables.specs.declared.fault.ChangeFault.{ChangeFault}
-use Rattle.msg_runner.specs.Serial.{Replied, answer_to_change}
-use Rattle.msg_runner.specs.Serving.{share_of, count_of, sends_of, woven, at_worker, IsGathered}
+use Rattle.msg_runner.specs.Serial.{Changed, Replied}
+use Rattle.msg_runner.specs.Serving.{is_send, share_of, count_of, sends_of, woven, at_worker, IsGathered}
 use Rattle.msg_runner.specs.Text.{answer_line, text_of}
+use Rattle.msg_runner.specs.declared.changes.Outcome.{Outcome}
 
 drop_get : (xs : List Reply) (t : ℕ) (x : Reply) → slice_get xs t ≡ Some x → drop t xs ≡ x ∷ drop (suc t) xs
 drop_get [] t x e = absurd (cc)
@@ -100,13 +99,13 @@ share_map f who w i (x ∷ xs) = at_test (who i == w) (share_map f who w (i + 1)
     at_test false e = e
 
 -- the lines so far, and those of the items left
-pub record IsGathering (image : ImageParts) (who : ℕ → ℕ) (workers : ℕ) (all : List ItemParts) (lists : List (List Reply)) (outcomes : List (Option ChangeFault)) (old : List ℕ) (taken : List ℕ) (place : ℕ) (rest : List ItemParts) (left : List (Option ChangeFault)) (text : List ℕ) : Type 0 where
+pub record IsGathering (image : ImageParts) (who : ℕ → ℕ) (workers : ℕ) (all : List ItemParts) (lists : List (List Reply)) (outcomes : List Outcome) (old : List ℕ) (taken : List ℕ) (place : ℕ) (rest : List ItemParts) (left : List Outcome) (text : List ℕ) : Type 0 where
   pub cursors : length taken ≡ workers
   pub counted : Counted who workers (at_worker lists) (slice_index taken) place (length (sends_of image rest))
   pub goes_on : (later : List Reply) → length later ≡ length (sends_of image rest) → Left who workers (at_worker lists) (slice_index taken) place later
       → (whole : List Reply) × (length whole ≡ length (sends_of image all)) × Left who workers (at_worker lists) (λ _. 0) 0 whole × (old ++ text_of image (woven all whole outcomes) ≡ text ++ text_of image (woven rest later left))
 
-module _ (image : ImageParts) (who : ℕ → ℕ) (workers : ℕ) (all : List ItemParts) (lists : List (List Reply)) (outcomes : List (Option ChangeFault)) (old : List ℕ) where
+module _ (image : ImageParts) (who : ℕ → ℕ) (workers : ℕ) (all : List ItemParts) (lists : List (List Reply)) (outcomes : List Outcome) (old : List ℕ) where
   pub gathering_start : (taken : List ℕ) → length taken ≡ workers → ((w : ℕ) → slice_index taken w ≡ 0)
       → ((w : ℕ) → w < workers → length (at_worker lists w) ≡ count_of who w 0 (length (sends_of image all)))
       → IsGathering image who workers all lists outcomes old taken 0 all outcomes old
@@ -117,13 +116,13 @@ module _ (image : ImageParts) (who : ℕ → ℕ) (workers : ℕ) (all : List It
   }
 
   -- there is a reply for the send at a place
-  pub gathering_room : (taken : List ℕ) (place : ℕ) (r : Value) (s : Selector) (args : List Value) (rest : List ItemParts) (left : List (Option ChangeFault)) (text : List ℕ) (v at : ℕ)
+  pub gathering_room : (taken : List ℕ) (place : ℕ) (r : Value) (s : Selector) (args : List Value) (rest : List ItemParts) (left : List Outcome) (text : List ℕ) (v at : ℕ)
       → IsGathering image who workers all lists outcomes old taken place (SendItem r s args ∷ rest) left text → v ≡ who place → at ≡ slice_index taken v → v < workers → at < length (at_worker lists v)
   gathering_room taken place r s args rest left text v at so_far is at_is below =
       let here = room who workers (at_worker lists) (slice_index taken) place (length (sends_of image rest)) so_far.counted (subst (λ k. k < workers) is below) in
       subst (λ k. k < length (at_worker lists v)) (sym at_is) (subst (λ k. slice_index taken k < length (at_worker lists k)) (sym is) here)
 
-  pub gathering_send : (taken : List ℕ) (place : ℕ) (r : Value) (s : Selector) (args : List Value) (rest : List ItemParts) (left : List (Option ChangeFault)) (text more : List ℕ) (v at : ℕ) (reply : Reply)
+  pub gathering_send : (taken : List ℕ) (place : ℕ) (r : Value) (s : Selector) (args : List Value) (rest : List ItemParts) (left : List Outcome) (text more : List ℕ) (v at : ℕ) (reply : Reply)
       → IsGathering image who workers all lists outcomes old taken place (SendItem r s args ∷ rest) left text → v ≡ who place → at ≡ slice_index taken v → v < workers
       → slice_get (at_worker lists v) at ≡ Some reply → more ≡ text ++ answer_line image (Replied reply)
       → IsGathering image who workers all lists outcomes old (slice_set taken v (at + 1)) (place + 1) rest left more
@@ -141,28 +140,30 @@ module _ (image : ImageParts) (who : ℕ → ℕ) (workers : ℕ) (all : List It
             (whole, count, shares, same ∙ sym (append_assoc text (answer_line image (Replied reply)) (text_of image (woven rest later left))) ∙ ap (λ t. t ++ text_of image (woven rest later left)) (sym grown));
       }
 
-  pub gathering_change : (taken : List ℕ) (place : ℕ) (x : Change) (rest : List ItemParts) (o : Option ChangeFault) (left : List (Option ChangeFault)) (text more : List ℕ)
-      → IsGathering image who workers all lists outcomes old taken place (ChangeItem x ∷ rest) (o ∷ left) text → more ≡ text ++ answer_line image (answer_to_change o)
+  pub gathering_changes : (taken : List ℕ) (place : ℕ) (p : ItemParts) (rest : List ItemParts) (o : Outcome) (left : List Outcome) (text more : List ℕ)
+      → IsGathering image who workers all lists outcomes old taken place (p ∷ rest) (o ∷ left) text → is_send p ≡ false → more ≡ text ++ answer_line image (Changed o)
       → IsGathering image who workers all lists outcomes old taken place rest left more
-  gathering_change taken place x rest o left text more so_far grown = record {
+  gathering_changes taken place (SendItem r s args) rest o left text more so_far not_send grown = absurd (cc not_send)
+  gathering_changes taken place changes rest o left text more so_far not_send grown = record {
     cursors = so_far.cursors;
     counted = so_far.counted;
     goes_on = λ later len lft.
         let (whole, count, shares, same) = so_far.goes_on later len lft in
-        (whole, count, shares, same ∙ sym (append_assoc text (answer_line image (answer_to_change o)) (text_of image (woven rest later left))) ∙ ap (λ t. t ++ text_of image (woven rest later left)) (sym grown));
+        (whole, count, shares, same ∙ sym (append_assoc text (answer_line image (Changed o)) (text_of image (woven rest later left))) ∙ ap (λ t. t ++ text_of image (woven rest later left)) (sym grown));
   }
 
-  pub gathering_none : (taken : List ℕ) (place : ℕ) (x : Change) (rest : List ItemParts) (text : List ℕ)
-      → IsGathering image who workers all lists outcomes old taken place (ChangeItem x ∷ rest) [] text → IsGathering image who workers all lists outcomes old taken place rest [] text
-  gathering_none taken place x rest text so_far = record { cursors = so_far.cursors; counted = so_far.counted; goes_on = so_far.goes_on }
+  pub gathering_none : (taken : List ℕ) (place : ℕ) (p : ItemParts) (rest : List ItemParts) (text : List ℕ)
+      → IsGathering image who workers all lists outcomes old taken place (p ∷ rest) [] text → is_send p ≡ false → IsGathering image who workers all lists outcomes old taken place rest [] text
+  gathering_none taken place (SendItem r s args) rest text so_far not_send = absurd (cc not_send)
+  gathering_none taken place changes rest text so_far not_send = record { cursors = so_far.cursors; counted = so_far.counted; goes_on = so_far.goes_on }
 
-  pub gathering_end : (taken : List ℕ) (place : ℕ) (left : List (Option ChangeFault)) (text : List ℕ) → IsGathering image who workers all lists outcomes old taken place [] left text
+  pub gathering_end : (taken : List ℕ) (place : ℕ) (left : List Outcome) (text : List ℕ) → IsGathering image who workers all lists outcomes old taken place [] left text
       → IsGathered image who workers all lists outcomes old text
   gathering_end taken place left text so_far =
       let (whole, count, shares, same) = so_far.goes_on [] refl (left_at_end who workers (at_worker lists) (slice_index taken) place so_far.counted) in
       record { replies = whole; count = count; shares = shares; text = sym (append-nil text) ∙ sym same }
 
   -- the same under the names that the code has
-  pub gathering_here : (taken : List ℕ) (place : ℕ) (rest : List Item) (left : List (Option ChangeFault)) (text : List ℕ) (item : Item) (x : ItemParts) (later : List Item)
+  pub gathering_here : (taken : List ℕ) (place : ℕ) (rest : List Item) (left : List Outcome) (text : List ℕ) (item : Item) (x : ItemParts) (later : List Item)
       → IsGathering image who workers all lists outcomes old taken place (map item_parts rest) left text → rest ≡ item ∷ later → item_parts item ≡ x → IsGathering image who workers all lists outcomes old taken place (x ∷ map item_parts later) left text
   gathering_here taken place rest left text item x later so_far is item_is = subst (λ xs. IsGathering image who workers all lists outcomes old taken place xs left text) (ap (map item_parts) is ∙ ap (λ y. y ∷ map item_parts later) item_is) so_far

@@ -1,24 +1,24 @@
 -- How many pieces there are, and whose.
-use Rattle.std.proofs.Common.{◌≡◌, ◌≢◌, ◌<◌, ◌≤◌, ◌+◌, ◌-◌, ◌*◌, ◌/◌, ◌%◌, ◌⊎◌, ℕ, zero, suc, Bool, true, false, cond, List, [], ◌∷◌, map, length, min, Option, Some, None, refl, sym, ap, ap₂, ◌∙◌, subst, arith, inl, inr}
+use Rattle.std.proofs.Common.{◌≡◌, ◌≢◌, ◌<◌, ◌≤◌, ◌+◌, ◌-◌, ◌*◌, ◌/◌, ◌%◌, ◌⊎◌, ℕ, zero, suc, Bool, true, false, cond, List, [], ◌∷◌, map, length, min, refl, sym, ap, ap₂, ◌∙◌, subst, arith, inl, inr}
 use Rattle.std.specs.Prelude.{◌==◌, count_by}
 use Rattle.std.proofs.Math.Nat.{div-eq_of_lt, mod-eq_of_lt, div-eq-sub-div, mod-eq-sub-mod, mul-le-mul_left, mul-le-mul_right, div-lt_iff_lt-mul}
 use Rattle.std.proofs.lemmas.Bool.{ne_eqb, cases_lt}
 use Rattle.std.proofs.lemmas.Nat.{div-add-mod'}
 use Rattle.std.proofs.lemmas.Grind.{div_ceil_times}
 use Rattle.std.proofs.lemmas.List.Recursion.{is_count_by}
-use Rattle.msg_image.specs.Items.{ItemParts, SendItem, ChangeItem}
+use Rattle.msg_image.specs.Items.{ItemParts, SendItem}
 use Rattle.msg_image.specs.Parts.{ImageParts}
 use Rattle.msg_image.specs.Plain.{item_parts}
 use Rattle.msg_image.specs.declared.change.Item.{Item}
-use Rattle.msg_tables.specs.History.{History, BeginsWith, log}
-use Rattle.msg_tables.specs.Refusal.{refusal}
+use Rattle.msg_tables.specs.History.{History, BeginsWith}
 use Rattle.msg_tables.specs.declared.change.Change.{Change}
-use Rattle.msg_tables.specs.declared.fault.ChangeFault.{ChangeFault}
 use Rattle.msg_cache.proofs.PastLemmas.{begins_refl, begins_next, begins_trans}
 use Rattle.msg_eval.specs.declared.reply.Reply.{Reply}
 use Rattle.msg_eval.specs.Meaning.{Meaning}
-use Rattle.msg_runner.specs.Serial.{longer_by}
+use Rattle.msg_runner.specs.Serial.{changes_in, history_after, longer_by, outcome_at}
 use Rattle.msg_runner.specs.Serving.{AllSends, IsOneChange, IsAnswered, AreAnswered, Served, history_of, is_send, pieces_of, sends_of, share_of, worker_of}
+use Rattle.msg_runner.specs.declared.changes.Outcome.{Outcome}
+use Rattle.msg_runner.specs.declared.changes.Outcome.TheVariants.{Made, Refused, RefusedAt}
 
 -- ---- how many
 
@@ -46,27 +46,28 @@ send_count image items = is_count_by (λ xs. length (sends_of image xs)) is_send
   where
     step : (x : ItemParts) (xs : List ItemParts) → length (sends_of image (x ∷ xs)) ≡ cond (is_send x) (1 + length (sends_of image xs)) (length (sends_of image xs))
     step (SendItem r s args) xs = omega arith
-    step (ChangeItem x) xs = refl
+    step changes xs = refl
 
 sends_length : (image : ImageParts) (items : List ItemParts) → AllSends items → length (sends_of image items) ≡ length items
 sends_length image [] all = refl
 sends_length image (SendItem r s args ∷ items) all = ap suc (sends_length image items all)
-sends_length image (ChangeItem x ∷ items) all = absurd all
+sends_length image (changes ∷ items) all = absurd all
 
 pub all_count : (image : ImageParts) (items : List ItemParts) → AllSends items → count_by is_send items ≡ length items
 all_count image items all = sym (send_count image items) ∙ sends_length image items all
 
 -- ---- the history after them
 
-longer_begins : (h : History) (x : Change) (r : Option ChangeFault) → BeginsWith (longer_by h x r) h
-longer_begins h x None = begins_next h (x ∷ [])
-longer_begins h x (Some f) = begins_refl h
+longer_begins : (h : History) (xs : List Change) (o : Outcome) → BeginsWith (longer_by h xs o) h
+longer_begins h [] Made = begins_refl h
+longer_begins h (x ∷ xs) Made = begins_next h (x ∷ xs)
+longer_begins h xs (Refused f) = begins_refl h
+longer_begins h xs (RefusedAt r) = begins_refl h
 
 items_begin : (h : History) (items : List ItemParts) → BeginsWith (history_of h items) h
 items_begin h [] = begins_refl h
-items_begin h (SendItem r s args ∷ items) = items_begin h items
-items_begin h (ChangeItem x ∷ items) =
-    let now = longer_by h x (refusal (log h) x) in begins_trans (history_of now items) now h (items_begin now items) (longer_begins h x (refusal (log h) x))
+items_begin h (item ∷ items) =
+    let now = history_after h item in begins_trans (history_of now items) now h (items_begin now items) (longer_begins h (changes_in item) (outcome_at h item))
 
 -- ---- whose they are
 

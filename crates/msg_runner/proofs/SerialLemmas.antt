@@ -1,19 +1,19 @@
 -- The answers so far, and those to the items that are left.
-use Rattle.std.proofs.Common.{◌≡◌, ◌<◌, ◌≤◌, ◌+◌, ℕ, suc, List, [], ◌∷◌, ◌++◌, append_assoc, add-one, drop-cons, drop, map, length, get_or, Option, Some, None, refl, sym, ap, ◌∙◌, subst, arith}
+use Rattle.std.proofs.Common.{◌≡◌, ◌<◌, ◌≤◌, ◌+◌, ℕ, suc, List, [], ◌∷◌, ◌++◌, append_assoc, add-one, drop-cons, drop, map, length, get_or, refl, sym, ap, ◌∙◌, subst, arith}
 use Rattle.std.specs.Prelude.{All}
 use Rattle.std.proofs.lemmas.List.{drop_all, append-nil, get_or-map, length-map}
 use Rattle.msg_tables.specs.declared.change.Change.{Change}
 use Rattle.msg_image.specs.declared.change.Item.{Item}
-use Rattle.msg_image.specs.Items.{ItemParts, SendItem, ChangeItem, DocumentParts}
+use Rattle.msg_image.specs.Items.{ItemParts, DocumentParts}
 use Rattle.msg_image.specs.Opened.{origin_of}
 use Rattle.msg_image.specs.Plain.{item_parts}
 use Rattle.msg_tables.specs.History.{History, empty, log}
-use Rattle.msg_tables.specs.Refusal.{refusal}
 use Rattle.msg_tables.specs.Stands.{StandsAt}
 use Rattle.msg_tables.specs.View.{TablesView}
-use Rattle.msg_tables.specs.declared.fault.ChangeFault.{ChangeFault}
-use Rattle.msg_runner.specs.Serial.{answer_at, history_after, longer_by, serial_from, serial}
+use Rattle.msg_runner.specs.Serial.{answer_at, changes_in, history_after, longer_by, outcome_at, serial_from, serial}
 use Rattle.msg_runner.specs.Text.{answer_line, text_of, output_of}
+use Rattle.msg_runner.specs.declared.changes.Outcome.{Outcome}
+use Rattle.msg_runner.specs.declared.changes.Outcome.TheVariants.{Made, Refused, RefusedAt}
 
 -- the tables stand at the history after the items before, and the text with the lines of those left is the whole
 pub record IsSoFar (d : DocumentParts) (tables : TablesView) (text : List ℕ) (left : List ItemParts) : Type 0 where
@@ -22,13 +22,14 @@ pub record IsSoFar (d : DocumentParts) (tables : TablesView) (text : List ℕ) (
   pub origin : history.origin ≡ origin_of d.image
   pub whole : text ++ text_of d.image (serial_from d.image history left) ≡ output_of d
 
-same_origin : (h : History) (x : Change) (r : Option ChangeFault) → (longer_by h x r).origin ≡ h.origin
-same_origin h x None = refl
-same_origin h x (Some f) = refl
+same_origin : (h : History) (xs : List Change) (o : Outcome) → (longer_by h xs o).origin ≡ h.origin
+same_origin h [] Made = refl
+same_origin h (x ∷ xs) Made = refl
+same_origin h xs (Refused f) = refl
+same_origin h xs (RefusedAt r) = refl
 
 pub origin_after : (h : History) (item : ItemParts) → (history_after h item).origin ≡ h.origin
-origin_after h (SendItem r s args) = refl
-origin_after h (ChangeItem x) = same_origin h x (refusal (log h) x)
+origin_after h item = same_origin h (changes_in item) (outcome_at h item)
 
 pub step : (d : DocumentParts) (old new : TablesView) (text more : List ℕ) (item : ItemParts) (left : List ItemParts) (so_far : IsSoFar d old text (item ∷ left))
     → (more ≡ text ++ answer_line d.image (answer_at d.image so_far.history item)) × StandsAt new (log (history_after so_far.history item)) → IsSoFar d new more left

@@ -6,12 +6,12 @@ use mathlib.Core.Logic.{dite}
 use native.Mathlib.Decide.{ℕ_discrete}
 use Rattle.msg_names.specs.declared.value.Selector.{Selector}
 use Rattle.msg_names.specs.declared.value.Value.{Value}
-use Rattle.msg_tables.specs.declared.change.Change.{Change}
 use Rattle.msg_image.specs.declared.change.Item.{Item}
+use Rattle.msg_image.specs.declared.change.Item.TheVariants as items
 use Rattle.msg_image.specs.Plain.{item_parts}
 use Rattle.msg_image.specs.Sound.{IsSoundItem}
 use Rattle.msg_eval.specs.Evaluation.{send_of}
-use Rattle.msg_image.specs.Items.{ItemParts, SendItem, ChangeItem}
+use Rattle.msg_image.specs.Items.{ItemParts, SendItem}
 use Rattle.msg_image.specs.Opened.{origin_of}
 use Rattle.msg_image.specs.Parts.{ImageParts}
 use Rattle.msg_tables.specs.History.{History, BeginsWith}
@@ -19,7 +19,7 @@ use Rattle.msg_cache.proofs.PastLemmas.{begins_refl, begins_trans}
 use Rattle.msg_eval.specs.declared.reply.Reply.{Reply}
 use Rattle.msg_eval.specs.Meaning.{Meaning}
 use Rattle.msg_eval.specs.Points.{Rise, last_of}
-use Rattle.msg_runner.specs.Serving.{Goes, Served, share_of, sends_of, at_worker}
+use Rattle.msg_runner.specs.Serving.{Goes, Served, is_send, share_of, sends_of, at_worker}
 
 -- points that rise from a later history rise from an earlier one
 pub rise_from : (h k : History) (points : List History) → BeginsWith k h → Rise k points → Rise h points × BeginsWith (last_of k points) (last_of h points)
@@ -54,6 +54,12 @@ all_head P x xs all = all 0 x (omega arith)
 pub all_tail : (P : ItemParts → Type 0) (x : ItemParts) (xs : List ItemParts) → All P (x ∷ xs) → All P xs
 all_tail P x xs all = λ i y lt. all (suc i) y (omega (arith, lt))
 
+-- what isn't a send, as code that looks at an item sees it
+pub not_a_send : (item : Item) → ((r : Value) (s : Selector) (args : _) → item ≢ items.Send r s args) → is_send (item_parts item) ≡ false
+not_a_send (items.Send r s args) other = absurd (other r s args refl)
+not_a_send (items.Change x) other = refl
+not_a_send (items.ChangeAll xs) other = refl
+
 -- a worker is at a place, with these items left, and with these replies done
 pub record IsServing (image : ImageParts) (who : ℕ → ℕ) (me : ℕ) (h0 : History) (start : List Meaning) (h : History) (place : ℕ) (rest : List ItemParts) (done : List Reply) : Type 0 where
   pub same : h.origin ≡ origin_of image
@@ -74,10 +80,11 @@ module _ (image : ImageParts) (who : ℕ → ℕ) (me : ℕ) (h0 : History) (sta
     serves = serve_step h0 start (who place == me) h now (send_of image r s args) (share_of who me (place + 1) (sends_of image later)) done more goes so_far.serves;
   }
 
-  pub serving_change : (h : History) (place : ℕ) (done : List Reply) (x : Change) (later : List ItemParts) → IsServing image who me h0 start h place (ChangeItem x ∷ later) done → IsServing image who me h0 start h place later done
-  serving_change h place done x later so_far = record {
+  pub serving_changes : (h : History) (place : ℕ) (done : List Reply) (p : ItemParts) (later : List ItemParts) → is_send p ≡ false → IsServing image who me h0 start h place (p ∷ later) done → IsServing image who me h0 start h place later done
+  serving_changes h place done (SendItem r s args) later not_send so_far = absurd (cc not_send)
+  serving_changes h place done changes later not_send so_far = record {
     same = so_far.same;
-    sound = all_tail (IsSoundItem image) (ChangeItem x) later so_far.sound;
+    sound = all_tail (IsSoundItem image) changes later so_far.sound;
     serves = so_far.serves;
   }
 

@@ -1,15 +1,14 @@
 -- Lines that were written one after another.
-use Rattle.std.proofs.Common.{◌≡◌, ℕ, List, [], ◌∷◌, ◌++◌, map, refl, sym, ap, ◌∙◌, subst, append_assoc}
+use Rattle.std.proofs.Common.{◌≡◌, ℕ, false, List, [], ◌∷◌, ◌++◌, map, refl, sym, ap, ◌∙◌, subst, append_assoc}
 use Rattle.std.specs.Prelude.{All}
 use Rattle.std.proofs.lemmas.List.{append-nil}
 use Rattle.msg_names.specs.declared.value.Selector.{Selector}
 use Rattle.msg_names.specs.declared.value.Value.{Value}
-use Rattle.msg_image.specs.Items.{ItemParts, SendItem, ChangeItem}
+use Rattle.msg_image.specs.Items.{ItemParts, SendItem}
 use Rattle.msg_image.specs.Opened.{origin_of}
 use Rattle.msg_image.specs.Parts.{ImageParts}
 use Rattle.msg_image.specs.Plain.{item_parts}
 use Rattle.msg_image.specs.Sound.{IsSoundItem}
-use Rattle.msg_tables.specs.declared.change.Change.{Change}
 use Rattle.msg_image.specs.declared.change.Item.{Item}
 use Rattle.msg_tables.specs.History.{History, BeginsWith}
 use Rattle.msg_eval.specs.declared.reply.Reply.{Reply}
@@ -17,7 +16,7 @@ use Rattle.msg_eval.specs.Evaluation.{send_of}
 use Rattle.msg_eval.specs.Meaning.{Meaning}
 use Rattle.msg_eval.specs.Points.{Rise, EndsAfter, last_of, plain_reply}
 use Rattle.msg_runner.specs.Serial.{Replied, serial_from}
-use Rattle.msg_runner.specs.Serving.{AllSends, Served, sends_of}
+use Rattle.msg_runner.specs.Serving.{AllSends, Served, is_send, sends_of}
 use Rattle.msg_runner.specs.Text.{text_of, answer_line}
 use Rattle.msg_runner.specs.Written.{AreWritten}
 use Rattle.msg_runner.proofs.AnsweredLemmas.{served_plain, text_split}
@@ -76,12 +75,12 @@ writing_start image h items text same sound = record { same = same; sound = soun
 pub sends_split : (image : ImageParts) (xs ys : List ItemParts) → sends_of image (xs ++ ys) ≡ sends_of image xs ++ sends_of image ys
 sends_split image [] ys = refl
 sends_split image (SendItem r s args ∷ xs) ys = ap (λ z. send_of image r s args ∷ z) (sends_split image xs ys)
-sends_split image (ChangeItem x ∷ xs) ys = sends_split image xs ys
+sends_split image (changes ∷ xs) ys = sends_split image xs ys
 
 plain_serial : (image : ImageParts) (h : History) (items : List ItemParts) → AllSends items → map Replied (map (plain_reply h) (sends_of image items)) ≡ serial_from image h items
 plain_serial image h [] all = refl
 plain_serial image h (SendItem r s args ∷ items) all = ap (λ zs. Replied (plain_reply h (send_of image r s args)) ∷ zs) (plain_serial image h items all)
-plain_serial image h (ChangeItem x ∷ items) all = absurd all
+plain_serial image h (changes ∷ items) all = absurd all
 
 -- where the last history is no longer, the lines are those of one thread
 pub written_serial : (image : ImageParts) (h last : History) (items : List ItemParts) (old new : List ℕ) → AllSends items → BeginsWith h last
@@ -119,8 +118,9 @@ module _ (image : ImageParts) (h0 : History) (all : List Meaning) (old : List �
     goes_on = λ last new w. so_far.goes_on last new (one_written image h now (send_of image r s args) (sends_of image later) reply points last text more new rise ends is grown w);
   }
 
-  pub writing_change : (h : History) (text : List ℕ) (x : Change) (later : List ItemParts) → IsWriting image h0 all old h (ChangeItem x ∷ later) text → IsWriting image h0 all old h later text
-  writing_change h text x later so_far = record { same = so_far.same; sound = all_tail (IsSoundItem image) (ChangeItem x) later so_far.sound; goes_on = so_far.goes_on }
+  pub writing_changes : (h : History) (text : List ℕ) (p : ItemParts) (later : List ItemParts) → is_send p ≡ false → IsWriting image h0 all old h (p ∷ later) text → IsWriting image h0 all old h later text
+  writing_changes h text (SendItem r s args) later not_send so_far = absurd (cc not_send)
+  writing_changes h text changes later not_send so_far = record { same = so_far.same; sound = all_tail (IsSoundItem image) changes later so_far.sound; goes_on = so_far.goes_on }
 
   pub writing_part : (h now : History) (text more : List ℕ) (rest xs ys : List ItemParts) → IsWriting image h0 all old h rest text → rest ≡ xs ++ ys → now.origin ≡ origin_of image
       → AreWritten image h (sends_of image xs) now text more → IsWriting image h0 all old now ys more

@@ -1,10 +1,9 @@
 -- What contracts see of the items that are answered together, of a worker's share of them, and of what became of them.
-use Rattle.std.specs.Prelude.{◌≡◌, ℕ, List, ◌++◌, map, All, Option, Vec}
+use Rattle.std.specs.Prelude.{◌≡◌, ℕ, List, ◌++◌, map, All, Vec}
 use Rattle.std.specs.Global.{Global}
 use Rattle.msg_image.specs.Items.{DocumentParts, ItemParts}
 use Rattle.msg_image.specs.Plain.{item_parts}
 use Rattle.msg_image.specs.Sound.{IsSoundItem}
-use Rattle.msg_tables.specs.declared.fault.ChangeFault.{ChangeFault}
 use Rattle.msg_tables.specs.History.{History, BeginsWith}
 use Rattle.msg_eval.specs.declared.reply.Reply.{Reply}
 use Rattle.msg_eval.specs.Meaning.{Meaning}
@@ -15,6 +14,7 @@ use Rattle.msg_runner.specs.Text.{text_of}
 use Rattle.msg_runner.specs.Written.{AreWritten}
 use Rattle.msg_runner.specs.declared.beside.Batch.{Batch}
 use Rattle.msg_runner.specs.declared.changes.Changes.{Changes}
+use Rattle.msg_runner.specs.declared.changes.Outcome.{Outcome}
 use Rattle.msg_runner.specs.declared.part.Part.{Part}
 use Rattle.msg_runner.specs.declared.part.Share.{Share}
 
@@ -76,7 +76,7 @@ Serves s h rs last = Served h (share_of (worker_of s.part.deal.cut s.part.deal.w
 abbrev pub replies_of : List (Vec Reply Global) → List (List Reply)
 replies_of shares = map (λ (rs : Vec Reply Global). rs.items) shares
 
--- the batch has the replies and refusals of a part, whose changes led from one history to another
+-- the batch has the replies and outcomes of a part, whose changes led from one history to another
 abbrev pub HasServed : Part → History → Batch → History → Type 0
 HasServed p h b now = IsServed p.image.now (worker_of p.deal.cut p.deal.workers) p.deal.workers h (map item_parts p.items.now) (map (λ (rs : Vec Reply Global). rs.items) b.shares.items) b.outcomes.items now
 
@@ -88,5 +88,5 @@ HasAnswered p w h b now =
     × BeginsWith now last
 
 -- a line was written for each of a part's items, of these replies and outcomes
-abbrev pub HasGathered : Part → List (List Reply) → List (Option ChangeFault) → List ℕ → List ℕ → Type 0
+abbrev pub HasGathered : Part → List (List Reply) → List Outcome → List ℕ → List ℕ → Type 0
 HasGathered p lists outcomes old new = IsGathered p.image.now (worker_of p.deal.cut p.deal.workers) p.deal.workers (map item_parts p.items.now) lists outcomes old new

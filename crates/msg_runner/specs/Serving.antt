@@ -1,22 +1,26 @@
 -- What workers answer beside changes, and how sends are shared out.
-use Rattle.std.specs.Prelude.{◌≡◌, ℕ, zero, suc, ◌+◌, Bool, true, false, ◌/◌, ◌%◌, ◌<◌, ◌≤◌, ◌==◌, if◌then◌else◌, List, [], ◌∷◌, ◌++◌, length, min, count_by, slice_index_or, Option}
-use Rattle.msg_image.specs.Items.{ItemParts, SendItem, ChangeItem}
+use Rattle.std.specs.Prelude.{◌≡◌, ℕ, zero, suc, ◌+◌, Bool, true, false, ◌/◌, ◌%◌, ◌<◌, ◌≤◌, ◌==◌, if◌then◌else◌, List, [], ◌∷◌, ◌++◌, length, min, count_by, slice_index_or}
+use Rattle.msg_image.specs.Items.{ItemParts, SendItem}
 use Rattle.msg_image.specs.Parts.{ImageParts}
-use Rattle.msg_tables.specs.History.{History, BeginsWith, log}
-use Rattle.msg_tables.specs.Refusal.{refusal}
-use Rattle.msg_tables.specs.declared.fault.ChangeFault.{ChangeFault}
+use Rattle.msg_tables.specs.History.{History, BeginsWith}
 use Rattle.msg_eval.specs.declared.reply.Reply.{Reply}
 use Rattle.msg_eval.specs.Evaluation.{send_of}
 use Rattle.msg_eval.specs.Meaning.{Meaning}
 use Rattle.msg_eval.specs.Points.{Rise, EndsAfter, last_of}
-use Rattle.msg_runner.specs.Serial.{Answer, Replied, answer_to_change, history_after}
+use Rattle.msg_runner.specs.Serial.{Answer, Replied, Changed, history_after, outcome_at}
 use Rattle.msg_runner.specs.Text.{text_of}
+use Rattle.msg_runner.specs.declared.changes.Outcome.{Outcome}
+
+-- whether an item is a send
+abbrev pub is_send : ItemParts → Bool
+is_send (SendItem r s args) = true
+is_send changes = false
 
 -- the sends among items
 abbrev pub sends_of : ImageParts → List ItemParts → List Meaning
 sends_of image [] = []
 sends_of image (SendItem r s args ∷ items) = send_of image r s args ∷ sends_of image items
-sends_of image (ChangeItem x ∷ items) = sends_of image items
+sends_of image (changes ∷ items) = sends_of image items
 
 -- the history after the changes among items
 abbrev pub history_of : History → List ItemParts → History
@@ -24,18 +28,17 @@ history_of h [] = h
 history_of h (item ∷ items) = history_of (history_after h item) items
 
 -- what becomes of the changes among items
-abbrev pub refusals_of : History → List ItemParts → List (Option ChangeFault)
-refusals_of h [] = []
-refusals_of h (SendItem r s args ∷ items) = refusals_of h items
-refusals_of h (ChangeItem x ∷ items) = refusal (log h) x ∷ refusals_of (history_after h (ChangeItem x)) items
+abbrev pub outcomes_of : History → List ItemParts → List Outcome
+outcomes_of h [] = []
+outcomes_of h (item ∷ items) = if is_send item then outcomes_of h items else outcome_at h item ∷ outcomes_of (history_after h item) items
 
 -- the answers to items, given those to the sends and to the changes among them
-abbrev pub woven : List ItemParts → List Reply → List (Option ChangeFault) → List Answer
+abbrev pub woven : List ItemParts → List Reply → List Outcome → List Answer
 woven [] rs os = []
 woven (SendItem r s args ∷ items) [] os = woven items [] os
 woven (SendItem r s args ∷ items) (reply ∷ rs) os = Replied reply ∷ woven items rs os
-woven (ChangeItem x ∷ items) rs [] = woven items rs []
-woven (ChangeItem x ∷ items) rs (o ∷ os) = answer_to_change o ∷ woven items rs os
+woven (changes ∷ items) rs [] = woven items rs []
+woven (changes ∷ items) rs (o ∷ os) = Changed o ∷ woven items rs os
 
 -- sends end with these replies at points that rise from one history on, and that another begins with
 abbrev pub Served : History → List Meaning → List Reply → History → Type 0
@@ -56,11 +59,6 @@ worker_of cut workers place = (place / cut) % workers
 -- how many pieces of `cut` places so many places make: the whole ones, and one of what is left
 abbrev pub pieces_of : ℕ → ℕ → ℕ
 pieces_of cut places = places / cut + min 1 (places % cut)
-
--- whether an item is a send
-abbrev pub is_send : ItemParts → Bool
-is_send (SendItem r s args) = true
-is_send (ChangeItem x) = false
 
 -- the sends among items make so many pieces of `cut` sends, and so many of the items are changes
 abbrev pub HasPieces : ℕ → List ItemParts → ℕ → Type 0
@@ -84,36 +82,36 @@ abbrev pub at_worker : List (List Reply) → ℕ → List Reply
 at_worker lists w = slice_index_or lists w []
 
 -- The lines of items were written after what was there, with replies of which each worker's are its share.
-pub record IsGathered (image : ImageParts) (who : ℕ → ℕ) (workers : ℕ) (items : List ItemParts) (lists : List (List Reply)) (outcomes : List (Option ChangeFault)) (old new : List ℕ) : Type 0 where
+pub record IsGathered (image : ImageParts) (who : ℕ → ℕ) (workers : ℕ) (items : List ItemParts) (lists : List (List Reply)) (outcomes : List Outcome) (old new : List ℕ) : Type 0 where
   pub replies : List Reply
   pub count : length replies ≡ length (sends_of image items)
   pub shares : (w : ℕ) → w < workers → share_of who w 0 replies ≡ at_worker lists w
   pub text : new ≡ old ++ text_of image (woven items replies outcomes)
 
 -- The sends among items were shared out and served, from this history on, while the changes among them were made. Now it's the history after them.
-pub record IsServed (image : ImageParts) (who : ℕ → ℕ) (workers : ℕ) (h : History) (items : List ItemParts) (lists : List (List Reply)) (outcomes : List (Option ChangeFault)) (now : History) : Type 0 where
+pub record IsServed (image : ImageParts) (who : ℕ → ℕ) (workers : ℕ) (h : History) (items : List ItemParts) (lists : List (List Reply)) (outcomes : List Outcome) (now : History) : Type 0 where
   pub history : now ≡ history_of h items
-  pub outcomes_are : outcomes ≡ refusals_of h items
+  pub outcomes_are : outcomes ≡ outcomes_of h items
   pub count : length lists ≡ workers
   pub each : (w : ℕ) → w < workers → (last : History) × Served h (share_of who w 0 (sends_of image items)) (at_worker lists w) last × BeginsWith now last
 
--- items are sends alone, or one change
+-- items are sends alone, or one item of changes
 abbrev pub AllSends : List ItemParts → Type 0
 AllSends [] = Unit {0}
 AllSends (SendItem r s args ∷ items) = AllSends items
-AllSends (ChangeItem x ∷ items) = ⊥
+AllSends (changes ∷ items) = ⊥
 
 abbrev pub IsOneChange : List ItemParts → Type 0
 IsOneChange [] = ⊥
 IsOneChange (SendItem r s args ∷ items) = ⊥
-IsOneChange (ChangeItem x ∷ items) = items ≡ []
+IsOneChange (changes ∷ items) = items ≡ []
 
 -- Items were answered, and the lines written after what was there. The changes have the answers that they have one after another. The sends that one worker took
 -- were answered, in their order, at points that rise from the first history, and are all earlier points of the last.
 pub record IsAnswered (image : ImageParts) (who : ℕ → ℕ) (workers : ℕ) (h : History) (items : List ItemParts) (old new : List ℕ) : Type 0 where
   pub replies : List Reply
   pub count : length replies ≡ length (sends_of image items)
-  pub text : new ≡ old ++ text_of image (woven items replies (refusals_of h items))
+  pub text : new ≡ old ++ text_of image (woven items replies (outcomes_of h items))
   pub points : (w : ℕ) → w < workers → (last : History) × Served h (share_of who w 0 (sends_of image items)) (share_of who w 0 replies) last × BeginsWith (history_of h items) last
 
 -- so many workers answered the items: the piece k of `cut` sends is that of the worker k mod workers

@@ -1,29 +1,27 @@
 //! Parts of a document that the calling thread answers by itself, with each line written at once.
 
-ghost use Rattle.std.specs.Prelude.{◌≡◌, ◌<◌, ◌≤◌, ◌++◌, All, length, map, min, vec_len, IfOk, OnOk};
+ghost use Rattle.std.specs.Prelude.{◌≡◌, ◌<◌, ◌≤◌, ◌++◌, ◌∷◌, [], All, length, map, min, vec_len, IfOk, OnOk};
 ghost use Rattle.msg_image.specs.Opened.{origin_of};
 ghost use Rattle.msg_image.specs.Plain.{item_parts};
 ghost use Rattle.msg_image.specs.Sound.{IsSoundItem};
-ghost use Rattle.msg_tables.specs.History.{BeginsWith, log};
-ghost use Rattle.msg_tables.specs.Refusal.{refusal};
+ghost use Rattle.msg_tables.specs.History.{BeginsWith};
 ghost use Rattle.msg_runner.specs.Parts.{items_of, IsSoundPart, HasLines, HasWritten};
-ghost use Rattle.msg_runner.specs.Serial.{answer_to_change, longer_by};
+ghost use Rattle.msg_runner.specs.Serial.{history_after, outcome_at};
 ghost use Rattle.msg_runner.specs.Serving.{AllSends, pieces_of, sends_of};
-ghost use Rattle.msg_runner.specs.Text.{answer_line};
+ghost use Rattle.msg_runner.specs.Text.{newline, outcome_text};
 ghost use Rattle.msg_runner.specs.Written.{AreWritten};
 
 use crate::asker::Asker;
 use crate::asking::Asking;
-use crate::changes::change_one;
+use crate::changes::change_by;
 use crate::context::Run;
 use crate::crew::Crew;
 use crate::gate::Gate;
-use crate::gather::push_outcome;
 use crate::part::Part;
-use crate::text::push_reply;
+use crate::text::{push_outcome, push_reply};
 use msg_dispatch::{ArenaName, Changer, Sender};
 use msg_eval::send;
-use msg_image::{Change, Image, Item};
+use msg_image::{Image, Item};
 use std::alloc::AllocError;
 use std::sync::Wait;
 
@@ -43,16 +41,14 @@ fn answer_piece<'r, 'd, N: ArenaName, G: Gate, R: Wait>(
 {
     let mut rest = items;
     while let Some((item, later)) = rest.split_first() {
-        match item {
-            Item::Send {
-                receiver,
-                sel,
-                args,
-            } => {
-                let reply = send(asking, image, *receiver, *sel, args);
-                push_reply(text, image, reply)?;
-            }
-            Item::Change(_) => {}
+        if let Item::Send {
+            receiver,
+            sel,
+            args,
+        } = item
+        {
+            let reply = send(asking, image, *receiver, *sel, args);
+            push_reply(text, image, reply)?;
         }
         rest = later;
     }
@@ -113,24 +109,23 @@ fn meet_again<'d, N: ArenaName, R: Wait>(
 }
 
 impl<'r, G: Gate, R: Wait> Run<'r, G, R> {
-    // Makes a change, and writes what became of it.
-    pub(crate) fn answer_change<'d, N: ArenaName>(
+    // Makes an item's changes, and writes what became of them.
+    pub(crate) fn answer_changes<'d, N: ArenaName>(
         &self,
         changer: &mut Changer<'d, N>,
         number: u32,
-        image: &Image,
-        change: &Change,
+        item: &Item,
         text: &mut Vec<u8>,
     ) -> Result<(), AllocError>
         ensures history { OnOk result
-            (changer.new ≡ longer_by changer.old change.now (refusal (log changer.old) change.now)) }
+            (changer.new ≡ history_after changer.old (item_parts item.now)) }
         ensures line { OnOk result (text.new.items ≡ text.old.items
-            ++ answer_line image.now (answer_to_change (refusal (log changer.old) change.now))) }
+            ++ outcome_text (outcome_at changer.old (item_parts item.now)) ++ newline ∷ []) }
     {
         self.gate.change_starts(number);
-        let outcome = change_one(self.rt, changer, change)?;
+        let outcome = change_by(self.alloc, self.rt, changer, item)?;
         self.gate.change_done(number);
-        push_outcome(text, image, outcome)
+        push_outcome(text, outcome)
     }
 
     // Answers sends between which and beside which no change is made, on the calling thread, and says how many

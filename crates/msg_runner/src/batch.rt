@@ -8,7 +8,7 @@ ghost use Rattle.msg_runner.specs.Parts.{PartChanges, PartPieces};
 ghost use Rattle.msg_runner.specs.Serving.{is_send};
 
 use crate::beside::{Batch, answer_beside, answer_by};
-use crate::changes::change_all;
+use crate::changes::make_changes;
 use crate::context::Run;
 use crate::crew::Crew;
 use crate::gate::Gate;
@@ -45,7 +45,8 @@ impl<'r, G: Gate, R: Wait> Run<'r, G, R> {
             sends,
         };
         let done = answer_by(self.rt, self.alloc, self.gate, sender, share);
-        let changed = change_all(
+        let changed = make_changes(
+            self.alloc,
             self.rt,
             &mut crew.changer,
             self.gate,

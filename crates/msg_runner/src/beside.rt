@@ -6,11 +6,11 @@ ghost use Rattle.msg_image.specs.Opened.{origin_of};
 ghost use Rattle.msg_image.specs.Plain.{item_parts};
 ghost use Rattle.msg_tables.specs.History.{History};
 ghost use Rattle.msg_runner.specs.Parts.{items_of, history_past, HasAnswered, IsSoundPart, Serves};
-ghost use Rattle.msg_runner.specs.Serving.{Served, refusals_of, share_of, sends_of, worker_of};
+ghost use Rattle.msg_runner.specs.Serving.{Served, outcomes_of, share_of, sends_of, worker_of};
 
 use crate::asker::Asker;
 use crate::asking::Asking;
-use crate::changes::change_all;
+use crate::changes::{Outcome, make_changes};
 use crate::context::Run;
 use crate::crew::{Crew, Done};
 use crate::gate::Gate;
@@ -18,7 +18,6 @@ use crate::part::{Part, Share};
 use crate::work::answer_share;
 use msg_dispatch::{ArenaName, Sender};
 use msg_eval::Reply;
-use msg_tables::ChangeFault;
 use std::alloc::{AllocError, Global};
 use std::snapshot::Snapshot;
 use std::sync::Wait;
@@ -28,7 +27,7 @@ use std::thread::{Promise, PromisedHandle, Scope, Threads};
 #[derive(Drop)]
 pub(crate) struct Batch {
     pub(crate) shares: Vec<Vec<Reply>>,
-    pub(crate) outcomes: Vec<Option<ChangeFault>>,
+    pub(crate) outcomes: Vec<Outcome>,
 }
 
 // That a worker answers its share.
@@ -126,14 +125,15 @@ pub(crate) fn answer_beside<
     requires no_outcomes { batch.old.outcomes.items ≡ [] }
     ensures history { OnOk result (crew.new.changer ≡ history_past part.entry crew.old.changer) }
     ensures outcomes { OnOk result
-        (batch.new.outcomes.items ≡ refusals_of crew.old.changer (items_of part.entry)) }
+        (batch.new.outcomes.items ≡ outcomes_of crew.old.changer (items_of part.entry)) }
     ensures senders { OnOk result (vec_len crew.new.senders ≡ vec_len crew.old.senders) }
     ensures count { OnOk result (vec_len batch.new.shares ≡ workers) }
     ensures each { OnOk result ((w : ℕ) → w < workers
         → HasAnswered part.entry w crew.old.changer batch.new crew.new.changer) }
 {
     if workers == 0 {
-        return change_all(
+        return make_changes(
+            run.alloc,
             run.rt,
             &mut crew.changer,
             run.gate,

@@ -1,17 +1,19 @@
 //! The changes of a document.
 
-ghost use Rattle.std.specs.Prelude.{◌≡◌, ◌<◌, ◌+◌, ◌^◌, ◌++◌, length, map, IfOk, OnOk};
+ghost use Rattle.std.specs.Prelude.{◌≡◌, ◌<◌, ◌+◌, ◌^◌, ◌++◌, ◌∷◌, [], length, map, IfOk, OnOk};
 ghost use Rattle.msg_image.specs.Plain.{item_parts};
 ghost use Rattle.msg_tables.specs.History.{log};
 ghost use Rattle.msg_tables.specs.Refusal.{refusal};
-ghost use Rattle.msg_runner.specs.Serial.{longer_by};
-ghost use Rattle.msg_runner.specs.Serving.{history_of, refusals_of};
+ghost use Rattle.msg_tables.specs.Several.{refused_from};
+ghost use Rattle.msg_runner.specs.Serial.{history_after, longer_by, outcome_at, outcome_of, outcome_of_first};
+ghost use Rattle.msg_runner.specs.Serving as spec;
+ghost use Rattle.msg_runner.specs.Serving.{history_of, outcomes_of};
 
 use crate::gate::Gate;
 use msg_dispatch::{ArenaName, Changer};
 use msg_image::{Change, Item};
-use msg_tables::ChangeFault;
-use std::alloc::AllocError;
+use msg_tables::{ChangeFault, Refused};
+use std::alloc::{AllocError, Global};
 use std::sync::Wait;
 
 // When a run makes them.
@@ -23,41 +25,103 @@ pub(crate) enum Changes {
     Beside,
 }
 
-// Makes a change, and says why not, if so.
-pub(crate) fn change_one<'d, N: ArenaName, R: Wait>(
+// What becomes of a change, or of several that are made as one.
+#[derive(Clone, Copy)]
+pub(crate) enum Outcome {
+    Made,
+    Refused(ChangeFault),
+    // The first of several that would be refused, and none was made.
+    RefusedAt(Refused),
+}
+
+// Makes a change.
+fn change_one<'d, N: ArenaName, R: Wait>(
     rt: &R,
     changer: &mut Changer<'d, N>,
     change: &Change,
-) -> Result<Option<ChangeFault>, AllocError>
-    ensures outcome { IfOk result (λ outcome. outcome ≡ refusal (log changer.old) change.now) }
-    ensures history { OnOk result (changer.new ≡ longer_by changer.old change.now (refusal (log changer.old) change.now)) }
+) -> Result<Outcome, AllocError>
+    ensures outcome { IfOk result
+        (λ outcome. outcome ≡ outcome_of (refusal (log changer.old) change.now)) }
+    ensures history { IfOk result
+        (λ outcome. changer.new ≡ longer_by changer.old (change.now ∷ []) outcome) }
 {
     match changer.change(rt, change) {
-        Ok(_) => Ok(None),
+        Ok(_) => Ok(Outcome::Made),
         Err(ChangeFault::Memory) => Err(AllocError),
-        Err(fault) => Ok(Some(fault)),
+        Err(fault) => Ok(Outcome::Refused(fault)),
     }
 }
 
-// Makes the changes among items, in order, and says what became of each. The first has the number `first`.
-pub(crate) fn change_all<'d, N: ArenaName, G: Gate, R: Wait>(
+// Makes changes as one.
+fn change_as_one<'d, N: ArenaName, R: Wait>(
+    alloc: Global,
+    rt: &R,
+    changer: &mut Changer<'d, N>,
+    changes: &[Change],
+) -> Result<Outcome, AllocError>
+    ensures outcome { IfOk result
+        (λ outcome. outcome ≡ outcome_of_first (refused_from 0 (log changer.old) changes.now)) }
+    ensures history { IfOk result
+        (λ outcome. changer.new ≡ longer_by changer.old changes.now outcome) }
+{
+    match changer.change_all(alloc, rt, changes) {
+        Ok(_) => Ok(Outcome::Made),
+        Err(refused) => match refused.fault {
+            ChangeFault::Memory => Err(AllocError),
+            _ => Ok(Outcome::RefusedAt(refused)),
+        },
+    }
+}
+
+// Whether an item is a send.
+pub(crate) fn is_send(item: &Item) -> bool
+    ensures { result ≡ spec.is_send (item_parts item.now) }
+{
+    matches!(item, Item::Send { .. })
+}
+
+// Makes an item's changes, and says what became of them.
+pub(crate) fn change_by<'d, N: ArenaName, R: Wait>(
+    alloc: Global,
+    rt: &R,
+    changer: &mut Changer<'d, N>,
+    item: &Item,
+) -> Result<Outcome, AllocError>
+    ensures outcome { IfOk result
+        (λ outcome. outcome ≡ outcome_at changer.old (item_parts item.now)) }
+    ensures history { OnOk result
+        (changer.new ≡ history_after changer.old (item_parts item.now)) }
+{
+    match item {
+        Item::Send { .. } => Ok(Outcome::Made),
+        Item::Change(change) => change_one(rt, changer, change),
+        Item::ChangeAll(changes) => change_as_one(alloc, rt, changer, changes),
+    }
+}
+
+// Makes the changes among items, in order, and says what became of each item's. The first such item has the number
+// `first`.
+pub(crate) fn make_changes<'d, N: ArenaName, G: Gate, R: Wait>(
+    alloc: Global,
     rt: &R,
     changer: &mut Changer<'d, N>,
     gate: &G,
     first: u32,
     items: &[Item],
-    outcomes: &mut Vec<Option<ChangeFault>>,
+    outcomes: &mut Vec<Outcome>,
 ) -> Result<(), AllocError>
     requires places { first + length items.now < 2 ^ 32 }
-    ensures outcomes { OnOk result (outcomes.new.items ≡ outcomes.old.items ++ refusals_of changer.old (map item_parts items.now)) }
-    ensures history { OnOk result (changer.new ≡ history_of changer.old (map item_parts items.now)) }
+    ensures outcomes { OnOk result (outcomes.new.items
+        ≡ outcomes.old.items ++ outcomes_of changer.old (map item_parts items.now)) }
+    ensures history { OnOk result
+        (changer.new ≡ history_of changer.old (map item_parts items.now)) }
 {
     let mut number = first;
     let mut rest = items;
     while let Some((item, later)) = rest.split_first() {
-        if let Item::Change(change) = item {
+        if !is_send(item) {
             gate.change_starts(number);
-            let outcome = change_one(rt, changer, change)?;
+            let outcome = change_by(alloc, rt, changer, item)?;
             gate.change_done(number);
             outcomes.push(outcome)?;
             number += 1;

@@ -1,16 +1,14 @@
 //! The lines of a batch, in the order of its items.
 
-ghost use Rattle.std.specs.Prelude.{◌≡◌, ◌<◌, ◌^◌, ◌++◌, ℕ, length, slice_get, Some, OnOk};
+ghost use Rattle.std.specs.Prelude.{◌≡◌, ◌<◌, ◌^◌, ℕ, length, slice_get, Some, OnOk};
 ghost use Rattle.msg_runner.specs.Parts.{part_sends, part_worker, replies_of, HasGathered};
-ghost use Rattle.msg_runner.specs.Serial.{answer_to_change};
 ghost use Rattle.msg_runner.specs.Serving.{count_of, at_worker};
-ghost use Rattle.msg_runner.specs.Text.{answer_line};
 
+use crate::changes::Outcome;
 use crate::part::Part;
-use crate::text::{push_accepted, push_refusal, push_reply};
+use crate::text::{push_outcome, push_reply};
 use msg_eval::Reply;
-use msg_image::{Image, Item};
-use msg_tables::ChangeFault;
+use msg_image::Item;
 use std::alloc::{AllocError, Global};
 
 // A reply of a worker.
@@ -23,27 +21,13 @@ fn reply_of(shares: &[Vec<Reply>], worker: usize, at: usize) -> Reply
     shares[worker][at]
 }
 
-pub(crate) fn push_outcome(
-    text: &mut Vec<u8>,
-    image: &Image,
-    outcome: Option<ChangeFault>,
-) -> Result<(), AllocError>
-    ensures { OnOk result
-        (text.new.items ≡ text.old.items ++ answer_line image.now (answer_to_change outcome)) }
-{
-    match outcome {
-        None => push_accepted(text),
-        Some(fault) => push_refusal(text, fault),
-    }
-}
-
-// Appends a line for each item: for a send the reply of the worker that took it, for a change what became of it.
+// Appends a line for each item: for a send the reply of the worker that took it, for changes what became of them.
 pub(crate) fn gather(
     alloc: Global,
     text: &mut Vec<u8>,
     part: Part<'_>,
     shares: &[Vec<Reply>],
-    outcomes: &[Option<ChangeFault>],
+    outcomes: &[Outcome],
 ) -> Result<(), AllocError>
     requires workers { length shares.now ≡ part.deal.workers }
     requires counts { (w : ℕ) → w < part.deal.workers
@@ -66,9 +50,9 @@ pub(crate) fn gather(
                 place += 1;
                 push_reply(text, part.image, reply)?;
             }
-            Item::Change(_) => {
+            Item::Change(_) | Item::ChangeAll(_) => {
                 if let Some((outcome, more)) = left.split_first() {
-                    push_outcome(text, part.image, *outcome)?;
+                    push_outcome(text, *outcome)?;
                     left = more;
                 }
             }

@@ -1,6 +1,6 @@
 //! The lines of a document: over an arena, by a dispatcher, with a scope for its threads, part by part.
 
-ghost use Rattle.std.specs.Prelude.{◌≡◌, ◌≤◌, ◌<◌, ◌⊎◌, length, map, take, vec_len, IfOk, OnOk};
+ghost use Rattle.std.specs.Prelude.{◌≡◌, ◌≤◌, ◌<◌, ◌⊎◌, false, true, length, map, take, vec_len, IfOk, OnOk};
 ghost use Rattle.std.specs.Thread.{IsSync};
 ghost use Rattle.msg_image.specs.DocumentParts.{document_parts};
 ghost use Rattle.msg_image.specs.Opened.{origin_of};
@@ -13,7 +13,7 @@ ghost use Rattle.msg_runner.specs.Parts.{IsSoundDocument, IsSoundPart, PartChang
 ghost use Rattle.msg_runner.specs.Serving.{AllSends, IsOneChange};
 
 use crate::arrays::arrays_for;
-use crate::changes::Changes;
+use crate::changes::{Changes, is_send};
 use crate::context::Run;
 use crate::crew::Crew;
 use crate::gate::Gate;
@@ -26,7 +26,7 @@ use std::sync::Wait;
 use std::thread;
 use std::thread::{Scope, Threads};
 
-// How many items are a part: the sends before the next change, or one change.
+// How many items are a part: the sends before the next item of changes, or one such item.
 fn part_len(items: &[Item]) -> usize
     requires { 0 < length items.now }
     ensures some { 0 < result }
@@ -36,12 +36,24 @@ fn part_len(items: &[Item]) -> usize
 {
     let mut count = 0;
     while count < items.len() {
-        if let Item::Change(_) = &items[count] {
+        if !is_send(&items[count]) {
             return if count == 0 { 1 } else { count };
         }
         count += 1;
     }
     count
+}
+
+// Whether a part is an item of changes, and not sends.
+fn is_one_change(items: &[Item]) -> bool
+    requires { AllSends (map item_parts items.now) ⊎ IsOneChange (map item_parts items.now) }
+    ensures changes { result ≡ true → IsOneChange (map item_parts items.now) }
+    ensures sends { result ≡ false → AllSends (map item_parts items.now) }
+{
+    match items.first() {
+        Some(item) => !is_send(item),
+        None => false,
+    }
 }
 
 // Whether a part has something for a second worker: more than one piece of sends.
@@ -106,8 +118,8 @@ pub(crate) fn arena_for(
 }
 
 impl<'s, G: Gate, R: Threads + Wait + Sync> Run<'s, G, R> {
-    // Answers a part: the sends before the next change, or one change. The calling thread does so by itself where it
-    // is a change, one worker takes part, or there is one piece.
+    // Answers a part: the sends before the next item of changes, or one such item. The calling thread does so by itself
+    // where it is of changes, one worker takes part, or there is one piece.
     fn answer_part<'e: 's, 'd: 's, N: ArenaName + Send + Sync + 's>(
         &self,
         scope: &'s Scope<'s, &'e ()>,
@@ -127,9 +139,9 @@ impl<'s, G: Gate, R: Threads + Wait + Sync> Run<'s, G, R> {
         ensures pieces { IfOk result (λ c. PartPieces part.entry c.pieces) }
         ensures changes { IfOk result (λ c. PartChanges part.entry c.changes) }
     {
-        if let Some(Item::Change(change)) = part.items.first() {
+        if is_one_change(part.items) {
             let number = part.first_change;
-            self.answer_change(&mut crew.changer, number, part.image, change, text)?;
+            self.answer_changes(&mut crew.changer, number, &part.items[0], text)?;
             return Ok(Counts {
                 pieces: 0,
                 changes: 1,

@@ -68,16 +68,14 @@ pub(crate) fn answer_share<'r, 'd, N: ArenaName, G: Gate, R: Wait>(
     let mut rest = share.part.items;
     let mut place = 0usize;
     while let Some((item, later)) = rest.split_first() {
-        match item {
-            Item::Send {
-                receiver,
-                sel,
-                args,
-            } => {
-                answer_one(asking, &mut replies, share, *receiver, *sel, args, place)?;
-                place += 1;
-            }
-            Item::Change(_) => {}
+        if let Item::Send {
+            receiver,
+            sel,
+            args,
+        } = item
+        {
+            answer_one(asking, &mut replies, share, *receiver, *sel, args, place)?;
+            place += 1;
         }
         rest = later;
     }
