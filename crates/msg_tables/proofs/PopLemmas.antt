@@ -1,15 +1,12 @@
 -- Rows of which the last ones are taken away.
-use Rattle.std.proofs.Common.{◌≡◌, ◌<◌, ◌-◌, ◌+◌, ℕ, List, [], ◌∷◌, ◌++◌, length, length-append, take, take_all, cond, Bool, true, false, Option, Some, None, refl, sym, ap, ◌∙◌, arith}
-use Rattle.std.specs.Prelude.{nat_eq, ◌==◌, is_some, IsSome, IsOk, OnErr, Result, Ok, Err}
-use Rattle.std.proofs.lemmas.List.{length-map, map-append, take-take, length-take-le}
+use Rattle.std.proofs.Common.{◌≡◌, ◌-◌, ◌+◌, ℕ, List, [], ◌∷◌, ◌++◌, length, length-append, take, take_all, sym, ap, ◌∙◌, arith}
+use Rattle.std.proofs.lemmas.List.{map-append, take-take, length-take-le}
 use Rattle.std.proofs.Math.Seq.{take-append_seam}
-use Rattle.msg_names.proofs.TestLemmas.{same_number}
 use Rattle.msg_names.specs.declared.value.Selector.{Selector}
 use Rattle.msg_names.specs.declared.value.ImpRef.{ImpRef}
 use Rattle.msg_names.specs.Number.{selector_number, imp_number}
 use Rattle.msg_tables.specs.Methods.{method_numbers}
-use Rattle.msg_tables.specs.RowList.{last_index, without_last}
-use Rattle.msg_tables.proofs.RowLemmas.{last_place-push}
+use Rattle.msg_tables.specs.RowList.{without_last}
 
 abbrev numbers : Selector × ImpRef → ℕ × ℕ
 numbers m = (selector_number m.0, imp_number m.1)

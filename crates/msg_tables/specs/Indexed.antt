@@ -1,5 +1,5 @@
 -- The fields of `IndexedRows`.
-use Rattle.std.specs.Prelude.{◌≡◌, ◌<◌, ℕ, ◌-◌, min, length, vec_len}
+use Rattle.std.specs.Prelude.{◌≡◌, ◌<◌, ◌-◌, min, length, vec_len}
 use Rattle.std.specs.Vec.{vec_capacity}
 use Rattle.msg_tables.specs.Buckets.{AreLinked}
 use Rattle.msg_tables.specs.Methods.{method_numbers}

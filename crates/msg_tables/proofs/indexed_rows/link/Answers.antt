@@ -1,4 +1,4 @@
-use Rattle.std.proofs.Common.{◌≡◌, length, ◌∙◌, arith}
+use Rattle.std.proofs.Common.{◌∙◌}
 use Rattle.std.proofs.lemmas.List.{length-set}
 use Rattle.msg_tables.proofs.LinkLemmas.{linked-there}
 use Rattle.msg_tables.proofs.indexed_rows.link.Goals as goal

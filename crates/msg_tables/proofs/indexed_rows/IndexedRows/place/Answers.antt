@@ -1,4 +1,4 @@
-use Rattle.std.proofs.Common.{◌≡◌, ◌≢◌, length, refl, sym, ap, ◌∙◌}
+use Rattle.std.proofs.Common.{◌≢◌, length, refl, sym, ap, ◌∙◌}
 use Rattle.msg_names.specs.Number.{selector_number}
 use Rattle.msg_tables.specs.RowList.{last_index}
 use Rattle.msg_tables.proofs.LinkLemmas.{none-sought, found-sought, next-sought}
