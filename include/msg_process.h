@@ -59,20 +59,19 @@ extern struct msg_process_count msg_process_changes;
 }
 #endif
 
-/* msg_process_find of a key, for a host that keeps msg_key(2 * number + meta, 0) with each class, and adds a selector's number to it. */
+/* msg_process_find of a key, for a host that keeps msg_key(2 * number + meta, 0) with each class, and adds msg_key(0, sel) to it. */
 static inline uint32_t msg_process_find_key(uint64_t key, uint32_t *imp)
 {
-    uint64_t turns = __atomic_load_n(&msg_process_own.turns, __ATOMIC_RELAXED), noted;
+    uint64_t turns = __atomic_load_n(&msg_process_own.turns, __ATOMIC_RELAXED);
     __atomic_signal_fence(__ATOMIC_SEQ_CST); /* a handler may come between any two of the loads, and find: then `turns` is another after them */
     const msg_sender *sender = __atomic_load_n(&msg_process_own.sender, __ATOMIC_RELAXED);
     uint64_t count = __atomic_load_n(&msg_process_changes.begun, __ATOMIC_ACQUIRE);
-    const msg_note *note = &sender->notes[(uint32_t)((key >> 27) + key) % MSG_NOTES]; /* as msg_recall_key */
-    memcpy(&noted, note, sizeof noted);
-    bool is_of = noted == key && note->count == count;
+    const msg_note *note = MSG_NOTE_OF(sender, key); /* as msg_recall_key */
+    bool is_of = note->word == key && note->count == count;
     uint32_t found = note->imp;
     __atomic_signal_fence(__ATOMIC_SEQ_CST);
     if (!is_of || !found || __atomic_load_n(&msg_process_own.turns, __ATOMIC_RELAXED) != turns) return msg_process_find_slowly(key, true, imp);
-    MSG_TEST(found == msg_recall(sender, key >> 32, (uint32_t)key, count) || __atomic_load_n(&msg_process_own.turns, __ATOMIC_RELAXED) != turns);
+    MSG_TEST(found == msg_recall(sender, MSG_SLOT_OF(key), MSG_SEL_OF(key), count) || __atomic_load_n(&msg_process_own.turns, __ATOMIC_RELAXED) != turns);
     *imp = found;
     return MSG_DONE;
 }
@@ -81,13 +80,13 @@ static inline uint32_t msg_process_find_key(uint64_t key, uint32_t *imp)
  * where the calling thread holds the lock, MSG_LOCK_HELD. */
 static inline uint32_t msg_process_find(uint32_t number, bool meta, uint32_t sel, uint32_t *imp)
 {
-    return number >> 31 ? (uint32_t)MSG_NO_CLASS : msg_process_find_key(msg_key(2 * number + meta, sel), imp);
+    return number >= MSG_SLOTS / 2 ? (uint32_t)MSG_NO_CLASS : msg_process_find_key(msg_key(2 * number + meta, sel), imp);
 }
 
 /* msg_process_find that never waits and takes no memory: where it would ask under the lock, and any thread has that, it answers MSG_LOCK_HELD. */
 static inline uint32_t msg_process_find_at_once(uint32_t number, bool meta, uint32_t sel, uint32_t *imp)
 {
-    return number >> 31 ? (uint32_t)MSG_NO_CLASS : msg_process_find_slowly(msg_key(2 * number + meta, sel), false, imp);
+    return number >= MSG_SLOTS / 2 ? (uint32_t)MSG_NO_CLASS : msg_process_find_slowly(msg_key(2 * number + meta, sel), false, imp);
 }
 
 #endif

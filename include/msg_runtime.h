@@ -41,14 +41,14 @@
 extern "C" {
 #endif
 
-/* What a sender has noted of one lookup, and how many notes it keeps, in its handle: 48 KiB. */
-typedef struct { uint32_t sel; uint32_t slot; uint64_t count; uint32_t imp; } msg_note;
+/* What a sender has noted of one lookup, and how many notes it keeps, in its handle: 64 KiB. `word` is the lookup's key (msg_key), or 1 more where no method was found; 0: nothing. */
+typedef struct { uint64_t word; uint64_t count; uint32_t imp; uint32_t spare; uint64_t spared; } msg_note;
 enum { MSG_NOTES = 2048 };
 
 typedef struct { void *at; bool open; } msg_runtime;
 typedef struct { void *at; bool open; msg_note notes[MSG_NOTES]; } msg_sender;
 #define MSG_RUNTIME_INIT {0, 0}
-#define MSG_SENDER_INIT {0, 0, {{0, 0, 0, 0}}}
+#define MSG_SENDER_INIT {0, 0, {{0, 0, 0, 0, 0}}}
 
 /* A class, or its metaclass. */
 typedef struct { uint32_t number; bool meta; } msg_class;
@@ -165,11 +165,12 @@ uint32_t msg_meet(msg_runtime *runtime, msg_sender *sender);
 uint32_t msg_version(void);
 /* How many bytes a msg_sender has, for hosts that don't compile this header. */
 size_t msg_sender_size(void);
-/* What the sender has noted of the lookup after the first `count` changes, for the slot 2 * number + meta: the implementation's number; or 0 where it has none
- * noted, or forwarding: then ask msg_find, which notes what it finds. It loads from the handle alone and writes nothing, so it is the short way of a send for
+/* What the sender has noted of the lookup after the first `count` changes, for the slot 2 * number + meta: the implementation's number; MSG_NOTED_NONE where it
+ * noted that there is no method; or 0 where it has nothing noted: then ask msg_find, which notes what it finds. It loads from the handle alone and writes nothing, so it is the short way of a send for
  * a host that keeps a word of how many changes it has made or begun: under the lock, it stores one more before each change, and one less again after a change
  * that was refused. Who loads that word and recalls by it finds nothing from before a change that had returned. */
 size_t msg_recall(const msg_sender *sender, size_t slot, uint32_t sel, uint64_t count);
+#define MSG_NOTED_NONE ((size_t)1 << 32) /* no implementation's number; as a uint32_t it is 0, forwarding */
 /* cache_getImp: from the sender's own memory, else from the shared cache: the lookup at the changes that the sender has then seen, which are no fewer than
  * before; or MSG_MISSED. What it remembers it answers until it has seen another change: msg_refresh shows it all. */
 uint32_t msg_probe(msg_sender *sender, uint32_t number, bool meta, uint32_t sel, uint32_t *imp);
@@ -188,8 +189,8 @@ uint32_t msg_refresh(msg_sender *sender, uint64_t *count);
 #else
 #define MSG_IS_SO(what) struct msg_is_so
 #endif
-MSG_IS_SO(sizeof(msg_note) == 24);
-MSG_IS_SO(sizeof(msg_sender) == 16 + 24 * MSG_NOTES);
+MSG_IS_SO(sizeof(msg_note) == 32);
+MSG_IS_SO(sizeof(msg_sender) == 16 + 32 * MSG_NOTES);
 MSG_IS_SO(sizeof(msg_config) == 44);
 MSG_IS_SO(sizeof(msg_change) == 32);
 MSG_IS_SO(offsetof(msg_change, number) == 4 && offsetof(msg_change, sel) == 12 && offsetof(msg_change, other) == 20 && offsetof(msg_change, other_sel) == 28);
@@ -261,25 +262,37 @@ static inline const char *msg_fault_text(uint32_t fault)
 #define MSG_TEST(what) ((void)0)
 #endif
 
-/* The slot and the selector of a lookup as one word, as they lie in a note on a little-endian machine, which the library is for. A host may keep msg_key(slot, 0) with each class, and add a selector's number to it. */
-static inline uint64_t msg_key(uint32_t slot, uint32_t sel) { return (uint64_t)slot << 32 | sel; }
+/* The key of a lookup, one to one where the slot is below MSG_SLOTS, as it is of any class: a word that is even, of which the low 16 bits are where its note lies. It adds up: a host may
+ * keep msg_key(slot, 0) with each class and msg_key(0, sel) with each selector, and add the two. */
+enum { MSG_SLOTS = 67108864 }; /* 2^26 */
+#define MSG_KEY_OF_SLOT UINT64_C(137438954496) /* 2^37 + 2^10: more than all selectors take, and 32 notes on */
+static inline uint64_t msg_key(uint32_t slot, uint32_t sel) { return slot * MSG_KEY_OF_SLOT + sel * UINT64_C(32); }
+#define MSG_SLOT_OF(key) ((uint32_t)((key) / MSG_KEY_OF_SLOT))
+#define MSG_SEL_OF(key) ((uint32_t)((key) % MSG_KEY_OF_SLOT / 32))
+#define MSG_NOTE_OF(sender, key) ((const msg_note *)(const void *)((const char *)(sender)->notes + (uint16_t)(key)))
 
-/* msg_recall without a call, for where each instruction counts: what the note at the one place of slot and selector says. The place is slot * 32 + sel, and a selector of
- * more than 27 bits is looked for at another place, where it never stands: of it 0 is answered, so that msg_find is asked. Trusted: this code. With MSG_CHECK each answer for
- * a selector of at most 27 bits is compared with the proved one. */
+/* msg_recall without a call, for where each instruction counts: the implementation's number that the note at the one place of the key says, or 0 where it is noted that there is no
+ * method, or nothing is. Key 0, of slot 0 and selector 0, is a blank note's word, whose number is 0. Trusted: this code. With MSG_CHECK each answer is compared with the proved one. */
 static inline uint32_t msg_recall_key(const msg_sender *sender, uint64_t key, uint64_t count)
 {
-    const msg_note *note = &sender->notes[(uint32_t)((key >> 27) + key) % MSG_NOTES]; /* slot * 32 + sel, where sel has at most 27 bits */
-    uint64_t noted;
-    memcpy(&noted, note, sizeof noted);
-    bool is_of = noted == key && note->count == count;
-    MSG_TEST((uint32_t)key >> 27 || (is_of ? note->imp : 0) == msg_recall(sender, key >> 32, (uint32_t)key, count));
+    const msg_note *note = MSG_NOTE_OF(sender, key);
+    bool is_of = note->word == key && note->count == count;
+    MSG_TEST((is_of ? note->imp : 0) == (uint32_t)msg_recall(sender, MSG_SLOT_OF(key), MSG_SEL_OF(key), count) && (!is_of || note->imp || !key));
     return is_of ? note->imp : 0;
+}
+
+/* Whether it is noted that there is no method: then msg_recall answers MSG_NOTED_NONE. */
+static inline bool msg_recall_none_key(const msg_sender *sender, uint64_t key, uint64_t count)
+{
+    const msg_note *note = MSG_NOTE_OF(sender, key);
+    bool is_of = note->word == key + 1 && note->count == count;
+    MSG_TEST(is_of == (msg_recall(sender, MSG_SLOT_OF(key), MSG_SEL_OF(key), count) == MSG_NOTED_NONE));
+    return is_of;
 }
 
 static inline uint32_t msg_recall_inline(const msg_sender *sender, uint32_t slot, uint32_t sel, uint64_t count)
 {
-    return msg_recall_key(sender, msg_key(slot, sel), count);
+    return slot < MSG_SLOTS ? msg_recall_key(sender, msg_key(slot, sel), count) : 0;
 }
 
 /* objc_msg_lookup: the implementation's number, which is what a lookup finds at a point not before what the sender had seen. Trusted: this code, and the lock. */

@@ -35,7 +35,7 @@ void shim_list(struct record *record, Method method)
 
 static void put_row(struct record *record, Method method)
 {
-    uint32_t sel = (uint32_t)method->name.sel->name.number;
+    uint32_t sel = shim_sel(method->name.sel);
     struct row *row = row_of(record, sel);
     if (row) {
         __atomic_store_n(&row->method, method, __ATOMIC_RELEASE);
@@ -86,7 +86,7 @@ static inline void cache(struct record *of, uint32_t sel)
 
 static void add(struct record *record, Method method, uint32_t imp)
 {
-    uint32_t sel = (uint32_t)method->name.sel->name.number;
+    uint32_t sel = shim_sel(method->name.sel);
     put(record, sel, imp);
     shim_list(record, method);
     put_row(record, method);
@@ -115,7 +115,7 @@ static msg_method *newest(struct record *record, uint32_t from)
     msg_method *list = shim_memory((record->method_count - from) * sizeof *list), *at = list;
     for (uint32_t i = record->method_count; i-- > from;) {
         Method method = record->methods[i];
-        *at++ = (msg_method){(uint32_t)method->name.sel->name.number, shim_number(method->imp)};
+        *at++ = (msg_method){shim_sel(method->name.sel), shim_number(method->imp)};
     }
     return list;
 }
@@ -173,14 +173,14 @@ BOOL class_addMethod(Class class_, SEL sel, IMP imp, const char *types)
 {
     if (!class_ || !class_->record || !sel || !imp || !types) return false;
     CHANGING;
-    return !row_of(class_->record, (uint32_t)sel->name.number) && put_new(class_->record, sel, imp, types);
+    return !row_of(class_->record, shim_sel(sel)) && put_new(class_->record, sel, imp, types);
 }
 
 IMP class_replaceMethod(Class class_, SEL sel, IMP imp, const char *types)
 {
     if (!class_ || !sel || !imp || !types || !class_->record) return NULL;
     CHANGING;
-    struct row *row = row_of(class_->record, (uint32_t)sel->name.number);
+    struct row *row = row_of(class_->record, shim_sel(sel));
     if (row) return set(class_->record, row, imp);
     put_new(class_->record, sel, imp, types);
     return NULL;
@@ -192,7 +192,7 @@ static struct row *home_of(Method method, struct record **record)
     for (uint32_t i = 1; i <= shim_class_count; i++) {
         struct record *both[2] = {shim_classes[i]->record, shim_classes[i]->isa->record};
         for (int j = 0; j < 2; j++) {
-            struct row *row = row_of(*record = both[j], (uint32_t)method->name.sel->name.number);
+            struct row *row = row_of(*record = both[j], shim_sel(method->name.sel));
             if (row && row->method == method) return row;
         }
     }
@@ -245,7 +245,7 @@ Method class_getInstanceMethod(Class class_, SEL sel)
 {
     if (!class_ || !class_->record || !sel) return NULL;
     for (bool resolved = false;; resolved = true) {
-        Method method = instance_method(class_, (uint32_t)sel->name.number);
+        Method method = instance_method(class_, shim_sel(sel));
         if (method || resolved || !shim_resolve(class_, sel)) return method;
     }
 }
@@ -273,7 +273,7 @@ struct swap { msg_change part; struct record *record; Method method; bool is_new
 static bool is_named_before(const struct objc_method_swap *rows, size_t at)
 {
     for (size_t i = 0; i < at; i++)
-        if (rows[i].class_ == rows[at].class_ && rows[i].sel->name.number == rows[at].sel->name.number) return true;
+        if (rows[i].class_ == rows[at].class_ && rows[i].sel->name.key == rows[at].sel->name.key) return true;
     return false;
 }
 
@@ -281,7 +281,7 @@ static bool plan(const struct objc_method_swap *rows, size_t at, struct swap *sw
 {
     const struct objc_method_swap *it = &rows[at];
     if (!it->class_ || !it->class_->record || !it->class_->record->number || !it->sel || !it->imp || is_named_before(rows, at)) return false;
-    uint32_t sel = (uint32_t)it->sel->name.number, number = shim_number(it->imp);
+    uint32_t sel = shim_sel(it->sel), number = shim_number(it->imp);
     struct record *record = it->class_->record;
     struct row *row = row_of(record, sel);
     Method known = shim_standing(it->class_, sel);

@@ -16,7 +16,7 @@ struct typed { SEL sel; struct typed *next; };
     list(RETAIN, "retain") list(RELEASE, "release") list(AUTORELEASE, "autorelease") list(COPY, "copyWithZone:") \
     list(MUTABLE_COPY, "mutableCopyWithZone:")
 #define NAME(number_, text_) [number_] = text_,
-#define SELECTOR(number_, text_) [number_] = {.name.number = number_},
+#define SELECTOR(number_, text_) [number_] = {.name.key = 32 * (number_)},
 
 const struct objc_selector shim_own[FIRST_FREE] = {OWN(SELECTOR)};
 static const char *const own_names[FIRST_FREE] = {OWN(NAME)};
@@ -114,7 +114,7 @@ static SEL selector_of(uint32_t number, const char *types)
 
 static void note_selector(SEL sel)
 {
-    struct typed *node = shim_memory(sizeof *node), **last = &names[sel->name.number].typed;
+    struct typed *node = shim_memory(sizeof *node), **last = &names[shim_sel(sel)].typed;
     *node = (struct typed){sel, *last};
     *last = node;
 }
@@ -125,7 +125,7 @@ SEL shim_typed_selector(const char *name, const char *types)
     SEL known = selector_of(number, types);
     if (known || !number) return known;
     struct objc_selector *sel = shim_memory(sizeof *sel);
-    sel->name.number = number;
+    sel->name.key = msg_key(0, number);
     sel->types = types ? shim_copy(types) : NULL;
     note_selector(sel);
     return sel;
@@ -142,9 +142,10 @@ SEL shim_needed_selector(const char *name, const char *types)
 void shim_take_selector(struct objc_selector *sel)
 {
     const char *name = sel->name.text;
-    sel->name.number = shim_selector(name);
-    if (!sel->name.number) shim_stop("too many selectors", name);
-    if (!selector_of((uint32_t)sel->name.number, sel->types)) note_selector(sel);
+    uint32_t number = shim_selector(name);
+    if (!number) shim_stop("too many selectors", name);
+    sel->name.key = msg_key(0, number);
+    if (!selector_of(number, sel->types)) note_selector(sel);
 }
 
 SEL sel_registerTypedName(const char *name, const char *types)
@@ -184,6 +185,6 @@ SEL *sel_copyTypedSelectorList(const char *name, unsigned int *count)
     return list;
 }
 
-const char *sel_getName(SEL sel) { return sel ? names[sel->name.number].text : "<null selector>"; }
+const char *sel_getName(SEL sel) { return sel ? names[shim_sel(sel)].text : "<null selector>"; }
 const char *sel_getTypeEncoding(SEL sel) { return sel ? sel->types : NULL; }
-BOOL sel_isEqual(SEL one, SEL other) { return one && other ? one->name.number == other->name.number : one == other; }
+BOOL sel_isEqual(SEL one, SEL other) { return one && other ? one->name.key == other->name.key : one == other; }

@@ -15,33 +15,36 @@ IMP shim_find(Class class_, uint32_t sel);
 
 static inline IMP shim_function(uint32_t imp) { return atomic_load_explicit(&shim_functions[imp], memory_order_acquire); }
 
-/* What the note at the one place of a class and a selector says by all changes that were begun before, or false where
- * it is another's, or older. No sender notes anything for key 0, which all classes have until they were initialized.
- * As msg_recall_key, but in an order in which a handler of a signal may come between any two loads, and send: first it
- * is seen that the note isn't older, then the number is loaded, then it is seen that it is the key's. So it is wrong
- * only where the place had another key's, and the handler sends the same as what it interrupts between the last two.
- * With MSG_CHECK it is compared with the proved msg_recall. */
-static inline bool shim_note(Class class_, SEL sel, uint32_t *number)
+/* What a note says: a method, that there is none, or, of any other value, nothing of the lookup. */
+enum { METHOD, NO_METHOD, NOTHING };
+
+/* What the note at the one place of a class and a selector says by all changes that were begun before, and the number
+ * that it has: the method's, or 0. No sender notes anything for key 0, which all classes have until they were
+ * initialized. As msg_recall_key, but in an order in which a handler of a signal may come between any two loads, and
+ * send: first it is seen that the note isn't older, then the number is loaded, then it is seen that it is the key's. So
+ * it is wrong only where the place had another key's, and the handler sends the same as what it interrupts between the
+ * last two. With MSG_CHECK it is compared with the proved msg_recall. */
+static inline uint64_t shim_note(Class class_, SEL sel, uint32_t *number)
 {
     const msg_sender *sender = __atomic_load_n(&msg_process_own.sender, __ATOMIC_RELAXED);
-    uint64_t count = __atomic_load_n(&msg_process_changes.begun, __ATOMIC_ACQUIRE), noted;
-    uint64_t key = __atomic_load_n(&class_->key, __ATOMIC_ACQUIRE) + sel->name.number;
-    const msg_note *note = sender->notes + (uint32_t)((key >> 27) + key) % MSG_NOTES;
-    if (__builtin_expect(note->count != count, 0)) return false;
+    uint64_t count = __atomic_load_n(&msg_process_changes.begun, __ATOMIC_ACQUIRE);
+    uint64_t key = __atomic_load_n(&class_->key, __ATOMIC_ACQUIRE) + sel->name.key;
+    const msg_note *note = MSG_NOTE_OF(sender, key);
+    if (__builtin_expect(note->count != count, 0)) return NOTHING;
     atomic_signal_fence(memory_order_seq_cst);
     *number = __atomic_load_n(&note->imp, __ATOMIC_RELAXED);
     atomic_signal_fence(memory_order_seq_cst);
-    memcpy(&noted, note, sizeof noted);
-    MSG_TEST(noted != key || msg_recall(sender, key >> 32, (uint32_t)key, count) == *number ||
-             msg_key(note->slot, note->sel) != key || note->count != count);
-    return noted == key;
+    uint64_t word = note->word;
+    MSG_TEST(word - key > NO_METHOD || msg_recall(sender, MSG_SLOT_OF(key), MSG_SEL_OF(key), count) == (word == key ? *number : MSG_NOTED_NONE) ||
+             note->word != word || note->count != count);
+    return word - key;
 }
 
 /* The function that is noted, or NULL, which is number 0's, where it is noted that the lookup finds nothing. */
 static inline bool shim_noted(Class class_, SEL sel, IMP *imp)
 {
     uint32_t number;
-    if (!shim_note(class_, sel, &number)) return false;
+    if (shim_note(class_, sel, &number) > NO_METHOD) return false;
     *imp = shim_function(number);
     return true;
 }

@@ -41,7 +41,7 @@ static void ensure_initialized(Class class_)
 IMP shim_look(Class class_, SEL sel)
 {
     IMP imp;
-    return shim_noted(class_, sel, &imp) ? imp : shim_find(class_, (uint32_t)sel->name.number);
+    return shim_noted(class_, sel, &imp) ? imp : shim_find(class_, shim_sel(sel));
 }
 
 static inline bool resolve(Class class_, SEL sel)
@@ -49,7 +49,7 @@ static inline bool resolve(Class class_, SEL sel)
     IMP imp;
     Class plain = plain_class(class_);
     SEL asked = &shim_own[class_->record->meta ? RESOLVE_CLASS : RESOLVE_INSTANCE];
-    if (!shim_noted(plain->isa, asked, &imp)) imp = shim_find(plain->isa, (uint32_t)asked->name.number);
+    if (!shim_noted(plain->isa, asked, &imp)) imp = shim_find(plain->isa, shim_sel(asked));
     return __builtin_expect(imp != NULL, 0) && ((BOOL (*)(id, SEL, SEL))(void (*)(void))imp)((id)plain, asked, sel);
 }
 
@@ -90,11 +90,12 @@ static __attribute__((noinline)) IMP find_from(id receiver, Class class_, SEL se
     return imp ? imp : shim_forward(receiver, sel);
 }
 
-static __attribute__((noinline, cold)) IMP find_slowly(id receiver, SEL sel) { return find_from(receiver, shim_class_of(receiver), sel); }
-
-static __attribute__((noinline)) IMP find_nothing(id receiver, SEL sel)
+static __attribute__((noinline)) IMP find_slowly(id receiver, SEL sel)
 {
-    IMP imp = resolved(shim_class_of(receiver), sel);
+    uint32_t number;
+    Class class_ = shim_class_of(receiver);
+    if (__builtin_expect(shim_note(class_, sel, &number) != NO_METHOD, 0)) return find_from(receiver, class_, sel);
+    IMP imp = resolved(class_, sel);
     return imp ? imp : shim_forward(receiver, sel);
 }
 
@@ -103,8 +104,7 @@ __attribute__((aligned(LINE))) IMP objc_msg_lookup(id receiver, SEL sel)
 {
     uint32_t number;
     if (__builtin_expect(!receiver, 0)) return nil_method;
-    if (__builtin_expect(!shim_note(shim_class_of(receiver), sel, &number), 0)) return find_slowly(receiver, sel);
-    return __builtin_expect(number != 0, 1) ? shim_function(number) : find_nothing(receiver, sel);
+    return __builtin_expect(shim_note(shim_class_of(receiver), sel, &number) == METHOD, 1) ? shim_function(number) : find_slowly(receiver, sel);
 }
 
 IMP objc_msg_lookup_super(struct objc_super *super_, SEL sel)
@@ -126,7 +126,8 @@ BOOL class_respondsToSelector(Class class_, SEL sel)
 {
     uint32_t number;
     if (!class_ || !sel) return false;
-    if (shim_note(class_, sel, &number)) return number || find_resolved(class_, sel);
+    uint64_t said = shim_note(class_, sel, &number);
+    if (said <= NO_METHOD) return said == METHOD || find_resolved(class_, sel);
     return class_->record && !shim_in_construction(class_) && find_first(class_, sel);
 }
 

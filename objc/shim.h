@@ -66,6 +66,8 @@ enum { INITIALIZE = 1, RESOLVE_INSTANCE, RESOLVE_CLASS, FORWARD, NOT_RECOGNIZED 
 enum { RETAIN = NOT_RECOGNIZED + 1, RELEASE, AUTORELEASE, COPY, MUTABLE_COPY, FIRST_FREE };
 extern const struct objc_selector shim_own[FIRST_FREE];
 
+static inline uint32_t shim_sel(SEL sel) { return MSG_SEL_OF(sel->name.key); }
+
 /* names.c: number 0, or NULL, where no name is to be had any more. */
 uint32_t shim_selector(const char *name);
 SEL shim_typed_selector(const char *name, const char *types);

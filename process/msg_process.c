@@ -152,7 +152,7 @@ static uint32_t fill(struct seat *seat, uint32_t slot, uint32_t sel, bool waits,
 
 uint32_t msg_process_find_slowly(uint64_t key, bool waits, uint32_t *imp)
 {
-    uint32_t slot = (uint32_t)(key >> 32), sel = (uint32_t)key, answer = MSG_MISSED;
+    uint32_t slot = MSG_SLOT_OF(key), sel = MSG_SEL_OF(key), answer = MSG_MISSED;
     const msg_sender *was;
     if (!atomic_load_explicit(&started, memory_order_acquire)) return MSG_CLOSED;
     struct seat *seat = hide(&was);
@@ -168,7 +168,7 @@ void msg_process_cache(uint64_t key)
     const msg_sender *was;
     uint32_t imp;
     struct seat *seat = hide(&was);
-    if (holds && seat) msg_fill(&runtime, &seat->sender, (uint32_t)(key >> 33), key >> 32 & 1, (uint32_t)key, &imp);
+    if (holds && seat) msg_fill(&runtime, &seat->sender, MSG_SLOT_OF(key) / 2, MSG_SLOT_OF(key) % 2, MSG_SEL_OF(key), &imp);
     show(was);
 }
 

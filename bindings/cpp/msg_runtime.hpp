@@ -45,7 +45,7 @@ struct class_ref {
     bool meta;
     constexpr std::size_t slot() const noexcept { return 2 * std::size_t(number) + meta; }
     // Whether the slot has 32 bits, as that of each class that is made.
-    constexpr bool has_slot() const noexcept { return slot() <= UINT32_MAX; }
+    constexpr bool has_slot() const noexcept { return slot() < MSG_SLOTS; }
 };
 constexpr class_ref instances_of(std::uint32_t number) noexcept { return {number, false}; }
 constexpr class_ref class_itself(std::uint32_t number) noexcept { return {number, true}; }
@@ -366,9 +366,14 @@ public:
     {
         return own ? msg_recall_key(own.get(), key, count) : 0;
     }
+    // Whether it is noted that no method is found.
+    bool recalls_none(class_ref of, std::uint32_t selector, std::uint64_t count) const
+    {
+        return own && of.has_slot() && msg_recall_none_key(own.get(), key_of(of, selector), count);
+    }
     static std::uint64_t key_of(class_ref of, std::uint32_t selector)
     {
-        return msg_key(static_cast<std::uint32_t>(of.slot()), selector);
+        return of.has_slot() ? msg_key(static_cast<std::uint32_t>(of.slot()), selector) : 0;
     }
     // How many changes there are, which the sender has then seen.
     std::uint64_t refresh()

@@ -415,25 +415,27 @@ uint32_t msg_version(void) { return MSG_VERSION_NUMBER; }
 
 size_t msg_sender_size(void) { return sizeof(msg_sender); }
 
-static const msg_note *note_at(const msg_sender *sender, uint64_t key)
+static const msg_note *note_at(const msg_sender *sender, uint32_t slot, uint32_t sel)
 {
-    return &sender->notes[(uint32_t)((key >> 27) + key) % MSG_NOTES];
+    return &sender->notes[(slot * 32 + sel) % MSG_NOTES];
 }
 
 static void note(msg_sender *sender, uint32_t slot, uint32_t sel, uint64_t count, uint32_t imp)
 {
-    *(msg_note *)note_at(sender, msg_key(slot, sel)) = (msg_note){sel, slot, count, imp};
+    *(msg_note *)note_at(sender, slot, sel) = (msg_note){msg_key(slot, sel) + !imp, count, imp, 0, 0};
 }
 
 static bool is_noted(const msg_sender *sender, uint32_t slot, uint32_t sel, uint64_t count)
 {
-    const msg_note *at = note_at(sender, msg_key(slot, sel));
-    return at->sel == sel && at->slot == slot && at->count == count;
+    const msg_note *at = note_at(sender, slot, sel);
+    return at->word == msg_key(slot, sel) + !at->imp && at->count == count;
 }
 
 size_t msg_recall(const msg_sender *sender, size_t slot, uint32_t sel, uint64_t count)
 {
-    return is_noted(sender, (uint32_t)slot, sel, count) ? note_at(sender, msg_key((uint32_t)slot, sel))->imp : 0;
+    if (slot >= MSG_SLOTS || !is_noted(sender, (uint32_t)slot, sel, count)) return 0;
+    uint32_t imp = note_at(sender, (uint32_t)slot, sel)->imp;
+    return imp ? imp : MSG_NOTED_NONE;
 }
 
 static struct entry *place(struct tables *tables, uint64_t key) { return &tables->cache[mix(key) >> 40 & (PLACES - 1)]; }
@@ -484,7 +486,7 @@ uint32_t msg_probe(msg_sender *sender, uint32_t number, bool meta, uint32_t sel,
     must(asker); /* in one call at a time: the library takes it out meanwhile */
     sender->at = NULL;
     uint32_t slot = 2 * number + meta, answer = fault_of(asker->tables, number, sel);
-    if (!answer && is_noted(sender, slot, sel, asker->seen)) *imp = note_at(sender, msg_key(slot, sel))->imp;
+    if (!answer && is_noted(sender, slot, sel, asker->seen)) *imp = note_at(sender, slot, sel)->imp;
     else if (!answer) answer = probe(asker, sender, slot, sel, imp);
     sender->at = asker;
     return answer;

@@ -385,4 +385,10 @@ class Sender:
         """What is noted after so many changes; None where nothing is, or where no method is found."""
         self._own()
         _checked(of[0], selector)
-        return self._shared.library.msg_recall(self._at, 2 * of[0] + of[1], selector, count) or None
+        return self._shared.library.msg_recall(self._at, 2 * of[0] + of[1], selector, count) % _header.NOTED_NONE or None
+
+    def recalls_none(self, of, selector, count):
+        """Whether it is noted that after so many changes no method is found."""
+        self._own()
+        _checked(of[0], selector)
+        return self._shared.library.msg_recall(self._at, 2 * of[0] + of[1], selector, count) == _header.NOTED_NONE

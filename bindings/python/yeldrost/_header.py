@@ -2,10 +2,11 @@
 import ctypes as c
 
 VERSION, NOTES = 1000, 2048
+NOTED_NONE = 1 << 32
 
 
 class msg_note(c.Structure):
-    _fields_ = [("sel", c.c_uint32), ("slot", c.c_uint32), ("count", c.c_uint64), ("imp", c.c_uint32)]
+    _fields_ = [("word", c.c_uint64), ("count", c.c_uint64), ("imp", c.c_uint32), ("spare", c.c_uint32), ("spared", c.c_uint64)]
 
 
 class msg_runtime(c.Structure):
@@ -119,5 +120,6 @@ INLINE = {
     "msg_find": "Sender.find_seen",
     "msg_key": "Sender.recall",
     "msg_recall_key": "Sender.recall",
+    "msg_recall_none_key": "Sender.recalls_none",
     "msg_recall_inline": "Sender.recall",
 }

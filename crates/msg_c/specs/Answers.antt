@@ -1,5 +1,5 @@
 -- What calls answer.
-use Rattle.std.specs.Prelude.{◌≡◌, ◌||◌, ℕ, Bool, List, Option, Some, None, not, option_map}
+use Rattle.std.specs.Prelude.{◌≡◌, ◌==◌, ◌||◌, if◌then◌else◌, ℕ, Bool, List, Option, Some, None, not, option_map}
 use Rattle.msg_tables.specs.declared.change.Change.{Change}
 use Rattle.msg_tables.specs.History.{History, BeginsWith}
 use Rattle.msg_cache.specs.Views.{ArenaView}
@@ -12,6 +12,11 @@ use Rattle.msg_host.specs.declared.fault.AskFault.{AskFault}
 abbrev pub number_of_fault : Option AskFault → ℕ
 number_of_fault None = 0
 number_of_fault (Some f) = ask_fault_number f
+
+-- what a sender noted of a lookup, as one number: 0 for nothing, and 2^32, which is no implementation's number, where no method was found
+abbrev pub number_of_recalled : Option ℕ → ℕ
+number_of_recalled None = 0
+number_of_recalled (Some imp) = if imp == 0 then 4294967296 else imp
 
 -- the words of a config aren't known, or ask for what isn't given
 abbrev pub are_refused : List ℕ → Bool

@@ -24,5 +24,8 @@ pub const MISSED: u32 = 71;
 /// A field of the config is beyond its most, or isn't known.
 pub const BAD_CONFIG: u32 = 73;
 
-/// Of `msg_recall`: the sender has no implementation noted.
+/// Of `msg_recall`: the sender has nothing noted.
 pub const NOT_NOTED: usize = 0;
+
+/// Of `msg_recall`: the sender noted that no method is found. It is no implementation's number.
+pub const NOTED_NONE: usize = 4_294_967_296;

@@ -1,6 +1,6 @@
 //! Senders: each call once on its happy path, and each fault once.
 
-use crate::answer::{ALREADY_OPEN, CLOSED, DONE, MISSED, NO_SENDER, NOT_NOTED};
+use crate::answer::{ALREADY_OPEN, CLOSED, DONE, MISSED, NO_SENDER, NOT_NOTED, NOTED_NONE};
 use crate::changing::{msg_replace, msg_set_imp};
 use crate::opening::msg_close;
 use crate::same::{answers, same};
@@ -270,6 +270,9 @@ const CHILD_SLOT: usize = 2;
 
 const META_SLOT: usize = 3;
 
+// A selector of which no class has a method.
+const NOWHERE: u32 = 77;
+
 #[test]
 fn what_is_noted_is_recalled_at_its_count(rt: HostRuntime) -> Result<(), Fail> {
     let alloc = rt.alloc();
@@ -295,6 +298,24 @@ fn what_is_noted_is_recalled_at_its_count(rt: HostRuntime) -> Result<(), Fail> {
         DONE,
     );
     same(&rt, msg_recall(&sender, CHILD_SLOT, VALUE, MADE_BY), 1);
+    answers(
+        &rt,
+        msg_fill(
+            alloc,
+            &mut runtime,
+            &mut sender,
+            CHILD,
+            false,
+            NOWHERE,
+            &mut imp,
+        ),
+        DONE,
+    );
+    same(
+        &rt,
+        msg_recall(&sender, CHILD_SLOT, NOWHERE, MADE_BY),
+        NOTED_NONE,
+    );
     same(
         &rt,
         msg_recall(&sender, META_SLOT, VALUE, MADE_BY),
@@ -365,6 +386,6 @@ fn a_closed_handle_recalls_nothing(rt: HostRuntime) -> Result<(), Fail> {
     same(&rt, msg_recall(&sender, META_SLOT, NEW, MADE_BY), NOT_NOTED);
     answers(&rt, msg_sender_open(alloc, &mut runtime, &mut sender), DONE);
     same(&rt, msg_recall(&sender, META_SLOT, NEW, MADE_BY), NOT_NOTED);
-    same(&rt, msg_sender_size(), 49168);
+    same(&rt, msg_sender_size(), 65552);
     Ok(())
 }

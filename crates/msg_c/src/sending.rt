@@ -1,15 +1,17 @@
 //! Senders.
 
-ghost use Rattle.std.specs.Prelude.{◌≡◌, ◌≢◌, ◌≤◌, ◌⊎◌, length, Some, None, is_some, true};
+ghost use Rattle.std.specs.Prelude.{◌≡◌, ◌≢◌, ◌≤◌, ◌%◌, ◌⊎◌, length, Some, None, is_some, true};
 ghost use Rattle.msg_tables.specs.Origin.{last_imp};
 ghost use Rattle.msg_tables.specs.History.{History, lookup};
 ghost use Rattle.msg_cache.specs.Views.{ArenaView, classes};
 ghost use Rattle.msg_host.specs.Asking.{ask_fault};
 ghost use Rattle.msg_names.specs.ClassRef.{slot_of};
 ghost use Rattle.msg_reader.specs.Notes.{IsRecalled, recalled};
-ghost use Rattle.msg_c.specs.Answers.{AreOfOneArena, SeesOn, number_of_fault, runtime_arena, runtime_history, sender_arena, sender_front};
+ghost use Rattle.msg_c.specs.Answers.{AreOfOneArena, SeesOn, number_of_fault, number_of_recalled, runtime_arena, runtime_history, sender_arena, sender_front};
 
-use crate::answer::{ALREADY_OPEN, CLOSED, DONE, MISSED, NO_MEMORY, NO_SENDER, NOT_NOTED};
+use crate::answer::{
+    ALREADY_OPEN, CLOSED, DONE, MISSED, NO_MEMORY, NO_SENDER, NOT_NOTED, NOTED_NONE,
+};
 use crate::runtime_handle::RuntimeHandle;
 use crate::sender_handle::SenderHandle;
 use msg_host::SenderFault;
@@ -17,15 +19,15 @@ use msg_reader::laws::notes_are_of_longer_histories;
 use std::alloc::Global;
 use std::mem;
 
-// As the header spells it: a pointer, whether it is open, and 2,048 notes of 24 bytes.
-const SENDER_BYTES: usize = 49_168;
+// As the header spells it: a pointer, whether it is open, and 2,048 notes of 32 bytes.
+const SENDER_BYTES: usize = 65_552;
 
 const _: () = prove!(mem::size_of::<SenderHandle>() == SENDER_BYTES);
 
 /// How many bytes a sender's handle has, for hosts that don't compile the header.
 #[unsafe(no_mangle)]
 pub extern "C" fn msg_sender_size() -> usize
-    ensures { result ≡ 49168 }
+    ensures { result ≡ 65552 }
 {
     SENDER_BYTES
 }
@@ -114,9 +116,9 @@ pub extern "C" fn msg_probe(
     ensures hit { result ≡ 0 → (h : History) → sender_front sender.new.held.state ≡ Some h → imp.new ≡ lookup h (record { class = class; meta = meta }) sel }
     ensures listed { result ≡ 0 → (a : ArenaView) → sender_arena sender.old.held.state ≡ Some a → imp.new ≤ last_imp a.key.origin.counts }
     ensures fault { (a : ArenaView) → sender_arena sender.old.held.state ≡ Some a → result ≢ 0 → result ≢ MISSED → result ≡ number_of_fault (ask_fault (classes a) class sel) }
-    ensures noted { result ≡ 0 → (h : History) → sender_front sender.new.held.state ≡ Some h → recalled sender.new.notes (length h.changes) (slot_of (record { class = class; meta = meta })) sel ≡ imp.new }
+    ensures noted { result ≡ 0 → (h : History) → sender_front sender.new.held.state ≡ Some h → recalled sender.new.notes (length h.changes) (slot_of (record { class = class; meta = meta })) sel ≡ Some imp.new }
     ensures miss { (a : ArenaView) → sender_arena sender.old.held.state ≡ Some a → result ≡ MISSED → ask_fault (classes a) class sel ≡ None }
-    ensures recalled { result ≡ MISSED → (h : History) → sender_front sender.old.held.state ≡ Some h → sender_front sender.new.held.state ≡ Some h → recalled sender.old.notes (length h.changes) (slot_of (record { class = class; meta = meta })) sel ≡ 0 }
+    ensures recalled { result ≡ MISSED → (h : History) → sender_front sender.old.held.state ≡ Some h → sender_front sender.new.held.state ≡ Some h → recalled sender.old.notes (length h.changes) (slot_of (record { class = class; meta = meta })) sel ≡ None }
 {
     if !sender.is_open() {
         return CLOSED;
@@ -135,16 +137,28 @@ pub extern "C" fn msg_probe(
 }
 
 /// The number of the implementation that the sender noted after so many changes for a slot (twice a class's number, and 1 more for its metaclass) and a selector,
-/// where it has that still; else 0, and so for forwarding. It is what the lookup found after the first `count` changes.
+/// where it has that still; `NOTED_NONE` where it noted that no method is found, and 0 where it noted nothing. It is what the lookup found after the first `count` changes.
 ///
 /// It takes no lock, loads no word that threads share, and writes nothing: a few loads from the handle.
 #[unsafe(no_mangle)]
 pub extern "C" fn msg_recall(sender: &SenderHandle, slot: usize, sel: u32, count: u64) -> usize
-    ensures found { result ≢ NOT_NOTED → (h : History) → sender_front sender.now.held.state ≡ Some h → IsRecalled h count slot sel result }
+    ensures found { result ≢ NOT_NOTED → (h : History) → sender_front sender.now.held.state ≡ Some h → IsRecalled h count slot sel (result % NOTED_NONE) }
     ensures closed { sender.now.held.state ≡ None → result ≡ NOT_NOTED }
-    ensures answer { result ≡ recalled sender.now.notes count slot sel }
+    ensures answer { result ≡ number_of_recalled (recalled sender.now.notes count slot sel) }
 {
-    sender.notes.recall_method(count, slot, sel) as usize
+    number_of_recalled(sender.notes.recall_method(count, slot, sel))
+}
+
+// What was noted, as one number: 0 for nothing.
+#[inline(always)]
+fn number_of_recalled(recalled: Option<u32>) -> usize
+    ensures { result ≡ number_of_recalled recalled }
+{
+    match recalled {
+        None => NOT_NOTED,
+        Some(0) => NOTED_NONE,
+        Some(imp) => imp as usize,
+    }
 }
 
 /// `lookUpImpOrForward`: looks up what a probe missed, and caches it. The sender has then seen all changes that were made.
@@ -168,7 +182,7 @@ pub extern "C" fn msg_fill(
     ensures listed { result ≡ 0 → (h : History) → runtime_history runtime.old.held.state ≡ Some h → imp.new ≤ last_imp h.origin.counts }
     ensures front { result ≡ 0 → sender_front sender.new.held.state ≡ runtime_history runtime.old.held.state }
     ensures begins { result ≡ 0 → SeesOn (sender_front sender.old.held.state) (sender_front sender.new.held.state) }
-    ensures noted { result ≡ 0 → (h : History) → runtime_history runtime.old.held.state ≡ Some h → recalled sender.new.notes (length h.changes) (slot_of (record { class = class; meta = meta })) sel ≡ imp.new }
+    ensures noted { result ≡ 0 → (h : History) → runtime_history runtime.old.held.state ≡ Some h → recalled sender.new.notes (length h.changes) (slot_of (record { class = class; meta = meta })) sel ≡ Some imp.new }
     ensures fault { (a : ArenaView) → runtime_arena runtime.old.held.state ≡ Some a → is_some sender.old.held.state ≡ true → result ≡ number_of_fault (ask_fault (classes a) class sel) }
 {
     let Some(mut held) = runtime.take(alloc) else {

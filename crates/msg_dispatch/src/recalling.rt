@@ -38,7 +38,7 @@ impl<'d, N: ArenaName> Model for Recalling<'d, N> {
 }
 
 impl<'d, N: ArenaName> Recalling<'d, N> {
-    /// The sender, with nothing noted yet. Notes take 48 KiB: where they can't be had, the sender comes back.
+    /// The sender, with nothing noted yet. Notes take 64 KiB: where they can't be had, the sender comes back.
     pub fn new(alloc: Global, sender: Sender<'d, N>) -> Result<Recalling<'d, N>, Sender<'d, N>>
         ensures ok { IfOk result (λ r. r ≡ sender.entry) }
         ensures err { IfErr result (λ s. s ≡ sender.entry) }

@@ -205,7 +205,7 @@ impl HostedRuntime {
         ensures found { imp_number result ≡ lookup self.old.history class (selector_number sel) }
         ensures listed { imp_number result ≤ last_imp self.old.history.origin.counts }
         ensures notes { AreNotesOf self.old.history notes.new }
-        ensures noted { recalled notes.new (length self.old.history.changes) (slot_of class) (selector_number sel) ≡ imp_number result }
+        ensures noted { recalled notes.new (length self.old.history.changes) (slot_of class) (selector_number sel) ≡ Some (imp_number result) }
     {
         a_slot_of_few_classes_is_short();
         self.runtime

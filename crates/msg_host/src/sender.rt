@@ -1,6 +1,6 @@
 //! Senders.
 
-ghost use Rattle.std.specs.Prelude.{◌≡◌, ◌<◌, ◌≤◌, length, IfSome, IfNone};
+ghost use Rattle.std.specs.Prelude.{◌≡◌, ◌<◌, ◌≤◌, length, IfSome, IfNone, Some, None};
 ghost use Rattle.msg_names.specs.Number.{selector_number, imp_number};
 ghost use Rattle.msg_tables.specs.Origin.{class_total, last_imp};
 ghost use Rattle.msg_tables.specs.History.{BeginsWith, lookup};
@@ -73,8 +73,8 @@ impl HostedSender {
         ensures some { IfSome result (λ i. imp_number i ≡ lookup self.new.seen.front class (selector_number sel)) }
         ensures listed { IfSome result (λ i. imp_number i ≤ last_imp self.old.arena.key.origin.counts) }
         ensures notes { AreNotesOf self.new.seen.front notes.new }
-        ensures noted { IfSome result (λ i. recalled notes.new (length self.new.seen.front.changes) (slot_of class) (selector_number sel) ≡ imp_number i) }
-        ensures recalled { IfNone result (self.new.seen.front ≡ self.old.seen.front → recalled notes.old (length self.old.seen.front.changes) (slot_of class) (selector_number sel) ≡ 0) }
+        ensures noted { IfSome result (λ i. recalled notes.new (length self.new.seen.front.changes) (slot_of class) (selector_number sel) ≡ Some (imp_number i)) }
+        ensures recalled { IfNone result (self.new.seen.front ≡ self.old.seen.front → recalled notes.old (length self.old.seen.front.changes) (slot_of class) (selector_number sel) ≡ None) }
     {
         a_slot_of_few_classes_is_short();
         self.reader.find(&self.arena, notes, class, sel)

@@ -33,8 +33,8 @@ impl HostedSender {
         ensures err { IfErr result (λ f. ask_fault (classes self.old.arena) class sel ≡ Some f) }
         ensures left { OnErr result ((self.new ≡ self.old) × (notes.new ≡ notes.old)) }
         ensures notes { AreNotesOf self.new.seen.front notes.new }
-        ensures noted { IfOk result (λ found. IfSome found (λ i. recalled notes.new (length self.new.seen.front.changes) (slot_of (record { class = class; meta = meta })) sel ≡ i)) }
-        ensures recalled { IfOk result (λ found. IfNone found (self.new.seen.front ≡ self.old.seen.front → recalled notes.old (length self.old.seen.front.changes) (slot_of (record { class = class; meta = meta })) sel ≡ 0)) }
+        ensures noted { IfOk result (λ found. IfSome found (λ i. recalled notes.new (length self.new.seen.front.changes) (slot_of (record { class = class; meta = meta })) sel ≡ Some i)) }
+        ensures recalled { IfOk result (λ found. IfNone found (self.new.seen.front ≡ self.old.seen.front → recalled notes.old (length self.old.seen.front.changes) (slot_of (record { class = class; meta = meta })) sel ≡ None)) }
     {
         let (class, sel) = asked(self.class_count(), class, meta, sel)?;
         match self.find(notes, class, sel) {
@@ -66,7 +66,7 @@ impl HostedRuntime {
         ensures err { IfErr result (λ f. ask_fault (classes self.old.arena) class sel ≡ Some f) }
         ensures left { OnErr result ((sender.new ≡ sender.old) × (notes.new ≡ notes.old)) }
         ensures notes { AreNotesOf sender.new.seen.front notes.new }
-        ensures noted { IfOk result (λ i. recalled notes.new (length self.old.history.changes) (slot_of (record { class = class; meta = meta })) sel ≡ i) }
+        ensures noted { IfOk result (λ i. recalled notes.new (length self.old.history.changes) (slot_of (record { class = class; meta = meta })) sel ≡ Some i) }
     {
         let (class, sel) = asked(self.class_count(), class, meta, sel)?;
         Ok(self.answer(sender, notes, class, sel).number())

@@ -1,6 +1,7 @@
 -- What is noted stays right where the history grows.
-use Rattle.std.proofs.Common.{◌≡◌, ◌≢◌, ◌<◌, ◌≤◌, ℕ, List, [], ◌∷◌, ◌++◌, ◌^◌, length, get_or, refl, sym, ap, subst, ◌∙◌, arith, length-append, append-nil}
+use Rattle.std.proofs.Common.{◌≡◌, ◌≢◌, ◌<◌, ◌≤◌, ◌+◌, ℕ, List, [], ◌∷◌, ◌++◌, ◌^◌, length, get_or, set, refl, sym, ap, subst, ◌∙◌, arith, length-append, append-nil}
 use Rattle.std.proofs.lemmas.List.{take-append-le, take_all}
+use Rattle.std.proofs.lemmas.List.Elements.{All-set}
 use Rattle.msg_tables.specs.Origin.{OriginView, last_imp}
 use Rattle.msg_tables.specs.declared.change.Change.{Change}
 use Rattle.msg_names.proofs.ClassRefLemmas.{slot_of-same, slot_of-inside}
@@ -9,26 +10,39 @@ use Rattle.msg_names.specs.declared.value.ClassRef.{ClassRef}
 use Rattle.msg_tables.specs.History.{History, BeginsWith, lookup}
 use Rattle.msg_reader.specs.declared.notes.Note.{Note}
 use Rattle.msg_reader.specs.declared.notes.Notes.{Notes}
-use Rattle.msg_reader.specs.Notes.{point_at, AreBlank, IsNoteOf, AreNotesOf, IsRecalled}
+use Rattle.msg_reader.specs.Notes.{point_at, key_of, none_bit, AreBlank, IsNoteOf, AreNotesOf, IsRecalled}
+
+-- keys are one to one
+pub keys_differ : (slot sel other next : ℕ) → sel < 2 ^ 32 → next < 2 ^ 32 → key_of slot sel ≡ key_of other next → (slot ≡ other) × (sel ≡ next)
+keys_differ slot sel other next few less e = (omega (arith, e, few, less), omega (arith, e, few, less))
 
 -- a blank note is one of each history
-pub unnamed : (h : History) (n : Note) → (n.sel ≡ 0) × (n.imp ≡ 0) → IsNoteOf h n
-unnamed h n none = record { recalled = λ pos. absurd (omega (arith, none.0, pos)); blank = λ e. none.1 }
+pub unnamed : (h : History) (n : Note) → (n.word ≡ 0) × (n.imp ≡ 0) → IsNoteOf h n
+unnamed h n none = record {
+  recalled = λ slot sel short few e.
+      let one : none_bit n.imp ≡ 1 = ap none_bit none.1 in
+      absurd (omega (arith, none.0, e, one));
+  method = λ slot sel pos e. absurd (omega (arith, none.0, pos, e));
+}
 
 pub blank_of : (h : History) (m : Notes) → AreBlank m → AreNotesOf h m
 blank_of h m b = record { notes = λ k d inside. unnamed h (get_or m.notes k d) (b.notes k d inside) }
 
 -- a note answers what it notes
-pub as_noted : (h : History) (n : Note) (count slot sel : ℕ) → n.sel ≡ sel → n.slot ≡ slot → n.count ≡ count → 0 < sel → IsNoteOf h n → IsRecalled h count slot sel n.imp
-as_noted h n count slot sel e f g pos is =
-    subst (λ k. IsRecalled h k slot sel n.imp) g (subst (λ s. IsRecalled h n.count s sel n.imp) f (subst (λ s. IsRecalled h n.count n.slot s n.imp) e (is.recalled (subst (λ s. 0 < s) (sym e) pos))))
+pub as_noted : (h : History) (n : Note) (count slot sel : ℕ) → slot < 2 ^ 26 → sel < 2 ^ 32 → n.word ≡ key_of slot sel + none_bit n.imp → n.count ≡ count → IsNoteOf h n → IsRecalled h count slot sel n.imp
+as_noted h n count slot sel short few e f is = subst (λ k. IsRecalled h k slot sel n.imp) f (is.recalled slot sel short few e)
 
--- a note of an implementation isn't blank
-pub method_noted : (h : History) (n : Note) (count slot sel : ℕ) → n.sel ≡ sel → n.slot ≡ slot → n.count ≡ count → n.imp ≢ 0 → IsNoteOf h n → IsRecalled h count slot sel n.imp
-method_noted h n count slot sel e f g some is = as_noted h n count slot sel e f g (positive sel (λ none. some (is.blank (e ∙ none)))) is
-  where
-    positive : (k : ℕ) → k ≢ 0 → 0 < k
-    positive k not = omega (arith, not)
+-- and what is noted is of no other lookup
+pub noted_of : (h : History) (n : Note) (slot sel imp : ℕ) → sel < 2 ^ 32 → n.imp ≡ imp → n.word ≡ key_of slot sel + none_bit imp → IsRecalled h n.count slot sel imp → IsNoteOf h n
+noted_of h n slot sel imp few same named is = record {
+  recalled = λ other next short less e.
+      let keys : key_of slot sel ≡ key_of other next = omega (arith, named, e, ap none_bit same) in
+      let (slots, sels) = keys_differ slot sel other next few less keys in
+      subst (λ s. IsRecalled h n.count s next n.imp) slots (subst (λ s. IsRecalled h n.count slot s n.imp) sels (subst (λ i. IsRecalled h n.count slot sel i) (sym same) is));
+  method = λ other next pos e none.
+      let one : none_bit imp ≡ 1 = ap none_bit (sym same ∙ none) in
+      absurd (omega (arith, named, e, one));
+}
 
 whole : (h : History) (n : ℕ) → n ≡ length h.changes → point_at n h ≡ h
 whole h n e = ap (λ (cs : List (List Change)). record { origin = h.origin; changes = cs }) (take_all n h.changes (omega (arith, e)))
@@ -70,11 +84,15 @@ recalled-begins p h n slot sel imp b is = record {
 }
 
 pub note-begins : (p h : History) (n : Note) → BeginsWith p h → IsNoteOf h n → IsNoteOf p n
-note-begins p h n b is = record { recalled = λ pos. recalled-begins p h n.count n.slot n.sel n.imp b (is.recalled pos); blank = is.blank }
+note-begins p h n b is = record { recalled = λ slot sel short few e. recalled-begins p h n.count slot sel n.imp b (is.recalled slot sel short few e); method = is.method }
 
 -- notes of a history are those of a longer history
 pub notes_begin : (p h : History) (m : Notes) → BeginsWith p h → AreNotesOf h m → AreNotesOf p m
 notes_begin p h m b is = record { notes = λ k d inside. note-begins p h (get_or m.notes k d) b (is.notes k d inside) }
 
-pub short_slot : (c : ClassRef) → c.class < 2 ^ 31 → slot_of c < 2 ^ 32
-short_slot c few = slot_of-inside c (2 ^ 31) (2 ^ 32) refl few
+pub short_slot : (c : ClassRef) → c.class < 2 ^ 25 → slot_of c < 2 ^ 26
+short_slot c few = slot_of-inside c (2 ^ 25) (2 ^ 26) refl few
+
+-- another note of the history in the place of one
+pub notes_keep : (h : History) (m : Notes) (place : ℕ) (n : Note) → AreNotesOf h m → IsNoteOf h n → AreNotesOf h (record { notes = set m.notes place n })
+notes_keep h m place n are is = record { notes = All-set (IsNoteOf h) m.notes place n is are.notes }

@@ -1,5 +1,5 @@
 -- What is noted of lookups.
-use Rattle.std.specs.Prelude.{◌≡◌, ◌<◌, ◌≤◌, ◌+◌, ◌*◌, ◌^◌, ◌%◌, ◌==◌, ◌&&◌, ℕ, if◌then◌else◌, length, slice_index_or, take, All}
+use Rattle.std.specs.Prelude.{◌≡◌, ◌≢◌, ◌<◌, ◌≤◌, ◌+◌, ◌*◌, ◌^◌, ◌%◌, ◌==◌, ◌&&◌, ℕ, Option, Some, None, if◌then◌else◌, length, nat_lt, slice_index_or, take, All}
 use Rattle.msg_names.specs.ClassRef.{slot_of}
 use Rattle.msg_names.specs.declared.value.ClassRef.{ClassRef}
 use Rattle.msg_tables.specs.Origin.{last_imp}
@@ -17,10 +17,18 @@ pub record IsRecalled (h : History) (n slot sel imp : ℕ) : Type 0 where
   pub listed : imp ≤ last_imp h.origin.counts
   pub found : (c : ClassRef) → slot_of c ≡ slot → imp ≡ lookup (point_at n h) c sel
 
--- A note is what a lookup found at a point of the history, or blank: the selector's number is 0, and so is the implementation's.
+-- The key of a lookup: one to one, where the slot is below 2^26 and the selector takes 32 bits. It is even, and its low 16 bits are 32 times the place of its note.
+abbrev pub key_of : ℕ → ℕ → ℕ
+key_of slot sel = slot * 137438954496 + sel * 32
+
+-- what the word of a note has beside the key: 1 where no method was found
+abbrev pub none_bit : ℕ → ℕ
+none_bit imp = if imp == 0 then 1 else 0
+
+-- A note is what a lookup found at a point of the history, or blank. The word that says of which lookup it is says also whether a method was found: it is the lookup's key, or 1 more where none was.
 pub record IsNoteOf (h : History) (n : Note) : Type 0 where
-  pub recalled : 0 < n.sel → IsRecalled h n.count n.slot n.sel n.imp
-  pub blank : n.sel ≡ 0 → n.imp ≡ 0
+  pub recalled : (slot sel : ℕ) → slot < 2 ^ 26 → sel < 2 ^ 32 → n.word ≡ key_of slot sel + none_bit n.imp → IsRecalled h n.count slot sel n.imp
+  pub method : (slot sel : ℕ) → 0 < sel → n.word ≡ key_of slot sel → n.imp ≢ 0
 
 -- each of the notes is
 pub record AreNotesOf (h : History) (n : Notes) : Type 0 where
@@ -28,23 +36,23 @@ pub record AreNotesOf (h : History) (n : Notes) : Type 0 where
 
 -- nothing is noted: each note is blank
 pub record AreBlank (n : Notes) : Type 0 where
-  pub notes : All (λ (n : Note). (n.sel ≡ 0) × (n.imp ≡ 0)) n.notes
+  pub notes : All (λ (n : Note). (n.word ≡ 0) × (n.imp ≡ 0)) n.notes
 
 -- the place of a lookup among the notes
 abbrev pub place_of : ℕ → ℕ → ℕ
-place_of slot sel = (slot % 64 * 32 + sel % 2048) % 2048
+place_of slot sel = (slot * 32 + sel) % 2048
 
 abbrev pub blank : Note
-blank = record { sel = 0; slot = 0; count = 0; imp = 0 }
+blank = record { word = 0; count = 0; imp = 0; spare = 0; spared = 0 }
 
--- the implementation's number that a note has of a lookup, or 0
-abbrev pub found_by : Note → ℕ → ℕ → ℕ → ℕ
-found_by n count slot sel = if n.sel == sel && n.slot == slot && n.count == count then n.imp else 0
+-- what a note has of a lookup: the implementation's number, 0 where it found no method
+abbrev pub found_by : Note → ℕ → ℕ → ℕ → Option ℕ
+found_by n count slot sel = if n.word == key_of slot sel + none_bit n.imp && n.count == count then Some n.imp else None
 
--- that which notes have of a lookup, or 0: what stands at its place
-abbrev pub recalled : Notes → ℕ → ℕ → ℕ → ℕ
-recalled n count slot sel = found_by (slice_index_or n.notes (place_of slot sel) blank) count slot sel
+-- what notes have of a lookup: that which stands at its place. Of slots from 2^26 on nothing is noted.
+abbrev pub recalled : Notes → ℕ → ℕ → ℕ → Option ℕ
+recalled n count slot sel = if nat_lt slot (2 ^ 26) then found_by (slice_index_or n.notes (place_of slot sel) blank) count slot sel else None
 
--- after all changes of the history the notes have this implementation of a lookup, where the slot takes 32 bits
+-- after all changes of the history the notes have this implementation of a lookup, where the slot is below 2^26
 abbrev pub IsNoted : History → Notes → ClassRef → ℕ → ℕ → Type 0
-IsNoted h n c sel imp = slot_of c < 2 ^ 32 → recalled n (length h.changes) (slot_of c) sel ≡ imp
+IsNoted h n c sel imp = slot_of c < 2 ^ 26 → recalled n (length h.changes) (slot_of c) sel ≡ Some imp

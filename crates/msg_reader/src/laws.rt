@@ -8,7 +8,6 @@ ghost use Rattle.msg_reader.specs.Notes.{AreBlank, AreNotesOf};
 ghost use Rattle.msg_reader.specs.declared.notes.Notes.{Notes};
 
 /// Notes of a history are notes of each longer history.
-#[tactic(auto, using(crate::proofs::NoteLemmas::notes_begin))]
 pub fn notes_are_of_longer_histories()
     ensures { (p h : History) (n : Notes) → BeginsWith p h → AreNotesOf h n → AreNotesOf p n }
 {}
@@ -25,8 +24,8 @@ pub fn a_history_no_longer_is_the_same()
     ensures { (p h : History) → BeginsWith p h → length p.changes ≡ length h.changes → p ≡ h }
 {}
 
-/// The slot of a class reference takes 32 bits, where there are at most so many classes; then what is noted of it is recalled.
+/// The slot of a class reference is below 2^26, where there are at most so many classes; then what is noted of it is recalled.
 #[tactic(auto, using(crate::proofs::NoteLemmas::short_slot))]
 pub fn a_slot_of_few_classes_is_short()
-    ensures { (c : ClassRef) → c.class < 2 ^ 31 → slot_of c < 2 ^ 32 }
+    ensures { (c : ClassRef) → c.class < 2 ^ 25 → slot_of c < 2 ^ 26 }
 {}

@@ -3,7 +3,7 @@
 //! A lookup is answered from the notes where it was noted after as many changes as the reader has seen: then it is the lookup at what the reader has seen, and no word
 //! that threads share is read. What the notes lack is probed for, and is then noted. No lock is taken: what a cache lacks is the runtime's to answer.
 
-ghost use Rattle.std.specs.Prelude.{◌≡◌, ◌<◌, ◌≤◌, length, IfSome, IfNone};
+ghost use Rattle.std.specs.Prelude.{◌≡◌, ◌<◌, ◌≤◌, length, IfSome, IfNone, None};
 ghost use Rattle.msg_names.specs.ClassRef.{slot_of};
 ghost use Rattle.msg_names.specs.Number.{selector_number, imp_number};
 ghost use Rattle.msg_tables.specs.Origin.{last_imp};
@@ -165,7 +165,7 @@ impl Reader {
         ensures listed { IfSome result (λ i. imp_number i ≤ last_imp self.new.sender.front.origin.counts) }
         ensures notes { AreNotesOf self.new.sender.front notes.new }
         ensures noted { IfSome result (λ i. IsNoted self.new.sender.front notes.new class (selector_number sel) (imp_number i)) }
-        ensures recalled { IfNone result (self.new.sender.front ≡ self.old.sender.front → recalled notes.old (length self.old.sender.front.changes) (slot_of class) (selector_number sel) ≡ 0) }
+        ensures recalled { IfNone result (self.new.sender.front ≡ self.old.sender.front → recalled notes.old (length self.old.sender.front.changes) (slot_of class) (selector_number sel) ≡ None) }
     {
         notes_are_of_longer_histories();
         a_history_no_longer_is_the_same();

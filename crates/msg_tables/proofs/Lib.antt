@@ -12,6 +12,7 @@ pub mod IndexLemmas
 pub mod JudgeLemmas
 pub mod LawLemmas
 pub mod LimitLemmas
+pub mod LinkLemmas
 pub mod ListLemmas
 pub mod ListedLemmas
 pub mod ListedOrderLemmas

@@ -1,18 +1,20 @@
 -- The fields of `IndexedRows`.
-use Rattle.std.specs.Prelude.{◌≡◌, ℕ, ◌-◌, min, nat_eq, vec_len}
+use Rattle.std.specs.Prelude.{◌≡◌, ◌<◌, ◌-◌, min, length, vec_len}
 use Rattle.std.specs.Vec.{vec_capacity}
-use Rattle.std.specs.HashMap.{get, spare}
+use Rattle.msg_tables.specs.Buckets.{AreLinked}
 use Rattle.msg_tables.specs.Methods.{method_numbers}
-use Rattle.msg_tables.specs.RowList.{RowList, last_index}
+use Rattle.msg_tables.specs.RowList.{RowList}
 use Rattle.msg_tables.specs.declared.indexed_rows.IndexedRows.TheInside.{Inside}
 
 -- what contracts see of the methods of a class reference
 abbrev pub row_list : Inside → RowList
 row_list i = record {
   rows = method_numbers i.rows.items;
-  room = min (vec_capacity i.rows - vec_len i.rows) (spare i.own);
+  room = min (vec_capacity i.rows - vec_len i.rows) (vec_capacity i.older - vec_len i.older);
 }
 
--- each selector's last row is found by its number
+-- each selector's last row is found in its bucket
 pub record IsIndexed (i : Inside) : Type 0 where
-  pub index : (s : ℕ) → get nat_eq i.own s ≡ last_index s (method_numbers i.rows.items)
+  pub some : 0 < length i.newest.items
+  pub each : length i.older.items ≡ length i.rows.items
+  pub linked : AreLinked (method_numbers i.rows.items) (length i.rows.items) i.older.items i.newest.items

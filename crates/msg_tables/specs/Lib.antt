@@ -2,6 +2,7 @@ pub mod Affected
 pub mod After
 pub mod Attached
 pub mod Below
+pub mod Buckets
 pub mod Chain
 pub mod Edits
 pub mod FaultNumber

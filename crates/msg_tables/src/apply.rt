@@ -120,7 +120,7 @@ impl Tables {
 
     /// Makes a change, or says why not and changes nothing.
     ///
-    /// A method is looked up once; a row that is rewritten is found by one hash more. All growths come first; only `Attach` goes over more than one row.
+    /// A method is looked up once; a row that is rewritten is found in its bucket. All growths come first; only `Attach` goes over more than one row.
     pub fn apply(&mut self, change: &Change) -> Result<(), ChangeFault>
         ensures ok { OnOk result ((h : Log) → StandsAt self.old h → (refusal h change.now ≡ None) × StandsAt self.new (and_then h change.now)) }
         ensures err { OnErr result (self.new ≡ self.old) }

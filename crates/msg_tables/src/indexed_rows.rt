@@ -1,21 +1,22 @@
 //! The rows of one class reference, with their index.
 
-ghost use Rattle.std.specs.Prelude.{◌≡◌, ◌+◌, ◌<◌, ◌≤◌, [], ◌∷◌, ◌++◌, OnOk, OnErr, option_map};
+ghost use Rattle.std.specs.Prelude.{◌≡◌, ◌+◌, ◌<◌, ◌≤◌, [], ◌∷◌, ◌++◌, IfOk, OnOk, OnErr, length, option_map, replicate};
 ghost use Rattle.msg_names.specs.Number.{selector_number, imp_number};
+ghost use Rattle.msg_tables.specs.Buckets.{AreLinked, bucket_of};
 ghost use Rattle.msg_tables.specs.Methods.{method_numbers};
 ghost use Rattle.msg_tables.specs.RowList.{own_in, last_index, set_last, without_last};
 
 use msg_names::{ImpRef, Selector};
 use std::alloc::{AllocError, Global};
-use std::collections::HashMap;
 use std::marker::Model;
 
-// The rows, oldest first, and by each selector's number where its last row stands: what a lookup finds.
-// `find` hashes once and indexes once, however many rows there are.
+// The rows, oldest first. Selectors whose numbers end alike share a bucket, whose rows hang together: `newest` has of each bucket 1 more than the place of its newest row,
+// or 0 where it has none, and `older` the same of the row before each row in its bucket. So a lookup goes from the newest row of a selector's bucket to the oldest.
 #[derive(Drop)]
 pub(crate) struct IndexedRows {
     rows: Vec<(Selector, ImpRef)>,
-    own: HashMap<u32, usize>,
+    older: Vec<usize>,
+    newest: Vec<usize>,
 }
 
 impl Model for IndexedRows {
@@ -30,27 +31,60 @@ impl Model for IndexedRows {
     ghost invariant = { IsIndexed };
 }
 
-// The place of a selector's last row.
-fn last_place(rows: &[(Selector, ImpRef)], sel: Selector) -> Option<usize>
-    ensures { result ≡ last_index (selector_number sel) (method_numbers rows.now) }
+// The bucket of a selector, of so many.
+#[inline(always)]
+fn bucket(sel: Selector, count: usize) -> usize
+    requires { 0 < count }
+    ensures value { result ≡ bucket_of count (selector_number sel) }
+    ensures inside { result < count }
 {
-    let mut last = None;
+    sel.number() as usize & (count - 1)
+}
+
+// Links rows into buckets that are all empty.
+fn link(rows: &[(Selector, ImpRef)], older: &mut [usize], newest: &mut [usize])
+    requires buckets { 0 < length newest.old }
+    requires empty { newest.old ≡ replicate (length newest.old) 0 }
+    requires older { length older.old ≡ length rows.now }
+    ensures linked { AreLinked (method_numbers rows.now) (length rows.now) older.new newest.new }
+    ensures older { length older.new ≡ length older.old }
+    ensures newest { length newest.new ≡ length newest.old }
+{
     for (at, row) in rows.iter().enumerate() {
-        if row.0.number() == sel.number() {
-            last = Some(at);
-        }
+        let bucket = bucket(row.0, newest.len());
+        older[at] = newest[bucket];
+        newest[bucket] = at + 1;
     }
-    last
 }
 
 impl IndexedRows {
-    pub(crate) fn new(alloc: Global) -> Self
-        ensures { result.rows ≡ [] }
+    // No rows yet, and room for some.
+    pub(crate) fn with_room(alloc: Global, more: usize) -> Result<IndexedRows, AllocError>
+        ensures rows { IfOk result (λ rows. rows.rows ≡ []) }
+        ensures room { IfOk result (λ rows. more ≤ rows.room) }
     {
-        IndexedRows {
+        let mut rows = IndexedRows {
             rows: Vec::new(alloc),
-            own: HashMap::new(alloc),
+            older: Vec::new(alloc),
+            newest: vec![in alloc; 0; 1]?,
+        };
+        rows.reserve(alloc, more)?;
+        Ok(rows)
+    }
+
+    // The place of a selector's last row.
+    #[inline(always)]
+    fn place(&self, sel: Selector) -> Option<usize>
+        ensures { result ≡ last_index (selector_number sel) self.now.rows }
+    {
+        let mut at = self.newest[bucket(sel, self.newest.len())];
+        while at != 0 {
+            if self.rows[at - 1].0.number() == sel.number() {
+                return Some(at - 1);
+            }
+            at = self.older[at - 1];
         }
+        None
     }
 
     // The implementation in a selector's last row.
@@ -58,18 +92,37 @@ impl IndexedRows {
     pub(crate) fn find(&self, sel: Selector) -> Option<ImpRef>
         ensures { option_map imp_number result ≡ own_in (selector_number sel) self.now.rows }
     {
-        let place = *self.own.get(&sel.number())?;
-        Some(self.rows[place].1)
+        Some(self.rows[self.place(sel)?].1)
+    }
+
+    // Makes as many buckets as there will be rows, at least.
+    fn widen(&mut self, alloc: Global, count: usize) -> Result<(), AllocError>
+        ensures { self.new ≡ self.old }
+    {
+        if self.newest.len() < count {
+            let Some(count) = count.checked_next_power_of_two() else {
+                return Err(AllocError);
+            };
+            let mut newest = vec![in alloc; 0; count]?;
+            link(&self.rows, &mut self.older, &mut newest);
+            self.newest = newest;
+        }
+        Ok(())
     }
 
     // Makes room for so many more rows.
-    pub(crate) fn reserve(&mut self, more: usize) -> Result<(), AllocError>
+    pub(crate) fn reserve(&mut self, alloc: Global, more: usize) -> Result<(), AllocError>
         ensures rows { self.new.rows ≡ self.old.rows }
         ensures room { OnOk result (more ≤ self.new.room) }
         ensures refused { OnErr result (0 < more) }
     {
+        if more == 0 {
+            return Ok(());
+        }
         self.rows.reserve(more)?;
-        self.own.reserve(more)
+        self.older.reserve(more)?;
+        let count = self.rows.len().saturating_add(more);
+        self.widen(alloc, count)
     }
 
     pub(crate) fn push(&mut self, sel: Selector, imp: ImpRef)
@@ -77,39 +130,33 @@ impl IndexedRows {
         ensures rows { self.new.rows ≡ self.old.rows ++ (selector_number sel, imp_number imp) ∷ [] }
         ensures room { self.old.room ≤ self.new.room + 1 }
     {
-        let place = self.rows.len();
-        let indexed: Result<_, _> = self.own.insert(sel.number(), place);
-        indexed.unwrap();
+        let bucket = bucket(sel, self.newest.len());
+        let older: Result<_, _> = self.older.push(self.newest[bucket]);
+        older.unwrap();
         let pushed: Result<_, _> = self.rows.push((sel, imp));
         pushed.unwrap();
+        self.newest[bucket] = self.rows.len();
     }
 
     // Writes another implementation into a selector's last row, where it has one.
     pub(crate) fn set(&mut self, sel: Selector, imp: ImpRef)
         ensures { self.new.rows ≡ set_last (selector_number sel) (imp_number imp) self.old.rows }
     {
-        if let Some(found) = self.own.get(&sel.number()) {
-            let place = *found;
+        if let Some(place) = self.place(sel) {
             self.rows[place] = (sel, imp);
         }
     }
 
-    // Takes the last row away, where there is one. The index gets the selector's row before it, for which the rows are gone over.
+    // Takes the last row away, where there is one.
     fn pop(&mut self)
         ensures { self.new.rows ≡ without_last 1 self.old.rows }
     {
         let Some((sel, _)) = self.rows.pop() else {
             return;
         };
-        match last_place(&self.rows, sel) {
-            Some(place) => {
-                let known: Result<_, _> = self.own.insert(sel.number(), place);
-                known.unwrap();
-            }
-            None => {
-                self.own.remove(&sel.number());
-            }
-        }
+        let older = self.older.pop();
+        let bucket = bucket(sel, self.newest.len());
+        self.newest[bucket] = older.unwrap();
     }
 
     // Takes so many rows at the end away.

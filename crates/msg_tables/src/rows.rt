@@ -32,8 +32,7 @@ fn reserved(alloc: Global, more: usize) -> Result<Box<IndexedRows>, AllocError>
     ensures rows { IfOk result (λ rows. rows.value.rows ≡ []) }
     ensures room { IfOk result (λ rows. more ≤ rows.value.room) }
 {
-    let mut rows = IndexedRows::new(alloc);
-    rows.reserve(more)?;
+    let rows = IndexedRows::with_room(alloc, more)?;
     match Box::new(alloc, rows) {
         Ok(rows) => Ok(rows),
         Err(_) => Err(AllocError),
@@ -68,7 +67,7 @@ impl MethodRows {
             return Ok(());
         }
         match &mut self.indexed {
-            Some(rows) => rows.reserve(more),
+            Some(rows) => rows.reserve(self.alloc, more),
             None => {
                 self.indexed = Some(reserved(self.alloc, more)?);
                 Ok(())

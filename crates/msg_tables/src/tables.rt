@@ -21,7 +21,7 @@ use std::marker::Model;
 
 /// The class tables at a point of their log.
 ///
-/// A lookup goes up the superclasses, and at each hashes the selector once, however many methods the class has.
+/// A lookup goes up the superclasses, and at each compares the selector with the few methods of its bucket, however many the class has.
 #[derive(Drop)]
 pub struct Tables {
     pub(crate) supers: Vec<Option<Presence>>,
@@ -128,7 +128,7 @@ impl Tables {
 
     /// The implementation of the method that the class or the nearest superclass has, and else forwarding.
     ///
-    /// Each class on the way costs one hash and one probe. No memory is taken.
+    /// Each class on the way costs a bucket, in which a class has a method or two. No memory is taken.
     pub fn lookup(&self, class: ClassRef, sel: Selector) -> ImpRef
         requires { class.class < length self.now.supers }
         ensures listed { imp_number result ≤ last_imp self.now.counts }

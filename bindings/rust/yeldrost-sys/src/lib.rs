@@ -5,14 +5,18 @@
 use core::ffi::c_void;
 
 pub const MSG_NOTES: usize = 2048;
+pub const MSG_SLOTS: u32 = 67108864;
+/// Of `msg_recall`: it is noted that there is no method.
+pub const NOTED_NONE: usize = 1 << 32;
 
 #[repr(C)]
 #[derive(Clone, Copy)]
 pub struct msg_note {
-    pub sel: u32,
-    pub slot: u32,
+    pub word: u64,
     pub count: u64,
     pub imp: u32,
+    pub spare: u32,
+    pub spared: u64,
 }
 
 #[repr(C)]
@@ -251,10 +255,19 @@ pub unsafe fn msg_report(runtime: *mut msg_runtime, report: *mut msg_report_row)
     )
 }
 
-/// The slot and the selector of a lookup as one word.
+// How far the keys of two slots are apart.
+const KEY_OF_SLOT: u64 = 137_438_954_496;
+
+/// The key of a lookup, one to one where the slot is below `MSG_SLOTS`.
 #[inline]
 pub const fn msg_key(slot: u32, sel: u32) -> u64 {
-    (slot as u64) << 32 | sel as u64
+    (slot as u64).wrapping_mul(KEY_OF_SLOT).wrapping_add(sel as u64 * 32)
+}
+
+// Where what is noted of a key lies.
+#[inline]
+unsafe fn note_of(sender: *const msg_sender, key: u64) -> *const msg_note {
+    &(*sender).notes[(key / 32) as usize % MSG_NOTES]
 }
 
 /// What is noted of a key after so many changes, without a call; 0 where nothing is, or forwarding.
@@ -263,14 +276,22 @@ pub const fn msg_key(slot: u32, sel: u32) -> u64 {
 /// The sender is one, and in no call.
 #[inline]
 pub unsafe fn msg_recall_key(sender: *const msg_sender, key: u64, count: u64) -> u32 {
-    let (slot, sel) = ((key >> 32) as u32, key as u32);
-    let place = slot.wrapping_mul(32).wrapping_add(sel) as usize % MSG_NOTES;
-    let note = &(*sender).notes[place];
-    if note.sel == sel && note.slot == slot && note.count == count {
+    let note = &*note_of(sender, key);
+    if note.word == key && note.count == count {
         note.imp
     } else {
         0
     }
+}
+
+/// Whether it is noted that there is no method.
+///
+/// # Safety
+/// The sender is one, and in no call.
+#[inline]
+pub unsafe fn msg_recall_none_key(sender: *const msg_sender, key: u64, count: u64) -> bool {
+    let note = &*note_of(sender, key);
+    note.word == key + 1 && note.count == count
 }
 
 /// The same, of a slot and a selector.
@@ -279,10 +300,14 @@ pub unsafe fn msg_recall_key(sender: *const msg_sender, key: u64, count: u64) ->
 /// The sender is one, and in no call.
 #[inline]
 pub unsafe fn msg_recall_inline(sender: *const msg_sender, slot: u32, sel: u32, count: u64) -> u32 {
-    msg_recall_key(sender, msg_key(slot, sel), count)
+    if slot < MSG_SLOTS {
+        msg_recall_key(sender, msg_key(slot, sel), count)
+    } else {
+        0
+    }
 }
 
 use core::mem::size_of;
 const _: () =
-    assert!(size_of::<msg_note>() == 24 && size_of::<msg_sender>() == 16 + 24 * MSG_NOTES);
+    assert!(size_of::<msg_note>() == 32 && size_of::<msg_sender>() == 16 + 32 * MSG_NOTES);
 const _: () = assert!(size_of::<msg_change>() == 32);

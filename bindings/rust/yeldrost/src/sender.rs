@@ -95,6 +95,16 @@ impl Sender {
         Imp::new(unsafe { sys::msg_recall(&*self.raw, slot, selector.get(), count) } as u32)
     }
 
+    /// Whether it is noted that after so many changes no method is found, without a call.
+    #[inline]
+    pub fn recalls_none(&self, of: ClassRef, selector: Selector, count: u64) -> bool {
+        of.has_slot()
+            && unsafe {
+                let key = sys::msg_key(of.slot(), selector.get());
+                sys::msg_recall_none_key(&*self.raw, key, count)
+            }
+    }
+
     /// How many changes there are, which the sender has then seen.
     pub fn refresh(&mut self) -> Result<u64, Fault> {
         let mut count = 0;
@@ -126,7 +136,7 @@ impl std::fmt::Debug for Sender {
     }
 }
 
-/// A closed sender, made where it stays: 48 KiB would be much of a small stack.
+/// A closed sender, made where it stays: 64 KiB would be much of a small stack.
 fn closed() -> Box<sys::msg_sender> {
     let layout = Layout::new::<sys::msg_sender>();
     // SAFETY: zero bytes are a closed sender, and the layout is that of the box.

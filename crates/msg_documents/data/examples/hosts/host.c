@@ -12,7 +12,7 @@ enum { AREA = 1, SIDES, COUNT };
 enum { FORWARD, SHAPE_AREA, SHAPE_SIDES, SHAPE_COUNT, SQUARE_AREA, METHODS };
 
 /* What the library says of a sender's handle, msg_sender_size, is proved to be this. */
-_Static_assert(sizeof(msg_sender) == 49168, "the header spells a sender's handle otherwise than the library");
+_Static_assert(sizeof(msg_sender) == 65552, "the header spells a sender's handle otherwise than the library");
 
 typedef struct { uint32_t class_, side; } object;
 typedef uint32_t (*method)(object *self);

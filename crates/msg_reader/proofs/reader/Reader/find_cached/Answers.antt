@@ -18,3 +18,17 @@ returns-clause-notes c =
     let found : imp_number c.in_ok-imp.imp ≡ lookup sees c.args.class (selector_number c.args.sel) = subst (λ h. imp_number c.in_ok-imp.imp ≡ lookup h c.args.class (selector_number c.args.sel)) (sym same) (search rules) in
     let listed : imp_number c.in_ok-imp.imp ≤ last_imp sees.origin.counts = search rules in
     c.keep.ensures.notes sees (grows sees probed c.args.notes.now onward (grows probed saw c.args.notes.now on c.requires.notes)) c.seen-count.ensures.length found listed
+
+pub returns-in_err-imp-clause-notes : goal.returns-in_err-imp-clause-notes
+returns-in_err-imp-clause-notes c =
+    let on : BeginsWith c.probe.new.self.sender.front c.args.self.now.sender.front = search rules in
+    c.notes_are_of_longer_histories.ensures c.probe.new.self.sender.front c.args.self.now.sender.front c.args.notes.now on c.requires.notes
+
+pub returns-then-count-before-clause-notes : goal.returns-then-count-before-clause-notes
+returns-then-count-before-clause-notes c =
+    let grows = c.notes_are_of_longer_histories.ensures in
+    let saw = c.args.self.now.sender.front in
+    let probed = c.probe.new.self.sender.front in
+    let sees = c.seen-count.new.self.sender.front in
+    let on : BeginsWith probed saw = search rules in
+    grows sees probed c.args.notes.now c.seen-count.ensures.begins (grows probed saw c.args.notes.now on c.requires.notes)
