@@ -10,7 +10,7 @@ use msg_names::{ImpRef, Selector};
 use std::alloc::{AllocError, Global};
 use std::marker::Model;
 
-// The rows, oldest first. Selectors whose numbers end alike share a bucket, whose rows hang together: `newest` has of each bucket 1 more than the place of its newest row,
+// The rows, oldest first. Some selectors share a bucket, whose rows hang together: `newest` has of each bucket 1 more than the place of its newest row,
 // or 0 where it has none, and `older` the same of the row before each row in its bucket. So a lookup goes from the newest row of a selector's bucket to the oldest.
 #[derive(Drop)]
 pub(crate) struct IndexedRows {
@@ -31,14 +31,15 @@ impl Model for IndexedRows {
     ghost invariant = { IsIndexed };
 }
 
-// The bucket of a selector, of so many.
+// The bucket of a selector, of so many. Numbers that follow one another have buckets that do; those that go by 8, 16 or 32, as where a host makes them of addresses, are spread too.
 #[inline(always)]
 fn bucket(sel: Selector, count: usize) -> usize
     requires { 0 < count }
     ensures value { result ≡ bucket_of count (selector_number sel) }
     ensures inside { result < count }
 {
-    sel.number() as usize & (count - 1)
+    let number = sel.number() as usize;
+    (number + number / 32) & (count - 1)
 }
 
 // Links rows into buckets that are all empty.
