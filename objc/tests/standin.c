@@ -294,13 +294,13 @@ uint32_t msg_change_all_with_undo(msg_runtime *runtime, const msg_change *change
     else if (count) commit(tables, changes, count);
     for (size_t i = log.count; undone && !fault && i--;) {
         struct was was = log.rows[i];
-        uint32_t slot = (uint32_t)(was.key >> 32);
+        uint32_t slot = MSG_SLOT_OF(was.key);
         if (!was.key || !was.imp) {
             *undone = 0;
             break;
         }
         *undone = log.count - i;
-        undo[log.count - i - 1] = (msg_change){MSG_REPLACES, slot / 2, slot % 2, (uint32_t)was.key, was.imp, 0, 0, 0};
+        undo[log.count - i - 1] = (msg_change){MSG_REPLACES, slot / 2, slot % 2, MSG_SEL_OF(was.key), was.imp, 0, 0, 0};
     }
     free(log.rows);
     return fault;
