@@ -262,14 +262,16 @@ static inline const char *msg_fault_text(uint32_t fault)
 #define MSG_TEST(what) ((void)0)
 #endif
 
-/* The key of a lookup, one to one where the slot is below MSG_SLOTS, as it is of any class: a word that is even, of which the low 16 bits are where its note lies. It adds up: a host may
- * keep msg_key(slot, 0) with each class and msg_key(0, sel) with each selector, and add the two. */
-enum { MSG_SLOTS = 67108864 }; /* 2^26 */
+/* Of slots below this keys are one to one, as they are of any class. And of a key its slot, its selector, and where its note lies. */
+#define MSG_SLOTS 67108864 /* 2^26 */
 #define MSG_KEY_OF_SLOT UINT64_C(137438954496) /* 2^37 + 2^10: more than all selectors take, and 32 notes on */
-static inline uint64_t msg_key(uint32_t slot, uint32_t sel) { return slot * MSG_KEY_OF_SLOT + sel * UINT64_C(32); }
 #define MSG_SLOT_OF(key) ((uint32_t)((key) / MSG_KEY_OF_SLOT))
 #define MSG_SEL_OF(key) ((uint32_t)((key) % MSG_KEY_OF_SLOT / 32))
 #define MSG_NOTE_OF(sender, key) ((const msg_note *)(const void *)((const char *)(sender)->notes + (uint16_t)(key)))
+
+/* The key of a lookup as one word: even, and its low 16 bits are where its note lies. It adds up: a host may keep msg_key(slot, 0) with each class and msg_key(0, sel) with each
+ * selector, and add the two. */
+static inline uint64_t msg_key(uint32_t slot, uint32_t sel) { return slot * MSG_KEY_OF_SLOT + sel * UINT64_C(32); }
 
 /* msg_recall without a call, for where each instruction counts: the implementation's number that the note at the one place of the key says, or 0 where it is noted that there is no
  * method, or nothing is. Key 0, of slot 0 and selector 0, is a blank note's word, whose number is 0. Trusted: this code. With MSG_CHECK each answer is compared with the proved one. */

@@ -1,2 +1,3 @@
 pub mod RuntimeAsBox
+pub mod NoteLemmas
 pub mod SenderAsBox

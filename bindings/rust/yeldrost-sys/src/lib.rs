@@ -5,7 +5,8 @@
 use core::ffi::c_void;
 
 pub const MSG_NOTES: usize = 2048;
-pub const MSG_SLOTS: u32 = 67108864;
+/// Of slots below this keys are one to one.
+pub const SLOTS: u32 = 67_108_864;
 /// Of `msg_recall`: it is noted that there is no method.
 pub const NOTED_NONE: usize = 1 << 32;
 
@@ -258,7 +259,7 @@ pub unsafe fn msg_report(runtime: *mut msg_runtime, report: *mut msg_report_row)
 // How far the keys of two slots are apart.
 const KEY_OF_SLOT: u64 = 137_438_954_496;
 
-/// The key of a lookup, one to one where the slot is below `MSG_SLOTS`.
+/// The key of a lookup, one to one where the slot is below `SLOTS`.
 #[inline]
 pub const fn msg_key(slot: u32, sel: u32) -> u64 {
     (slot as u64).wrapping_mul(KEY_OF_SLOT).wrapping_add(sel as u64 * 32)
@@ -300,7 +301,7 @@ pub unsafe fn msg_recall_none_key(sender: *const msg_sender, key: u64, count: u6
 /// The sender is one, and in no call.
 #[inline]
 pub unsafe fn msg_recall_inline(sender: *const msg_sender, slot: u32, sel: u32, count: u64) -> u32 {
-    if slot < MSG_SLOTS {
+    if slot < SLOTS {
         msg_recall_key(sender, msg_key(slot, sel), count)
     } else {
         0

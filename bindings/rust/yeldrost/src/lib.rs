@@ -67,7 +67,7 @@ impl ClassRef {
 
     /// Whether the slot is this one's alone.
     const fn has_slot(self) -> bool {
-        self.number < sys::MSG_SLOTS / 2
+        self.number < sys::SLOTS / 2
     }
 }
 
