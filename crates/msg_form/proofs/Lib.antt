@@ -8,6 +8,7 @@ pub mod WalkLemmas
 pub mod BodyWalkLemmas
 pub mod ListsLemmas
 pub mod AnyLemmas
+pub mod ChangesLemmas
 pub mod FormNamesLemmas
 pub mod CitedLemmas
 pub mod ClassLemmas

@@ -14,14 +14,14 @@ use Rattle.msg_form.specs.Form.{PairForm, ClassForm, ImpForm, Form}
 use Rattle.msg_form.specs.Lists.{listed_names, class_names, home_classes, root_names, object_names, imp_names, method_entries, all_lists, sends, classes_named, objects_named, imps_named}
 use Rattle.msg_form.specs.Parts.{parts, depth, indices_in, is_super_send}
 use Rattle.msg_form.specs.Text.{Text, number_among, is_among, is_unknown, has_duplicate, distinct}
-use Rattle.msg_form.specs.Version.{is_second}
+use Rattle.msg_form.specs.Version.{makes_classes}
 use Rattle.msg_form.specs.Walk.{selector_texts, list_texts}
 
 -- ---- Version
 
--- `version` is neither 1 nor 2
+-- `version` is none of 1, 2 and 3
 unfoldable pub is_other_version : Form → Bool
-is_other_version f = not (int_eq f.version (pos 1) || is_second f.version)
+is_other_version f = not (int_eq f.version (pos 1) || makes_classes f.version)
 
 -- ---- Limit
 
@@ -61,7 +61,7 @@ has_late_superclass names (c ∷ cs) = is_outside names c.superclass || has_late
 
 -- a class's `super` isn't the name of a listed class, or in version 1 of one that is listed before it
 unfoldable pub has_other_superclass : Form → Bool
-has_other_superclass f = if is_second f.version then list_any (λ c. is_outside (listed_names f) c.superclass) f.classes else has_late_superclass [] f.classes
+has_other_superclass f = if makes_classes f.version then list_any (λ c. is_outside (listed_names f) c.superclass) f.classes else has_late_superclass [] f.classes
 
 -- an implementation whose home class is one of the roots, and not a metaclass, has a super send
 abbrev pub sends_above : List Text → ImpForm → Bool
@@ -161,7 +161,7 @@ superclasses_of cs = map (λ c. option_map (number_among (distinct (map (λ (d :
 
 -- A listed class stands on its own chain of superclasses, so that the chain doesn't end. In version 1 superclasses come first.
 unfoldable pub has_class_cycle : Form → Bool
-has_class_cycle f = is_second f.version && has_cycle (superclasses_of f.classes)
+has_class_cycle f = makes_classes f.version && has_cycle (superclasses_of f.classes)
 
 -- ---- the least fault
 

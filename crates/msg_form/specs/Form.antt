@@ -1,5 +1,5 @@
 -- The parts of a document, with names as texts.
-use Rattle.std.specs.Prelude.{ℕ, ℤ, List, Bool, Option}
+use Rattle.std.specs.Prelude.{ℕ, ℤ, List, [], ◌∷◌, Bool, Option}
 use Rattle.msg_form.specs.Expression.{Constant, Expression}
 use Rattle.msg_form.specs.Text.{Text}
 
@@ -55,6 +55,14 @@ pub data ItemForm : Type 0 where
   -- receiver, selector, arguments
   send_item : Constant → Text → List Constant → ItemForm
   change_item : ChangeForm → ItemForm
+  -- changes that are made as one
+  change_all_item : List ChangeForm → ItemForm
+
+-- the changes of an item, in their order
+abbrev pub changes_of : ItemForm → List ChangeForm
+changes_of (send_item r s args) = []
+changes_of (change_item c) = c ∷ []
+changes_of (change_all_item cs) = cs
 
 -- a document as it is written, with names as texts
 pub record Form : Type 0 where

@@ -1,7 +1,7 @@
 -- What stands in a form: the names that it gives, its lists, its sends and the names that it cites.
 use Rattle.std.specs.Prelude.{ℕ, List, [], ◌∷◌, ◌++◌, length, map, filter, is_none, Option, Some, None}
 use Rattle.std.specs.List.{flat_map}
-use Rattle.msg_form.specs.Form.{PairForm, ClassForm, CategoryForm, ChangeForm, add, replace, set_imp, exchange, attach, make, ItemForm, send_item, change_item, Form}
+use Rattle.msg_form.specs.Form.{PairForm, ClassForm, CategoryForm, ChangeForm, add, replace, set_imp, exchange, attach, make, ItemForm, send_item, changes_of, Form}
 use Rattle.msg_form.specs.Parts.{classes_in, objects_in, sends_in, own_class, own_object}
 use Rattle.msg_form.specs.Text.{Text}
 
@@ -39,6 +39,7 @@ category_lists c = c.methods ∷ c.class_methods ∷ []
 abbrev pub method_lists : Form → List (List PairForm)
 method_lists f = flat_map class_lists f.classes ++ flat_map category_lists f.categories
 
+-- the method lists of a change: those of a category that it attaches
 abbrev pub change_lists : ChangeForm → List (List PairForm)
 change_lists (add m i) = []
 change_lists (replace m i) = []
@@ -47,10 +48,9 @@ change_lists (exchange m o) = []
 change_lists (attach c ms cs) = ms ∷ cs ∷ []
 change_lists (make c s) = []
 
--- the method lists of an item: those of a category that it attaches
+-- the method lists of an item: those of categories that it attaches
 abbrev pub item_lists : ItemForm → List (List PairForm)
-item_lists (send_item r s args) = []
-item_lists (change_item c) = change_lists c
+item_lists i = flat_map change_lists (changes_of i)
 
 -- all lists L
 abbrev pub all_lists : Form → List (List PairForm)
@@ -68,7 +68,7 @@ body_sends f = flat_map (λ i. sends_in i.body) f.imps
 -- the selector of a send of the document, with how many arguments it is given
 abbrev pub item_sends : ItemForm → List (Text × ℕ)
 item_sends (send_item r s args) = (s, length args) ∷ []
-item_sends (change_item c) = []
+item_sends _ = []
 
 -- each send and super send, as its selector and how many arguments it has
 abbrev pub sends : Form → List (Text × ℕ)
@@ -89,10 +89,10 @@ change_classes (exchange m o) = m.class ∷ o.class ∷ []
 change_classes (attach c ms cs) = c ∷ []
 change_classes (make c s) = c ∷ at_most_one s
 
--- the classes that an item names, by a receiver, an argument or a change
+-- the classes that an item names, by a receiver, an argument or its changes
 abbrev pub item_classes : ItemForm → List Text
 item_classes (send_item r s args) = flat_map own_class (r ∷ args)
-item_classes (change_item c) = change_classes c
+item_classes i = flat_map change_classes (changes_of i)
 
 abbrev pub body_classes : Form → List Text
 body_classes f = flat_map (λ i. classes_in i.body) f.imps
@@ -112,7 +112,7 @@ classes_named f = body_classes f ++ other_classes f
 -- the objects that a send of the document names
 abbrev pub item_objects : ItemForm → List Text
 item_objects (send_item r s args) = flat_map own_object (r ∷ args)
-item_objects (change_item c) = []
+item_objects _ = []
 
 abbrev pub body_objects : Form → List Text
 body_objects f = flat_map (λ i. objects_in i.body) f.imps
@@ -121,6 +121,7 @@ body_objects f = flat_map (λ i. objects_in i.body) f.imps
 abbrev pub objects_named : Form → List Text
 objects_named f = body_objects f ++ flat_map item_objects f.items
 
+-- the implementations that a change names, its lists aside
 abbrev pub change_imps : ChangeForm → List Text
 change_imps (add m i) = i ∷ []
 change_imps (replace m i) = i ∷ []
@@ -129,10 +130,9 @@ change_imps (exchange m o) = []
 change_imps (attach c ms cs) = []
 change_imps (make c s) = []
 
--- the implementations that a change names
+-- the implementations that an item's changes name
 abbrev pub item_imps : ItemForm → List Text
-item_imps (send_item r s args) = []
-item_imps (change_item c) = change_imps c
+item_imps i = flat_map change_imps (changes_of i)
 
 -- the implementations that lists of pairs and changes name
 abbrev pub imps_cited : List (List PairForm) → List ItemForm → List Text

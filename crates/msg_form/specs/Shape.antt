@@ -5,8 +5,8 @@ use Rattle.serde_json.specs.Find.{get, as_str, as_bool}
 use Rattle.msg_json.specs.Keys.{has_keys}
 use Rattle.msg_form.specs.ExprShape.{is_word, constant_of, expression_of}
 use Rattle.std.specs.List.{list_any}
-use Rattle.msg_form.specs.Version.{is_second}
-use Rattle.msg_form.specs.Form.{PairForm, ClassForm, CategoryForm, ObjectForm, ImpForm, MethodForm, ChangeForm, add, replace, set_imp, exchange, attach, make, ItemForm, send_item, change_item, Form}
+use Rattle.msg_form.specs.Version.{is_second, is_third}
+use Rattle.msg_form.specs.Form.{PairForm, ClassForm, CategoryForm, ObjectForm, ImpForm, MethodForm, ChangeForm, add, replace, set_imp, exchange, attach, make, ItemForm, send_item, change_item, change_all_item, Form}
 use Rattle.msg_form.specs.Json.{◌>>=◌, only_if, each, list_at, list_of, field_of, value_of, name_of, whole_of}
 use Rattle.msg_form.specs.Text.{Text}
 
@@ -127,11 +127,18 @@ worded_change_of word ds =
     (if is_word word (codes "make") then make_of ds else
     None)))))
 
+-- X, by its word
 unfoldable pub change_form_of : Data → Option ChangeForm
 change_form_of d = do
   ds ← list_at d
   word ← value_of as_str 0 ds
   worded_change_of word ds
+
+-- the parts of `["all",X,X,..]`, which are two at least
+unfoldable pub all_of : List Data → Option (List ChangeForm)
+all_of ds = do
+  _ ← only_if (nat_le 3 (length ds))
+  each change_form_of (drop 1 ds)
 
 -- ---- items
 
@@ -144,16 +151,23 @@ send_item_of d = do
   args ← each constant_of (drop 2 ds)
   Some (send_item receiver selector args)
 
+-- `["all",X,X,..]` or X
+unfoldable pub change_item_of : Data → Option ItemForm
+change_item_of d = do
+  ds ← list_at d
+  word ← value_of as_str 0 ds
+  if is_word word (codes "all") then option_map change_all_item (all_of ds) else option_map change_item (worded_change_of word ds)
+
 -- the first, where there is one, and else the other
 abbrev pub either : {A B : Type 0} → Option A → (A → Option B) → Option B → Option B
 either None f other = other
 either (Some a) f other = f a
 
--- `{"send":[C,S,C,..]}` or `{"change":X}`
+-- `{"send":[C,S,C,..]}`, `{"change":X}` or `{"change":["all",X,X,..]}`
 unfoldable pub item_form_of : Data → Option ItemForm
 item_form_of d = do
   _ ← only_if (has_keys 1 d)
-  either (get (codes "send") d) send_item_of (option_map change_item (field_of change_form_of (codes "change") d))
+  either (get (codes "send") d) send_item_of (field_of change_item_of (codes "change") d)
 
 -- ---- the whole document
 
@@ -167,31 +181,43 @@ parts_of version made d = do
   items ← field_of (list_of item_form_of) (codes "items") d
   Some (record { version = version; classes = classes; made = made; categories = categories; objects = objects; imps = imps; items = items })
 
--- a change that makes a class
-abbrev pub is_making : ItemForm → Bool
-is_making (change_item (make c s)) = true
-is_making _ = false
+-- changes that are made as one, which version 3 added
+abbrev pub is_all : ItemForm → Bool
+is_all (change_all_item cs) = true
+is_all _ = false
+
+-- these, or a change that makes a class, which version 2 added
+abbrev pub is_later : ItemForm → Bool
+is_later (change_item (make c s)) = true
+is_later i = is_all i
 
 -- version 1, which makes no classes
 unfoldable pub first_form_of : ℤ → Data → Option Form
 first_form_of version d = do
   _ ← only_if (has_keys 6 d)
   f ← parts_of version [] d
-  _ ← only_if (not (list_any is_making f.items))
+  _ ← only_if (not (list_any is_later f.items))
   Some f
 
--- version 2, with one more key: `made`, a list of names
-unfoldable pub second_form_of : ℤ → Data → Option Form
-second_form_of version d = do
+-- version 3, which has one more key than version 1: `made`, a list of names
+unfoldable pub third_form_of : ℤ → Data → Option Form
+third_form_of version d = do
   _ ← only_if (has_keys 7 d)
   made ← field_of (list_of name_of) (codes "made") d
   parts_of version made d
 
+-- version 2, which is version 3 without changes that are made as one
+unfoldable pub second_form_of : ℤ → Data → Option Form
+second_form_of version d = do
+  f ← third_form_of version d
+  _ ← only_if (not (list_any is_all f.items))
+  Some f
+
 -- the form of a document of this version
 abbrev pub form_by : ℤ → Data → Option Form
-form_by version d = if is_second version then second_form_of version d else first_form_of version d
+form_by version d = if is_third version then third_form_of version d else (if is_second version then second_form_of version d else first_form_of version d)
 
--- The version decides the form where it is 2. Any other has the form of version 1.
+-- The version decides the form where it is 2 or 3. Any other has the form of version 1.
 unfoldable pub form_of : Data → Option Form
 form_of d = do
   version ← field_of whole_of (codes "version") d

@@ -62,10 +62,14 @@ change_view (Exchange m o) = plain.exchange (method_view m) (method_view o)
 change_view (Attach c ms cs) = plain.attach c.now (pairs_view ms.items) (pairs_view cs.items)
 change_view (Make c s) = plain.make c.now (option_map (λ n. n.now) s)
 
+abbrev pub changes_view : List Change → List ChangeForm
+changes_view cs = map change_view cs
+
 -- an item without its pointers
 abbrev pub item_view : Item → ItemForm
 item_view (items.Send r s args) = plain.send_item (constant_view r) s.now (map constant_view args.now)
 item_view (items.Change c) = plain.change_item (change_view c)
+item_view (items.ChangeAll cs) = plain.change_all_item (changes_view cs.items)
 
 abbrev pub items_view : List Item → List ItemForm
 items_view is = map item_view is

@@ -2,7 +2,7 @@
 use Rattle.std.specs.Prelude.{List, [], ◌∷◌, ◌++◌, map, codes}
 use Rattle.std.specs.List.{flat_map}
 use Rattle.msg_form.specs.Expression.{Expression, Expressions, constant, me, arg, binary, choice, send, super_send, no_more, more}
-use Rattle.msg_form.specs.Form.{PairForm, ClassForm, CategoryForm, ImpForm, ChangeForm, add, replace, set_imp, exchange, attach, make, ItemForm, send_item, change_item, Form}
+use Rattle.msg_form.specs.Form.{PairForm, ClassForm, CategoryForm, ImpForm, ChangeForm, add, replace, set_imp, exchange, attach, make, ItemForm, send_item, changes_of, Form}
 use Rattle.msg_form.specs.Parts.{own_selector}
 use Rattle.msg_form.specs.Text.{Text}
 
@@ -52,7 +52,7 @@ change_texts (make c s) = []
 -- the selectors of an item, in the order of the walk
 abbrev pub item_texts : ItemForm → List Text
 item_texts (send_item r s args) = own_selector r ++ (s ∷ flat_map own_selector args)
-item_texts (change_item c) = change_texts c
+item_texts i = flat_map change_texts (changes_of i)
 
 -- the texts at all places of selectors, `forwardingTargetForSelector:` first
 unfoldable pub selector_texts : Form → List Text

@@ -4,7 +4,7 @@
 ghost use Rattle.std.specs.Prelude.{◌≡◌, ◌≤◌};
 ghost use Rattle.msg_form.specs.Version as spec;
 
-/// A document of version 1 or 2, when `version` is that number.
+/// A document of version 1, 2 or 3, when `version` is that number.
 #[derive(Drop)]
 pub struct Form<'v> {
     pub version: i64,
@@ -22,6 +22,20 @@ pub(crate) fn is_second(version: i64) -> bool
     ensures { result ≡ spec.is_second version }
 {
     version == 2
+}
+
+#[tactic(auto, unfolding(crate::specs::Version::is_third))]
+pub(crate) fn is_third(version: i64) -> bool
+    ensures { result ≡ spec.is_third version }
+{
+    version == 3
+}
+
+/// Whether documents of the version name the classes that they may make.
+pub(crate) fn makes_classes(version: i64) -> bool
+    ensures { result ≡ spec.makes_classes version }
+{
+    is_second(version) || is_third(version)
 }
 
 /// An entry of a method list: a selector and the name of its implementation.
@@ -71,6 +85,8 @@ pub enum Item<'v> {
         args: &'v [Constant<'v>],
     },
     Change(Change<'v>),
+    /// Changes that are made as one.
+    ChangeAll(Vec<Change<'v>>),
 }
 
 /// The name of a method, `-[class selector]`, or `+[class selector]` where `meta` is true.

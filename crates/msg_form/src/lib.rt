@@ -4,6 +4,7 @@
 //! get numbers as selectors. A form borrows its texts from the JSON text.
 #![tactic(auto)]
 
+mod changes;
 mod faults;
 mod form;
 mod form_names;

@@ -157,7 +157,7 @@ impl<'v> HasSelectors<'v> for Item<'v> {
                 push_text(*selector, texts)?;
                 push_all(*args, texts)
             }
-            Item::Change(change) => change.push_selectors(texts),
+            _ => push_all(self.changes(), texts),
         }
     }
 }

@@ -1,5 +1,5 @@
 -- The items of a form without fault are sound.
-use Rattle.std.proofs.Common.{◌≡◌, ◌<◌, Option, None, ℕ, List, [], ◌∷◌, length, map, take, false, ◌||◌, Some, option_map, get_or, refl, sym, ap, ◌∙◌, subst}
+use Rattle.std.proofs.Common.{◌≡◌, ◌<◌, Option, None, ℕ, List, [], ◌∷◌, length, map, take, false, ◌||◌, Some, option_map, get_or, refl, sym, ap, ◌∙◌, subst, arith}
 use Rattle.std.specs.Prelude.{All, IfSome}
 use Rattle.std.specs.List.{list_any, flat_map}
 use Rattle.std.proofs.lemmas.List.{length-map, take_all}
@@ -11,11 +11,11 @@ use Rattle.msg_names.specs.Numbering.{name_at}
 use Rattle.msg_names.proofs.NumberLemmas.{name_at-number_of}
 use Rattle.msg_form.specs.Expression as form
 use Rattle.msg_form.specs.Faults.{is_miscounted_send}
-use Rattle.msg_form.specs.Form.{PairForm, Form, MethodForm, ItemForm, send_item, change_item, ChangeForm, add, replace, set_imp, exchange, attach, make}
-use Rattle.msg_form.specs.Lists.{class_names, object_names, imp_names, at_most_one, item_classes, item_objects, item_sends, item_imps, item_lists}
+use Rattle.msg_form.specs.Form.{PairForm, Form, MethodForm, ItemForm, send_item, change_item, change_all_item, ChangeForm, add, replace, set_imp, exchange, attach, make}
+use Rattle.msg_form.specs.Lists.{class_names, object_names, imp_names, at_most_one, change_classes, change_imps, change_lists, item_classes, item_objects, item_sends, item_imps, item_lists}
 use Rattle.msg_form.specs.Parts as inner
 use Rattle.msg_form.specs.Text.{Text, is_unknown, distinct}
-use Rattle.msg_form.specs.Walk.{selector_texts, item_texts}
+use Rattle.msg_form.specs.Walk.{selector_texts, change_texts, item_texts}
 use Rattle.msg_image.specs.Contents.{own_selector}
 use Rattle.msg_image.specs.Document as spec
 use Rattle.msg_image.specs.Numbers.{numbers_of, selector_named, class_named, imp_named}
@@ -40,6 +40,13 @@ module _ (f : Form) (g : IsFaultless f) where
 
   of_image : (c : form.Constant) → list_any (is_unknown (class_names f)) (inner.own_class c) ≡ false → list_any (is_unknown (object_names f)) (inner.own_object c) ≡ false → IsOf (spec.image_of f) (spec.constant (numbers_of f) c)
   of_image = constant_of_image (spec.image_of f) (numbers_of f) (class_names f) (object_names f) (any_class_in f g) (object_in f g)
+
+  -- what a change doesn't have
+  record IsGoodChange (c : ChangeForm) : Type 0 where
+    pub classes : list_any (is_unknown (class_names f)) (change_classes c) ≡ false
+    pub imps : list_any (is_unknown (imp_names f)) (change_imps c) ≡ false
+    pub lists : list_any (λ (l : List PairForm). list_any (unlisted f g) l) (change_lists c) ≡ false
+    pub names : list_any (unnamed f g) (change_texts c) ≡ false
 
   -- what an item doesn't have
   record IsGood (x : ItemForm) : Type 0 where
@@ -79,7 +86,7 @@ module _ (f : Form) (g : IsFaultless f) where
   one_method m i class selector imp =
       (any_class_in f g m.class (neither (is_unknown (class_names f) m.class) false class).0, selector_in f g m.selector (neither (unnamed f g m.selector) false selector).0, imp_in f g (record { selector = m.selector; imp = i }) (neither (is_unknown (imp_names f) i) false imp).0)
 
-  change_sound : (c : ChangeForm) → IsGood (change_item c) → IsSoundChange (spec.image_of f) (spec.change (numbers_of f) c)
+  change_sound : (c : ChangeForm) → IsGoodChange c → IsSoundChange (spec.image_of f) (spec.change (numbers_of f) c)
   change_sound (add m i) good = one_method m i good.classes good.names good.imps
   change_sound (replace m i) good = one_method m i good.classes good.names good.imps
   change_sound (set_imp m i) good = one_method m i good.classes good.names good.imps
@@ -96,9 +103,20 @@ module _ (f : Form) (g : IsFaultless f) where
       at_superclass None e = tt
       at_superclass (Some name) e = any_class_in f g name (neither (is_unknown (class_names f) name) false e).0
 
+  -- changes of which none has what an item doesn't have
+  changes_sound : (cs : List ChangeForm) → list_any (is_unknown (class_names f)) (flat_map change_classes cs) ≡ false → list_any (is_unknown (imp_names f)) (flat_map change_imps cs) ≡ false
+      → list_any (λ (l : List PairForm). list_any (unlisted f g) l) (flat_map change_lists cs) ≡ false → list_any (unnamed f g) (flat_map change_texts cs) ≡ false → All (IsSoundChange (spec.image_of f)) (map (spec.change (numbers_of f)) cs)
+  changes_sound cs in_classes in_imps in_lists in_names =
+      let classes = each-inside (λ (c : ChangeForm). list_any (is_unknown (class_names f)) (change_classes c) ≡ false) (is_unknown (class_names f)) change_classes cs (λ c e. e) in_classes in
+      let imps = each-inside (λ (c : ChangeForm). list_any (is_unknown (imp_names f)) (change_imps c) ≡ false) (is_unknown (imp_names f)) change_imps cs (λ c e. e) in_imps in
+      let lists = each-inside (λ (c : ChangeForm). list_any (λ (l : List PairForm). list_any (unlisted f g) l) (change_lists c) ≡ false) (λ (l : List PairForm). list_any (unlisted f g) l) change_lists cs (λ c e. e) in_lists in
+      let names = each-inside (λ (c : ChangeForm). list_any (unnamed f g) (change_texts c) ≡ false) (unnamed f g) change_texts cs (λ c e. e) in_names in
+      All-map (IsSoundChange (spec.image_of f)) (spec.change (numbers_of f)) cs (λ k d inside. change_sound (get_or cs k d) (record { classes = classes k d inside; imps = imps k d inside; lists = lists k d inside; names = names k d inside }))
+
   item_sound : (x : ItemForm) → IsGood x → IsSoundItem (spec.image_of f) (spec.item (numbers_of f) x)
   item_sound (send_item r s args) good = send_sound r s args good
-  item_sound (change_item c) good = change_sound c good
+  item_sound (change_item c) good = changes_sound (c ∷ []) good.classes good.imps good.lists good.names 0 (spec.change (numbers_of f) c) (omega arith)
+  item_sound (change_all_item cs) good = changes_sound cs good.classes good.imps good.lists good.names
 
   pub items_sound : All (IsSoundItem (spec.image_of f)) (map (spec.item (numbers_of f)) f.items)
   items_sound =

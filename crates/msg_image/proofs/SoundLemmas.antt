@@ -12,7 +12,7 @@ use Rattle.std.proofs.lemmas.Option.{slice_get-map, slice_get-get_or, same_Some}
 use Rattle.msg_order.specs.Superclasses.{super_of, has_cycle}
 use Rattle.msg_order.proofs.DepthLemmas.{listed-ends}
 use Rattle.msg_form.specs.declared.limits.TheConstants.{MAX_CATEGORIES, MAX_CLASSES, MAX_DEPTH, MAX_ENTRIES, MAX_EXPRESSIONS, MAX_IMPS, MAX_ITEMS, MAX_OBJECTS}
-use Rattle.msg_form.specs.Version.{is_second}
+use Rattle.msg_form.specs.Version.{makes_classes}
 use Rattle.msg_names.specs.Number.{selector_number, selector_of}
 use Rattle.msg_names.specs.Numbering.{number_of, name_at}
 use Rattle.msg_names.proofs.NumberLemmas.{name_at-number_of}
@@ -229,20 +229,20 @@ module _ (f : Form) (g : IsFaultless f) where
   other_superclass = (neither (has_other_superclass f) _ g.superclasses).0
 
   -- in version 1 a superclass comes before its subclasses
-  first_superclass : is_second f.version ≡ false → has_late_superclass [] f.classes ≡ false
+  first_superclass : makes_classes f.version ≡ false → has_late_superclass [] f.classes ≡ false
   unfolding has_other_superclass
   first_superclass first = sym (ap (λ b. cond b (list_any (λ (c : ClassForm). is_outside (listed_names f) c.superclass) f.classes) (has_late_superclass [] f.classes)) first) ∙ other_superclass
 
-  -- in version 2 it is one of the listed classes
-  second_superclass : is_second f.version ≡ true → list_any (λ (c : ClassForm). is_outside (listed_names f) c.superclass) f.classes ≡ false
+  -- in versions 2 and 3 it is one of the listed classes
+  second_superclass : makes_classes f.version ≡ true → list_any (λ (c : ClassForm). is_outside (listed_names f) c.superclass) f.classes ≡ false
   unfolding has_other_superclass
   second_superclass second = sym (ap (λ b. cond b (list_any (λ (c : ClassForm). is_outside (listed_names f) c.superclass) f.classes) (has_late_superclass [] f.classes)) second) ∙ other_superclass
 
   -- a class's superclass is a listed class
   superclass_among : (place : ℕ) (c : ClassForm) (s : Text) → slice_get f.classes place ≡ Some c → c.superclass ≡ Some s → is_among s (listed_names f) ≡ true
-  superclass_among place c s at is = by_version (is_second f.version) refl
+  superclass_among place c s at is = by_version (makes_classes f.version) refl
     where
-      by_version : (b : Bool) → is_second f.version ≡ b → is_among s (listed_names f) ≡ true
+      by_version : (b : Bool) → makes_classes f.version ≡ b → is_among s (listed_names f) ≡ true
       by_version true second =
           let listed = each-none (λ (k : ClassForm). is_outside (listed_names f) k.superclass ≡ false) (λ (k : ClassForm). is_outside (listed_names f) k.superclass) f.classes (λ k e. e) (second_superclass second) in
           late (listed_names f) s c.superclass is (All-at (λ (k : ClassForm). is_outside (listed_names f) k.superclass ≡ false) f.classes place c listed at)
@@ -260,7 +260,7 @@ module _ (f : Form) (g : IsFaultless f) where
       at_superclass None e = tt
       at_superclass (Some s) e = class_in s (ap not (superclass_among place c s at e))
 
-  before : is_second f.version ≡ false → (place : ℕ) (c : ClassForm) (d : ℕ) → slice_get f.classes place ≡ Some c → option_map (class_named (numbers_of f)) c.superclass ≡ Some d → d < place
+  before : makes_classes f.version ≡ false → (place : ℕ) (c : ClassForm) (d : ℕ) → slice_get f.classes place ≡ Some c → option_map (class_named (numbers_of f)) c.superclass ≡ Some d → d < place
   unfolding class_named
   before first place c d at is = at_superclass c.superclass refl is
     where
@@ -286,13 +286,13 @@ module _ (f : Form) (g : IsFaultless f) where
   abbrev listed_as : ClassForm → Option ℕ
   listed_as c = option_map (number_among (distinct (listed_names f))) c.superclass
 
-  no_cycle : (is_second f.version && has_cycle (superclasses_of f.classes)) ≡ false
+  no_cycle : (makes_classes f.version && has_cycle (superclasses_of f.classes)) ≡ false
   unfolding has_class_cycle
   no_cycle = g.cycle
 
   -- every chain of superclasses ends
   chains_end : has_cycle (superclasses (spec.image_of f)) ≡ false
-  chains_end = by_version (is_second f.version) refl
+  chains_end = by_version (makes_classes f.version) refl
     where
       same_number : (o : Option Text) → ((s : Text) → o ≡ Some s → is_among s (listed_names f) ≡ true) → option_map (class_named (numbers_of f)) o ≡ option_map (number_among (distinct (listed_names f))) o
       same_number None there = refl
@@ -301,10 +301,10 @@ module _ (f : Form) (g : IsFaultless f) where
       same_numbers : map number f.classes ≡ map listed_as f.classes
       same_numbers = map-same number listed_as f.classes (λ place c at. same_number c.superclass (λ s is. superclass_among place c s at is))
 
-      cycle : is_second f.version ≡ true → has_cycle (superclasses_of f.classes) ≡ false
-      cycle second = second_half (is_second f.version) (has_cycle (superclasses_of f.classes)) second no_cycle
+      cycle : makes_classes f.version ≡ true → has_cycle (superclasses_of f.classes) ≡ false
+      cycle second = second_half (makes_classes f.version) (has_cycle (superclasses_of f.classes)) second no_cycle
 
-      by_version : (b : Bool) → is_second f.version ≡ b → has_cycle (superclasses (spec.image_of f)) ≡ false
+      by_version : (b : Bool) → makes_classes f.version ≡ b → has_cycle (superclasses (spec.image_of f)) ≡ false
       by_version true second = ap has_cycle (superclasses_are ∙ same_numbers) ∙ cycle second
       by_version false first = listed-ends (superclasses (spec.image_of f)) (λ k d e.
           let there = ap (λ supers. super_of supers k) (sym superclasses_are) ∙ e in

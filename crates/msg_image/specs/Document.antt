@@ -7,12 +7,12 @@ use Rattle.msg_names.specs.declared.value.Value.TheVariants.{Number, Object, Cla
 use Rattle.msg_form.specs.declared.form.Operator.{Operator}
 use Rattle.msg_form.specs.declared.form.Operator.TheVariants as operators
 use Rattle.msg_form.specs.Expression as form
-use Rattle.msg_form.specs.Form.{PairForm, ClassForm, CategoryForm, ObjectForm, ImpForm, MethodForm, ChangeForm, add, replace, set_imp, exchange, attach, make, ItemForm, send_item, change_item, Form}
+use Rattle.msg_form.specs.Form.{PairForm, ClassForm, CategoryForm, ObjectForm, ImpForm, MethodForm, ChangeForm, add, replace, set_imp, exchange, attach, make, ItemForm, send_item, change_item, change_all_item, Form}
 use Rattle.msg_tables.specs.declared.change.Change.{Change}
 use Rattle.msg_tables.specs.declared.change.Change.TheVariants as changes
 use Rattle.msg_tables.specs.declared.origin.Category.{Category}
 use Rattle.msg_tables.specs.declared.origin.ListedClass.{ListedClass}
-use Rattle.msg_image.specs.Items.{ItemParts, SendItem, ChangeItem, DocumentParts}
+use Rattle.msg_image.specs.Items.{ItemParts, SendItem, ChangeItem, ChangeAllItem, DocumentParts}
 use Rattle.msg_image.specs.Numbers.{Numbers, numbers_of, selector_named, class_named, object_named, imp_named}
 use Rattle.msg_image.specs.Parts.{Op, Add, Sub, Mul, Eq, Lt, Expression, Expressions, Const, Me, Arg, Two, If, Send, Super, NoMore, More, ClassParts, ObjectParts, ImpParts, ImageParts}
 
@@ -79,6 +79,7 @@ imp n i = record { home = record { class = class_named n i.class; meta = i.meta 
 abbrev pub class_ref : Numbers → MethodForm → ClassRef
 class_ref n m = record { class = class_named n m.class; meta = m.meta }
 
+-- a change with numbers for names
 abbrev pub change : Numbers → ChangeForm → Change
 change n (add m i) = changes.Add (class_ref n m) (selector_named n m.selector) (imp_named n i)
 change n (replace m i) = changes.Replace (class_ref n m) (selector_named n m.selector) (imp_named n i)
@@ -91,6 +92,7 @@ change n (make c s) = changes.AddClass (class_named n c) (option_map (class_name
 abbrev pub item : Numbers → ItemForm → ItemParts
 item n (send_item r s args) = SendItem (constant n r) (selector_named n s) (map (constant n) (take 4 args))
 item n (change_item c) = ChangeItem (change n c)
+item n (change_all_item cs) = ChangeAllItem (map (change n) cs)
 
 -- ---- the whole
 

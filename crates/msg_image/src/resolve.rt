@@ -10,6 +10,7 @@ ghost use Rattle.msg_image.specs.Numbers.{Numbers, numbers_by};
 ghost use Rattle.msg_image.specs.Items.{ItemParts};
 ghost use Rattle.msg_image.specs.Parts.{Two, ObjectParts, ImpParts};
 ghost use Rattle.msg_image.specs.Plain.{plain, plain_all, object_parts, imp_parts, item_parts};
+ghost use Rattle.msg_tables.specs.declared.change.Change.{Change};
 ghost use Rattle.msg_tables.specs.declared.origin.Category.{Category};
 ghost use Rattle.msg_tables.specs.declared.origin.ListedClass.{ListedClass};
 
@@ -328,6 +329,22 @@ fn change(alloc: Global, names: &FormNames, change: &form::Change) -> Result<Cha
     }
 }
 
+impl<'v> Resolve<form::Change<'v>> for Change {
+    ghost Plain = { Change };
+
+    ghost parts = { λ change. change };
+
+    ghost meaning = { λ numbers change. spec.change numbers (change_view change) };
+
+    fn resolve(
+        alloc: Global,
+        names: &FormNames,
+        form: &form::Change<'v>,
+    ) -> Result<Change, AllocError> {
+        change(alloc, names, form)
+    }
+}
+
 // The arguments of a send, which are four at most.
 fn arguments(names: &FormNames, forms: &[Constant]) -> ArrayVec<Value, 4>
     ensures { result.items ≡ map (spec.constant (numbers_by names.now)) (take 4 (map constant_view forms.now)) }
@@ -362,6 +379,7 @@ impl<'v> Resolve<form::Item<'v>> for Item {
                 args: arguments(names, *args),
             }),
             form::Item::Change(form) => Ok(Item::Change(change(alloc, names, form)?)),
+            form::Item::ChangeAll(forms) => Ok(Item::ChangeAll(each(alloc, names, forms)?)),
         }
     }
 }

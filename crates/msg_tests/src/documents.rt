@@ -33,6 +33,12 @@ pub(crate) const FULL: &str = r#"{"version":1,"classes":[
 pub(crate) const EMPTY: &str =
     r#"{"version":1,"classes":[],"categories":[],"objects":[],"imps":[],"items":[]}"#;
 
+/// A document of version 3, whose item makes a class and attaches a category to it as one change.
+pub(crate) const THIRD: &str = r#"{"version":3,
+"classes":[{"name":"Root","super":null,"methods":[["value","r_value"]],"class_methods":[]}],"made":["Late"],"categories":[],
+"objects":[],"imps":[{"name":"r_value","class":"Root","meta":false,"args":0,"body":7}],
+"items":[{"change":["all",["make","Late","Root"],["attach","Late",[["more","r_value"]],[]]]}]}"#;
+
 /// The body of an implementation without arguments, in both documents.
 pub(crate) const BODY: &str = r#""body":7"#;
 

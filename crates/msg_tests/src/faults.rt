@@ -1,6 +1,6 @@
 //! Documents at their limits.
 
-use crate::documents::{EMPTY, FULL, edit_is, edited, listed, number};
+use crate::documents::{EMPTY, FULL, THIRD, edit_is, edited, listed, number};
 use crate::same::{same, same_at};
 use msg_samples::SMALL;
 use std::alloc::Global;
@@ -76,6 +76,17 @@ const CHANGED: Long = Long {
     after: "],[]]}",
 };
 
+const PART: &str = r#"["make","Late","Root"]"#;
+
+// An item may be of any number of changes.
+const PARTS: Long = Long {
+    document: THIRD,
+    old: PART,
+    before: "",
+    piece: PART,
+    after: "",
+};
+
 fn long_is(rt: &impl Abort, alloc: Global, long: &Long, count: usize, want: Option<u32>) {
     let Long { before, after, .. } = long;
     let pieces = listed(rt, alloc, long.piece, count);
@@ -113,6 +124,7 @@ fn long_lists(rt: HostRuntime) {
         (ENTRIES, 16_384, Some(13)),
         (ENTRIES, 16_385, Some(4)),
         (CHANGED, 16_385, Some(13)),
+        (PARTS, 65_537, None),
     ] {
         long_is(&rt, alloc, &long, count, want);
     }

@@ -1,6 +1,6 @@
 //! Which texts are JSON, and which values have the form of a document.
 
-use crate::documents::{BODY, EMPTY, FULL, edit_is, nested, number};
+use crate::documents::{BODY, EMPTY, FULL, THIRD, edit_is, nested, number};
 use crate::same::same_at;
 use msg_samples::{IMAGE, SMALL};
 use std::alloc::Global;
@@ -174,4 +174,56 @@ fn values_nest_127_deep(rt: HostRuntime) {
     ] {
         nest_is(&rt, rt.alloc(), &nest, count, want);
     }
+}
+
+// Edits of the document of version 3.
+const THIRDS: [(&str, &str, Option<u32>); 12] = [
+    (r#""version":3"#, r#""version":3"#, None),
+    (r#""version":3"#, r#""version":2"#, Some(2)),
+    (r#""made":["Late"],"#, "", Some(2)),
+    (r#",["attach","Late",[["more","r_value"]],[]]"#, "", Some(2)),
+    (
+        r#"["make","Late","Root"]"#,
+        r#"["all",["make","Late","Root"],["make","Late","Root"]]"#,
+        Some(2),
+    ),
+    (r#"["make","Late","Root"]"#, "null", Some(2)),
+    (r#"["attach","Late""#, r#"["attach","Later""#, Some(7)),
+    (r#"["more","r_value"]"#, r#"["more","r_more"]"#, Some(11)),
+    (r#""more""#, r#""1x""#, Some(12)),
+    (
+        r#"["more","r_value"]"#,
+        r#"["more","r_value"],["more","r_value"]"#,
+        Some(13),
+    ),
+    // whether counts fit is judged when the change is made
+    (r#""more""#, r#""more:""#, None),
+    (r#"["make","Late","Root"]"#, r#"["make","Late",null]"#, None),
+];
+
+#[test]
+fn a_change_of_changes_is_read_in_version_3(rt: HostRuntime) {
+    for (old, new, want) in THIRDS {
+        edit_is(&rt, rt.alloc(), THIRD, want, old, new);
+    }
+}
+
+#[test]
+fn other_versions_have_the_form_of_version_1(rt: HostRuntime) {
+    for (new, want) in [
+        (r#""version":2"#, Some(2)),
+        (r#""version":3"#, Some(2)),
+        (r#""version":4"#, Some(3)),
+        (r#""version":0"#, Some(3)),
+    ] {
+        edit_is(&rt, rt.alloc(), EMPTY, want, r#""version":1"#, new);
+    }
+    edit_is(
+        &rt,
+        rt.alloc(),
+        THIRD,
+        Some(2),
+        r#""version":3"#,
+        r#""version":4"#,
+    );
 }

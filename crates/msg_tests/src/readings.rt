@@ -2,6 +2,7 @@
 
 ghost use Rattle.std.specs.Prelude.{◌≡◌};
 
+use crate::documents::THIRD;
 use crate::images::with_items;
 use crate::same::{same, same_at};
 use msg_image::{Change, Document, Expr, Image, Item, MethodList, read_document};
@@ -124,6 +125,34 @@ fn classes_that_may_be_made_come_last(rt: HostRuntime) {
     has_depths(&rt, &document.image);
     has_a_class_to_make(&rt, &document.image);
     assert!(rt; makes_the_third_class(&document.items));
+}
+
+// Of the document's one item.
+fn makes_and_attaches(rt: &impl Abort, items: &[Item]) -> bool {
+    let [Item::ChangeAll(changes)] = items else {
+        return false;
+    };
+    match changes.as_slice() {
+        [
+            Change::AddClass { class, superclass },
+            Change::Attach {
+                class: attached,
+                methods,
+                class_methods,
+            },
+        ] => {
+            methods_are(rt, methods.as_slice(), &[(3, 1)]);
+            methods_are(rt, class_methods.as_slice(), &[]);
+            *class == 1 && *superclass == Some(0) && *attached == 1
+        }
+        _ => false,
+    }
+}
+
+#[test]
+fn changes_that_are_made_as_one_come_as_listed(rt: HostRuntime) {
+    let document = read(&rt, rt.alloc(), THIRD);
+    assert!(rt; makes_and_attaches(&rt, &document.items));
 }
 
 fn has_methods(rt: &impl Abort, image: &Image) {
@@ -326,6 +355,8 @@ fn place_of(rt: &impl Abort, item: &Item) -> u32 {
             1
         }
         Item::Change(change) => place_of_change(rt, change),
+        // no item is of several changes
+        Item::ChangeAll(_) => 0,
     }
 }
 

@@ -11,7 +11,7 @@ ghost use Rattle.msg_form.specs.Views.{class_view, classes_view, form_view};
 use super::any::{Test, any};
 use super::bodies::BodyFaults;
 use super::names::ClassOutside;
-use crate::form::{Class, Form, is_second};
+use crate::form::{Class, Form, makes_classes};
 use crate::form_names::FormNames;
 use crate::name_set::NameSet;
 use std::alloc::{AllocError, Global};
@@ -35,7 +35,7 @@ fn has_other_superclass(alloc: Global, form: &Form, names: &FormNames) -> Result
     requires { AreNamesOf names.now (form_view form.now) }
     ensures { IfOk result (λ b. b ≡ spec.has_other_superclass (form_view form.now)) }
 {
-    if is_second(form.version) {
+    if makes_classes(form.version) {
         Ok(has_unlisted_superclass(&names.listed, &form.classes))
     } else {
         has_late_superclass(alloc, &form.classes)

@@ -109,7 +109,7 @@ impl<'v> Test<Item<'v>> for IsMiscounted {
     fn passes(&self, item: &Item<'v>) -> bool {
         match item {
             Item::Send { selector, args, .. } => is_miscounted_send(*selector, args.len()),
-            Item::Change(_) => false,
+            _ => false,
         }
     }
 }

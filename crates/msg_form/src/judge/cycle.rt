@@ -7,7 +7,7 @@ ghost use Rattle.msg_form.specs.Text.{distinct, number_among};
 ghost use Rattle.msg_form.specs.Views.{class_view, classes_view, form_view};
 ghost use Rattle.msg_order.specs.Superclasses.{AreListed};
 
-use crate::form::{Class, Form, is_second};
+use crate::form::{Class, Form, makes_classes};
 use crate::form_names::FormNames;
 use crate::limits::MAX_CLASSES;
 use crate::name_set::NameSet;
@@ -24,7 +24,7 @@ pub(super) fn has_class_cycle(
     requires classes { length form.now.classes.items ≤ MAX_CLASSES }
     ensures { IfOk result (λ b. b ≡ spec.has_class_cycle (form_view form.now)) }
 {
-    if !is_second(form.version) {
+    if !makes_classes(form.version) {
         return Ok(false);
     }
     let supers = superclasses(alloc, &names.listed, &form.classes)?;

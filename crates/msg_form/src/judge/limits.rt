@@ -8,7 +8,7 @@ ghost use Rattle.msg_form.specs.Views.{form_view};
 ghost use Rattle.msg_form.specs.Walk.{selector_texts};
 
 use super::lists::method_lists;
-use crate::form::{Form, Pair, is_second};
+use crate::form::{Form, Pair, makes_classes};
 use crate::limits::{MAX_CATEGORIES, MAX_CLASSES, MAX_ENTRIES, MAX_IMPS, MAX_ITEMS, MAX_OBJECTS};
 use crate::name_set::NameSet;
 use msg_names::MAX_NAMES;
@@ -18,7 +18,7 @@ use std::alloc::{AllocError, Global};
 pub(super) fn is_other_version(form: &Form) -> bool
     ensures { result ≡ spec.is_other_version (form_view form.now) }
 {
-    form.version != 1 && !is_second(form.version)
+    form.version != 1 && !makes_classes(form.version)
 }
 
 #[tactic(auto, unfolding(crate::specs::Faults::is_over_limit, crate::specs::Faults::has_many_selectors))]

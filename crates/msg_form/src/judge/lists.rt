@@ -5,7 +5,7 @@ ghost use Rattle.std.specs.List.{flat_map};
 ghost use Rattle.msg_form.specs.Form.{PairForm};
 ghost use Rattle.msg_form.specs.Lists as spec;
 ghost use Rattle.msg_form.specs.Views.{lists_view, pairs_view, class_view, category_view};
-ghost use Rattle.msg_form.specs.Views.{item_view, form_view};
+ghost use Rattle.msg_form.specs.Views.{change_view, item_view, form_view};
 
 use crate::form::{Category, Change, Class, Form, Item, Pair};
 use std::alloc::{AllocError, Global};
@@ -86,19 +86,25 @@ impl<'v> HasLists<'v> for Category<'v> {
     }
 }
 
+impl<'v> HasLists<'v> for Change<'v> {
+    ghost lists = { λ c. spec.change_lists (change_view c) };
+
+    fn push_lists<'f>(&'f self, all: &mut Vec<&'f [Pair<'v>]>) -> Result<(), AllocError> {
+        match self {
+            Change::Attach {
+                methods,
+                class_methods,
+                ..
+            } => push_both(methods, class_methods, all),
+            _ => Ok(()),
+        }
+    }
+}
+
 impl<'v> HasLists<'v> for Item<'v> {
     ghost lists = { λ i. spec.item_lists (item_view i) };
 
     fn push_lists<'f>(&'f self, all: &mut Vec<&'f [Pair<'v>]>) -> Result<(), AllocError> {
-        match self {
-            Item::Change(
-                Change::Attach {
-                    methods,
-                    class_methods,
-                    ..
-                },
-            ) => push_both(methods, class_methods, all),
-            _ => Ok(()),
-        }
+        push_all(self.changes(), all)
     }
 }

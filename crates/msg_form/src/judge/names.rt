@@ -9,7 +9,7 @@ ghost use Rattle.msg_form.specs.ExprView.{constant_view};
 ghost use Rattle.msg_form.specs.Faults as spec;
 ghost use Rattle.msg_form.specs.FormNames.{AreNamesOf};
 ghost use Rattle.msg_form.specs.Lists.{imps_cited, home_classes, other_classes};
-ghost use Rattle.msg_form.specs.Lists.{change_classes, item_classes, item_imps, item_objects};
+ghost use Rattle.msg_form.specs.Lists.{change_classes, change_imps, item_classes, item_imps, item_objects};
 ghost use Rattle.msg_form.specs.Parts.{own_class, own_object};
 ghost use Rattle.msg_form.specs.Text.{is_unknown};
 ghost use Rattle.msg_form.specs.Views.{change_view, item_view, items_view, lists_view, form_view};
@@ -92,7 +92,7 @@ impl<'v> Test<Item<'v>> for ClassOutside<'_, '_> {
     fn passes(&self, item: &Item<'v>) -> bool {
         match item {
             Item::Send { receiver, args, .. } => self.passes(receiver) || any(self, *args),
-            Item::Change(change) => self.passes(change),
+            _ => any(self, item.changes()),
         }
     }
 }
@@ -153,7 +153,7 @@ impl<'v> Test<Item<'v>> for ObjectOutside<'_, '_> {
     fn passes(&self, item: &Item<'v>) -> bool {
         match item {
             Item::Send { receiver, args, .. } => self.passes(receiver) || any(self, *args),
-            Item::Change(_) => false,
+            _ => false,
         }
     }
 }
@@ -193,16 +193,25 @@ impl<'f, 'v> Test<&'f [Pair<'v>]> for ImpOutside<'_, '_> {
     }
 }
 
+impl<'v> Test<Change<'v>> for ImpOutside<'_, '_> {
+    ghost passes = { λ t c. list_any (is_unknown t.imps.now) (change_imps (change_view c)) };
+
+    fn passes(&self, change: &Change<'v>) -> bool {
+        match change {
+            Change::Add { imp, .. } | Change::Replace { imp, .. } | Change::SetImp { imp, .. } => {
+                self.imps.lacks(*imp)
+            }
+            _ => false,
+        }
+    }
+}
+
 impl<'v> Test<Item<'v>> for ImpOutside<'_, '_> {
     ghost passes = { λ t i. list_any (is_unknown t.imps.now) (item_imps (item_view i)) };
 
+    #[tactic(auto, using(crate::proofs::AnyLemmas::anys))]
     fn passes(&self, item: &Item<'v>) -> bool {
-        match item {
-            Item::Change(
-                Change::Add { imp, .. } | Change::Replace { imp, .. } | Change::SetImp { imp, .. },
-            ) => self.imps.lacks(*imp),
-            _ => false,
-        }
+        any(self, item.changes())
     }
 }
 

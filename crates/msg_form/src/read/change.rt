@@ -6,12 +6,12 @@ ghost use Rattle.msg_form.specs.ExprShape.{is_word};
 ghost use Rattle.msg_form.specs.Form.{ChangeForm, ItemForm};
 ghost use Rattle.msg_form.specs.Gives.{Gives};
 ghost use Rattle.msg_form.specs.Shape as spec;
-ghost use Rattle.msg_form.specs.Views.{method_view, change_view, item_view};
+ghost use Rattle.msg_form.specs.Views.{method_view, change_view, changes_view, item_view};
 
 use super::expr::{constant, constants};
 use super::parts::superclass;
 use super::values::{list, name_in, text_in, truth, value_in};
-use super::{FromValue, list_in};
+use super::{FromValue, each, list_in};
 use crate::faults::ReadFault;
 use crate::form::{Change, Item, MethodName};
 use msg_json::{Bump, Tree, get, has_keys};
@@ -127,9 +127,51 @@ fn worded_change<'v>(
     plain_change(word, values).ok_or(ReadFault::Shape)
 }
 
-#[tactic(auto, unfolding(crate::specs::Shape::change_form_of))]
-fn change<'v>(alloc: Global, bump: &'v Bump, value: &Tree<'v, '_>) -> Result<Change<'v>, ReadFault>
-    ensures { Gives change_view result (spec.change_form_of (view value.now)) }
+impl<'v> FromValue<'v> for Change<'v> {
+    ghost Plain = { ChangeForm };
+
+    ghost plain = { change_view };
+
+    ghost spelled = { spec.change_form_of };
+
+    #[tactic(auto, unfolding(crate::specs::Shape::change_form_of))]
+    fn from_value(
+        alloc: Global,
+        bump: &'v Bump,
+        value: &Tree<'v, '_>,
+    ) -> Result<Change<'v>, ReadFault> {
+        let Some(values) = list(value) else {
+            return Err(ReadFault::Shape);
+        };
+        let Some(word) = text_in(values, 0) else {
+            return Err(ReadFault::Shape);
+        };
+        worded_change(alloc, bump, word, values)
+    }
+}
+
+/// The changes that stand behind the word `all`.
+#[tactic(auto, unfolding(crate::specs::Shape::all_of))]
+fn all<'v>(
+    alloc: Global,
+    bump: &'v Bump,
+    values: &[Tree<'v, '_>],
+) -> Result<Vec<Change<'v>>, ReadFault>
+    ensures { Gives (λ v. changes_view v.items) result (spec.all_of (map view values.now)) }
+{
+    if values.len() < 3 {
+        return Err(ReadFault::Shape);
+    }
+    each(alloc, bump, &values[1..])
+}
+
+#[tactic(auto, unfolding(crate::specs::Shape::change_item_of))]
+fn change_item<'v>(
+    alloc: Global,
+    bump: &'v Bump,
+    value: &Tree<'v, '_>,
+) -> Result<Item<'v>, ReadFault>
+    ensures { Gives item_view result (spec.change_item_of (view value.now)) }
 {
     let Some(values) = list(value) else {
         return Err(ReadFault::Shape);
@@ -137,7 +179,10 @@ fn change<'v>(alloc: Global, bump: &'v Bump, value: &Tree<'v, '_>) -> Result<Cha
     let Some(word) = text_in(values, 0) else {
         return Err(ReadFault::Shape);
     };
-    worded_change(alloc, bump, word, values)
+    if word == "all" {
+        return Ok(Item::ChangeAll(all(alloc, bump, values)?));
+    }
+    Ok(Item::Change(worded_change(alloc, bump, word, values)?))
 }
 
 #[tactic(auto, unfolding(crate::specs::Shape::send_item_of))]
@@ -183,7 +228,7 @@ impl<'v> FromValue<'v> for Item<'v> {
             return send_item(alloc, bump, send);
         }
         match get(value, "change") {
-            Some(value) => Ok(Item::Change(change(alloc, bump, value)?)),
+            Some(value) => change_item(alloc, bump, value),
             None => Err(ReadFault::Shape),
         }
     }

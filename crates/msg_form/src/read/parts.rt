@@ -14,7 +14,9 @@ ghost use Rattle.msg_form.specs.Views.{imp_view, item_view, form_view};
 use super::values::{list, name, name_at, name_in, text_in, truth};
 use super::{FromValue, list_at};
 use crate::faults::ReadFault;
-use crate::form::{Category, Change, Class, Expr, Form, Imp, Item, Object, Pair, is_second};
+use crate::form::{
+    Category, Change, Class, Expr, Form, Imp, Item, Object, Pair, is_second, is_third,
+};
 use msg_json::{Bump, Tree, get, has_keys, whole};
 use std::alloc::Global;
 
@@ -220,16 +222,28 @@ fn version(value: &Tree<'_, '_>) -> Option<i64>
     whole(get(value, "version")?)
 }
 
-fn is_making(item: &Item) -> bool
-    ensures { result ≡ spec.is_making (item_view item.now) }
+fn is_all(item: &Item) -> bool
+    ensures { result ≡ spec.is_all (item_view item.now) }
 {
-    matches!(item, Item::Change(Change::Make { .. }))
+    matches!(item, Item::ChangeAll(_))
 }
 
-fn makes_class(items: &[Item]) -> bool
-    ensures { result ≡ list_any (λ i. spec.is_making (item_view i)) items.now }
+fn has_all(items: &[Item]) -> bool
+    ensures { result ≡ list_any (λ i. spec.is_all (item_view i)) items.now }
 {
-    items.iter().any(is_making)
+    items.iter().any(is_all)
+}
+
+fn is_later(item: &Item) -> bool
+    ensures { result ≡ spec.is_later (item_view item.now) }
+{
+    matches!(item, Item::Change(Change::Make { .. })) || is_all(item)
+}
+
+fn has_later(items: &[Item]) -> bool
+    ensures { result ≡ list_any (λ i. spec.is_later (item_view i)) items.now }
+{
+    items.iter().any(is_later)
 }
 
 impl<'v> Form<'v> {
@@ -265,14 +279,16 @@ impl<'v> Form<'v> {
         requires { self.old.made.items ≡ [] }
         ensures { Gives (λ _. form_view self.new) result (spec.form_by self.old.version (view value.now)) }
     {
-        if is_second(self.version) {
+        if is_third(self.version) {
+            self.fill_third(alloc, bump, value)
+        } else if is_second(self.version) {
             self.fill_second(alloc, bump, value)
         } else {
             self.fill_first(alloc, bump, value)
         }
     }
 
-    /// Fills in a form of version 1, which makes no classes.
+    /// Fills in a form of version 1, which makes no classes and no changes as one.
     #[tactic(auto, using(crate::proofs::AnyLemmas::anys), unfolding(crate::specs::Shape::first_form_of))]
     fn fill_first(
         &mut self,
@@ -287,14 +303,14 @@ impl<'v> Form<'v> {
             return Err(ReadFault::Shape);
         }
         self.fill_parts(alloc, bump, value)?;
-        if makes_class(&self.items) {
+        if has_later(&self.items) {
             return Err(ReadFault::Shape);
         }
         Ok(())
     }
 
-    /// Fills in a form of version 2, which names the classes that may be made.
-    #[tactic(auto, unfolding(crate::specs::Shape::second_form_of))]
+    /// Fills in a form of version 2, which makes no changes as one.
+    #[tactic(auto, using(crate::proofs::AnyLemmas::anys), unfolding(crate::specs::Shape::second_form_of))]
     fn fill_second(
         &mut self,
         alloc: Global,
@@ -302,6 +318,23 @@ impl<'v> Form<'v> {
         value: &Tree<'v, '_>,
     ) -> Result<(), ReadFault>
         ensures { Gives (λ _. form_view self.new) result (spec.second_form_of self.old.version (view value.now)) }
+    {
+        self.fill_third(alloc, bump, value)?;
+        if has_all(&self.items) {
+            return Err(ReadFault::Shape);
+        }
+        Ok(())
+    }
+
+    /// Fills in a form of version 3, which names the classes that may be made.
+    #[tactic(auto, unfolding(crate::specs::Shape::third_form_of))]
+    fn fill_third(
+        &mut self,
+        alloc: Global,
+        bump: &'v Bump,
+        value: &Tree<'v, '_>,
+    ) -> Result<(), ReadFault>
+        ensures { Gives (λ _. form_view self.new) result (spec.third_form_of self.old.version (view value.now)) }
     {
         if !has_keys(value, 7) {
             return Err(ReadFault::Shape);
