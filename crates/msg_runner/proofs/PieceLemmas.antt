@@ -1,22 +1,17 @@
 -- How many pieces there are, and whose.
-use Rattle.std.proofs.Common.{◌≡◌, ◌≢◌, ◌<◌, ◌≤◌, ◌+◌, ◌-◌, ◌*◌, ◌/◌, ◌%◌, ◌⊎◌, ℕ, zero, suc, Bool, true, false, cond, List, [], ◌∷◌, map, length, min, refl, sym, ap, ap₂, ◌∙◌, subst, arith, inl, inr}
+use Rattle.std.proofs.Common.{◌≡◌, ◌≢◌, ◌<◌, ◌≤◌, ◌+◌, ◌-◌, ◌/◌, ◌%◌, ◌⊎◌, ℕ, suc, cond, List, [], ◌∷◌, length, min, refl, sym, ap, ap₂, ◌∙◌, subst, arith, inl, inr}
 use Rattle.std.specs.Prelude.{◌==◌, count_by}
-use Rattle.std.proofs.Math.Nat.{div-eq_of_lt, mod-eq_of_lt, div-eq-sub-div, mod-eq-sub-mod, mul-le-mul_left, mul-le-mul_right, div-lt_iff_lt-mul}
+use Rattle.std.proofs.Math.Nat.{div-eq_of_lt, mod-eq_of_lt, div-eq-sub-div, mod-eq-sub-mod, mul-le-mul_right, div-lt_iff_lt-mul}
 use Rattle.std.proofs.lemmas.Bool.{ne_eqb, cases_lt}
-use Rattle.std.proofs.lemmas.Nat.{div-add-mod'}
 use Rattle.std.proofs.lemmas.Grind.{div_ceil_times}
 use Rattle.std.proofs.lemmas.List.Recursion.{is_count_by}
 use Rattle.msg_image.specs.Items.{ItemParts, SendItem}
 use Rattle.msg_image.specs.Parts.{ImageParts}
-use Rattle.msg_image.specs.Plain.{item_parts}
-use Rattle.msg_image.specs.declared.change.Item.{Item}
 use Rattle.msg_tables.specs.History.{History, BeginsWith}
 use Rattle.msg_tables.specs.declared.change.Change.{Change}
 use Rattle.msg_cache.proofs.PastLemmas.{begins_refl, begins_next, begins_trans}
-use Rattle.msg_eval.specs.declared.reply.Reply.{Reply}
-use Rattle.msg_eval.specs.Meaning.{Meaning}
 use Rattle.msg_runner.specs.Serial.{changes_in, history_after, longer_by, outcome_at}
-use Rattle.msg_runner.specs.Serving.{AllSends, IsOneChange, IsAnswered, AreAnswered, Served, history_of, is_send, pieces_of, sends_of, share_of, worker_of}
+use Rattle.msg_runner.specs.Serving.{AllSends, IsAnswered, AreAnswered, Served, history_of, is_send, pieces_of, sends_of, share_of, worker_of}
 use Rattle.msg_runner.specs.declared.changes.Outcome.{Outcome}
 use Rattle.msg_runner.specs.declared.changes.Outcome.TheVariants.{Made, Refused, RefusedAt}
 

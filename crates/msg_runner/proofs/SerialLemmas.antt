@@ -1,16 +1,15 @@
 -- The answers so far, and those to the items that are left.
-use Rattle.std.proofs.Common.{◌≡◌, ◌<◌, ◌≤◌, ◌+◌, ℕ, suc, List, [], ◌∷◌, ◌++◌, append_assoc, add-one, drop-cons, drop, map, length, get_or, refl, sym, ap, ◌∙◌, subst, arith}
-use Rattle.std.specs.Prelude.{All}
-use Rattle.std.proofs.lemmas.List.{drop_all, append-nil, get_or-map, length-map}
+use Rattle.std.proofs.Common.{◌≡◌, ◌≤◌, ℕ, List, [], ◌∷◌, ◌++◌, append_assoc, drop, map, length, refl, sym, ap, ◌∙◌}
+use Rattle.std.proofs.lemmas.List.{drop_all, append-nil}
 use Rattle.msg_tables.specs.declared.change.Change.{Change}
 use Rattle.msg_image.specs.declared.change.Item.{Item}
 use Rattle.msg_image.specs.Items.{ItemParts, DocumentParts}
 use Rattle.msg_image.specs.Opened.{origin_of}
 use Rattle.msg_image.specs.Plain.{item_parts}
-use Rattle.msg_tables.specs.History.{History, empty, log}
+use Rattle.msg_tables.specs.History.{History, log}
 use Rattle.msg_tables.specs.Stands.{StandsAt}
 use Rattle.msg_tables.specs.View.{TablesView}
-use Rattle.msg_runner.specs.Serial.{answer_at, changes_in, history_after, longer_by, outcome_at, serial_from, serial}
+use Rattle.msg_runner.specs.Serial.{answer_at, changes_in, history_after, longer_by, outcome_at, serial_from}
 use Rattle.msg_runner.specs.Text.{answer_line, text_of, output_of}
 use Rattle.msg_runner.specs.declared.changes.Outcome.{Outcome}
 use Rattle.msg_runner.specs.declared.changes.Outcome.TheVariants.{Made, Refused, RefusedAt}
