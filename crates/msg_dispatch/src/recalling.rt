@@ -10,6 +10,7 @@ use crate::name::ArenaName;
 use crate::sender::Sender;
 use msg_names::{ClassRef, ImpRef, Selector};
 use msg_reader::Notes;
+use msg_reader::laws::notes_are_of_longer_histories;
 use std::alloc::Global;
 use std::marker::Model;
 use std::sync::Wait;
@@ -83,6 +84,7 @@ impl<'d, N: ArenaName> Recalling<'d, N> {
         ensures length { result ≡ length self.new.seen.front.changes }
         ensures takings { self.new.takings ≡ self.old.takings }
     {
+        notes_are_of_longer_histories();
         self.sender.published()
     }
 
@@ -93,6 +95,7 @@ impl<'d, N: ArenaName> Recalling<'d, N> {
         ensures seen { self.new.seen.front ≡ changer.old }
         ensures takings { self.new.takings ≡ self.old.takings }
     {
+        notes_are_of_longer_histories();
         changer.meet(rt, &mut self.sender);
     }
 

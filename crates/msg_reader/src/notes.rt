@@ -103,7 +103,7 @@ fn place(slot: usize, sel: u32) -> usize
     ensures inside { result < 2048 }
     ensures place { result ≡ place_of slot sel }
 {
-    (slot * 32 + sel as usize) % PLACES
+    (key(slot, sel) / 32) as usize % PLACES
 }
 
 impl Notes {
