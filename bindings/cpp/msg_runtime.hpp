@@ -178,7 +178,8 @@ public:
         auto made = [&] {
             return msg_change_all(&at->handle, pointer<msg_change>(changes), std::size(changes), &place);
         };
-        listed(std::size(changes) ? answer_of(made) : made(), place); // an empty list is no change
+        std::uint32_t answer = std::size(changes) ? answer_of(made) : made(); // an empty list is no change
+        listed(answer, place);
     }
     void change_all(std::initializer_list<msg_change> changes)
     {
@@ -194,7 +195,8 @@ public:
             return msg_change_all_with_undo(&at->handle, pointer<msg_change>(changes), std::size(changes), undo.data(),
                                             undo.size(), &undone, &place);
         };
-        listed(std::size(changes) ? answer_of(made) : made(), place);
+        std::uint32_t answer = std::size(changes) ? answer_of(made) : made();
+        listed(answer, place);
         undo.resize(undone);
         return undo;
     }
@@ -208,8 +210,9 @@ public:
     {
         std::size_t room = 2 * std::size_t{class_count()}, place = 0;
         std::unique_ptr<bool[]> reached(new bool[room]());
-        listed(msg_reach(&at->handle, pointer<msg_change>(changes), std::size(changes), reached.get(), room, &place),
-               place);
+        std::uint32_t answer =
+            msg_reach(&at->handle, pointer<msg_change>(changes), std::size(changes), reached.get(), room, &place);
+        listed(answer, place);
         std::vector<class_ref> found;
         for (std::size_t slot = 0; slot < room; slot++)
             if (reached[slot]) found.push_back({static_cast<std::uint32_t>(slot / 2), slot % 2 == 1});

@@ -117,9 +117,10 @@ static void lists_of_changes()
     CHECK(runtime.lock().change_count() == 5 && sender.recall(child, VALUE, 5) == 5 && sender.find(child, VALUE) == 5);
     CHECK(runtime.lock().reach({change::replace(child, VALUE, 8)}) == std::vector<msg::class_ref>({child, other}));
     auto undo = runtime.lock().change_all_with_undo({change::replace(child, VALUE, 8), change::set_imp(root, NAME, 9)});
-    CHECK(sender.find(other, VALUE) == 5 && sender.find(child, VALUE) == 8 && undo.size() == 2);
+    CHECK(sender.find(other, VALUE) == 8 && sender.find(child, VALUE) == 8 && undo.size() == 2);
     runtime.lock().change_all(undo);
-    CHECK(runtime.lock().change_count() == 7 && sender.find(child, VALUE) == 5);
+    CHECK(sender.find(child, VALUE) == 5);
+    CHECK(runtime.lock().change_count() == 7);
     CHECK(runtime.lock().change_all_with_undo({change::add(other, 99, 8)}).empty());
     runtime.close();
     FAULT(MSG_CLOSED, runtime.lock().change_all({change::replace(child, VALUE, 8)}));
