@@ -32,18 +32,6 @@ blank_of h m b = record { notes = λ k d inside. unnamed h (get_or m.notes k d) 
 pub as_noted : (h : History) (n : Note) (count slot sel : ℕ) → slot < 2 ^ 26 → sel < 2 ^ 32 → n.word ≡ key_of slot sel + none_bit n.imp → n.count ≡ count → IsNoteOf h n → IsRecalled h count slot sel n.imp
 as_noted h n count slot sel short few e f is = subst (λ k. IsRecalled h k slot sel n.imp) f (is.recalled slot sel short few e)
 
--- and what is noted is of no other lookup
-pub noted_of : (h : History) (n : Note) (slot sel imp : ℕ) → sel < 2 ^ 32 → n.imp ≡ imp → n.word ≡ key_of slot sel + none_bit imp → IsRecalled h n.count slot sel imp → IsNoteOf h n
-noted_of h n slot sel imp few same named is = record {
-  recalled = λ other next short less e.
-      let keys : key_of slot sel ≡ key_of other next = omega (arith, named, e, ap none_bit same) in
-      let (slots, sels) = keys_differ slot sel other next few less keys in
-      subst (λ s. IsRecalled h n.count s next n.imp) slots (subst (λ s. IsRecalled h n.count slot s n.imp) sels (subst (λ i. IsRecalled h n.count slot sel i) (sym same) is));
-  method = λ other next pos e none.
-      let one : none_bit imp ≡ 1 = ap none_bit (sym same ∙ none) in
-      absurd (omega (arith, named, e, one));
-}
-
 whole : (h : History) (n : ℕ) → n ≡ length h.changes → point_at n h ≡ h
 whole h n e = ap (λ (cs : List (List Change)). record { origin = h.origin; changes = cs }) (take_all n h.changes (omega (arith, e)))
 

@@ -81,19 +81,6 @@ last-less count ms b k link isnt l = record {
     step (inl e) = absurd (isnt (l.there k e))
     step (inr other) = grind (arith, other, l.within)
 
--- of none
-pub linked-none : (ms : List (ℕ × ℕ)) (older newest : List ℕ) → newest ≡ replicate (length newest) 0 → AreLinked ms 0 older newest
-linked-none ms older newest empty = record {
-  buckets = λ b inside.
-      let zero_at : get_or newest b 0 ≡ 0 = ap (λ ns. get_or ns b 0) empty ∙ get_or-replicate (length newest) b 0 0 inside in
-      record {
-        within = omega (arith, zero_at);
-        there = λ i e. absurd (omega (arith, zero_at, e));
-        last = λ j from less e. absurd (omega (arith, less));
-      };
-  before = λ i less. absurd (omega (arith, less));
-}
-
 pub linked-same : (xs ys : List (ℕ × ℕ)) (k : ℕ) (older newest : List ℕ) → Alike xs ys k → AreLinked xs k older newest → AreLinked ys k older newest
 linked-same xs ys k older newest alike l =
     let count = length newest in
@@ -193,11 +180,6 @@ sought-next count s ms older newest i wide l at other =
     step j from less (inr after) =
         let here : i ≡ j = omega (arith, from, after) in
         λ is. other (ap (λ n. (get_or ms n (0, 0)).0) here ∙ is)
-
-pub sought-first : (count s : ℕ) (ms : List (ℕ × ℕ)) (older newest : List ℕ) (b : ℕ) → count ≡ length newest → b ≡ bucket_of count s → b < length newest → AreLinked ms (length ms) older newest → IsSought count s ms (get_or newest b 0)
-sought-first count s ms older newest b wide named inside l =
-    let last : IsLast count ms b (length ms) (get_or newest b 0) = rw wide (l.buckets b inside) in
-    sought-on count s ms (length ms) (get_or newest b 0) (omega arith) (λ j from less. absurd (omega (arith, from, less))) (subst (λ c. IsLast count ms c (length ms) (get_or newest b 0)) named last)
 
 -- the code's rows
 

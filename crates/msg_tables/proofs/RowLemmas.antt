@@ -32,17 +32,6 @@ last_some s (m ∷ ms) p d e = step (last_index s ms) (m.0 == s) (λ q. last_som
         (omega arith, rw (← at, none refl) refl)
     step None false rest none e = cc
 
-place_suc : (b : Bool) (o : Option ℕ) (q : ℕ) (t : Option ℕ) → or_else (option_map suc (cond b (Some q) o)) t ≡ cond b (Some (suc q)) (or_else (option_map suc o) t)
-place_suc true o q t = refl
-place_suc false o q t = refl
-
--- one more row is the last of its selector
-pub last_place-push : (q : ℕ) (ms : List (ℕ × ℕ)) (s i : ℕ) → last_index q (ms ++ (s, i) ∷ []) ≡ cond (s == q) (Some (length ms)) (last_index q ms)
-last_place-push q [] s i = refl
-last_place-push q (m ∷ ms) s i =
-    ap (λ o. or_else (option_map suc o) (cond (m.0 == q) (Some 0) None)) (last_place-push q ms s i)
-    ∙ place_suc (s == q) (last_index q ms) (length ms) (cond (m.0 == q) (Some 0) None)
-
 -- there is an own row exactly where one is last
 pub is_none-own_in : (s : ℕ) (ms : List (ℕ × ℕ)) → is_none (own_in s ms) ≡ is_none (last_index s ms)
 is_none-own_in s [] = refl
@@ -83,15 +72,3 @@ set-last_place s i (m ∷ ms) p e = step (last_index s ms) (m.0 == s) (is_none-o
         let at : 0 ≡ p = same_Some 0 p e in
         rw (← at, some) (ap (λ xs. (s, i) ∷ xs) (none refl))
     step None false some rest none e = cc
-
--- the places stay where the last row of a selector is rewritten
-pub last_place-set_last : (q s i : ℕ) (ms : List (ℕ × ℕ)) → last_index q (set_last s i ms) ≡ last_index q ms
-last_place-set_last q s i [] = refl
-last_place-set_last q s i (m ∷ ms) =
-    ap (λ o. or_else (option_map suc o) (cond ((cond ((m.0 == s) && is_none (own_in s ms)) (s, i) m).0 == q) (Some 0) None)) (last_place-set_last q s i ms)
-    ∙ ap (λ n. or_else (option_map suc (last_index q ms)) (cond (n == q) (Some 0) None)) (selector (m.0 == s) (is_none (own_in s ms)) (same_number m.0 s))
-  where
-    selector : (b n : Bool) → (b ≡ true → m.0 ≡ s) → (cond (b && n) (s, i) m).0 ≡ m.0
-    selector true true h = sym (h refl)
-    selector true false h = refl
-    selector false n h = refl
