@@ -9,11 +9,11 @@ use Rattle.msg_names.specs.declared.value.ClassRef.{ClassRef}
 use Rattle.msg_buckets.specs.Word.{sel_of, imp_of}
 use Rattle.msg_tables.specs.Origin.{OriginView, class_total}
 use Rattle.msg_tables.specs.declared.change.Change.{Change}
-use Rattle.msg_tables.specs.History.{History, and_then, log}
+use Rattle.msg_tables.specs.History.{History, log}
 use Rattle.msg_tables.specs.Several.{refusal_of_all}
 use Rattle.msg_core.specs.declared.state.Standing.TheVariants.{Free, Live}
 use Rattle.msg_core.specs.declared.state.Whereabouts.TheVariants.{Out}
-use Rattle.msg_core.specs.State.{Layout, capacity, size, awaits, Agrees}
+use Rattle.msg_core.specs.State.{Layout, capacity, size, awaits}
 use Rattle.msg_core.specs.View.{standing_at}
 use Rattle.msg_core.proofs.KeepLemmas.{moves}
 use Rattle.msg_cache.specs.declared.view.SenderView.{SenderView}
@@ -22,7 +22,7 @@ use Rattle.msg_cache.specs.declared.view.KeeperView.{KeeperView}
 use Rattle.msg_cache.specs.declared.view.View.{View}
 use Rattle.msg_cache.specs.declared.view.View.TheVariants.{Sender, Keeper, Turn, Spent}
 use Rattle.msg_cache.specs.Layout.{SettingView, layout_of, header_at, base, probe_at}
-use Rattle.msg_cache.specs.Rule.{live_in, word_in, Ruled, RuledBy, IsTidy, TidyBy, holds, shown_by}
+use Rattle.msg_cache.specs.Rule.{HasNoEntry, LiveWordsAgreeAfter, NoneIsGivenFrom, live_in, word_in, Ruled, RuledBy, IsTidy, TidyBy, holds, shown_by}
 use Rattle.msg_cache.specs.Plays.{Sat, keeper_of, stored, flushed, installed, committed, looked, rest_looked, given_out, taken_in, newcomer, lent, at_home, kept, IsTold, Stores, Flushes, Installs, Commits, Looks, RestLooks, Witnesses}
 use Rattle.msg_cache.proofs.LayoutLemmas.{header_same}
 use Rattle.msg_core.proofs.LegalSteps.{may_commit}
@@ -83,15 +83,13 @@ module _ (look : History → ClassRef → ℕ → ℕ) (key : SettingView) (slot
       )
 
   pub commit_allowed : (x : List Change) (g : History) → 0 < length x → (keeper_of m.0).turn ≡ Home g → refusal_of_all (log (keeper_of m.0).history) x ≡ None
-      → ((c : ClassRef) (b q : ℕ) → b < length key.capacities → standing_at (keeper_of m.0).standings b ≡ Live c → q < capacity (layout_of key) b
-      → Agrees (look (and_then (keeper_of m.0).history x)) c (word_in (layout_of key) (keeper_of m.0).words b q))
+      → LiveWordsAgreeAfter look key (keeper_of m.0) x
       → (w : ℕ) → w ≡ size (keeper_of m.0).history + 1
       → Allows (holds look key) slots id m 0 (λ _. w) (λ _. Commits x (step slots 0 w 0 none) m w)
   commit_allowed x g filled home accepted good w is_w st r homes at bound =
       let e : r.keeper ≡ keeper_of m.0 = own st r at in
       let legal = may_commit look (layout_of key) (shown_by look (layout_of key) key.origin r) x (ap (λ (y : KeeperView). refusal_of_all (log y.history) x) e ∙ accepted)
-      (subst (λ (y : KeeperView). (c : ClassRef) (b q : ℕ) → b < length key.capacities → standing_at y.standings b ≡ Live c → q < capacity (layout_of key) b
-      → Agrees (look (and_then y.history x)) c (word_in (layout_of key) y.words b q)) (sym e) good) in (
+      (subst (λ (y : KeeperView). LiveWordsAgreeAfter look key y x) (sym e) good) in (
         Keeper (committed x (keeper_of m.0)),
         keeps,
         tt,
@@ -113,7 +111,7 @@ module _ (look : History → ClassRef → ℕ → ℕ) (key : SettingView) (slot
       )
 
   pub install_allowed : (c : ClassRef) (a : ℕ) → c.class < class_total key.origin → a < length key.capacities → standing_at (keeper_of m.0).standings a ≡ Free
-      → ((q : ℕ) → q < capacity (layout_of key) a → slice_index (keeper_of m.0).words (base (layout_of key) a + q) ≡ 0)
+      → HasNoEntry (layout_of key) (keeper_of m.0) a
       → Allows (holds look key) slots id m (header_at c) (λ _. suc a) (λ _. Installs (step slots (header_at c) (suc a) 0 none) m (suc a))
   install_allowed c a lt al free clear st r homes at bound =
       let e : r.keeper ≡ keeper_of m.0 = own st r at in (
@@ -138,7 +136,7 @@ module _ (look : History → ClassRef → ℕ → ℕ) (key : SettingView) (slot
         sat_is (looked n (f == 0) (keeper_of m.0)),
       )
 
-  pub rest_allowed : (n : ℕ) → n ≤ key.senders → ((i : ℕ) → n ≤ i → awaits (keeper_of m.0).given i ≡ false) → Allows (holds look key) slots id m 0 (λ x. x) (RestLooks n key.senders (step slots 0 0 0 none) m)
+  pub rest_allowed : (n : ℕ) → n ≤ key.senders → NoneIsGivenFrom n (keeper_of m.0).given → Allows (holds look key) slots id m 0 (λ x. x) (RestLooks n key.senders (step slots 0 0 0 none) m)
   rest_allowed n le nobody st r homes at bound =
       let e : r.keeper ≡ keeper_of m.0 = own st r at in
       let d : ℕ = key.senders - n in (

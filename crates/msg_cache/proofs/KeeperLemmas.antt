@@ -28,7 +28,7 @@ use Rattle.msg_cache.specs.declared.view.KeeperView.{KeeperView}
 use Rattle.msg_cache.specs.declared.view.View.{View}
 use Rattle.msg_cache.specs.declared.view.View.TheVariants.{Keeper}
 use Rattle.msg_cache.specs.Layout.{header_at, base, probes, probe_at}
-use Rattle.msg_cache.specs.Rule.{named, live_in, word_in, in_word, shown, IsCopied, IsKept, Ruled, shown_by, GoesBy, Stays}
+use Rattle.msg_cache.specs.Rule.{HasNoEntry, named, live_in, word_in, in_word, shown, IsCopied, IsKept, Ruled, shown_by, GoesBy, Stays}
 use Rattle.msg_cache.specs.Plays.{stored, retire, flushed, installed, committed, looked}
 use Rattle.msg_cache.proofs.LayoutLemmas.{inside, header_inside}
 use Rattle.msg_core.proofs.LegalSteps.{may_fill, may_install, may_flush, may_look, may_clear}
@@ -217,7 +217,7 @@ module _ (look : History → ClassRef → ℕ → ℕ) (z : Layout) (origin : Or
       refl (begins_refl k.history) (λ d b n aw e. retired_or z k r.whereabouts c (m.live c) b d n aw (sym (ap (λ f. f b) stands) ∙ e)) (inl (refl, refl))
 
   -- an empty array that is free becomes the live one of a class reference; the one before is retired
-  pub install_step : (c : ClassRef) (a : ℕ) → c.class < z.classes → a < length z.capacities → standing_at r.keeper.standings a ≡ Free → ((q : ℕ) → q < capacity z a → slice_index r.keeper.words (base z a + q) ≡ 0)
+  pub install_step : (c : ClassRef) (a : ℕ) → c.class < z.classes → a < length z.capacities → standing_at r.keeper.standings a ≡ Free → HasNoEntry z r.keeper a
       → GoesBy look z origin r (Install c a) (slice_set words (header_at c) (suc a)) (slice_set views id (Keeper (installed c a r.keeper)))
   install_step c a lt there free clear =
       let k = r.keeper in

@@ -16,7 +16,7 @@ use Rattle.msg_core.specs.State.{Layout, awaits, size}
 use Rattle.msg_cache.specs.declared.view.KeeperView.{KeeperView}
 use Rattle.msg_cache.specs.declared.view.View.{View}
 use Rattle.msg_cache.specs.declared.view.View.TheVariants.{Sender, Keeper}
-use Rattle.msg_cache.specs.Laws.{Fills, Installs, Flushes, Looks, RestLooks, Clears, Commits, Witnesses, Splits, Joins, SplitsTurn, JoinsTurn, IsEvent, IsNone, seen_in, shown_at, OneIsShown, ShownIsLawful, ShownIsSound, OpeningIsShown, EnterIsEnter, LeaveIsLeave, HeaderIsHeader, BucketIsRead, VersionIsNone, StoreIsFill, StoreIsInstall, StoreIsFlush, LoadIsLook, LoadIsRest, StoreIsClear, StoreIsCommit, WitnessIsNone, SplitIsNone, JoinIsNone, SplitTurnIsNone, JoinTurnIsNone}
+use Rattle.msg_cache.specs.Laws.{KeeperFills, KeeperInstalls, KeeperFlushes, KeeperLooks, KeeperRestLooks, KeeperClears, KeeperCommits, KeeperWitnesses, KeeperSplits, KeeperJoins, KeeperSplitsTurn, KeeperJoinsTurn, IsEvent, IsNone, seen_in, shown_at, OneIsShown, ShownIsLawful, ShownIsSound, OpeningIsShown, EnterIsEnter, LeaveIsLeave, HeaderIsHeader, BucketIsRead, VersionIsNone, StoreIsFill, StoreIsInstall, StoreIsFlush, LoadIsLook, LoadIsRest, StoreIsClear, StoreIsCommit, WitnessIsNone, SplitIsNone, JoinIsNone, SplitTurnIsNone, JoinTurnIsNone}
 use Rattle.msg_cache.specs.Layout.{SettingView, layout_of, header_at, base, probe_at, word_count}
 use Rattle.msg_cache.specs.Rule.{in_word, shown, Ruled, shown_by, holds, GoesBy, Stays}
 use Rattle.msg_cache.proofs.KeeperLemmas.{fill_step, clear_step, commit_step, flush_step, install_step, look_step, idle_step}
@@ -89,13 +89,13 @@ pub version_is_none : VersionIsNone
 version_is_none key s r id v at free = none key s _ r (version_step lookup (layout_of key) key.origin s.words s.views r id v at _ free refl).0
 
 pub store_is_fill : StoreIsFill
-store_is_fill key s r id k at = of_keeper key s r id (Fills key s r id) (λ own c a p w live lt clear sel imp. event key s _ r _ w refl (fill_step lookup (layout_of key) key.origin s.words s.views r id own c a p w live lt clear sel imp)) k at
+store_is_fill key s r id k at = of_keeper key s r id (KeeperFills key s r id) (λ own c a p w live lt clear sel imp. event key s _ r _ w refl (fill_step lookup (layout_of key) key.origin s.words s.views r id own c a p w live lt clear sel imp)) k at
 
 pub store_is_install : StoreIsInstall
-store_is_install key s r id k at = of_keeper key s r id (Installs key s r id) (λ own c a lt there free clear. event key s _ r _ (suc a) refl (install_step lookup (layout_of key) key.origin s.words s.views r id own c a lt there free clear)) k at
+store_is_install key s r id k at = of_keeper key s r id (KeeperInstalls key s r id) (λ own c a lt there free clear. event key s _ r _ (suc a) refl (install_step lookup (layout_of key) key.origin s.words s.views r id own c a lt there free clear)) k at
 
 pub store_is_flush : StoreIsFlush
-store_is_flush key s r id k at = of_keeper key s r id (Flushes key s r id) (λ own c a lt here. event key s _ r _ 0 refl (flush_step lookup (layout_of key) key.origin s.words s.views r id own c a lt here)) k at
+store_is_flush key s r id k at = of_keeper key s r id (KeeperFlushes key s r id) (λ own c a lt here. event key s _ r _ 0 refl (flush_step lookup (layout_of key) key.origin s.words s.views r id own c a lt here)) k at
 
 -- a probe word that is 0 shows a sender that is out
 out_seen : (p : Whereabouts) → (in_word p == 0) ≡ is_out p
@@ -108,10 +108,10 @@ look_seen : (key : SettingView) (s : Table ℕ View) (r : holds lookup key s) (n
 look_seen key s r n lt = ap (λ w. SeenOut (w == 0)) (r.copies.probed n lt) ∙ ap SeenOut (out_seen (r.whereabouts n))
 
 pub load_is_look : LoadIsLook
-load_is_look key s r id k at = of_keeper key s r id (Looks key s r id) (λ own n lt. event key s _ r (Look n) (slice_index s.words (probe_at (layout_of key) n)) (look_seen key s r n lt) (look_step lookup (layout_of key) key.origin s.words s.views r id own n lt)) k at
+load_is_look key s r id k at = of_keeper key s r id (KeeperLooks key s r id) (λ own n lt. event key s _ r (Look n) (slice_index s.words (probe_at (layout_of key) n)) (look_seen key s r n lt) (look_step lookup (layout_of key) key.origin s.words s.views r id own n lt)) k at
 
 pub load_is_rest : LoadIsRest
-load_is_rest key s r id k at = of_keeper key s r id (RestLooks key s r id) (λ own n le nobody.
+load_is_rest key s r id k at = of_keeper key s r id (KeeperRestLooks key s r id) (λ own n le nobody.
     let z = layout_of key in
     let t = rest_step lookup z key.origin s.words s.views r id own n (key.senders - n) (omega arith) nobody in record {
       legal = t.legal;
@@ -121,22 +121,22 @@ load_is_rest key s r id k at = of_keeper key s r id (RestLooks key s r id) (λ o
     }) k at
 
 pub store_is_clear : StoreIsClear
-store_is_clear key s r id k at = of_keeper key s r id (Clears key s r id) (λ own a p free lt. event key s _ r _ 0 refl (clear_step lookup (layout_of key) key.origin s.words s.views r id own a p free lt)) k at
+store_is_clear key s r id k at = of_keeper key s r id (KeeperClears key s r id) (λ own a p free lt. event key s _ r _ 0 refl (clear_step lookup (layout_of key) key.origin s.words s.views r id own a p free lt)) k at
 
 pub store_is_commit : StoreIsCommit
-store_is_commit key s r id k at = of_keeper key s r id (Commits key s r id) (λ own x g filled home legal. event key s _ r _ (size r.keeper.history + 1) refl (commit_step lookup (layout_of key) key.origin s.words s.views r id own x g filled home legal)) k at
+store_is_commit key s r id k at = of_keeper key s r id (KeeperCommits key s r id) (λ own x g filled home legal. event key s _ r _ (size r.keeper.history + 1) refl (commit_step lookup (layout_of key) key.origin s.words s.views r id own x g filled home legal)) k at
 
 pub witness_is_none : WitnessIsNone
-witness_is_none key s r id k at = of_keeper key s r id (Witnesses key s r id) (λ own. none key s _ r (idle_step lookup (layout_of key) key.origin s.words s.views r id own 0)) k at
+witness_is_none key s r id k at = of_keeper key s r id (KeeperWitnesses key s r id) (λ own. none key s _ r (idle_step lookup (layout_of key) key.origin s.words s.views r id own 0)) k at
 
 pub split_is_none : SplitIsNone
-split_is_none key s r id k at = of_keeper key s r id (Splits key s r id) (λ own n lt free. none key s _ r (give_step lookup (layout_of key) key.origin s.words s.views r id own n lt free)) k at
+split_is_none key s r id k at = of_keeper key s r id (KeeperSplits key s r id) (λ own n lt free. none key s _ r (give_step lookup (layout_of key) key.origin s.words s.views r id own n lt free)) k at
 
 pub join_is_none : JoinIsNone
-join_is_none key s r id k at = of_keeper key s r id (Joins key s r id) (λ own other v apart out e. none key s _ r (take_step lookup (layout_of key) key.origin s.words s.views r id own other v apart out e)) k at
+join_is_none key s r id k at = of_keeper key s r id (KeeperJoins key s r id) (λ own other v apart out e. none key s _ r (take_step lookup (layout_of key) key.origin s.words s.views r id own other v apart out e)) k at
 
 pub split_turn_is_none : SplitTurnIsNone
-split_turn_is_none key s r id k at = of_keeper key s r id (SplitsTurn key s r id) (λ own home. none key s _ r (lend_step lookup (layout_of key) key.origin s.words s.views r id own home)) k at
+split_turn_is_none key s r id k at = of_keeper key s r id (KeeperSplitsTurn key s r id) (λ own home. none key s _ r (lend_step lookup (layout_of key) key.origin s.words s.views r id own home)) k at
 
 pub join_turn_is_none : JoinTurnIsNone
-join_turn_is_none key s r id k at = of_keeper key s r id (JoinsTurn key s r id) (λ own other g apart e. none key s _ r (home_step lookup (layout_of key) key.origin s.words s.views r id own other g apart e)) k at
+join_turn_is_none key s r id k at = of_keeper key s r id (KeeperJoinsTurn key s r id) (λ own other g apart e. none key s _ r (home_step lookup (layout_of key) key.origin s.words s.views r id own other g apart e)) k at

@@ -18,7 +18,7 @@ use Rattle.msg_cache.specs.declared.view.View.TheVariants.{Keeper}
 use Rattle.msg_cache.specs.Keeping.{looks}
 use Rattle.msg_cache.specs.Laws.{after_looks}
 use Rattle.msg_cache.specs.Plays.{looked, rest_looked}
-use Rattle.msg_cache.specs.Rule.{Ruled, shown_by}
+use Rattle.msg_cache.specs.Rule.{NoneIsGivenFrom, Ruled, shown_by}
 use Rattle.msg_cache.proofs.ClearingLemmas.{same_or}
 use Rattle.msg_cache.proofs.KeeperLemmas.{out_step, idle_step}
 use Rattle.msg_cache.proofs.SeatLemmas.{at_below}
@@ -50,7 +50,7 @@ module _ (look : History → ClassRef → ℕ → ℕ) (z : Layout) (origin : Or
     pub ruled : Ruled look z origin words' (slice_set views id (Keeper (rest_looked n d r.keeper)))
     pub shows : shown_by look z origin ruled ≡ after_looks z n d (shown_by look z origin r)
 
-  pub rest_step : (n d : ℕ) → n + d ≤ z.senders → ((m : ℕ) → n ≤ m → awaits r.keeper.given m ≡ false) → RestGoes n d
+  pub rest_step : (n d : ℕ) → n + d ≤ z.senders → NoneIsGivenFrom n r.keeper.given → RestGoes n d
   rest_step n zero le nobody = let t = idle_step look z origin words views r id at_id 0 in record { legal = λ e lt. absurd (omega arith); sees = λ e lt. absurd (omega arith); ruled = t.0; shows = t.1 }
   rest_step n (suc d) le nobody =
       let k = rest_looked n d r.keeper in

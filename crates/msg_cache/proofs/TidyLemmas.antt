@@ -1,18 +1,15 @@
 -- What stays of the keeper's view by itself, and what it gives.
-use Rattle.std.proofs.Common.{List, ◌≡◌, ℕ, ◌<◌, length, Bool, true, false, Some, None, refl, sym, ◌∙◌}
+use Rattle.std.proofs.Common.{List, ◌≡◌, ℕ, ◌<◌, Bool, true, false, Some, None, refl, sym, ◌∙◌}
 use Rattle.msg_tables.specs.Origin.{class_total}
 use Rattle.std.proofs.Math.ListN.{length-set}
 use Rattle.msg_names.specs.declared.value.ClassRef.{ClassRef}
 use Rattle.msg_tables.specs.declared.change.Change.{Change}
 use Rattle.msg_tables.specs.Several.{is_affected_by_all}
 use Rattle.msg_tables.specs.History.{History, and_then, log}
-use Rattle.msg_core.specs.declared.state.Standing.TheVariants.{Live}
-use Rattle.msg_core.specs.State.{capacity, Agrees}
-use Rattle.msg_core.specs.View.{standing_at}
 use Rattle.msg_cache.specs.declared.view.KeeperView.{KeeperView}
 use Rattle.msg_cache.specs.Layout.{SettingView, layout_of}
 use Rattle.msg_cache.specs.Plays.{lent, given_out}
-use Rattle.msg_cache.specs.Rule.{TidyBy, live_in, word_in}
+use Rattle.msg_cache.specs.Rule.{LiveWordsAgreeAfter, TidyBy, live_in}
 
 -- the turn was split off
 pub tidy_lent : (look : History → ClassRef → ℕ → ℕ) (key : SettingView) (k : KeeperView) → TidyBy look key k → TidyBy look key (lent k)
@@ -53,7 +50,7 @@ tidy_given look key k n t = record {
 -- Where a change affects no class reference that has a live array, words of live arrays agree after it as before.
 pub agrees_after : (look : History → ClassRef → ℕ → ℕ) (key : SettingView) (k : KeeperView) (x : List Change) → ((c : ClassRef) (s : ℕ) → is_affected_by_all (log k.history) x c ≡ false → look (and_then k.history x) c s ≡ look k.history c s) → TidyBy look key k
     → ((c : ClassRef) → c.class < class_total key.origin → is_affected_by_all (log k.history) x c ≡ true → live_in (layout_of key) k.words c ≡ None)
-    → (c : ClassRef) (b q : ℕ) → b < length key.capacities → standing_at k.standings b ≡ Live c → q < capacity (layout_of key) b → Agrees (look (and_then k.history x)) c (word_in (layout_of key) k.words b q)
+    → LiveWordsAgreeAfter look key k x
 agrees_after look key k x unchanged t flushed c b q there live lt entry =
     let before = t.sound.lawful.live_words c b q live lt entry in
     (before.0, before.1 ∙ sym (unchanged c _ (step (is_affected_by_all (log k.history) x c) refl)))

@@ -25,6 +25,10 @@ pub record IsBitSet (s : Inside) : Type 0 where
 abbrev pub HasNone : List Bool → ℕ → ℕ → Type 0
 HasNone flags from until = (a : ℕ) → from ≤ a → a < until → slice_index_or flags a false ≡ false
 
+-- some number of the set is in this word
+abbrev pub HasSomeInWord : List Bool → ℕ → Type 0
+HasSomeInWord flags word = (a : ℕ) × (a / 64 ≡ word) × (slice_index_or flags a false ≡ true)
+
 -- the lowest number of the set from one on
 pub record IsFirst (flags : List Bool) (from found : ℕ) : Type 0 where
   pub low : from ≤ found

@@ -1,6 +1,6 @@
 -- What contracts see of an arena, of a sender and of the turn, and what holds of their fields.
-use Rattle.std.specs.Prelude.{◌≡◌, ℕ, ◌+◌, ◌^◌, ◌<◌, ◌≤◌, [], ◌∷◌, All, length, slice_index, slice_index_or}
-use Rattle.msg_buckets.specs.Capacity.{IsCapacity, capacities as all_capacities}
+use Rattle.std.specs.Prelude.{◌≡◌, ℕ, ◌^◌, ◌<◌, ◌≤◌, [], ◌∷◌, All, length, slice_index, slice_index_or}
+use Rattle.msg_buckets.specs.Capacity.{IsCapacity}
 use Rattle.msg_tables.specs.declared.limits.TheConstants.{MOST_SENDERS}
 use Rattle.msg_core.specs.declared.state.Whereabouts.TheVariants.{Out}
 use Rattle.msg_cache.specs.declared.arena.Span.{Span}
@@ -8,7 +8,7 @@ use Rattle.msg_cache.specs.declared.arena.Arena.TheInside.{Inside as ArenaInside
 use Rattle.msg_cache.specs.declared.prober.Prober.TheInside.{Inside as ProberInside}
 use Rattle.msg_cache.specs.declared.keeper.Turn.TheInside.{Inside as TurnInside}
 use Rattle.msg_cache.specs.Layout.{layout_of, base, probes, word_count}
-use Rattle.msg_cache.specs.Keeping.{IsGroup}
+use Rattle.msg_cache.specs.Keeping.{AreGroups}
 use Rattle.msg_cache.specs.Plays.{sender_in, sender_view, turn_in, turn_view}
 use Rattle.msg_cache.specs.Views.{ArenaView, ProberView, TurnView}
 
@@ -21,7 +21,7 @@ pub record IsArena (a : ArenaInside) : Type 0 where
   pub are_capacities : All IsCapacity a.table.shared.key.capacities
   pub spans : (i : ℕ) → i < length a.table.shared.key.capacities → (d : Span) → slice_index_or a.spans.items i d ≡ record { base = base (layout_of a.table.shared.key) i; capacity = slice_index a.table.shared.key.capacities i }
   pub spans_count : length a.spans.items ≡ length a.table.shared.key.capacities
-  pub firsts : (i : ℕ) → i < 9 → IsGroup a.table.shared.key.capacities (slice_index all_capacities i) (slice_index a.firsts i) (slice_index a.firsts (i + 1))
+  pub firsts : AreGroups a.table.shared.key.capacities a.firsts
   pub senders : a.senders ≡ a.table.shared.key.senders
   pub few_senders : a.senders ≤ MOST_SENDERS
   pub probes : a.probes ≡ probes (layout_of a.table.shared.key)

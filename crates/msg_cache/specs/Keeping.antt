@@ -7,7 +7,7 @@ use Rattle.msg_names.specs.declared.value.ClassRef.{ClassRef}
 use Rattle.msg_buckets.specs.declared.capacity.Plan.{Plan}
 use Rattle.msg_buckets.specs.declared.capacity.Plan.TheVariants.{Use as PlanUse, Take as PlanTake}
 use Rattle.msg_buckets.specs.Word.{word_of}
-use Rattle.msg_buckets.specs.Capacity.{IsCapacity, plan_of, fill_limit}
+use Rattle.msg_buckets.specs.Capacity.{IsCapacity, capacities as all_capacities, plan_of, fill_limit}
 use Rattle.msg_buckets.specs.Probing.{Found, hit, empty, wrapped, probe_place}
 use Rattle.msg_buckets.specs.Array.{find_in, occupied_in}
 use Rattle.msg_tables.specs.History.{History}
@@ -36,6 +36,10 @@ arrays z = range_with_len 0 (length z.capacities)
 abbrev pub IsGroup : List ℕ → ℕ → ℕ → ℕ → Type 0
 IsGroup caps n from until = (until ≤ length caps) × ((a : ℕ) → a < length caps → slice_index caps a ≡ n → (from ≤ a) × (a < until)) × ((a : ℕ) → from ≤ a → a < until → slice_index caps a ≡ n)
 
+-- the arrays of 4 words, of 8, and so on begin at these numbers, one capacity after another
+abbrev pub AreGroups : List ℕ → List ℕ → Type 0
+AreGroups caps firsts = (i : ℕ) → i < 9 → IsGroup caps (slice_index all_capacities i) (slice_index firsts i) (slice_index firsts (i + 1))
+
 -- what an array is for
 abbrev pub standing_of : KeeperView → ℕ → Standing
 standing_of k a = standing_at k.standings a
@@ -47,6 +51,10 @@ array_words z k a = take (capacity z a) (drop (base z a) k.words)
 -- the header word of a class reference
 abbrev pub header : KeeperView → ClassRef → ℕ
 header k c = slice_index k.words (header_at c)
+
+-- it is an array that is free
+abbrev pub IsFreeArray : SettingView → KeeperView → ℕ → Type 0
+IsFreeArray key k a = (a < length key.capacities) × (standing_of k a ≡ Free)
 
 -- the lowest free array of a capacity
 abbrev pub lowest_free : Layout → ℕ → KeeperView → Option ℕ
@@ -127,6 +135,10 @@ way_in a (hit i) plan = Present
 way_in a (empty p) plan = way_by_plan a p plan
 way_in a wrapped plan = way_by_plan a 0 plan
 
+-- what an entry needs, where these are the words of the live array
+abbrev pub way_among : List ℕ → ℕ → ℕ → Way
+way_among words a s = way_in a (find_in words s) (plan_of (length words) (occupied_in words))
+
 abbrev pub way_by_header : Layout → List ℕ → KeeperView → ClassRef → ℕ → ℕ → Way
 way_by_header z remembered k c s zero = Take (remembered_capacity remembered c)
 way_by_header z remembered k c s (suc a) = way_in a (find_in (array_words z k a) s) (plan_of (capacity z a) (occupied_in (array_words z k a)))
@@ -146,11 +158,23 @@ OnTake Present P = Unit {0}
 OnTake (Use a p) P = Unit {0}
 OnTake (Take n) P = P n
 
+-- a probe of s in the array ends at the empty place p
+abbrev pub EndsAt : Layout → KeeperView → ℕ → ℕ → ℕ → Type 0
+EndsAt z k a s p = find_in (array_words z k a) s ≡ empty p
+
+-- the array may have one entry more
+abbrev pub TakesOneMore : Layout → KeeperView → ℕ → Type 0
+TakesOneMore z k a = occupied_in (array_words z k a) + 1 ≤ fill_limit (capacity z a)
+
 -- the entry's probe ends at an empty place of the live array, which has room
 pub record CanUse (z : Layout) (k : KeeperView) (c : ClassRef) (s a p : ℕ) : Type 0 where
   pub live : header k c ≡ suc a
-  pub found : find_in (array_words z k a) s ≡ empty p
-  pub room : occupied_in (array_words z k a) + 1 ≤ fill_limit (capacity z a)
+  pub found : EndsAt z k a s p
+  pub room : TakesOneMore z k a
+
+-- the same of an array by its words
+abbrev pub CanUseAmong : List ℕ → ℕ → ℕ → ℕ → ℕ → Type 0
+CanUseAmong words array s a p = (a ≡ array) × (find_in words s ≡ empty p) × (occupied_in words + 1 ≤ fill_limit (length words))
 
 -- Fill, of a place of an array
 abbrev pub filled : Layout → ℕ → ℕ → ℕ → KeeperView → KeeperView

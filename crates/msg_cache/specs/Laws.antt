@@ -25,7 +25,7 @@ use Rattle.msg_cache.specs.declared.view.View.{View}
 use Rattle.msg_cache.specs.declared.view.View.TheVariants.{Sender, Keeper, Turn, Spent}
 use Rattle.msg_cache.specs.Layout.{SettingView, layout_of, header_at, base, probe_at, word_count}
 use Rattle.msg_cache.specs.Plays.{headed, read_on, gone_to, newcomer, stored, flushed, installed, committed, looked, rest_looked, given_out, taken_in, at_home, lent}
-use Rattle.msg_cache.specs.Rule.{holds, named, shown_by, first_keeper}
+use Rattle.msg_cache.specs.Rule.{HasNoEntry, NoneIsGivenFrom, holds, named, shown_by, first_keeper}
 
 -- the state that a table shows, while the rule holds of it
 abbrev pub shown_at : (key : SettingView) (s : Table ℕ View) → holds lookup key s → State
@@ -128,102 +128,102 @@ OfAKeeper = (key : SettingView) (s : Table ℕ View) → holds lookup key s → 
 abbrev pub OfKeeper : OfAKeeper → Type 0
 OfKeeper P = (key : SettingView) (s : Table ℕ View) (r : holds lookup key s) (id : ℕ) (k : KeeperView) → get_elem? s.views id ≡ some (Keeper k) → P key s r id k
 
-abbrev pub Fills : OfAKeeper
-Fills key s r id k = (c : ClassRef) (a p w : ℕ) → standing_at k.standings a ≡ Live c → p < capacity (layout_of key) a
+abbrev pub KeeperFills : OfAKeeper
+KeeperFills key s r id k = (c : ClassRef) (a p w : ℕ) → standing_at k.standings a ≡ Live c → p < capacity (layout_of key) a
     → let i = base (layout_of key) a + p in slice_index k.words i ≡ 0 → 0 < sel_of w → imp_of w ≡ lookup k.history c (sel_of w)
     → IsEvent key s r (Fill c p w) w (stepped s i w id [] (Keeper (stored i w k)) keeps)
 
 -- a store over a word that is 0, of an entry that agrees with the lookup now, in a live array is Fill
 abbrev pub StoreIsFill : Type 0
-StoreIsFill = OfKeeper Fills
+StoreIsFill = OfKeeper KeeperFills
 
-abbrev pub Installs : OfAKeeper
-Installs key s r id k = (c : ClassRef) (a : ℕ) → c.class < class_total key.origin → a < length key.capacities → standing_at k.standings a ≡ Free
-    → ((q : ℕ) → q < capacity (layout_of key) a → slice_index k.words (base (layout_of key) a + q) ≡ 0)
+abbrev pub KeeperInstalls : OfAKeeper
+KeeperInstalls key s r id k = (c : ClassRef) (a : ℕ) → c.class < class_total key.origin → a < length key.capacities → standing_at k.standings a ≡ Free
+    → HasNoEntry (layout_of key) k a
     → IsEvent key s r (Install c a) (suc a) (stepped s (header_at c) (suc a) id [] (Keeper (installed c a k)) keeps)
 
 -- a store of an array's number and one in a header word, where the array is free and its words are 0, is Install
 abbrev pub StoreIsInstall : Type 0
-StoreIsInstall = OfKeeper Installs
+StoreIsInstall = OfKeeper KeeperInstalls
 
-abbrev pub Flushes : OfAKeeper
-Flushes key s r id k = (c : ClassRef) (a : ℕ) → c.class < class_total key.origin → slice_index k.words (header_at c) ≡ suc a
+abbrev pub KeeperFlushes : OfAKeeper
+KeeperFlushes key s r id k = (c : ClassRef) (a : ℕ) → c.class < class_total key.origin → slice_index k.words (header_at c) ≡ suc a
     → IsEvent key s r (Flush c) 0 (stepped s (header_at c) 0 id [] (Keeper (flushed c k)) keeps)
 
 -- a store of 0 in the header word of a class reference that has a live array is Flush
 abbrev pub StoreIsFlush : Type 0
-StoreIsFlush = OfKeeper Flushes
+StoreIsFlush = OfKeeper KeeperFlushes
 
-abbrev pub Looks : OfAKeeper
-Looks key s r id k = (n : ℕ) → n < key.senders
+abbrev pub KeeperLooks : OfAKeeper
+KeeperLooks key s r id k = (n : ℕ) → n < key.senders
     → let i = probe_at (layout_of key) n in let f = slice_index s.words i in
     IsEvent key s r (Look n) f (stepped s i f id [] (Keeper (looked n (f == 0) k)) keeps)
 
 -- the keeper's load of a probe word is Look
 abbrev pub LoadIsLook : Type 0
-LoadIsLook = OfKeeper Looks
+LoadIsLook = OfKeeper KeeperLooks
 
-abbrev pub RestLooks : OfAKeeper
-RestLooks key s r id k = (n : ℕ) → n ≤ key.senders → ((m : ℕ) → n ≤ m → awaits k.given m ≡ false)
+abbrev pub KeeperRestLooks : OfAKeeper
+KeeperRestLooks key s r id k = (n : ℕ) → n ≤ key.senders → NoneIsGivenFrom n k.given
     → AreLooks key s r n (key.senders - n) (stepped s 0 (slice_index s.words 0) id [] (Keeper (rest_looked n (key.senders - n) k)) keeps)
 
 -- the keeper's load of the count of changes, by which it sees out all sender numbers from one on, of which nobody has any, is a Look at each of them
 abbrev pub LoadIsRest : Type 0
-LoadIsRest = OfKeeper RestLooks
+LoadIsRest = OfKeeper KeeperRestLooks
 
-abbrev pub Clears : OfAKeeper
-Clears key s r id k = (a p : ℕ) → standing_at k.standings a ≡ Free → p < capacity (layout_of key) a
+abbrev pub KeeperClears : OfAKeeper
+KeeperClears key s r id k = (a p : ℕ) → standing_at k.standings a ≡ Free → p < capacity (layout_of key) a
     → let i = base (layout_of key) a + p in IsEvent key s r (Clear a p) 0 (stepped s i 0 id [] (Keeper (stored i 0 k)) keeps)
 
 -- a store of 0 in a word of a free array is Clear
 abbrev pub StoreIsClear : Type 0
-StoreIsClear = OfKeeper Clears
+StoreIsClear = OfKeeper KeeperClears
 
-abbrev pub Commits : OfAKeeper
-Commits key s r id k = (xs : List Change) (g : History) → 0 < length xs → k.turn ≡ Home g → Legal lookup (layout_of key) (shown_at key s r) (Commit xs)
+abbrev pub KeeperCommits : OfAKeeper
+KeeperCommits key s r id k = (xs : List Change) (g : History) → 0 < length xs → k.turn ≡ Home g → Legal lookup (layout_of key) (shown_at key s r) (Commit xs)
     → IsEvent key s r (Commit xs) (size k.history + 1) (stepped s 0 (size k.history + 1) id [] (Keeper (committed xs k)) keeps)
 
 -- the store of the count of changes, one higher, while the turn is joined, where no live entry would disagree, is Commit
 abbrev pub StoreIsCommit : Type 0
-StoreIsCommit = OfKeeper Commits
+StoreIsCommit = OfKeeper KeeperCommits
 
 -- ---- what is no event
 
-abbrev pub Witnesses : OfAKeeper
-Witnesses key s r id k = IsNone key s r (stepped s 0 (slice_index s.words 0) id [] (Keeper k) keeps)
+abbrev pub KeeperWitnesses : OfAKeeper
+KeeperWitnesses key s r id k = IsNone key s r (stepped s 0 (slice_index s.words 0) id [] (Keeper k) keeps)
 
 -- the keeper's load of the count of changes is no event
 abbrev pub WitnessIsNone : Type 0
-WitnessIsNone = OfKeeper Witnesses
+WitnessIsNone = OfKeeper KeeperWitnesses
 
-abbrev pub Splits : OfAKeeper
-Splits key s r id k = (n : ℕ) → n < key.senders → awaits k.given n ≡ false
+abbrev pub KeeperSplits : OfAKeeper
+KeeperSplits key s r id k = (n : ℕ) → n < key.senders → awaits k.given n ≡ false
     → IsNone key s r (record { words = s.words; homes = s.homes; views = slice_set s.views id (Keeper (given_out n k)) ++ Sender (newcomer n k.history) ∷ [] })
 
 -- nor is it one that a sender's seat is split off
 abbrev pub SplitIsNone : Type 0
-SplitIsNone = OfKeeper Splits
+SplitIsNone = OfKeeper KeeperSplits
 
-abbrev pub Joins : OfAKeeper
-Joins key s r id k = (other : ℕ) (v : SenderView) → ¬ (other ≡ id) → v.whereabouts ≡ Out → get_elem? (slice_set s.views id (Keeper (taken_in v k))) other ≡ some (Sender v)
+abbrev pub KeeperJoins : OfAKeeper
+KeeperJoins key s r id k = (other : ℕ) (v : SenderView) → ¬ (other ≡ id) → v.whereabouts ≡ Out → get_elem? (slice_set s.views id (Keeper (taken_in v k))) other ≡ some (Sender v)
     → IsNone key s r (record { words = s.words; homes = s.homes; views = slice_set (slice_set s.views id (Keeper (taken_in v k))) other Spent })
 
 -- nor that the seat of a sender that is out is joined
 abbrev pub JoinIsNone : Type 0
-JoinIsNone = OfKeeper Joins
+JoinIsNone = OfKeeper KeeperJoins
 
-abbrev pub SplitsTurn : OfAKeeper
-SplitsTurn key s r id k = k.turn ≢ Away
+abbrev pub KeeperSplitsTurn : OfAKeeper
+KeeperSplitsTurn key s r id k = k.turn ≢ Away
     → IsNone key s r (record { words = s.words; homes = s.homes; views = slice_set s.views id (Keeper (lent k)) ++ Turn k.history ∷ [] })
 
 -- nor that the turn's seat is split off
 abbrev pub SplitTurnIsNone : Type 0
-SplitTurnIsNone = OfKeeper SplitsTurn
+SplitTurnIsNone = OfKeeper KeeperSplitsTurn
 
-abbrev pub JoinsTurn : OfAKeeper
-JoinsTurn key s r id k = (other : ℕ) (g : History) → ¬ (other ≡ id) → get_elem? (slice_set s.views id (Keeper (at_home g k))) other ≡ some (Turn g)
+abbrev pub KeeperJoinsTurn : OfAKeeper
+KeeperJoinsTurn key s r id k = (other : ℕ) (g : History) → ¬ (other ≡ id) → get_elem? (slice_set s.views id (Keeper (at_home g k))) other ≡ some (Turn g)
     → IsNone key s r (record { words = s.words; homes = s.homes; views = slice_set (slice_set s.views id (Keeper (at_home g k))) other Spent })
 
 -- nor that it is joined
 abbrev pub JoinTurnIsNone : Type 0
-JoinTurnIsNone = OfKeeper JoinsTurn
+JoinTurnIsNone = OfKeeper KeeperJoinsTurn

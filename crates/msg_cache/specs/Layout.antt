@@ -1,15 +1,19 @@
 -- Where the words of a table stand.
-use Rattle.std.specs.Prelude.{ℕ, ◌+◌, ◌*◌, List, [], ◌∷◌, take}
+use Rattle.std.specs.Prelude.{◌≡◌, ℕ, ◌+◌, ◌*◌, ◌<◌, List, [], ◌∷◌, take}
 use Rattle.msg_names.specs.declared.value.ClassRef.{ClassRef}
 use Rattle.msg_tables.specs.Origin.{OriginView, class_total}
 use Rattle.msg_names.specs.ClassRef.{slot_of}
-use Rattle.msg_core.specs.State.{Layout}
+use Rattle.msg_core.specs.State.{Layout, capacity}
 
 -- what a table is made for: an origin, so many senders, and arrays of these capacities
 pub record SettingView : Type 0 where
   pub origin : OriginView
   pub senders : ℕ
   pub capacities : List ℕ
+
+-- the setting of so many senders, and arrays of these capacities
+abbrev pub setting_for : OriginView → ℕ → List ℕ → SettingView
+setting_for origin senders capacities = record { origin = origin; senders = senders; capacities = capacities }
 
 abbrev pub layout_of : SettingView → Layout
 layout_of key = record { classes = class_total key.origin; senders = key.senders; capacities = key.capacities }
@@ -37,3 +41,11 @@ probe_at z n = probes z + 8 * n + 7
 
 abbrev pub word_count : Layout → ℕ
 word_count z = probes z + 8 * z.senders
+
+-- an array's words begin at b, and p is a place in it
+abbrev pub IsPlace : SettingView → ℕ → ℕ → ℕ → Type 0
+IsPlace key a b p = (b ≡ base (layout_of key) a) × (p < capacity (layout_of key) a)
+
+-- there may be a sender of this number, and i is its probe word
+abbrev pub IsProbeWord : SettingView → ℕ → ℕ → Type 0
+IsProbeWord key n i = (i ≡ probe_at (layout_of key) n) × (n < key.senders)

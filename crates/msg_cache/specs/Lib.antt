@@ -12,5 +12,6 @@ pub mod Ours
 pub mod Plays
 pub mod Record
 pub mod Rule
+pub mod Seats
 pub mod Standings
 pub mod Views

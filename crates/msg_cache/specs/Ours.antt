@@ -1,11 +1,28 @@
--- The keeper's view, and what it is for it to be of an arena.
-use Rattle.std.specs.Prelude.{◌≡◌, length}
-use Rattle.msg_tables.specs.History.{lookup}
+-- The keeper's view, what it is for it to be of an arena, and what its calls do.
+use Rattle.std.specs.Prelude.{◌≡◌, ◌<◌, ◌≤◌, ◌⊎◌, ℕ, List, Bool, true, None, cond, length}
+use Rattle.msg_names.specs.Number.{selector_number, imp_number}
+use Rattle.msg_names.specs.declared.value.ClassRef.{ClassRef}
+use Rattle.msg_names.specs.declared.value.ImpRef.{ImpRef}
+use Rattle.msg_names.specs.declared.value.Selector.{Selector}
+use Rattle.msg_buckets.specs.Word.{word_of}
+use Rattle.msg_tables.specs.Affected.{is_affected}
+use Rattle.msg_tables.specs.History.{lookup, log}
+use Rattle.msg_tables.specs.Origin.{OriginView}
+use Rattle.msg_tables.specs.Several.{is_affected_by_all}
+use Rattle.msg_tables.specs.declared.change.Change.{Change}
+use Rattle.msg_core.specs.State.{awaits}
+use Rattle.msg_cache.specs.declared.answer.Filled.{Filled}
+use Rattle.msg_cache.specs.declared.answer.Report.{Report}
+use Rattle.msg_cache.specs.declared.answer.Way.{Way}
+use Rattle.msg_cache.specs.declared.config.Config.{Config}
 use Rattle.msg_cache.specs.declared.keeper.Keeper.{Keeper}
 use Rattle.msg_cache.specs.declared.view.KeeperView.{KeeperView}
-use Rattle.msg_cache.specs.Keeping.{InOrder}
+use Rattle.msg_cache.specs.Config.{refusal_of, setting_of}
+use Rattle.msg_cache.specs.Counts.{CountsFill}
+use Rattle.msg_cache.specs.Keeping.{CanUse, Fills, InOrder, filled, grown, header, remember, way_of}
 use Rattle.msg_cache.specs.Plays.{keeper_of}
-use Rattle.msg_cache.specs.Views.{ArenaView}
+use Rattle.msg_cache.specs.Rule.{first_keeper, live_in}
+use Rattle.msg_cache.specs.Views.{ArenaView, classes, layout}
 
 -- what the keeper's seat knows
 abbrev pub view : Keeper → KeeperView
@@ -14,3 +31,61 @@ view k = keeper_of k.seat.me.0
 -- the keeper is of the arena, and its counts are in order
 abbrev pub IsOf : ArenaView → Keeper → Type 0
 IsOf a k = (k.seat.table_id ≡ a.table) × InOrder lookup a.key (view k) k.remembered.items k.occupied.items × (length k.used.items ≡ length a.key.capacities)
+
+-- no fault holds of the config, and these are an arena and its keeper as they are made by it
+abbrev pub AreOpened : OriginView → Config → ArenaView → Keeper → Type 0
+AreOpened o config a k = (refusal_of o config ≡ None) × (a.key ≡ setting_of o config) × (view k ≡ first_keeper (setting_of o config)) × IsOf a k
+
+-- ---- what calls do
+
+-- the view changed so if it is true, and else it is the same
+abbrev pub ChangesIf : Bool → (KeeperView → KeeperView) → Keeper → Keeper → Type 0
+ChangesIf b f k k' = view k' ≡ cond b (f (view k)) (view k)
+
+-- the report changed so if it is true, and else it is the same
+abbrev pub CountsIf : Bool → (Report → Report) → Keeper → Keeper → Type 0
+CountsIf b f k k' = k'.report ≡ cond b (f k.report) k.report
+
+-- the entry was stored at a place of the array
+abbrev pub FillsPlace : ArenaView → ℕ → ℕ → Selector → ImpRef → Keeper → Keeper → Type 0
+FillsPlace a array place s i k k' = view k' ≡ filled (layout a) array place (word_of (selector_number s) (imp_number i)) (view k)
+
+-- the array was installed, and the entry was stored in it
+abbrev pub GrowsInto : ArenaView → ClassRef → ℕ → Selector → ImpRef → Keeper → Keeper → Type 0
+GrowsInto a c array s i k k' = view k' ≡ grown (layout a) c (selector_number s) (imp_number i) array (view k)
+
+-- what an entry needs
+abbrev pub way_for : ArenaView → Keeper → ClassRef → Selector → Way
+way_for a k c s = way_of (layout a) k.remembered.items (view k) c (selector_number s)
+
+-- the entry may go to this place of this array, which is the live one
+abbrev pub CanUseFor : ArenaView → Keeper → ClassRef → Selector → ℕ → ℕ → Type 0
+CanUseFor a k c s array place = CanUse (layout a) (view k) c (selector_number s) array place
+
+-- a fill with this answer took the keeper's view from the one to the other
+abbrev pub FillsWith : ArenaView → ClassRef → Selector → ImpRef → Keeper → Keeper → Filled → Type 0
+FillsWith a c s i k k' answer = Fills (layout a) k.remembered.items c (selector_number s) (imp_number i) (view k) (view k') answer
+
+-- a fill with this answer was counted
+abbrev pub CountsFillWith : ArenaView → ClassRef → Selector → Filled → Keeper → Keeper → Type 0
+CountsFillWith a c s answer k k' = CountsFill (way_for a k c s) answer k.report k'.report
+
+-- the capacity of the live array of the class reference, if it had one, is remembered
+abbrev pub RemembersCapacity : ArenaView → ClassRef → Keeper → Keeper → Type 0
+RemembersCapacity a c k k' = k'.remembered.items ≡ remember (layout a) c (header (view k) c) k.remembered.items
+
+-- a class reference has no live array
+abbrev pub HasNoArray : ArenaView → Keeper → ClassRef → Type 0
+HasNoArray a k c = live_in (layout a) (view k).words c ≡ None
+
+-- no class reference that the change affects has a live array
+abbrev pub AffectedAreFlushed : ArenaView → Change → Keeper → Type 0
+AffectedAreFlushed a x k = (c : ClassRef) → c.class < classes a → is_affected (log (view k).history) x c ≡ true → HasNoArray a k c
+
+-- nor one that some of these changes affect
+abbrev pub AllAffectedAreFlushed : ArenaView → List Change → Keeper → Type 0
+AllAffectedAreFlushed a xs k = (c : ClassRef) → c.class < classes a → is_affected_by_all (log (view k).history) xs c ≡ true → HasNoArray a k c
+
+-- there may be no sender of this number, or it is given out
+abbrev pub CannotBeGiven : ArenaView → ℕ → Keeper → Type 0
+CannotBeGiven a n k = (a.key.senders ≤ n) ⊎ (awaits (view k).given n ≡ true)

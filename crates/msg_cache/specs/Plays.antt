@@ -86,6 +86,10 @@ gone_to v g p = record { number = v.number; front = g; whereabouts = p; count = 
 abbrev pub newcomer : ℕ → History → SenderView
 newcomer n h = record { number = n; front = h; whereabouts = Out; count = 0; last = record { class = no_class; sel = 0; array = None; reads = [] } }
 
+-- the same sender, given out again at this history
+abbrev pub renewed : SenderView → History → SenderView
+renewed v h = newcomer v.number h
+
 -- ---- what a sender's steps tell
 
 abbrev pub seated : SenderView → Sat
@@ -169,6 +173,10 @@ given_out n k = record k { given = slice_set k.given n true }
 -- a sender is back, and what it had seen is told
 abbrev pub taken_in : SenderView → KeeperView → KeeperView
 taken_in v k = record k { given = slice_set k.given v.number false; told = v.front }
+
+-- a sender is back, and its number is out again
+abbrev pub given_again : SenderView → KeeperView → KeeperView
+given_again v k = given_out v.number (taken_in v k)
 
 abbrev pub at_home : History → KeeperView → KeeperView
 at_home g k = record k { turn = Home g }

@@ -44,6 +44,10 @@ pub record Probes (z : Layout) (c : ClassRef) (s : ℕ) (v w : SenderView) : Typ
   -- no word before the last is 0 or has the selector
   pub unended : end_of s (earlier w.last.reads) ≡ None
 
+-- a sender's view went from v to w without a probe
+abbrev pub MadeNoProbe : SenderView → SenderView → Type 0
+MadeNoProbe v w = (w.count ≡ v.count) × (w.last ≡ v.last)
+
 -- a probe doesn't both hit and miss, nor hit twice
 abbrev pub HitsOrMisses : Type 0
 HitsOrMisses = (z : Layout) (c : ClassRef) (s : ℕ) (v w : SenderView) (i : ℕ) → Probes z c s v w → Hits w.last i → Misses z w.last → ⊥

@@ -6,13 +6,14 @@ use Rattle.atomic_table.specs.Table.{State as Table}
 use Rattle.msg_names.specs.declared.value.ClassRef.{ClassRef}
 use Rattle.msg_tables.specs.Origin.{OriginView}
 use Rattle.msg_tables.specs.Origin.{IsSound}
-use Rattle.msg_tables.specs.History.{History, BeginsWith, empty, log}
+use Rattle.msg_tables.specs.History.{History, BeginsWith, and_then, empty, log}
+use Rattle.msg_tables.specs.declared.change.Change.{Change}
 use Rattle.msg_tables.specs.Refusal.{IsLog}
 use Rattle.msg_core.specs.Event.{Event}
-use Rattle.msg_core.specs.declared.state.Standing.TheVariants.{Free, Retired}
+use Rattle.msg_core.specs.declared.state.Standing.TheVariants.{Free, Live, Retired}
 use Rattle.msg_core.specs.declared.state.Whereabouts.{Whereabouts}
 use Rattle.msg_core.specs.declared.state.Whereabouts.TheVariants.{Out, In, Holding}
-use Rattle.msg_core.specs.State.{Layout, State, capacity, state_from, size, awaits, Sound}
+use Rattle.msg_core.specs.State.{Layout, State, Agrees, capacity, state_from, size, awaits, Sound}
 use Rattle.msg_core.specs.Steps.{after, Legal}
 use Rattle.msg_core.specs.View.{standing_at}
 use Rattle.msg_cache.specs.declared.view.SenderView.{SenderView}
@@ -36,6 +37,19 @@ live_in z words c = if nat_lt c.class z.classes then named (slice_index words (h
 -- the words of each array
 abbrev pub word_in : Layout → List ℕ → ℕ → ℕ → ℕ
 word_in z words a p = if nat_lt p (capacity z a) then slice_index words (base z a + p) else 0
+
+-- each word of the array is 0
+abbrev pub HasNoEntry : Layout → KeeperView → ℕ → Type 0
+HasNoEntry z k a = (q : ℕ) → q < capacity z a → slice_index k.words (base z a + q) ≡ 0
+
+-- no sender number from n on is given out
+abbrev pub NoneIsGivenFrom : ℕ → List Bool → Type 0
+NoneIsGivenFrom n given = (m : ℕ) → n ≤ m → awaits given m ≡ false
+
+-- the words of live arrays agree with the method lists once these changes are made
+abbrev pub LiveWordsAgreeAfter : (History → ClassRef → ℕ → ℕ) → SettingView → KeeperView → List Change → Type 0
+LiveWordsAgreeAfter look key k xs = (c : ClassRef) (b q : ℕ) → b < length key.capacities → standing_at k.standings b ≡ Live c → q < capacity (layout_of key) b
+    → Agrees (look (and_then k.history xs)) c (word_in (layout_of key) k.words b q)
 
 -- what the keeper's view says, with senders at these places
 abbrev pub shown : Layout → KeeperView → (ℕ → Whereabouts) → State

@@ -1,15 +1,14 @@
 //! The arena: the words of all caches, which threads share.
 
-ghost use Rattle.std.specs.Prelude.{◌≡◌, ◌≢◌, ℕ, Some, None, IfErr, ◌+◌, ◌*◌, ◌^◌, ◌<◌, ◌≤◌, All, IfOk, length, slice_index, replicate};
-ghost use Rattle.msg_buckets.specs.Capacity.{IsCapacity, capacities as all_capacities};
+ghost use Rattle.std.specs.Prelude.{◌≡◌, IfErr, ◌+◌, ◌^◌, ◌<◌, ◌≤◌, All, IfOk, length, replicate};
+ghost use Rattle.msg_buckets.specs.Capacity.{IsCapacity};
 ghost use Rattle.msg_core.specs.State.{capacity};
-ghost use Rattle.msg_cache.specs.Layout.{layout_of, total, base as base_of, probes as probes_of, probe_at, word_count};
-ghost use Rattle.msg_tables.specs.History.{lookup};
-ghost use Rattle.msg_cache.specs.Config.{refusal_of, setting_of};
-ghost use Rattle.msg_cache.specs.declared.config.ArenaFault.TheVariants.{Memory};
-ghost use Rattle.msg_cache.specs.Plays.{kept, keeper_of};
-ghost use Rattle.msg_cache.specs.Rule.{first_keeper, TidyBy};
-ghost use Rattle.msg_cache.specs.Keeping.{IsGroup};
+ghost use Rattle.msg_cache.specs.Config.{IsLeastUnlessMemory, NoneHoldsIfMemory};
+ghost use Rattle.msg_cache.specs.Keeping.{AreGroups, IsGroup};
+ghost use Rattle.msg_cache.specs.Layout.{layout_of, setting_for, total, base as base_of, probes as probes_of, probe_at, word_count};
+ghost use Rattle.msg_cache.specs.Plays.{kept};
+ghost use Rattle.msg_cache.specs.Rule.{first_keeper};
+ghost use Rattle.msg_cache.specs.Views.{layout};
 
 use crate::config::{ArenaFault, Config, capacities_of, firsts_of};
 use crate::keeper::Keeper;
@@ -59,7 +58,7 @@ impl Model for Arena {
 }
 
 impl Arena {
-    ghost use Rattle.msg_cache.specs.Ours.{view, IsOf};
+    ghost use Rattle.msg_cache.specs.Ours.{AreOpened};
 
     /// An arena of classes, with no live array, and its keeper, who stands at their empty history.
     pub fn open<C: HasOrigin>(
@@ -67,19 +66,17 @@ impl Arena {
         classes: &C,
         config: Config,
     ) -> Result<(Arena, Keeper), ArenaFault>
-        ensures ok { IfOk result (λ r. (refusal_of (C.given classes.now) config ≡ None) × (r.0.key ≡ setting_of (C.given classes.now) config)
-            × (view r.1 ≡ first_keeper (setting_of (C.given classes.now) config)) × IsOf r.0 r.1) }
-        ensures fault { IfErr result (λ fault. fault ≢ Memory → refusal_of (C.given classes.now) config ≡ Some fault) }
-        ensures memory { IfErr result (λ fault. fault ≡ Memory → refusal_of (C.given classes.now) config ≡ None) }
+        ensures ok { IfOk result (λ r. AreOpened (C.given classes.now) config r.0 r.1) }
+        ensures fault { IfErr result (IsLeastUnlessMemory (C.given classes.now) config) }
+        ensures memory { IfErr result (NoneHoldsIfMemory (C.given classes.now) config) }
     {
         Arena::made(alloc, classes.origin(), config)
     }
 
     fn made(alloc: Global, origin: &Origin, config: Config) -> Result<(Arena, Keeper), ArenaFault>
-        ensures ok { IfOk result (λ r. (refusal_of origin.now config ≡ None) × (r.0.key ≡ setting_of origin.now config)
-            × (view r.1 ≡ first_keeper (setting_of origin.now config)) × IsOf r.0 r.1) }
-        ensures fault { IfErr result (λ fault. fault ≢ Memory → refusal_of origin.now config ≡ Some fault) }
-        ensures memory { IfErr result (λ fault. fault ≡ Memory → refusal_of origin.now config ≡ None) }
+        ensures ok { IfOk result (λ r. AreOpened origin.now config r.0 r.1) }
+        ensures fault { IfErr result (IsLeastUnlessMemory origin.now config) }
+        ensures memory { IfErr result (NoneHoldsIfMemory origin.now config) }
     {
         if let Some(fault) = config.refusal(origin) {
             return Err(fault);
@@ -104,7 +101,8 @@ impl Arena {
     pub(crate) fn shared(&self) -> &Words
         ensures table { result.now.table_id ≡ self.now.table }
         ensures key { result.now.key ≡ self.now.key }
-        ensures count { (self.now.table.words ≡ word_count (layout_of self.now.key)) × (self.now.table.words < 2 ^ 32) }
+        ensures count { self.now.table.words ≡ word_count (layout_of self.now.key) }
+        ensures few { self.now.table.words < 2 ^ 32 }
         ensures capacities { All IsCapacity self.now.key.capacities }
         ensures senders { self.now.key.senders ≤ MOST_SENDERS }
     {
@@ -133,7 +131,7 @@ impl Arena {
     pub(crate) fn base(&self, array: usize) -> usize
         requires { array < length self.now.key.capacities }
         ensures base { result ≡ base_of (layout_of self.now.key) array }
-        ensures few { base_of (layout_of self.now.key) array + capacity (layout_of self.now.key) array < 2 ^ 32 }
+        ensures few { let z = layout self.now in base_of z array + capacity z array < 2 ^ 32 }
     {
         self.spans[array].base as usize
     }
@@ -177,10 +175,11 @@ impl Arena {
     ) -> Result<(Arena, Seat, Vec<u64>), AllocError>
         requires senders { (0 < senders) × (senders ≤ MOST_SENDERS) }
         requires capacities { All IsCapacity capacities.items }
-        requires firsts { (i : ℕ) → i < 9 → IsGroup capacities.items (slice_index all_capacities i) (slice_index firsts i) (slice_index firsts (i + 1)) }
+        requires firsts { AreGroups capacities.items firsts }
         requires room { total capacities.items < 2 ^ 29 }
-        ensures seat { IfOk result (λ r. (r.1.table_id ≡ r.0.table) × (r.1.me ≡ kept (first_keeper r.0.key))) }
-        ensures key { IfOk result (λ r. r.0.key ≡ record { origin = origin.now; senders = senders; capacities = capacities.items }) }
+        ensures table { IfOk result (λ r. r.1.table_id ≡ r.0.table) }
+        ensures seat { IfOk result (λ r. r.1.me ≡ kept (first_keeper r.0.key)) }
+        ensures key { IfOk result (λ r. r.0.key ≡ setting_for origin.now senders capacities.items) }
         ensures words { IfOk result (λ r. r.2.items ≡ replicate (probes_of (layout_of r.0.key)) 0) }
     {
         let setting = Setting {

@@ -1,19 +1,20 @@
 //! A collection: who is out, which arrays nobody holds any more, and their words cleared.
 
-ghost use Rattle.std.specs.Prelude.{◌≡◌, ℕ, ◌+◌, ◌^◌, ◌<◌, ◌≤◌, length, true, false, IfOk};
+ghost use Rattle.std.specs.Prelude.{◌≡◌, ℕ, ◌+◌, ◌^◌, ◌<◌, ◌≤◌, length, true, IfOk};
 ghost use Rattle.msg_tables.specs.History.{lookup};
 ghost use Rattle.msg_core.specs.declared.state.Standing.TheVariants.{Free};
-ghost use Rattle.msg_core.specs.State.{capacity, awaits};
-ghost use Rattle.msg_cache.specs.Layout.{layout_of, base as base_of};
-ghost use Rattle.msg_cache.specs.Rule.{TidyBy};
-ghost use Rattle.msg_cache.specs.Plays.{keeper_of, kept};
-ghost use Rattle.msg_cache.specs.Uses.{settled};
-ghost use Rattle.msg_cache.specs.Keeping.{standing_of, looks, cleared, emptied, Collects, InOrder};
+ghost use Rattle.msg_core.specs.State.{awaits};
+ghost use Rattle.msg_cache.specs.Keeping.{standing_of, looks, cleared, emptied, Collects};
+ghost use Rattle.msg_cache.specs.Layout.{IsPlace, layout_of};
+ghost use Rattle.msg_cache.specs.Rule.{NoneIsGivenFrom, TidyBy};
+ghost use Rattle.msg_cache.specs.Seats.{CanReach, ChangesBy, IsInOrder, IsKeeper, IsSameSeat, keeper_at, uses_at};
+ghost use Rattle.msg_cache.specs.Views.{layout};
 
 use crate::arena::Arena;
 use crate::standings::Standings;
 use crate::steps::{Seat, Words, clear_word, load_probe, look_at_rest};
 use std::alloc::{AllocError, Global};
+use std::marker::Brand;
 
 /// Who was out when senders were looked at last.
 #[derive(Drop)]
@@ -51,38 +52,38 @@ impl Outs {
 // One look at each of the first sender numbers. Says who was out.
 fn look_at_first(arena: &Arena, seat: &mut Seat, were: &mut Vec<bool>, known: u32)
     requires table { seat.old.table_id ≡ arena.now.table }
-    requires keeper { seat.old.me ≡ kept (keeper_of seat.old.me.0) }
-    requires tidy { TidyBy lookup arena.now.key (keeper_of seat.old.me.0) }
+    requires keeper { IsKeeper seat.old }
+    requires tidy { TidyBy lookup arena.now.key (keeper_at seat.old) }
     requires were { length were.old.items ≡ arena.now.key.senders }
     requires known { known ≤ arena.now.key.senders }
-    ensures seat { (seat.new.table_id ≡ seat.old.table_id) × (seat.new.id ≡ seat.old.id) }
-    ensures told { seat.new.me ≡ kept (looks known were.new.items (keeper_of seat.old.me.0)) }
+    ensures seat { IsSameSeat seat.old seat.new }
+    ensures told { ChangesBy (looks known were.new.items) seat.old seat.new }
     ensures were { length were.new.items ≡ length were.old.items }
     ensures others { (n : ℕ) → known ≤ n → awaits were.new.items n ≡ awaits were.old.items n }
-    ensures tidy { TidyBy lookup arena.now.key (keeper_of seat.new.me.0) }
+    ensures tidy { TidyBy lookup arena.now.key (keeper_at seat.new) }
 {
     let shared = arena.shared();
     for number in 0..known {
         let word = arena.probe_at(number);
-        were[number as usize] = load_probe(shared, seat, word, number);
+        were[number as usize] = load_probe::<Brand>(shared, seat, word, number);
     }
 }
 
 // One look at each sender number. Says who was out.
 fn look_at_senders(arena: &Arena, seat: &mut Seat, outs: &mut Outs)
     requires table { seat.old.table_id ≡ arena.now.table }
-    requires keeper { seat.old.me ≡ kept (keeper_of seat.old.me.0) }
-    requires tidy { TidyBy lookup arena.now.key (keeper_of seat.old.me.0) }
+    requires keeper { IsKeeper seat.old }
+    requires tidy { TidyBy lookup arena.now.key (keeper_at seat.old) }
     requires outs { length outs.old.were.items ≡ arena.now.key.senders }
-    requires nobody { (n : ℕ) → outs.old.known ≤ n → awaits (keeper_of seat.old.me.0).given n ≡ false }
-    ensures seat { (seat.new.table_id ≡ seat.old.table_id) × (seat.new.id ≡ seat.old.id) }
-    ensures told { seat.new.me ≡ kept (looks arena.now.key.senders outs.new.were.items (keeper_of seat.old.me.0)) }
+    requires nobody { NoneIsGivenFrom outs.old.known (keeper_at seat.old).given }
+    ensures seat { IsSameSeat seat.old seat.new }
+    ensures told { ChangesBy (looks arena.now.key.senders outs.new.were.items) seat.old seat.new }
     ensures outs { length outs.new.were.items ≡ length outs.old.were.items }
     ensures known { outs.new.known ≡ outs.old.known }
-    ensures tidy { TidyBy lookup arena.now.key (keeper_of seat.new.me.0) }
+    ensures tidy { TidyBy lookup arena.now.key (keeper_at seat.new) }
 {
     look_at_first(arena, seat, &mut outs.were, outs.known);
-    look_at_rest(arena.shared(), seat, outs.known);
+    look_at_rest::<Brand>(arena.shared(), seat, outs.known);
 }
 
 // Clears a word of a free array, where it isn't 0.
@@ -95,20 +96,22 @@ fn clear_place(
     base: usize,
     place: usize,
 )
-    requires table { (seat.old.table_id ≡ shared.now.table_id) × (base + place < shared.now.table_id.words) × (shared.now.table_id.words < 2 ^ 32) }
-    requires keeper { seat.old.me ≡ kept (keeper_of seat.old.me.0) }
-    requires tidy { TidyBy lookup shared.now.key (keeper_of seat.old.me.0) }
-    requires words { (words.old.items ≡ (keeper_of seat.old.me.0).words) × (base + place < length words.old.items) }
-    requires place { (base ≡ base_of (layout_of shared.now.key) array) × (place < capacity (layout_of shared.now.key) array) }
-    requires free { standing_of (keeper_of seat.old.me.0) array ≡ Free }
-    ensures seat { (seat.new.table_id ≡ seat.old.table_id) × (seat.new.id ≡ seat.old.id) }
-    ensures told { seat.new.me ≡ kept (cleared (base + place) (keeper_of seat.old.me.0)) }
-    ensures tidy { TidyBy lookup shared.now.key (keeper_of seat.new.me.0) }
-    ensures words { words.new.items ≡ (keeper_of seat.new.me.0).words }
+    requires table { CanReach shared.now.table_id seat.old (base + place) }
+    requires few { shared.now.table_id.words < 2 ^ 32 }
+    requires keeper { IsKeeper seat.old }
+    requires tidy { TidyBy lookup shared.now.key (keeper_at seat.old) }
+    requires words { words.old.items ≡ (keeper_at seat.old).words }
+    requires within { base + place < length words.old.items }
+    requires place { IsPlace shared.now.key array base place }
+    requires free { standing_of (keeper_at seat.old) array ≡ Free }
+    ensures seat { IsSameSeat seat.old seat.new }
+    ensures told { ChangesBy (cleared (base + place)) seat.old seat.new }
+    ensures tidy { TidyBy lookup shared.now.key (keeper_at seat.new) }
+    ensures words { words.new.items ≡ (keeper_at seat.new).words }
 {
     let at = base + place;
     if words[at] != 0 {
-        clear_word(shared, seat, array, base, place);
+        clear_word::<Brand>(shared, seat, array, base, place);
         words[at] = 0;
     }
 }
@@ -116,15 +119,15 @@ fn clear_place(
 // Clears each word of a free array that isn't 0.
 fn clear_array(arena: &Arena, seat: &mut Seat, words: &mut Vec<u64>, array: usize)
     requires table { seat.old.table_id ≡ arena.now.table }
-    requires keeper { seat.old.me ≡ kept (keeper_of seat.old.me.0) }
-    requires tidy { TidyBy lookup arena.now.key (keeper_of seat.old.me.0) }
-    requires words { words.old.items ≡ (keeper_of seat.old.me.0).words }
+    requires keeper { IsKeeper seat.old }
+    requires tidy { TidyBy lookup arena.now.key (keeper_at seat.old) }
+    requires words { words.old.items ≡ (keeper_at seat.old).words }
     requires array { array < length arena.now.key.capacities }
-    requires free { standing_of (keeper_of seat.old.me.0) array ≡ Free }
-    ensures seat { (seat.new.table_id ≡ seat.old.table_id) × (seat.new.id ≡ seat.old.id) }
-    ensures told { seat.new.me ≡ kept (emptied (layout_of arena.now.key) array (keeper_of seat.old.me.0)) }
-    ensures tidy { TidyBy lookup arena.now.key (keeper_of seat.new.me.0) }
-    ensures words { words.new.items ≡ (keeper_of seat.new.me.0).words }
+    requires free { standing_of (keeper_at seat.old) array ≡ Free }
+    ensures seat { IsSameSeat seat.old seat.new }
+    ensures told { ChangesBy (emptied (layout_of arena.now.key) array) seat.old seat.new }
+    ensures tidy { TidyBy lookup arena.now.key (keeper_at seat.new) }
+    ensures words { words.new.items ≡ (keeper_at seat.new).words }
 {
     let shared = arena.shared();
     let base = arena.base(array);
@@ -145,18 +148,18 @@ pub(crate) fn collect_into(
     outs: &mut Outs,
 ) -> u32
     requires table { seat.old.table_id ≡ arena.now.table }
-    requires keeper { seat.old.me ≡ kept (keeper_of seat.old.me.0) }
-    requires in_order { InOrder lookup arena.now.key (keeper_of seat.old.me.0) remembered.now.items occupied.old.items }
-    requires words { words.old.items ≡ (keeper_of seat.old.me.0).words }
-    requires standings { standings.old ≡ settled arena.now.key.senders (keeper_of seat.old.me.0).standings }
+    requires keeper { IsKeeper seat.old }
+    requires in_order { IsInOrder arena.now.key seat.old remembered.now.items occupied.old.items }
+    requires words { words.old.items ≡ (keeper_at seat.old).words }
+    requires standings { standings.old ≡ uses_at arena.now.key.senders seat.old }
     requires outs { length outs.old.were.items ≡ arena.now.key.senders }
-    requires nobody { (n : ℕ) → outs.old.known ≤ n → awaits (keeper_of seat.old.me.0).given n ≡ false }
-    ensures seat { (seat.new.table_id ≡ seat.old.table_id) × (seat.new.id ≡ seat.old.id) }
-    ensures keeper { seat.new.me ≡ kept (keeper_of seat.new.me.0) }
-    ensures collects { Collects (layout_of arena.now.key) (keeper_of seat.old.me.0) (keeper_of seat.new.me.0) result }
-    ensures in_order { InOrder lookup arena.now.key (keeper_of seat.new.me.0) remembered.now.items occupied.new.items }
-    ensures words { words.new.items ≡ (keeper_of seat.new.me.0).words }
-    ensures standings { standings.new ≡ settled arena.now.key.senders (keeper_of seat.new.me.0).standings }
+    requires nobody { NoneIsGivenFrom outs.old.known (keeper_at seat.old).given }
+    ensures seat { IsSameSeat seat.old seat.new }
+    ensures keeper { IsKeeper seat.new }
+    ensures collects { Collects (layout arena.now) (keeper_at seat.old) (keeper_at seat.new) result }
+    ensures in_order { IsInOrder arena.now.key seat.new remembered.now.items occupied.new.items }
+    ensures words { words.new.items ≡ (keeper_at seat.new).words }
+    ensures standings { standings.new ≡ uses_at arena.now.key.senders seat.new }
     ensures outs { length outs.new.were.items ≡ length outs.old.were.items }
     ensures known { outs.new.known ≡ outs.old.known }
 {

@@ -1,6 +1,7 @@
 //! How far senders are in a queue.
 
-ghost use Rattle.std.specs.Prelude.{◌≡◌, ℕ, ◌+◌, ◌<◌, ◌≤◌, length, replicate, slice_index, slice_index_or, true, false, IfOk, if◌then◌else◌};
+ghost use Rattle.std.specs.Prelude.{◌≡◌, ℕ, ◌<◌, ◌≤◌, length, replicate, slice_index, IfOk, if◌then◌else◌};
+ghost use Rattle.msg_cache.specs.Cursors.{AreCut, AreSeenOut, HavePassed, SameBelow, SomeStandsAt};
 
 use std::alloc::{AllocError, Global};
 use std::marker::Model;
@@ -40,9 +41,9 @@ fn passed(cursor: usize, is_out: bool, end: usize) -> usize
 fn pass(cursors: &mut Vec<usize>, outs: &Vec<bool>, senders: usize, end: usize) -> usize
     requires senders { (senders ≤ length cursors.old.items) × (senders ≤ length outs.now.items) }
     requires within { (n : ℕ) → n < senders → slice_index cursors.old.items n ≤ end }
-    ensures moved { (n : ℕ) → n < senders → slice_index cursors.new.items n ≡ (if slice_index_or outs.now.items n false then end else slice_index cursors.old.items n) }
+    ensures moved { HavePassed outs.now.items end senders cursors.old.items cursors.new.items }
     ensures all { (n : ℕ) → n < senders → result ≤ slice_index cursors.new.items n }
-    ensures some { 0 < senders → (n : ℕ) × (n < senders) × (slice_index cursors.new.items n ≡ result) }
+    ensures some { 0 < senders → SomeStandsAt senders cursors.new.items result }
     ensures none { senders ≤ 0 → result ≡ end }
     ensures end { result ≤ end }
     ensures length { length cursors.new.items ≡ length cursors.old.items }
@@ -60,7 +61,7 @@ fn pass(cursors: &mut Vec<usize>, outs: &Vec<bool>, senders: usize, end: usize) 
 fn cut(cursors: &mut Vec<usize>, senders: usize, by: usize)
     requires senders { senders ≤ length cursors.old.items }
     requires all { (n : ℕ) → n < senders → by ≤ slice_index cursors.old.items n }
-    ensures moved { (n : ℕ) → n < senders → slice_index cursors.new.items n + by ≡ slice_index cursors.old.items n }
+    ensures moved { AreCut by senders cursors.old.items cursors.new.items }
     ensures length { length cursors.new.items ≡ length cursors.old.items }
 {
     for sender in 0..senders {
@@ -71,7 +72,7 @@ fn cut(cursors: &mut Vec<usize>, senders: usize, by: usize)
 // Senders from one number up to another get a cursor of their own.
 fn part(cursors: &mut Vec<usize>, from: usize, until: usize, at: usize)
     requires until { until ≤ length cursors.old.items }
-    ensures before { (n : ℕ) → n < from → slice_index cursors.new.items n ≡ slice_index cursors.old.items n }
+    ensures before { SameBelow from cursors.old.items cursors.new.items }
     ensures parted { (n : ℕ) → from ≤ n → n < until → slice_index cursors.new.items n ≡ at }
     ensures length { length cursors.new.items ≡ length cursors.old.items }
 {
@@ -97,11 +98,11 @@ impl Cursors {
     pub(crate) fn pass(&mut self, outs: &Vec<bool>, known: usize, end: usize) -> usize
         requires known { known ≤ length self.old }
         requires outs { length self.old ≤ length outs.now.items }
-        requires others { (n : ℕ) → known ≤ n → n < length self.old → slice_index_or outs.now.items n false ≡ true }
+        requires others { AreSeenOut known (length self.old) outs.now.items }
         requires within { (n : ℕ) → n < length self.old → slice_index self.old n ≤ end }
-        ensures moved { (n : ℕ) → n < length self.old → slice_index self.new n ≡ (if slice_index_or outs.now.items n false then end else slice_index self.old n) }
+        ensures moved { HavePassed outs.now.items end (length self.old) self.old self.new }
         ensures all { (n : ℕ) → n < length self.old → result ≤ slice_index self.new n }
-        ensures some { 0 < length self.old → (n : ℕ) × (n < length self.old) × (slice_index self.new n ≡ result) }
+        ensures some { 0 < length self.old → SomeStandsAt (length self.old) self.new result }
         ensures end { result ≤ end }
         ensures length { length self.new ≡ length self.old }
     {
@@ -115,7 +116,7 @@ impl Cursors {
     // The queue's front, which all have passed, counts no more.
     pub(crate) fn cut(&mut self, by: usize)
         requires all { (n : ℕ) → n < length self.old → by ≤ slice_index self.old n }
-        ensures moved { (n : ℕ) → n < length self.old → slice_index self.new n + by ≡ slice_index self.old n }
+        ensures moved { AreCut by (length self.old) self.old self.new }
         ensures length { length self.new ≡ length self.old }
     {
         cut(&mut self.own, self.known, by);

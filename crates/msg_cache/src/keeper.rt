@@ -1,28 +1,20 @@
 //! The keeper, who changes the caches, one at a time.
 
-ghost use Rattle.std.specs.Prelude.{◌≡◌, ◌≢◌, ◌↔◌, ℕ, suc, zero, ◌+◌, ◌*◌, ◌^◌, ◌<◌, ◌≤◌, [], ◌∷◌, Option, Some, None, length, slice_index, true, false, not, cond, IfOk, replicate, MatchOption, IfSome, IsNone, is_some, ◌⊎◌};
-ghost use Rattle.msg_names.specs.Number.{selector_number, imp_number};
-ghost use Rattle.msg_buckets.specs.Word.{word_of};
-ghost use Rattle.msg_buckets.specs.Capacity.{IsCapacity, fill_limit};
-ghost use Rattle.msg_buckets.specs.Probing.{empty as empty_end};
-ghost use Rattle.msg_buckets.specs.Array.{find_in, occupied_in};
-ghost use Rattle.msg_names.specs.declared.value.ClassRef.{ClassRef};
-ghost use Rattle.msg_tables.specs.History.{lookup, empty, log, BeginsWith};
-ghost use Rattle.msg_tables.specs.Affected.{is_affected};
+ghost use Rattle.std.specs.Prelude.{◌≡◌, ◌↔◌, ℕ, suc, ◌*◌, ◌^◌, ◌<◌, ◌≤◌, [], ◌∷◌, None, length, true, false, not, IfOk, replicate, IfSome, IsNone, is_some};
+ghost use Rattle.msg_names.specs.Number.{selector_number};
+ghost use Rattle.msg_buckets.specs.Capacity.{IsCapacity};
+ghost use Rattle.msg_tables.specs.History.{empty, log, BeginsWith};
 ghost use Rattle.msg_tables.specs.Refusal.{refusal};
-ghost use Rattle.msg_tables.specs.Several.{refusal_of_all, is_affected_by_all};
-ghost use Rattle.msg_core.specs.State.{capacity as capacity_of, size, awaits};
-ghost use Rattle.msg_core.specs.Steps.{is_free};
+ghost use Rattle.msg_tables.specs.Several.{refusal_of_all};
+ghost use Rattle.msg_core.specs.State.{size, awaits};
 ghost use Rattle.msg_core.specs.declared.state.Standing.TheVariants.{Free, Live};
 ghost use Rattle.msg_cache.specs.declared.view.TurnAt.TheVariants.{Never};
-ghost use Rattle.msg_cache.specs.Counts.{AreCounts, CountsGrowth, CountsInstall, CountsFill, after_collection, after_entry, after_flush, after_refusal};
-ghost use Rattle.msg_cache.specs.Layout.{layout_of, header_at};
-ghost use Rattle.msg_cache.specs.Plays.{kept, keeper_of, flushed, installed, committed, lent, turn_in, turn_view, is_lent, sender_in, given_out, taken_in, newcomer};
-ghost use Rattle.msg_cache.specs.Keeping.{header as header_of, standing_of, array_words, remember, way_of, OnUse, OnTake, CanUse, lowest_free, filled, grown, Fills, Collects};
-ghost use Rattle.msg_cache.specs.Rule.{live_in};
-ghost use Rattle.msg_cache.specs.Uses.{free, settled};
-ghost use Rattle.msg_cache.specs.Views.{layout, classes, IsSenderOf};
-ghost use Rattle.msg_tables.specs.Origin.{class_total};
+ghost use Rattle.msg_cache.specs.Counts.{AreCounts, CountsGrowth, CountsInstall, after_collection, after_entry, after_flush, after_refusal};
+ghost use Rattle.msg_cache.specs.Keeping.{header as header_of, standing_of, EndsAt, IsFreeArray, OnUse, OnTake, TakesOneMore, lowest_free, Collects};
+ghost use Rattle.msg_cache.specs.Plays.{kept, keeper_of, flushed, installed, committed, lent, is_lent, given_out, given_again, taken_in, renewed};
+ghost use Rattle.msg_cache.specs.Seats.{IsKeeper, keeper_at};
+ghost use Rattle.msg_cache.specs.Uses.{all_free, settled};
+ghost use Rattle.msg_cache.specs.Views.{layout, classes, IsFoundAt, IsNewcomer, IsSenderOf, IsTurnAt};
 
 use crate::answer::{Filled, Report, Way};
 use crate::arena::Arena;
@@ -40,7 +32,7 @@ use msg_buckets::{first_place, pack};
 use msg_names::{ClassRef, ImpRef, Selector};
 use msg_tables::{Change, MOST_SENDERS};
 use std::alloc::{AllocError, Global};
-use std::marker::Model;
+use std::marker::{Brand, Model};
 use std::mem::replace;
 use std::slice::from_ref;
 
@@ -86,7 +78,7 @@ impl ArrayCopies {
     fn blank(alloc: Global, arrays: usize, senders: usize) -> Result<ArrayCopies, AllocError>
         requires arrays { arrays < 2 ^ 32 }
         requires senders { senders ≤ MOST_SENDERS }
-        ensures standings { IfOk result (λ n. n.standings ≡ record { senders = senders; uses = replicate arrays free; ready = [] }) }
+        ensures standings { IfOk result (λ n. n.standings ≡ all_free arrays senders) }
         ensures occupied { IfOk result (λ n. n.occupied.items ≡ replicate arrays 0) }
         ensures used { IfOk result (λ n. length n.used.items ≡ arrays) }
     {
@@ -116,7 +108,8 @@ impl Copies {
         requires senders { senders < 2 ^ 32 }
         ensures remembered { IfOk result (λ c. c.remembered.items ≡ replicate (2 * classes) 0) }
         ensures given { IfOk result (λ c. c.given.items ≡ replicate senders false) }
-        ensures outs { IfOk result (λ c. (length c.outs.were.items ≡ senders) × (c.outs.known ≡ 0)) }
+        ensures outs { IfOk result (λ c. length c.outs.were.items ≡ senders) }
+        ensures known { IfOk result (λ c. c.outs.known ≡ 0) }
     {
         let remembered = vec![in alloc; 0; 2 * classes]?;
         let given = vec![in alloc; false; senders]?;
@@ -153,7 +146,7 @@ impl Model for Turn {
 }
 
 impl Keeper {
-    ghost use Rattle.msg_cache.specs.Ours.{view, IsOf};
+    ghost use Rattle.msg_cache.specs.Ours.{AffectedAreFlushed, AllAffectedAreFlushed, CanUseFor, CannotBeGiven, ChangesIf, CountsFillWith, CountsIf, FillsPlace, FillsWith, GrowsInto, IsOf, RemembersCapacity, view, way_for};
 
     // The keeper of an arena that was just made, with these words, which are a copy of the arena's.
     pub(crate) fn first(
@@ -167,12 +160,17 @@ impl Keeper {
         requires classes { classes < 2 ^ 32 }
         requires few_arrays { arrays < 2 ^ 32 }
         requires few_senders { senders ≤ MOST_SENDERS }
-        requires seat { (seat.me ≡ kept (keeper_of seat.me.0)) × (size (keeper_of seat.me.0).history ≡ 0) × ((keeper_of seat.me.0).turn ≡ Never) }
-        requires words { (keeper_of seat.me.0).words ≡ words.items }
-        requires arrays { (keeper_of seat.me.0).standings ≡ replicate arrays Free }
-        requires senders { (keeper_of seat.me.0).given ≡ replicate senders false }
-        ensures seat { IfOk result (λ keeper. (keeper.seat.table_id ≡ seat.table_id) × (keeper.seat.me ≡ seat.me)) }
-        ensures counts { IfOk result (λ keeper. (keeper.occupied.items ≡ replicate arrays 0) × (keeper.remembered.items ≡ replicate (2 * classes) 0) × (length keeper.used.items ≡ arrays)) }
+        requires seat { IsKeeper seat }
+        requires history { size (keeper_at seat).history ≡ 0 }
+        requires turn { (keeper_at seat).turn ≡ Never }
+        requires words { (keeper_at seat).words ≡ words.items }
+        requires arrays { (keeper_at seat).standings ≡ replicate arrays Free }
+        requires senders { (keeper_at seat).given ≡ replicate senders false }
+        ensures table { IfOk result (λ keeper. keeper.seat.table_id ≡ seat.table_id) }
+        ensures seat { IfOk result (λ keeper. keeper.seat.me ≡ seat.me) }
+        ensures occupied { IfOk result (λ keeper. keeper.occupied.items ≡ replicate arrays 0) }
+        ensures remembered { IfOk result (λ keeper. keeper.remembered.items ≡ replicate (2 * classes) 0) }
+        ensures used { IfOk result (λ keeper. length keeper.used.items ≡ arrays) }
     {
         let arrays = ArrayCopies::blank(alloc, arrays, senders)?;
         let copies = Copies::blank(alloc, classes, senders)?;
@@ -195,8 +193,8 @@ impl Keeper {
     fn way(&self, arena: &Arena, class: ClassRef, selector: Selector) -> Way
         requires arena { IsOf arena.now self.now }
         requires class { class.class < classes arena.now }
-        ensures way { result ≡ way_of (layout arena.now) self.now.remembered.items (view self.now) class (selector_number selector) }
-        ensures uses { OnUse result (CanUse (layout arena.now) (view self.now) class (selector_number selector)) }
+        ensures way { result ≡ way_for arena.now self.now class selector }
+        ensures uses { OnUse result (CanUseFor arena.now self.now class selector) }
         ensures takes { OnTake result IsCapacity }
     {
         let at = header_at(class);
@@ -221,7 +219,7 @@ impl Keeper {
         requires arena { IsOf arena.now self.now }
         requires capacity { IsCapacity capacity }
         ensures lowest { result ≡ lowest_free (layout arena.now) capacity (view self.now) }
-        ensures free { IfSome result (λ a. (a < length arena.now.key.capacities) × (standing_of (view self.now) a ≡ Free)) }
+        ensures free { IfSome result (IsFreeArray arena.now.key (view self.now)) }
     {
         let (from, until) = arena.group(capacity);
         self.standings.first_free(from, until)
@@ -239,18 +237,18 @@ impl Keeper {
     )
         requires arena { IsOf arena.now self.old }
         requires live { standing_of (view self.old) array ≡ Live class }
-        requires found { find_in (array_words (layout arena.now) (view self.old) array) (selector_number selector) ≡ empty_end place }
-        requires room { occupied_in (array_words (layout arena.now) (view self.old) array) + 1 ≤ fill_limit (capacity_of (layout arena.now) array) }
-        requires agrees { imp_number implementation ≡ lookup (view self.old).history class (selector_number selector) }
+        requires found { EndsAt (layout arena.now) (view self.old) array (selector_number selector) place }
+        requires room { TakesOneMore (layout arena.now) (view self.old) array }
+        requires agrees { IsFoundAt (view self.old).history class selector implementation }
         ensures arena { IsOf arena.now self.new }
         ensures remembered { self.new.remembered.items ≡ self.old.remembered.items }
-        ensures view { view self.new ≡ filled (layout arena.now) array place (word_of (selector_number selector) (imp_number implementation)) (view self.old) }
+        ensures view { FillsPlace arena.now array place selector implementation self.old self.new }
         ensures report { self.new.report ≡ after_entry self.old.report }
     {
         let shared = arena.shared();
         let base = arena.base(array);
         let word = pack(selector, implementation);
-        store_entry(shared, &mut self.seat, class, array, base, place, word);
+        store_entry::<Brand>(shared, &mut self.seat, class, array, base, place, word);
         self.words[base + place] = word;
         self.occupied[array] += 1;
         self.report.fills = self.report.fills.saturating_add(1);
@@ -270,7 +268,7 @@ impl Keeper {
         let at = header_at(class);
         let header = self.words[at];
         let shared = arena.shared();
-        store_array(shared, &mut self.seat, class, array as u32);
+        store_array::<Brand>(shared, &mut self.seat, class, array as u32);
         retire_in(&mut self.standings, header);
         self.standings.install(array);
         self.words[at] = array as u64 + 1;
@@ -297,10 +295,10 @@ impl Keeper {
         requires class { class.class < classes arena.now }
         requires array { array < length arena.now.key.capacities }
         requires free { standing_of (view self.old) array ≡ Free }
-        requires agrees { imp_number implementation ≡ lookup (view self.old).history class (selector_number selector) }
+        requires agrees { IsFoundAt (view self.old).history class selector implementation }
         ensures arena { IsOf arena.now self.new }
         ensures remembered { self.new.remembered.items ≡ self.old.remembered.items }
-        ensures view { view self.new ≡ grown (layout arena.now) class (selector_number selector) (imp_number implementation) array (view self.old) }
+        ensures view { GrowsInto arena.now class array selector implementation self.old self.new }
         ensures report { CountsGrowth self.old.report self.new.report }
     {
         self.install(arena, class, array);
@@ -340,11 +338,11 @@ impl Keeper {
     ) -> Filled
         requires arena { IsOf arena.now self.old }
         requires class { class.class < classes arena.now }
-        requires agrees { imp_number implementation ≡ lookup (view self.old).history class (selector_number selector) }
+        requires agrees { IsFoundAt (view self.old).history class selector implementation }
         ensures arena { IsOf arena.now self.new }
         ensures remembered { self.new.remembered.items ≡ self.old.remembered.items }
-        ensures fills { Fills (layout arena.now) self.old.remembered.items class (selector_number selector) (imp_number implementation) (view self.old) (view self.new) result }
-        ensures report { CountsFill (way_of (layout arena.now) self.old.remembered.items (view self.old) class (selector_number selector)) result self.old.report self.new.report }
+        ensures fills { FillsWith arena.now class selector implementation self.old self.new result }
+        ensures report { CountsFillWith arena.now class selector result self.old self.new }
     {
         match self.way(arena, class, selector) {
             Way::Present => Filled::Present,
@@ -389,11 +387,11 @@ impl Keeper {
         requires arena { IsOf arena.now self.old }
         requires class { class.class < classes arena.now }
         ensures arena { IsOf arena.now self.new }
-        ensures flushed { view self.new ≡ cond result (flushed class (view self.old)) (view self.old) }
+        ensures flushed { ChangesIf result (flushed class) self.old self.new }
         ensures none { result ≡ false → header_of (view self.old) class ≡ 0 }
         ensures some { result ≡ true → (a : ℕ) × (header_of (view self.old) class ≡ suc a) }
-        ensures remembered { self.new.remembered.items ≡ remember (layout arena.now) class (header_of (view self.old) class) self.old.remembered.items }
-        ensures report { self.new.report ≡ cond result (after_flush self.old.report) self.old.report }
+        ensures remembered { RemembersCapacity arena.now class self.old self.new }
+        ensures report { CountsIf result after_flush self.old self.new }
     {
         let place = header_at(class);
         let header = self.words[place];
@@ -403,7 +401,7 @@ impl Keeper {
         let array = (header - 1) as usize;
         let capacity = arena.capacity(array);
         let shared = arena.shared();
-        store_none(shared, &mut self.seat, class, array);
+        store_none::<Brand>(shared, &mut self.seat, class, array);
         self.words[place] = 0;
         self.standings.retire(array);
         self.remembered[place - 1] = capacity;
@@ -417,8 +415,7 @@ impl Keeper {
         requires arena { IsOf arena.now self.old }
         requires turn { turn.old.table ≡ arena.now.table }
         requires accepted { refusal (log (view self.old).history) change.now ≡ None }
-        requires flushed { (c : ClassRef) → c.class < classes arena.now → is_affected (log (view self.old).history) change.now c ≡ true
-            → live_in (layout arena.now) (view self.old).words c ≡ None }
+        requires flushed { AffectedAreFlushed arena.now change.now self.old }
         ensures arena { IsOf arena.now self.new }
         ensures remembered { self.new.remembered.items ≡ self.old.remembered.items }
         ensures report { self.new.report ≡ self.old.report }
@@ -437,8 +434,7 @@ impl Keeper {
         requires turn { turn.old.table ≡ arena.now.table }
         requires some { 0 < length changes.now }
         requires accepted { refusal_of_all (log (view self.old).history) changes.now ≡ None }
-        requires flushed { (c : ClassRef) → c.class < classes arena.now → is_affected_by_all (log (view self.old).history) changes.now c ≡ true
-            → live_in (layout arena.now) (view self.old).words c ≡ None }
+        requires flushed { AllAffectedAreFlushed arena.now changes.now self.old }
         ensures arena { IsOf arena.now self.new }
         ensures remembered { self.new.remembered.items ≡ self.old.remembered.items }
         ensures report { self.new.report ≡ self.old.report }
@@ -452,7 +448,7 @@ impl Keeper {
         let badge = replace(&mut turn.badge, Badge::blank());
         join_turn(shared, &mut self.seat, badge.into_seat());
         let count = self.count + 1;
-        store_count(shared, &mut self.seat, count, changes);
+        store_count::<Brand>(shared, &mut self.seat, count, changes);
         self.words[0] = count;
         self.count = count;
         turn.badge = split_turn(shared, &mut self.seat).into_badge();
@@ -475,7 +471,7 @@ impl Keeper {
         let shared = arena.shared();
         let badge = replace(&mut turn.badge, Badge::blank());
         join_turn(shared, &mut self.seat, badge.into_seat());
-        witness(shared, &mut self.seat);
+        witness::<Brand>(shared, &mut self.seat);
         turn.badge = split_turn(shared, &mut self.seat).into_badge();
         self.lent = true;
     }
@@ -486,9 +482,9 @@ impl Keeper {
         ensures arena { IsOf arena.now self.new }
         ensures remembered { self.new.remembered.items ≡ self.old.remembered.items }
         ensures report { self.new.report ≡ self.old.report }
-        ensures view { view self.new ≡ cond (is_some result) (lent (view self.old)) (view self.old) }
+        ensures view { ChangesIf (is_some result) lent self.old self.new }
         ensures once { is_some result ≡ not (is_lent (view self.old).turn) }
-        ensures turn { IfSome result (λ turn. (turn.table ≡ arena.now.table) × (turn.history ≡ empty arena.now.key.origin)) }
+        ensures turn { IfSome result (IsTurnAt arena.now (empty arena.now.key.origin)) }
     {
         if self.lent {
             return None;
@@ -505,16 +501,16 @@ impl Keeper {
         ensures arena { IsOf arena.now self.new }
         ensures remembered { self.new.remembered.items ≡ self.old.remembered.items }
         ensures report { self.new.report ≡ self.old.report }
-        ensures view { view self.new ≡ cond (is_some result) (given_out number (view self.old)) (view self.old) }
-        ensures none { IsNone result ↔ ((arena.now.key.senders ≤ number) ⊎ (awaits (view self.old).given number ≡ true)) }
-        ensures some { IfSome result (λ prober. IsSenderOf arena.now prober × (prober.sender ≡ newcomer number (view self.old).history)) }
+        ensures view { ChangesIf (is_some result) (given_out number) self.old self.new }
+        ensures none { IsNone result ↔ CannotBeGiven arena.now number self.old }
+        ensures some { IfSome result (IsNewcomer arena.now number (view self.old).history) }
     {
         let place = number as usize;
         if place >= self.given.len() || self.given[place] {
             return None;
         }
         let shared = arena.shared();
-        let seat = split_sender(shared, &mut self.seat, number);
+        let seat = split_sender::<Brand>(shared, &mut self.seat, number);
         self.given[place] = true;
         self.outs.know(number);
         Some(Prober::of(seat, number, arena.probe_at(number)))
@@ -545,7 +541,7 @@ impl Keeper {
         let shared = arena.shared();
         let place = prober.number() as usize;
         join_sender(shared, &mut self.seat, prober.into_seat());
-        witness(shared, &mut self.seat);
+        witness::<Brand>(shared, &mut self.seat);
         self.given[place] = false;
     }
 
@@ -556,9 +552,9 @@ impl Keeper {
         ensures arena { IsOf arena.now self.new }
         ensures remembered { self.new.remembered.items ≡ self.old.remembered.items }
         ensures report { self.new.report ≡ self.old.report }
-        ensures view { view self.new ≡ given_out prober.old.sender.number (taken_in prober.old.sender (view self.old)) }
+        ensures view { view self.new ≡ given_again prober.old.sender (view self.old) }
         ensures prober { IsSenderOf arena.now prober.new }
-        ensures sender { prober.new.sender ≡ newcomer prober.old.sender.number (view self.old).history }
+        ensures sender { prober.new.sender ≡ renewed prober.old.sender (view self.old).history }
         ensures begins { BeginsWith (view self.old).history prober.old.sender.front }
     {
         prober.renew(arena.shared(), &mut self.seat);

@@ -1,7 +1,7 @@
 //! A set of numbers in layers: over it stands which of its words have some, and over that the same again.
 
-ghost use Rattle.std.specs.Prelude.{◌≡◌, ◌/◌, ◌+◌, ◌*◌, ◌^◌, ◌<◌, ◌≤◌, ℕ, List, Bool, length, replicate, slice_index_or, slice_set, true, false, IsTrue, IfOk, IfSome, IfNone};
-ghost use Rattle.msg_cache.specs.BitSet.{HasNone, IsFirst};
+ghost use Rattle.std.specs.Prelude.{◌≡◌, ◌/◌, ◌+◌, ◌*◌, ◌^◌, ◌<◌, ◌≤◌, length, replicate, slice_set, true, false, IsTrue, IfOk, IfSome, IfNone};
+ghost use Rattle.msg_cache.specs.BitSet.{HasNone, HasSomeInWord, IsFirst};
 ghost use Rattle.msg_cache.specs.LayeredSet.{IsSummary};
 
 use crate::bit_set::BitSet;
@@ -44,7 +44,7 @@ fn take_out(set: &mut BitSet, number: usize) -> bool
     requires { number < length set.old }
     ensures set { set.new ≡ slice_set set.old number false }
     ensures last { IsTrue result → HasNone set.new (64 * (number / 64)) (64 * (number / 64 + 1)) }
-    ensures others { result ≡ false → (a : ℕ) × (a / 64 ≡ number / 64) × (slice_index_or set.new a false ≡ true) }
+    ensures others { result ≡ false → HasSomeInWord set.new (number / 64) }
 {
     set.remove(number);
     set.first_in_word(64 * (number / 64)).is_none()

@@ -1,14 +1,14 @@
 //! Senders, who read caches without a lock.
 
-ghost use Rattle.std.specs.Prelude.{◌≡◌, ◌≢◌, ◌+◌, ◌<◌, [], ◌∷◌, length, IfSome, IfNone};
-ghost use Rattle.msg_names.specs.Number.{selector_number, imp_number};
+ghost use Rattle.std.specs.Prelude.{◌≡◌, ◌≢◌, ◌<◌, [], length, IfSome, IfNone};
 ghost use Rattle.msg_tables.specs.History.{BeginsWith, lookup};
 ghost use Rattle.msg_core.specs.State.{size};
 ghost use Rattle.msg_core.specs.declared.state.Whereabouts.TheVariants.{In, Out};
-ghost use Rattle.msg_cache.specs.Plays.{seated, sender_of, kept, keeper_of, given_out, taken_in, newcomer};
-ghost use Rattle.msg_cache.specs.Record.{Probes, Hits, Misses};
+ghost use Rattle.msg_cache.specs.Plays.{seated, given_again, taken_in, renewed};
+ghost use Rattle.msg_cache.specs.Record.{MadeNoProbe, Misses};
 ghost use Rattle.msg_cache.specs.Rule.{IsAccepted, TidyBy};
-ghost use Rattle.msg_cache.specs.Views.{layout, classes, IsSenderOf};
+ghost use Rattle.msg_cache.specs.Seats.{CanReach, ChangesBy, IsKeeper, IsSameSeat, IsSender, keeper_at, prober_at, sender_at};
+ghost use Rattle.msg_cache.specs.Views.{HitsAndIsFound, IsSenderOf, ProbesFor, classes, layout};
 
 use crate::arena::Arena;
 use crate::steps::{
@@ -47,16 +47,16 @@ pub(crate) fn search<P: Pause>(
     pause: &mut P,
 ) -> (Option<ImpRef>, u32)
     requires table { seat.old.table_id ≡ arena.now.table }
-    requires sender { seat.old.me ≡ seated (sender_of seat.old.me.0) }
-    requires inside { (sender_of seat.old.me.0).whereabouts ≡ In }
+    requires sender { IsSender seat.old }
+    requires inside { (sender_at seat.old).whereabouts ≡ In }
     requires class { class.class < classes arena.now }
-    ensures seat { (seat.new.table_id ≡ seat.old.table_id) × (seat.new.id ≡ seat.old.id) }
-    ensures sender { seat.new.me ≡ seated (sender_of seat.new.me.0) }
-    ensures inside { (sender_of seat.new.me.0).whereabouts ≢ Out }
-    ensures probes { Probes (layout arena.now) class (selector_number sel) (sender_of seat.old.me.0) (sender_of seat.new.me.0) }
-    ensures loads { result.1 ≡ length (sender_of seat.new.me.0).last.reads }
-    ensures some { IfSome result.0 (λ imp. Hits (sender_of seat.new.me.0).last (imp_number imp) × (imp_number imp ≡ lookup (sender_of seat.new.me.0).front class (selector_number sel))) }
-    ensures none { IfNone result.0 (Misses (layout arena.now) (sender_of seat.new.me.0).last) }
+    ensures seat { IsSameSeat seat.old seat.new }
+    ensures sender { IsSender seat.new }
+    ensures inside { (sender_at seat.new).whereabouts ≢ Out }
+    ensures probes { ProbesFor arena.now class sel (sender_at seat.old) (sender_at seat.new) }
+    ensures loads { result.1 ≡ length (sender_at seat.new).last.reads }
+    ensures some { IfSome result.0 (HitsAndIsFound (sender_at seat.new) class sel) }
+    ensures none { IfNone result.0 (Misses (layout arena.now) (sender_at seat.new).last) }
 {
     let shared = arena.shared();
     pause.at(0);
@@ -118,11 +118,11 @@ impl Model for Prober {
 impl Prober {
     // A sender that probed nothing.
     pub(crate) fn of(seat: Seat, number: u32, place: usize) -> Prober
-        requires sender { seat.me ≡ seated (sender_of seat.me.0) }
-        requires number { (sender_of seat.me.0).number ≡ number }
-        requires out { (sender_of seat.me.0).whereabouts ≡ Out }
-        requires reads { (sender_of seat.me.0).last.reads ≡ [] }
-        ensures { result ≡ record { table = seat.table_id; place = place; sender = sender_of seat.me.0 } }
+        requires sender { IsSender seat }
+        requires number { (sender_at seat).number ≡ number }
+        requires out { (sender_at seat).whereabouts ≡ Out }
+        requires reads { (sender_at seat).last.reads ≡ [] }
+        ensures { result ≡ prober_at seat place }
     {
         Prober {
             badge: seat.into_badge(),
@@ -134,20 +134,22 @@ impl Prober {
 
     // Is joined to the keeper's seat, and split off again with the same number, at the keeper's history.
     pub(crate) fn renew(&mut self, words: &Words, keeper: &mut Seat)
-        requires table { (self.old.table ≡ words.now.table_id) × (keeper.old.table_id ≡ words.now.table_id) × (0 < words.now.table_id.words) }
-        requires keeper { keeper.old.me ≡ kept (keeper_of keeper.old.me.0) }
+        requires own { self.old.table ≡ words.now.table_id }
+        requires table { CanReach words.now.table_id keeper.old 0 }
+        requires keeper { IsKeeper keeper.old }
         requires number { self.old.sender.number < words.now.key.senders }
-        ensures table { (self.new.table ≡ self.old.table) × (keeper.new.table_id ≡ keeper.old.table_id) }
+        ensures own { self.new.table ≡ self.old.table }
+        ensures table { keeper.new.table_id ≡ keeper.old.table_id }
         ensures place { self.new.place ≡ self.old.place }
-        ensures keeper { keeper.new.me ≡ kept (given_out self.old.sender.number (taken_in self.old.sender (keeper_of keeper.old.me.0))) }
-        ensures tidy { TidyBy lookup words.now.key (taken_in self.old.sender (keeper_of keeper.old.me.0)) }
-        ensures sender { self.new.sender ≡ newcomer self.old.sender.number (keeper_of keeper.old.me.0).history }
-        ensures begins { BeginsWith (keeper_of keeper.old.me.0).history self.old.sender.front }
+        ensures keeper { ChangesBy (given_again self.old.sender) keeper.old keeper.new }
+        ensures tidy { TidyBy lookup words.now.key (taken_in self.old.sender (keeper_at keeper.old)) }
+        ensures sender { self.new.sender ≡ renewed self.old.sender (keeper_at keeper.old).history }
+        ensures begins { BeginsWith (keeper_at keeper.old).history self.old.sender.front }
     {
         let seat = replace(&mut self.badge, Badge::blank()).into_seat();
         join_sender(words, keeper, seat);
-        witness(words, keeper);
-        let seat = split_sender(words, keeper, self.number);
+        witness::<Brand>(words, keeper);
+        let seat = split_sender::<Brand>(words, keeper, self.number);
         self.badge = seat.into_badge();
         self.loads = 0;
     }
@@ -165,8 +167,8 @@ impl Prober {
         requires arena { IsSenderOf arena.now self.old }
         requires class { class.class < classes arena.now }
         ensures arena { IsSenderOf arena.now self.new }
-        ensures probes { Probes (layout arena.now) class (selector_number sel) self.old.sender self.new.sender }
-        ensures some { IfSome result (λ imp. Hits self.new.sender.last (imp_number imp) × (imp_number imp ≡ lookup self.new.sender.front class (selector_number sel))) }
+        ensures probes { ProbesFor arena.now class sel self.old.sender self.new.sender }
+        ensures some { IfSome result (HitsAndIsFound self.new.sender class sel) }
         ensures none { IfNone result (Misses (layout arena.now) self.new.sender.last) }
     {
         self.probe_paused(arena, class, sel, &mut NoPause)
@@ -183,8 +185,8 @@ impl Prober {
         requires arena { IsSenderOf arena.now self.old }
         requires class { class.class < classes arena.now }
         ensures arena { IsSenderOf arena.now self.new }
-        ensures probes { Probes (layout arena.now) class (selector_number sel) self.old.sender self.new.sender }
-        ensures some { IfSome result (λ imp. Hits self.new.sender.last (imp_number imp) × (imp_number imp ≡ lookup self.new.sender.front class (selector_number sel))) }
+        ensures probes { ProbesFor arena.now class sel self.old.sender self.new.sender }
+        ensures some { IfSome result (HitsAndIsFound self.new.sender class sel) }
         ensures none { IfNone result (Misses (layout arena.now) self.new.sender.last) }
     {
         let mut seat = replace(&mut self.badge, Badge::blank()).into_seat();
@@ -203,7 +205,7 @@ impl Prober {
         requires arena { IsSenderOf arena.now self.old }
         ensures arena { IsSenderOf arena.now self.new }
         ensures number { self.new.sender.number ≡ self.old.sender.number }
-        ensures no_probe { (self.new.sender.count ≡ self.old.sender.count) × (self.new.sender.last ≡ self.old.sender.last) }
+        ensures no_probe { MadeNoProbe self.old.sender self.new.sender }
         ensures begins { BeginsWith self.new.sender.front self.old.sender.front }
         ensures accepted { IsAccepted self.new.sender.front }
         ensures length { result ≡ size self.new.sender.front }

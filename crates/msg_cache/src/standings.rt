@@ -1,13 +1,9 @@
 //! The keeper's copy of what arrays are for.
 
-ghost use Rattle.std.specs.Prelude.{◌≡◌, not, ℕ, List, Bool, ◌+◌, ◌^◌, ◌<◌, ◌≤◌, [], ◌∷◌, length, map, replicate, slice_index, slice_index_or, slice_set, true, false, IfOk, IfSome, IfNone, if◌then◌else◌};
-ghost use Rattle.std.specs.List.{range_with_len, filter};
+ghost use Rattle.std.specs.Prelude.{◌≡◌, ◌^◌, ◌<◌, ◌≤◌, [], ◌∷◌, length, slice_set, IfOk, IfSome, IfNone};
 ghost use Rattle.std.specs.List.Sorted.{IsPermutation};
-ghost use Rattle.msg_core.specs.declared.state.Standing.{Standing};
-ghost use Rattle.msg_core.specs.State.{awaits};
-ghost use Rattle.msg_core.specs.Steps.{everyone};
-ghost use Rattle.msg_cache.specs.Keeping.{looked_by};
-ghost use Rattle.msg_cache.specs.Uses.{StandingsView, free, live, waiting, use_of, use_at, is_free_use, newly_freed};
+ghost use Rattle.msg_cache.specs.Cursors.{AreSeenOut};
+ghost use Rattle.msg_cache.specs.Uses.{AreLookedAt, EachAwaitsSome, HasNoFree, IsFirstFree, all_free, array_retired, free, live, use_at, newly_freed};
 
 use crate::cursors::Cursors;
 use crate::layered_set::LayeredSet;
@@ -54,7 +50,7 @@ impl Standings {
     ) -> Result<Standings, AllocError>
         requires arrays { arrays < 2 ^ 32 }
         requires senders { senders ≤ MOST_SENDERS }
-        ensures { IfOk result (λ s. s ≡ record { senders = senders; uses = replicate arrays free; ready = [] }) }
+        ensures { IfOk result (λ s. s ≡ all_free arrays senders) }
     {
         Ok(Standings {
             free: LayeredSet::all(alloc, arrays)?,
@@ -80,7 +76,7 @@ impl Standings {
         requires array { array < length self.old.uses }
         requires live { use_at self.old.uses array ≡ live }
         requires ready { self.old.ready ≡ [] }
-        ensures { self.new ≡ record self.old { uses = slice_set self.old.uses array (waiting (everyone self.old.senders)) } }
+        ensures { self.new ≡ array_retired array self.old }
     {
         self.queue.push_back_reserved(array);
     }
@@ -90,11 +86,11 @@ impl Standings {
         requires senders { 0 < self.old.senders }
         requires outs { length outs.now.items ≡ self.old.senders }
         requires known { known ≤ self.old.senders }
-        requires others { (n : ℕ) → known ≤ n → n < self.old.senders → awaits outs.now.items n ≡ true }
-        requires awaits_some { (a : ℕ) (aw : List Bool) → use_at self.old.uses a ≡ waiting aw → (n : ℕ) × (awaits aw n ≡ true) }
+        requires others { AreSeenOut known self.old.senders outs.now.items }
+        requires awaits_some { EachAwaitsSome self.old.uses }
         requires ready { self.old.ready ≡ [] }
         ensures senders { self.new.senders ≡ self.old.senders }
-        ensures uses { (l : List Standing) → self.old.uses ≡ map use_of l → self.new.uses ≡ map use_of (map (looked_by self.old.senders outs.now.items) l) }
+        ensures uses { AreLookedAt self.old.senders outs.now.items self.old.uses self.new.uses }
         ensures ready { IsPermutation self.new.ready (newly_freed self.old.uses self.new.uses) }
         ensures count { result ≡ length self.new.ready }
     {
@@ -122,8 +118,8 @@ impl Standings {
     pub(crate) fn first_free(&self, from: usize, until: usize) -> Option<usize>
         requires until { until ≤ length self.now.uses }
         requires ready { self.now.ready ≡ [] }
-        ensures none { IfNone result ((a : ℕ) → from ≤ a → a < until → is_free_use (use_at self.now.uses a) ≡ false) }
-        ensures some { IfSome result (λ found. (from ≤ found) × (found < until) × (is_free_use (use_at self.now.uses found) ≡ true) × ((a : ℕ) → from ≤ a → a < found → is_free_use (use_at self.now.uses a) ≡ false)) }
+        ensures none { IfNone result (HasNoFree self.now.uses from until) }
+        ensures some { IfSome result (IsFirstFree self.now.uses from until) }
     {
         self.free.first(from, until)
     }

@@ -12,13 +12,16 @@ pub clear_place-requires-clause-table : goal.clear_place-requires-clause-table
 clear_place-requires-clause-table c =
     let a = c.args.arena.now in let z = layout_of a.key in
     let t = inside z c.args.array c.loop-place.place (let e = c.capacity-capacity.ensures in let l = c.loop-place-test.true in omega arith) in
-    rw c.shared-shared.ensures.table (c.loop-place.invariant.table ∙ c.requires.table, omega (arith, c.base-base.ensures.base, t, c.shared-shared.ensures.count.0), c.shared-shared.ensures.count.1)
+    rw c.shared-shared.ensures.table (c.loop-place.invariant.table ∙ c.requires.table, omega (arith, c.base-base.ensures.base, t, c.shared-shared.ensures.count))
 
-pub clear_place-requires-clause-words : goal.clear_place-requires-clause-words
-clear_place-requires-clause-words c =
+pub clear_place-requires-clause-few : goal.clear_place-requires-clause-few
+clear_place-requires-clause-few c = rw c.shared-shared.ensures.table c.shared-shared.ensures.few
+
+pub clear_place-requires-clause-within : goal.clear_place-requires-clause-within
+clear_place-requires-clause-within c =
     let a = c.args.arena.now in let z = layout_of a.key in
     let t = inside z c.args.array c.loop-place.place (let e = c.capacity-capacity.ensures in let l = c.loop-place-test.true in omega arith) in
-    (c.loop-place.invariant.words, omega (arith, c.base-base.ensures.base, t, ap (λ (l : List ℕ). length l) c.loop-place.invariant.words, c.loop-place.invariant.tidy.kept.words))
+    omega (arith, c.base-base.ensures.base, t, ap (λ (l : List ℕ). length l) c.loop-place.invariant.words, c.loop-place.invariant.tidy.kept.words)
 
 pub clear_place-requires-clause-free : goal.clear_place-requires-clause-free
 clear_place-requires-clause-free c =

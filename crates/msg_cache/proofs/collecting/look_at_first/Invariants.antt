@@ -3,7 +3,7 @@ use Rattle.msg_core.specs.State.{awaits}
 use Rattle.msg_cache.specs.Rule.{TidyBy}
 use Rattle.msg_cache.specs.Keeping.{looks}
 use Rattle.msg_tables.specs.History.{lookup}
-use Rattle.msg_cache.specs.Plays.{kept, keeper_of}
+use Rattle.msg_cache.specs.Plays.{kept, keeper_of, no_changes}
 use Rattle.msg_cache.proofs.collecting.look_at_first.Given as goal
 
 abbrev pub invariant-loop-number : goal.invariant-loop-number
@@ -15,3 +15,6 @@ invariant-loop-number l = record {
   long : length l.were.items ≡ length l.fn.were.items;
   tidy : TidyBy lookup l.arena.key (keeper_of l.seat.me.0);
 }
+
+abbrev pub ghosts-load_probe : goal.ghosts-load_probe
+ghosts-load_probe a = record { key = a.words.now.key; changes = no_changes; number = a.number }

@@ -14,8 +14,11 @@ load_bucket-word-requires-clause-table g c =
     let p : ℕ = c.first_place-place.result in
     let b : ℕ = c.base-base.result in
     let lt : p < capacity z a = let t = c.first_place-place.ensures.within in let u = c.capacity-capacity.ensures.capacity in omega arith in
-    let t = inside z a p lt in let e : b ≡ base z a = c.base-base.ensures.base in let w = c.shared-shared.ensures.count.0 in
-    rw c.shared-shared.ensures.table (c.load_header-header.ensures.seat.0 ∙ c.requires.table, omega arith, c.shared-shared.ensures.count.1)
+    let t = inside z a p lt in let e : b ≡ base z a = c.base-base.ensures.base in let w = c.shared-shared.ensures.count in
+    rw c.shared-shared.ensures.table (c.load_header-header.ensures.seat.0 ∙ c.requires.table, omega arith)
+
+pub load_bucket-word-requires-clause-few : goal.load_bucket-word-requires-clause-few
+load_bucket-word-requires-clause-few g c = rw c.shared-shared.ensures.table c.shared-shared.ensures.few
 
 pub loop-imp-init : goal.loop-imp-init
 loop-imp-init g c =
@@ -42,8 +45,11 @@ load_bucket-word-requires-in-loop-imp-clause-table g c =
     let p : ℕ = c.next_place-place.result in
     let b : ℕ = c.base-base.result in
     let lt : p < capacity z a = let t = c.next_place-place.ensures.within in let u = c.capacity-capacity.ensures.capacity in omega arith in
-    let t = inside z a p lt in let e : b ≡ base z a = c.base-base.ensures.base in let w = c.shared-shared.ensures.count.0 in
-    rw c.shared-shared.ensures.table (c.loop-imp.invariant.table ∙ c.requires.table, omega arith, c.shared-shared.ensures.count.1)
+    let t = inside z a p lt in let e : b ≡ base z a = c.base-base.ensures.base in let w = c.shared-shared.ensures.count in
+    rw c.shared-shared.ensures.table (c.loop-imp.invariant.table ∙ c.requires.table, omega arith)
+
+pub load_bucket-word-requires-in-loop-imp-clause-few : goal.load_bucket-word-requires-in-loop-imp-clause-few
+load_bucket-word-requires-in-loop-imp-clause-few g c = rw c.shared-shared.ensures.table c.shared-shared.ensures.few
 
 pub loop-imp-preserved : goal.loop-imp-preserved
 loop-imp-preserved g c =

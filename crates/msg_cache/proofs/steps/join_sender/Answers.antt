@@ -14,11 +14,11 @@ join_seat-requires c =
     let o = c.args.other.me in
     let key = c.args.words.now.key in
     let me = c.requires.keeper in
-    let it = c.requires.sender.0 in (
+    let it = c.requires.sender in (
       c.requires.table.0,
-      c.requires.table.1,
+      c.requires.other,
       ap (λ (x : Sat). x.1) it,
-      c.requires.table.2,
+      c.requires.table.1,
       subst (λ (x : View × View). Joins (holds lookup key) c.args.seat.now.id m.0 c.args.other.id x.0 (joined x.1 x.0) Spent) (λ i. ((sym it i).0, (sym me i).0))
-          (take_allowed lookup key 0 c.args.seat.now.id m me c.args.other.id (sender_of o.0) c.requires.sender.1),
+          (take_allowed lookup key 0 c.args.seat.now.id m me c.args.other.id (sender_of o.0) c.requires.out),
     )

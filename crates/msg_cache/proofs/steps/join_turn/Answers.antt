@@ -16,9 +16,9 @@ join_seat-requires c =
     let me = c.requires.keeper in
     let it = c.requires.turn in (
       c.requires.table.0,
-      c.requires.table.1,
+      c.requires.other,
       ap (λ (x : Sat). x.1) it,
-      c.requires.table.2,
+      c.requires.table.1,
       subst (λ (x : View × View). Joins (holds lookup key) c.args.seat.now.id m.0 c.args.other.id x.0 (joined x.1 x.0) Spent) (λ i. ((sym it i).0, (sym me i).0))
           (home_allowed lookup key 0 c.args.seat.now.id m me c.args.other.id (turn_of o.0)),
     )

@@ -3,13 +3,13 @@ use borrow.Author.Count.{below_more}
 use Rattle.std.specs.Prelude.{slice_index, slice_index_or, replicate}
 use Rattle.std.proofs.lemmas.List.{take-replicate, length-replicate, length_push, get_or_append_left, get_or_push}
 use Rattle.msg_tables.specs.Origin.{class_total}
-use Rattle.msg_buckets.specs.Capacity.{IsCapacity, capacities}
+use Rattle.msg_buckets.specs.Capacity.{IsCapacity}
 use Rattle.atomic_table.specs.Table.{opening as opened}
 use Rattle.msg_tables.specs.History.{lookup}
 use Rattle.msg_cache.specs.declared.arena.Span.{Span}
 use Rattle.msg_cache.specs.declared.view.View.TheVariants.{Keeper}
 use Rattle.msg_cache.specs.Layout.{SettingView, layout_of, total, base, probes, word_count}
-use Rattle.msg_cache.specs.Keeping.{IsGroup}
+use Rattle.msg_cache.specs.Keeping.{AreGroups}
 use Rattle.msg_cache.specs.Rule.{holds, first_keeper}
 use Rattle.msg_cache.proofs.OpeningLemmas.{opens, total_more, total_part}
 use Rattle.msg_cache.proofs.arena.Arena.of.Goals as goal
@@ -80,7 +80,7 @@ invariant_of-arena c =
       spans = subst (λ (x : SettingView). (i : ℕ) → i < length x.capacities → (d : Span) → slice_index_or c.loop-capacity.spans.items i d ≡ record { base = base (layout_of x) i; capacity = slice_index x.capacities i }) (sym key)
           (λ i lt d. c.loop-capacity.invariant.spans i (omega arith) d);
       spans_count = c.loop-capacity.invariant.count ∙ all ∙ ap (λ (x : SettingView). length x.capacities) (sym key);
-      firsts = subst (λ (x : SettingView). (i : ℕ) → i < 9 → IsGroup x.capacities (slice_index capacities i) (slice_index c.args.firsts i) (slice_index c.args.firsts (i + 1))) (sym key) c.requires.firsts;
+      firsts = subst (λ (x : SettingView). AreGroups x.capacities c.args.firsts) (sym key) c.requires.firsts;
       senders = ap (λ (x : SettingView). x.senders) (sym key);
       few_senders = c.requires.senders.1;
       probes = next ∙ ap (λ (x : SettingView). probes (layout_of x)) (sym key);

@@ -1,21 +1,14 @@
-use Rattle.std.proofs.Common.{◌≡◌, ℕ, ◌<◌, length, sym, ap, ◌∙◌, subst, arith}
-use Rattle.msg_names.specs.declared.value.ClassRef.{ClassRef}
-use Rattle.msg_core.specs.declared.state.Standing.TheVariants.{Live}
-use Rattle.msg_core.specs.State.{capacity}
+use Rattle.std.proofs.Common.{◌≡◌, sym, ap, ◌∙◌, subst, arith}
 use Rattle.msg_cache.specs.declared.view.KeeperView.{KeeperView}
-use Rattle.msg_cache.specs.Layout.{layout_of, SettingView}
-use Rattle.msg_cache.specs.Rule.{TidyBy}
+use Rattle.msg_cache.specs.Layout.{SettingView}
+use Rattle.msg_cache.specs.Rule.{LiveWordsAgreeAfter, TidyBy}
 use Rattle.msg_cache.specs.Plays.{committed, lent}
 use Rattle.msg_cache.specs.Keeping.{InOrder}
 use Rattle.msg_tables.specs.History.{lookup}
-use Rattle.msg_core.specs.View.{standing_at}
 use Rattle.msg_cache.specs.Plays.{Sat, keeper_of}
 use Rattle.msg_cache.proofs.OrderLemmas.{kept_committed}
-use Rattle.msg_tables.specs.History.{and_then}
 use Rattle.msg_cache.proofs.PastLemmas.{few_more, lookup-kept_by_all}
-use Rattle.msg_core.specs.State.{Agrees}
 use Rattle.msg_cache.specs.Plays.{turn_of}
-use Rattle.msg_cache.specs.Rule.{word_in}
 use Rattle.msg_cache.proofs.TidyLemmas.{tidy_lent, agrees_after}
 use Rattle.msg_cache.proofs.keeper.Keeper.commit_all.Goals as goal
 
@@ -27,15 +20,15 @@ overflow_add-count c =
     let is = me.count_is in omega arith
 
 pub store_count-requires-clause-turn : goal.store_count-requires-clause-turn
-store_count-requires-clause-turn c = (turn_of c.into_seat.result.me.0, ap (λ (x : Sat). (keeper_of x.0).turn) c.join_turn.ensures.2)
+store_count-requires-clause-turn c = (turn_of c.into_seat.result.me.0, ap (λ (x : Sat). (keeper_of x.0).turn) c.join_turn.ensures.told)
 
 pub store_count-requires-clause-agrees : goal.store_count-requires-clause-agrees
 store_count-requires-clause-agrees c =
     let key = c.args.arena.now.key in
     let k = keeper_of c.args.self.now.seat.me.0 in
     rw c.shared-shared.ensures.key (
-    subst (λ (k : KeeperView). (d : ClassRef) (b q : ℕ) → b < length key.capacities → standing_at k.standings b ≡ Live d → q < capacity (layout_of key) b → Agrees (lookup (and_then k.history c.args.changes.now)) d (word_in (layout_of key) k.words b q))
-    (sym (ap (λ (x : Sat). keeper_of x.0) c.join_turn.ensures.2)) (agrees_after lookup key k c.args.changes.now (λ d s e. lookup-kept_by_all k.history c.args.changes.now d s c.requires.arena.1.tidy.kept.accepted c.requires.accepted e) c.requires.arena.1.tidy c.requires.flushed))
+    subst (λ (k : KeeperView). LiveWordsAgreeAfter lookup key k c.args.changes.now)
+    (sym (ap (λ (x : Sat). keeper_of x.0) c.join_turn.ensures.told)) (agrees_after lookup key k c.args.changes.now (λ d s e. lookup-kept_by_all k.history c.args.changes.now d s c.requires.arena.1.tidy.kept.accepted c.requires.accepted e) c.requires.arena.1.tidy c.requires.flushed))
 
 pub returns-clause-arena : goal.returns-clause-arena
 returns-clause-arena c =
@@ -43,9 +36,9 @@ returns-clause-arena c =
     let s = c.args.self.now in
     let k = keeper_of s.seat.me.0 in
     let x = c.args.changes.now in
-    let one : keeper_of c.store_count.new.seat.me.0 ≡ committed x k = ap (λ (y : Sat). keeper_of y.0) c.store_count.ensures.told.0 ∙ ap (λ (y : Sat). committed x (keeper_of y.0)) c.join_turn.ensures.2 in
-    let two : keeper_of c.split_turn.new.seat.me.0 ≡ lent (committed x k) = ap (λ (y : Sat). keeper_of y.0) c.split_turn.ensures.seat.2 ∙ ap lent one in (
-      c.split_turn.ensures.seat.0 ∙ c.store_count.ensures.seat.0 ∙ c.join_turn.ensures.0 ∙ c.requires.arena.0,
+    let one : keeper_of c.store_count.new.seat.me.0 ≡ committed x k = ap (λ (y : Sat). keeper_of y.0) c.store_count.ensures.told ∙ ap (λ (y : Sat). committed x (keeper_of y.0)) c.join_turn.ensures.told in
+    let two : keeper_of c.split_turn.new.seat.me.0 ≡ lent (committed x k) = ap (λ (y : Sat). keeper_of y.0) c.split_turn.ensures.told ∙ ap lent one in (
+      c.split_turn.ensures.seat.0 ∙ c.store_count.ensures.seat.0 ∙ c.join_turn.ensures.seat.0 ∙ c.requires.arena.0,
       subst (λ (y : KeeperView). InOrder lookup key y s.remembered.items s.occupied.items) (sym two)
           (kept_committed lookup key k s.remembered.items s.occupied.items c.requires.arena.1 x (tidy_lent lookup key (committed x k) (subst (λ (x : SettingView × KeeperView). TidyBy lookup x.0 x.1) (λ i. (c.shared-shared.ensures.key i, one i)) c.store_count.ensures.tidy))),
       c.requires.arena.2,

@@ -15,7 +15,7 @@ returns-clause-arena c =
     let s = c.args.self.now in
     let k = keeper_of s.seat.me.0 in
     let two : keeper_of c.split_turn.new.seat.me.0 ≡ lent k = search rules in (
-      c.split_turn.ensures.seat.0 ∙ c.witness.ensures.seat.0 ∙ c.join_turn.ensures.0 ∙ c.requires.arena.0,
+      c.split_turn.ensures.seat.0 ∙ c.witness.ensures.seat.0 ∙ c.join_turn.ensures.seat.0 ∙ c.requires.arena.0,
       subst (λ (y : KeeperView). InOrder lookup key y s.remembered.items s.occupied.items) (sym two)
           (kept_lent lookup key k s.remembered.items s.occupied.items c.requires.arena.1 (tidy_lent lookup key k c.requires.arena.1.tidy)),
       c.requires.arena.2,

@@ -93,7 +93,7 @@ pub overflow_cast-array : goal.overflow_cast-array
 overflow_cast-array c =
     let key = c.args.arena.now.key in
     let few = few_arrays key.capacities (λ b bl. let t = (capacity_bounds (slice_index key.capacities b) (sizes key.capacities c.shared-shared.ensures.capacities b bl)).0 in omega arith) in
-    omega (arith, c.requires.array, few, c.shared-shared.ensures.count.0, c.shared-shared.ensures.count.1)
+    omega (arith, c.requires.array, few, c.shared-shared.ensures.count, c.shared-shared.ensures.few)
 
 pub index-requires : goal.index-requires
 index-requires c = omega (arith, c.requires.array, c.requires.arena.2)

@@ -25,7 +25,10 @@ store_entry-requires-clause-table c =
     let al = live_below lookup key k s.remembered.items s.occupied.items kept_is c.args.class c.args.array c.requires.live in
     let here = place_in lookup key k s.remembered.items s.occupied.items kept_is c.args.array c.args.place sel al c.requires.found in
     let end = words_within lookup key k s.remembered.items s.occupied.items kept_is c.args.array al in
-    rw c.shared-shared.ensures.table (c.requires.arena.0, omega (arith, c.base-base.ensures.base, here.0, end, kept_is.tidy.kept.words, c.shared-shared.ensures.count.0, c.shared-shared.ensures.count.1), c.shared-shared.ensures.count.1)
+    rw c.shared-shared.ensures.table (c.requires.arena.0, omega (arith, c.base-base.ensures.base, here.0, end, kept_is.tidy.kept.words, c.shared-shared.ensures.count, c.shared-shared.ensures.few))
+
+pub store_entry-requires-clause-few : goal.store_entry-requires-clause-few
+store_entry-requires-clause-few c = rw c.shared-shared.ensures.table c.shared-shared.ensures.few
 
 pub store_entry-requires-clause-place : goal.store_entry-requires-clause-place
 store_entry-requires-clause-place c =
@@ -67,7 +70,7 @@ overflow_add-base c =
     let al = live_below lookup key k s.remembered.items s.occupied.items kept_is c.args.class c.args.array c.requires.live in
     let here = place_in lookup key k s.remembered.items s.occupied.items kept_is c.args.array c.args.place sel al c.requires.found in
     let end = words_within lookup key k s.remembered.items s.occupied.items kept_is c.args.array al in
-    omega (arith, c.base-base.ensures.base, here.0, end, kept_is.tidy.kept.words, c.shared-shared.ensures.count.0, c.shared-shared.ensures.count.1)
+    omega (arith, c.base-base.ensures.base, here.0, end, kept_is.tidy.kept.words, c.shared-shared.ensures.count, c.shared-shared.ensures.few)
 
 pub index_mut-requires : goal.index_mut-requires
 index_mut-requires c =
@@ -81,7 +84,7 @@ index_mut-requires c =
     let al = live_below lookup key k s.remembered.items s.occupied.items kept_is c.args.class c.args.array c.requires.live in
     let here = place_in lookup key k s.remembered.items s.occupied.items kept_is c.args.array c.args.place sel al c.requires.found in
     let end = words_within lookup key k s.remembered.items s.occupied.items kept_is c.args.array al in
-    omega (arith, c.base-base.ensures.base, here.0, end, kept_is.tidy.kept.words, c.shared-shared.ensures.count.0, c.shared-shared.ensures.count.1, ap (λ (l : List ℕ). length l) s.words_are, s.words.ok.0)
+    omega (arith, c.base-base.ensures.base, here.0, end, kept_is.tidy.kept.words, c.shared-shared.ensures.count, c.shared-shared.ensures.few, ap (λ (l : List ℕ). length l) s.words_are, s.words.ok.0)
 
 pub returns-clause-arena : goal.returns-clause-arena
 returns-clause-arena c =

@@ -22,7 +22,7 @@ returns-clause-arena c =
     let two : keeper_of c.renew.new.keeper.me.0 ≡ given_out v.number (taken_in v k) = search rules in
     let tidy = subst (λ (x : SettingView). TidyBy lookup x (taken_in v k)) c.shared.ensures.key c.renew.ensures.tidy in
     let taken = kept_taken lookup key k s.remembered.items s.occupied.items c.requires.arena.1 v tidy in (
-      c.renew.ensures.table.1 ∙ c.requires.arena.0,
+      c.renew.ensures.table ∙ c.requires.arena.0,
       subst (λ (y : KeeperView). InOrder lookup key y s.remembered.items s.occupied.items) (sym two)
           (kept_given lookup key (taken_in v k) s.remembered.items s.occupied.items taken v.number (tidy_given lookup key (taken_in v k) v.number tidy)),
       c.requires.arena.2,

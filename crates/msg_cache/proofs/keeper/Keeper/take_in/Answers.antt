@@ -17,7 +17,7 @@ returns-clause-arena c =
     let k = keeper_of s.seat.me.0 in
     let v = c.args.prober.sender in
     let two : keeper_of c.witness.new.seat.me.0 ≡ taken_in v k = search rules in (
-      c.witness.ensures.seat.0 ∙ c.join_sender.ensures.0 ∙ c.requires.arena.0,
+      c.witness.ensures.seat.0 ∙ c.join_sender.ensures.seat.0 ∙ c.requires.arena.0,
       subst (λ (y : KeeperView). InOrder lookup key y s.remembered.items s.occupied.items) (sym two)
           (kept_taken lookup key k s.remembered.items s.occupied.items c.requires.arena.1 v (subst (λ (x : SettingView × KeeperView). TidyBy lookup x.0 x.1) (λ i. (c.shared-shared.ensures.key i, two i)) c.witness.ensures.tidy)),
       c.requires.arena.2,

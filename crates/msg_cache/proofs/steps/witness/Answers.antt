@@ -4,7 +4,7 @@ use Rattle.atomic_table.specs.Table.{step}
 use Rattle.msg_tables.specs.History.{lookup}
 use Rattle.msg_cache.specs.Plays.{keeper_of, Witnesses}
 use Rattle.msg_cache.proofs.AllowedKeeper.{witness_allowed, tidied, kept_is}
-use Rattle.msg_cache.proofs.steps.witness_as.Goals as goal
+use Rattle.msg_cache.proofs.steps.witness.Goals as goal
 
 pub load-requires : goal.load-requires
 load-requires g c =

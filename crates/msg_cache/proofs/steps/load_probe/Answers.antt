@@ -6,7 +6,7 @@ use Rattle.msg_cache.specs.Layout.{layout_of, probe_at}
 use Rattle.msg_cache.specs.Rule.{holds, TidyBy}
 use Rattle.msg_cache.specs.Plays.{keeper_of, Looks}
 use Rattle.msg_cache.proofs.AllowedKeeper.{look_allowed, tidied, kept_is}
-use Rattle.msg_cache.proofs.steps.look_as.Goals as goal
+use Rattle.msg_cache.proofs.steps.load_probe.Goals as goal
 
 pub load-requires : goal.load-requires
 load-requires g c =

@@ -3,7 +3,7 @@ use Rattle.atomic_table.specs.Table.{step}
 use Rattle.msg_tables.specs.History.{lookup}
 use Rattle.msg_cache.specs.Plays.{Commits}
 use Rattle.msg_cache.proofs.AllowedKeeper.{commit_allowed, tidied, kept_is}
-use Rattle.msg_cache.proofs.steps.commit_as.Goals as goal
+use Rattle.msg_cache.proofs.steps.store_count.Goals as goal
 
 pub store-requires : goal.store-requires
 store-requires g c =

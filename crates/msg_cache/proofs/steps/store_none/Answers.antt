@@ -5,7 +5,7 @@ use Rattle.msg_tables.specs.History.{lookup}
 use Rattle.msg_cache.specs.Layout.{header_at}
 use Rattle.msg_cache.specs.Plays.{keeper_of, Flushes, flushed}
 use Rattle.msg_cache.proofs.AllowedKeeper.{flush_allowed, tidied, kept_is}
-use Rattle.msg_cache.proofs.steps.flush_as.Goals as goal
+use Rattle.msg_cache.proofs.steps.store_none.Goals as goal
 
 pub store-requires : goal.store-requires
 store-requires g c =

@@ -6,7 +6,7 @@ use Rattle.msg_cache.specs.Layout.{header_at}
 use Rattle.msg_cache.specs.Rule.{holds, TidyBy}
 use Rattle.msg_cache.specs.Plays.{keeper_of, Installs}
 use Rattle.msg_cache.proofs.AllowedKeeper.{install_allowed, tidied, kept_is}
-use Rattle.msg_cache.proofs.steps.install_as.Goals as goal
+use Rattle.msg_cache.proofs.steps.store_array.Goals as goal
 
 pub store-requires : goal.store-requires
 store-requires g c =

@@ -3,7 +3,7 @@ use Rattle.atomic_table.specs.Table.{step}
 use Rattle.msg_tables.specs.History.{lookup}
 use Rattle.msg_cache.specs.Plays.{RestLooks}
 use Rattle.msg_cache.proofs.AllowedKeeper.{rest_allowed, tidied, kept_is}
-use Rattle.msg_cache.proofs.steps.look_at_rest_as.Goals as goal
+use Rattle.msg_cache.proofs.steps.look_at_rest.Goals as goal
 
 pub load-requires : goal.load-requires
 load-requires g c =
