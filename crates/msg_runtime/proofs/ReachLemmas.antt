@@ -1,13 +1,12 @@
 -- The caches that a change flushes are at least those of the class references that it affects.
-use Rattle.std.proofs.Common.{◌≡◌, ◌<◌, ◌++◌, ◌||◌, ℕ, List, [], ◌∷◌, Bool, Option, None, Some, true, false, refl, ap, ap₂, ◌∙◌, arith}
+use Rattle.std.proofs.Common.{◌≡◌, ◌++◌, ℕ, List, [], ◌∷◌, Option, None, Some, true, refl, ap, ap₂, ◌∙◌}
 use Rattle.std.specs.Prelude.{is_some}
 use Rattle.std.specs.List.{list_any}
-use Rattle.msg_names.proofs.TestLemmas.{not_false}
 use Rattle.msg_names.specs.declared.value.ClassRef.{ClassRef}
 use Rattle.msg_names.specs.declared.value.ImpRef.{ImpRef}
 use Rattle.msg_names.specs.declared.value.Selector.{Selector}
 use Rattle.msg_names.specs.Number.{selector_number, imp_number}
-use Rattle.msg_tables.specs.Origin.{CountsView, class_total}
+use Rattle.msg_tables.specs.Origin.{CountsView}
 use Rattle.msg_tables.specs.declared.change.Change.{Change}
 use Rattle.msg_tables.specs.declared.change.Change.TheVariants.{Add, Replace, SetImp, Exchange, Attach, AddClass}
 use Rattle.msg_tables.specs.After.{of_class, of_meta, rows_after, set_method, supers_after, table_after}
@@ -15,13 +14,10 @@ use Rattle.msg_tables.specs.Affected.{at_most_one, if_any, is_affected, written_
 use Rattle.msg_tables.specs.Chain.{is_member, chain_of}
 use Rattle.msg_tables.specs.Log.{Log, and_then, table, chain_at, holder}
 use Rattle.msg_tables.specs.Rows.{own, holder_at, holder_in, lookup_at}
-use Rattle.msg_tables.specs.Refusal.{refusal, conditions, no_class}
-use Rattle.msg_tables.proofs.LogLemmas.{table-and_then, length-supers}
+use Rattle.msg_tables.specs.Refusal.{refusal}
+use Rattle.msg_tables.proofs.LogLemmas.{table-and_then}
 use Rattle.msg_tables.proofs.LawLemmas.{some-set_method}
-use Rattle.msg_tables.proofs.LimitLemmas.{none_holds}
-use Rattle.msg_tables.proofs.OrderLemmas.{present-inside}
 use Rattle.msg_tables.proofs.OwnLemmas.{holder-same}
-use Rattle.msg_tables.proofs.PresenceLemmas.{may_be_made}
 use Rattle.msg_tables.specs.Several.{is_below}
 use Rattle.msg_runtime.specs.Reach.{are_reached, is_flushed, unless_counted}
 

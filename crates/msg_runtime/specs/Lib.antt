@@ -1,3 +1,5 @@
+pub mod Calls
+pub mod Flushed
 pub mod Inside
 pub mod Parts
 pub mod Reach

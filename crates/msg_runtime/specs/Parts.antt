@@ -1,13 +1,15 @@
 -- What a runtime needs to know of its keeper.
-use Rattle.std.specs.Prelude.{◌≡◌, ◌≢◌, ◌<◌, ℕ, List, None, true}
+use Rattle.std.specs.Prelude.{◌≡◌, ◌≢◌, ◌<◌, ℕ, List, true}
+use Rattle.msg_names.specs.Number.{selector_number, imp_number}
 use Rattle.msg_names.specs.declared.value.ClassRef.{ClassRef}
+use Rattle.msg_names.specs.declared.value.ImpRef.{ImpRef}
+use Rattle.msg_names.specs.declared.value.Selector.{Selector}
 use Rattle.msg_tables.specs.History.{History}
 use Rattle.msg_core.specs.State.{Layout, awaits}
 use Rattle.msg_cache.specs.Ours as cache
 use Rattle.msg_cache.specs.Counts.{CountsFill}
 use Rattle.msg_cache.specs.Keeping.{Fills, way_of}
-use Rattle.msg_cache.specs.Plays.{given_out, taken_in, newcomer}
-use Rattle.msg_cache.specs.Rule.{live_in}
+use Rattle.msg_cache.specs.Plays.{given_again, given_out, newcomer}
 use Rattle.msg_cache.specs.Views.{ArenaView, layout}
 use Rattle.msg_cache.specs.declared.answer.Filled.{Filled}
 use Rattle.msg_cache.specs.declared.answer.Report.{Report}
@@ -39,9 +41,13 @@ keeper_report k = k.report
 abbrev pub IsFilled : Layout → List ℕ → ClassRef → ℕ → ℕ → KeeperView → KeeperView → Report → Report → Type 0
 IsFilled z remembered c s i k k' r r' = (answer : Filled) × Fills z remembered c s i k k' answer × CountsFill (way_of z remembered k c s) answer r r'
 
+-- what was found was filled in by the keeper, and counted
+abbrev pub CachesFound : ArenaView → ClassRef → Selector → ImpRef → Keeper → Keeper → Type 0
+CachesFound a c s i k k' = IsFilled (layout a) (keeper_remembered k) c (selector_number s) (imp_number i) (keeper_view k) (keeper_view k') (keeper_report k) (keeper_report k')
+
 -- what was found was filled in, and the sender of the view v was then shown the history
 abbrev pub AnswersMiss : Layout → List ℕ → ClassRef → ℕ → ℕ → SenderView → KeeperView → KeeperView → Report → Report → Type 0
-AnswersMiss z remembered c s i v k k' r r' = (j : KeeperView) × IsFilled z remembered c s i k j r r' × (k' ≡ given_out v.number (taken_in v j))
+AnswersMiss z remembered c s i v k k' r r' = (j : KeeperView) × IsFilled z remembered c s i k j r r' × (k' ≡ given_again v j)
 
 -- each of the first n sender numbers is given out
 abbrev pub AreOut : ℕ → KeeperView → Type 0
@@ -52,7 +58,3 @@ pub record IsNew (v : SenderView) (k k' : KeeperView) : Type 0 where
   pub sender : v ≡ newcomer v.number k.history
   pub was : awaits k.given v.number ≢ true
   pub keeper : k' ≡ given_out v.number k
-
--- a class reference has no live array
-abbrev pub HasNoArray : ArenaView → Keeper → ClassRef → Type 0
-HasNoArray a k c = live_in (layout a) (cache.view k).words c ≡ None

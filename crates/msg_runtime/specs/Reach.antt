@@ -2,6 +2,7 @@
 use Rattle.std.specs.Prelude.{◌||◌, Bool, true, List, [], ◌∷◌, ◌++◌, Option, Some, None}
 use Rattle.std.specs.Option.{option_map_or}
 use Rattle.msg_names.specs.declared.value.ClassRef.{ClassRef}
+use Rattle.msg_names.specs.declared.value.Selector.{Selector}
 use Rattle.msg_tables.specs.declared.change.Change.{Change}
 use Rattle.msg_tables.specs.declared.change.Change.TheVariants.{Add, Replace, SetImp, Exchange, Attach, AddClass}
 use Rattle.msg_tables.specs.After.{of_class, of_meta}
@@ -16,12 +17,24 @@ abbrev pub unless_counted : Option CountsView → List ClassRef → Option (List
 unless_counted None places = Some places
 unless_counted (Some counts) places = None
 
+-- where the method stands that a lookup finds, if it finds one
+abbrev pub place_of : Log → ClassRef → Selector → List ClassRef
+place_of h c s = at_most_one (holder h c (selector_number s))
+
+-- where a method is flushed that was set
+abbrev pub set_places : Log → ClassRef → Selector → Option (List ClassRef)
+set_places h c s = unless_counted h.origin.counts (place_of h c s)
+
+-- and two methods that were exchanged
+abbrev pub exchanged_places : Log → (ClassRef × Selector) → (ClassRef × Selector) → Option (List ClassRef)
+exchanged_places h one other = unless_counted h.origin.counts (place_of h one.0 one.1 ++ place_of h other.0 other.1)
+
 -- The class references that are flushed with all below them after a change, where this is then the log; none where all caches are flushed.
 abbrev pub flushed_places : Log → Change → Option (List ClassRef)
 flushed_places h (Add c s i) = Some (c ∷ [])
 flushed_places h (Replace c s i) = Some (c ∷ [])
-flushed_places h (SetImp c s i) = unless_counted h.origin.counts (at_most_one (holder h c (selector_number s)))
-flushed_places h (Exchange c s d u) = unless_counted h.origin.counts (at_most_one (holder h c (selector_number s)) ++ at_most_one (holder h d (selector_number u)))
+flushed_places h (SetImp c s i) = set_places h c s
+flushed_places h (Exchange c s d u) = exchanged_places h (c, s) (d, u)
 flushed_places h (Attach k methods class_methods) = Some (if_any methods (of_class k) ++ if_any class_methods (of_meta k))
 flushed_places h (AddClass k d) = Some []
 

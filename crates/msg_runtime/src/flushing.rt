@@ -1,19 +1,18 @@
 //! The caches that a change flushes.
 
-ghost use Rattle.std.specs.Prelude.{◌≡◌, ◌<◌, ◌≤◌, ◌++◌, ℕ, None, if◌then◌else◌, length, true};
-ghost use Rattle.msg_names.specs.Number.{selector_number};
+ghost use Rattle.std.specs.Prelude.{◌≡◌, ◌<◌, ◌≤◌, None, length, true};
 ghost use Rattle.msg_names.specs.declared.value.ClassRef.{ClassRef};
 ghost use Rattle.msg_tables.specs.Origin.{class_total};
-ghost use Rattle.msg_tables.specs.Affected.{at_most_one, if_any};
+ghost use Rattle.msg_tables.specs.Affected.{if_any};
 ghost use Rattle.msg_tables.specs.Below.{is_among};
 ghost use Rattle.msg_tables.specs.Chain.{is_member};
-ghost use Rattle.msg_tables.specs.Log.{Log, and_then, chain_at, holder};
-ghost use Rattle.msg_tables.specs.Preorder.{is_in};
+ghost use Rattle.msg_tables.specs.Log.{Log, and_then, chain_at};
 ghost use Rattle.msg_tables.specs.Refusal.{refusal};
-ghost use Rattle.msg_tables.specs.Several.{is_below};
 ghost use Rattle.msg_tables.specs.Stands.{StandsAt};
-ghost use Rattle.msg_runtime.specs.Parts.{IsKeeperOf, keeper_history, HasNoArray};
-ghost use Rattle.msg_runtime.specs.Reach.{are_reached, is_flushed, unless_counted};
+ghost use Rattle.msg_cache.specs.Ours.{HasNoArray};
+ghost use Rattle.msg_runtime.specs.Flushed.{AreClasses, AreFlushed, ClassIsFlushed, FirstAreFlushed, PlacesAreFlushed, ReachedAreFlushed, StayFlushed};
+ghost use Rattle.msg_runtime.specs.Parts.{IsKeeperOf, keeper_history};
+ghost use Rattle.msg_runtime.specs.Reach.{exchanged_places, is_flushed, place_of, set_places};
 
 use msg_cache::{Arena, Keeper};
 use msg_names::{ClassRef, Selector};
@@ -26,8 +25,8 @@ pub(crate) fn flush_class(keeper: &mut Keeper, arena: &Arena, class: u32, own: b
     requires class { class < class_total (keeper_history keeper.old).origin }
     ensures arena { IsKeeperOf arena.now keeper.new }
     ensures history { keeper_history keeper.new ≡ keeper_history keeper.old }
-    ensures flushed { (c : ClassRef) → c.class ≡ class → (if c.meta then meta else own) ≡ true → HasNoArray arena.now keeper.new c }
-    ensures others { (c : ClassRef) → HasNoArray arena.now keeper.old c → HasNoArray arena.now keeper.new c }
+    ensures flushed { ClassIsFlushed arena.now keeper.new class own meta }
+    ensures others { StayFlushed arena.now keeper.old keeper.new }
 {
     if own {
         let _had_array = keeper.flush(arena, ClassRef { class, meta: false });
@@ -40,11 +39,11 @@ pub(crate) fn flush_class(keeper: &mut Keeper, arena: &Arena, class: u32, own: b
 // Flushes the caches of some class references. No other class is looked at.
 fn flush_each(keeper: &mut Keeper, arena: &Arena, below: &Below)
     requires arena { IsKeeperOf arena.now keeper.old }
-    requires classes { (k : ℕ) → is_in k below.now.classes ≡ true → k < class_total (keeper_history keeper.old).origin }
+    requires classes { AreClasses below.now.classes (keeper_history keeper.old).origin }
     ensures arena { IsKeeperOf arena.now keeper.new }
     ensures history { keeper_history keeper.new ≡ keeper_history keeper.old }
     ensures flushed { (c : ClassRef) → is_among below.now c ≡ true → HasNoArray arena.now keeper.new c }
-    ensures others { (c : ClassRef) → HasNoArray arena.now keeper.old c → HasNoArray arena.now keeper.new c }
+    ensures others { StayFlushed arena.now keeper.old keeper.new }
 {
     for class in below.classes() {
         flush_class(
@@ -71,8 +70,8 @@ pub(crate) fn flush_below(
     requires room { length tables.now.supers ≤ below.old.room }
     ensures arena { IsKeeperOf arena.now keeper.new }
     ensures history { keeper_history keeper.new ≡ keeper_history keeper.old }
-    ensures flushed { (h : Log) → StandsAt tables.now h → (c : ClassRef) → is_member class (chain_at h c) ≡ true → HasNoArray arena.now keeper.new c }
-    ensures others { (c : ClassRef) → HasNoArray arena.now keeper.old c → HasNoArray arena.now keeper.new c }
+    ensures flushed { AreFlushed arena.now tables.now keeper.new (λ h c. is_member class (chain_at h c)) }
+    ensures others { StayFlushed arena.now keeper.old keeper.new }
     ensures room { length tables.now.supers ≤ below.new.room }
 {
     tables.below(class, below);
@@ -94,8 +93,8 @@ fn flush_methods(
     requires room { length tables.now.supers ≤ below.old.room }
     ensures arena { IsKeeperOf arena.now keeper.new }
     ensures history { keeper_history keeper.new ≡ keeper_history keeper.old }
-    ensures flushed { (h : Log) → StandsAt tables.now h → (c : ClassRef) → is_below h (if_any methods.now class) c ≡ true → HasNoArray arena.now keeper.new c }
-    ensures others { (c : ClassRef) → HasNoArray arena.now keeper.old c → HasNoArray arena.now keeper.new c }
+    ensures flushed { PlacesAreFlushed arena.now tables.now keeper.new (λ h. if_any methods.now class) }
+    ensures others { StayFlushed arena.now keeper.old keeper.new }
     ensures room { length tables.now.supers ≤ below.new.room }
 {
     if !methods.as_slice().is_empty() {
@@ -131,8 +130,8 @@ fn flush_holder(
     requires room { length tables.now.supers ≤ below.old.room }
     ensures arena { IsKeeperOf arena.now keeper.new }
     ensures history { keeper_history keeper.new ≡ keeper_history keeper.old }
-    ensures flushed { (h : Log) → StandsAt tables.now h → (c : ClassRef) → is_below h (at_most_one (holder h class (selector_number sel))) c ≡ true → HasNoArray arena.now keeper.new c }
-    ensures others { (c : ClassRef) → HasNoArray arena.now keeper.old c → HasNoArray arena.now keeper.new c }
+    ensures flushed { PlacesAreFlushed arena.now tables.now keeper.new (λ h. place_of h class sel) }
+    ensures others { StayFlushed arena.now keeper.old keeper.new }
     ensures room { length tables.now.supers ≤ below.new.room }
 {
     if let Some(place) = tables.holder(class, sel) {
@@ -157,8 +156,7 @@ fn flush_set(
     requires room { classes ≤ below.old.room }
     ensures arena { IsKeeperOf arena.now keeper.new }
     ensures history { keeper_history keeper.new ≡ keeper_history keeper.old }
-    ensures flushed { (h : Log) → StandsAt tables.now h → (c : ClassRef) → c.class < classes
-        → are_reached h c (unless_counted h.origin.counts (at_most_one (holder h class (selector_number sel)))) ≡ true → HasNoArray arena.now keeper.new c }
+    ensures flushed { ReachedAreFlushed classes arena.now tables.now keeper.new (λ h. set_places h class sel) }
     ensures room { classes ≤ below.new.room }
 {
     if tables.counts_arguments() {
@@ -186,9 +184,7 @@ fn flush_exchanged(
     requires room { classes ≤ below.old.room }
     ensures arena { IsKeeperOf arena.now keeper.new }
     ensures history { keeper_history keeper.new ≡ keeper_history keeper.old }
-    ensures flushed { (h : Log) → StandsAt tables.now h → (c : ClassRef) → c.class < classes
-        → are_reached h c (unless_counted h.origin.counts (at_most_one (holder h first.0 (selector_number first.1)) ++ at_most_one (holder h second.0 (selector_number second.1)))) ≡ true
-        → HasNoArray arena.now keeper.new c }
+    ensures flushed { ReachedAreFlushed classes arena.now tables.now keeper.new (λ h. exchanged_places h first second) }
     ensures room { classes ≤ below.new.room }
 {
     if tables.counts_arguments() {
@@ -219,7 +215,7 @@ pub(crate) fn flush_reached(
     requires room { classes ≤ below.old.room }
     ensures arena { IsKeeperOf arena.now keeper.new }
     ensures history { keeper_history keeper.new ≡ keeper_history keeper.old }
-    ensures flushed { (h : Log) → StandsAt tables.now h → (c : ClassRef) → c.class < classes → is_flushed h change.now c ≡ true → HasNoArray arena.now keeper.new c }
+    ensures flushed { FirstAreFlushed classes arena.now tables.now keeper.new (λ h. is_flushed h change.now) }
     ensures room { classes ≤ below.new.room }
 {
     match change {

@@ -1,13 +1,11 @@
 //! Which caches a list of changes flushes.
 
-ghost use Rattle.std.specs.Prelude.{◌≡◌, ◌<◌, ◌≤◌, [], ◌∷◌, All, length, true};
-ghost use Rattle.msg_names.specs.declared.value.ClassRef.{ClassRef};
+ghost use Rattle.std.specs.Prelude.{◌≡◌, ◌≤◌, [], ◌∷◌, All, length};
 ghost use Rattle.msg_tables.specs.Journal.{NamesListed};
-ghost use Rattle.msg_tables.specs.Log.{Log};
 ghost use Rattle.msg_tables.specs.Making.{is_told};
 ghost use Rattle.msg_tables.specs.Origin.{class_total};
-ghost use Rattle.msg_tables.specs.Stands.{StandsAt};
-ghost use Rattle.msg_runtime.specs.Parts.{IsKeeperOf, keeper_history, HasNoArray};
+ghost use Rattle.msg_runtime.specs.Flushed.{AreFlushed, StayFlushed};
+ghost use Rattle.msg_runtime.specs.Parts.{IsKeeperOf, keeper_history};
 
 use crate::flushing::{flush_below, flush_class};
 use msg_cache::{Arena, Keeper};
@@ -21,8 +19,8 @@ fn flush_entry(keeper: &mut Keeper, arena: &Arena, tables: &Tables, entry: Entry
     requires room { length tables.now.supers ≤ below.old.room }
     ensures arena { IsKeeperOf arena.now keeper.new }
     ensures history { keeper_history keeper.new ≡ keeper_history keeper.old }
-    ensures flushed { (h : Log) → StandsAt tables.now h → (c : ClassRef) → is_told h (entry ∷ []) c ≡ true → HasNoArray arena.now keeper.new c }
-    ensures others { (c : ClassRef) → HasNoArray arena.now keeper.old c → HasNoArray arena.now keeper.new c }
+    ensures flushed { AreFlushed arena.now tables.now keeper.new (λ h. is_told h (entry ∷ [])) }
+    ensures others { StayFlushed arena.now keeper.old keeper.new }
     ensures room { length tables.now.supers ≤ below.new.room }
 {
     match entry {
@@ -48,7 +46,7 @@ pub(crate) fn flush_written(
     requires room { length tables.now.supers ≤ below.old.room }
     ensures arena { IsKeeperOf arena.now keeper.new }
     ensures history { keeper_history keeper.new ≡ keeper_history keeper.old }
-    ensures flushed { (h : Log) → StandsAt tables.now h → (c : ClassRef) → is_told h written.now c ≡ true → HasNoArray arena.now keeper.new c }
+    ensures flushed { AreFlushed arena.now tables.now keeper.new (λ h. is_told h written.now) }
     ensures room { length tables.now.supers ≤ below.new.room }
 {
     for entry in written.as_slice() {

@@ -1,19 +1,18 @@
 //! The runtime behind a lock.
 
-ghost use Rattle.std.specs.Prelude.{[], ◌∷◌, ◌≡◌, ◌≢◌, ◌<◌, ◌≤◌, ◌*◌, length, take, cond, not, is_some, replicate, false, IfOk, IfErr, IfSome, IsErrOf, IsNone, OnErr, OnOk, None, Some};
+ghost use Rattle.std.specs.Prelude.{◌≡◌, ◌≢◌, ◌<◌, ◌≤◌, ◌*◌, length, take, not, is_some, replicate, false, IfOk, IfErr, IfSome, IsErrOf, IsNone, OnErr, OnOk, None};
 ghost use Rattle.msg_names.specs.Number.{selector_number, imp_number};
 ghost use Rattle.msg_tables.specs.Origin.{last_imp};
-ghost use Rattle.msg_tables.specs.History.{BeginsWith, and_then, empty, holder, log, lookup, superclass};
-ghost use Rattle.msg_tables.specs.Marking.{MarksAffected, MarksAffectedByAll};
+ghost use Rattle.msg_tables.specs.History.{BeginsWith, empty, holder, log, superclass};
 ghost use Rattle.msg_tables.specs.Made.{AreMade, AreRefused, TellsWayBack};
-ghost use Rattle.msg_tables.specs.Refusal.{refusal};
 ghost use Rattle.msg_tables.specs.Several.{refused_from};
 ghost use Rattle.msg_tables.specs.declared.fault.ChangeFault.{ChangeFault};
-ghost use Rattle.msg_cache.specs.Counts.{AreCounts, after_refusal};
-ghost use Rattle.msg_cache.specs.Plays.{given_out, taken_in, lent, is_lent};
-ghost use Rattle.msg_cache.specs.Views.{classes, layout, IsSenderOf};
+ghost use Rattle.msg_cache.specs.Counts.{AreCounts};
+ghost use Rattle.msg_cache.specs.Plays.{given_again, taken_in, lent, is_lent};
+ghost use Rattle.msg_cache.specs.Views.{IsFoundAt, IsSenderOf, classes};
 ghost use Rattle.msg_reader.specs.Notes.{AreNotesOf, IsNoted};
-ghost use Rattle.msg_runtime.specs.Parts.{IsKeeperOf, AnswersMiss, IsNew, AreOut, keeper_history, keeper_view, keeper_remembered, keeper_report};
+ghost use Rattle.msg_runtime.specs.Calls.{Accepts, AllAreOut, CachesAnswer, CountsRefusalUnless, HasKeeper, IsMade, KeepsCaches, LendsTurnIf, MarksAllReached, MarksReached, RefusesFor, RefusesUnlessMemory};
+ghost use Rattle.msg_runtime.specs.Parts.{IsKeeperOf, IsNew, keeper_history};
 
 use crate::caching::cache_found;
 use crate::flushing::flush_reached;
@@ -79,7 +78,7 @@ impl Runtime {
         requires history { keeper_history keeper ≡ empty (C.given given.now) }
         ensures arena { IfOk result (λ r. r.arena ≡ arena.now) }
         ensures history { IfOk result (λ r. r.keeper.history ≡ empty (C.given given.now)) }
-        ensures keeper { IfOk result (λ r. (r.keeper ≡ keeper_view keeper) × (r.remembered ≡ keeper_remembered keeper) × (r.report ≡ keeper_report keeper)) }
+        ensures keeper { IfOk result (HasKeeper keeper) }
     {
         Runtime::of(alloc, arena, keeper, given.origin())
     }
@@ -95,7 +94,7 @@ impl Runtime {
         requires history { keeper_history keeper ≡ empty origin.now }
         ensures arena { IfOk result (λ r. r.arena ≡ arena.now) }
         ensures history { IfOk result (λ r. r.keeper.history ≡ empty origin.now) }
-        ensures keeper { IfOk result (λ r. (r.keeper ≡ keeper_view keeper) × (r.remembered ≡ keeper_remembered keeper) × (r.report ≡ keeper_report keeper)) }
+        ensures keeper { IfOk result (HasKeeper keeper) }
     {
         let tables = Tables::open(alloc, origin)?;
         let below = tables.room_below(alloc)?;
@@ -122,13 +121,13 @@ impl Runtime {
         ensures arena { self.new.arena ≡ self.old.arena }
         ensures history { self.new.keeper.history ≡ self.old.keeper.history }
         ensures remembered { self.new.remembered ≡ self.old.remembered }
-        ensures cached { AnswersMiss (layout self.old.arena) self.old.remembered class (selector_number sel) (imp_number result) reader.old.sender self.old.keeper self.new.keeper self.old.report self.new.report }
+        ensures cached { CachesAnswer class sel result reader.old.sender self.old self.new }
         ensures reader { IsSenderOf self.old.arena reader.new }
         ensures number { reader.new.sender.number ≡ reader.old.sender.number }
         ensures begins { BeginsWith self.old.keeper.history reader.old.sender.front }
         ensures front { reader.new.sender.front ≡ self.old.keeper.history }
         ensures origin { self.old.keeper.history.origin ≡ self.old.arena.key.origin }
-        ensures found { imp_number result ≡ lookup self.old.keeper.history class (selector_number sel) }
+        ensures found { IsFoundAt self.old.keeper.history class sel result }
         ensures listed { imp_number result ≤ last_imp self.old.arena.key.origin.counts }
     {
         tables_are_of_their_origin();
@@ -154,13 +153,13 @@ impl Runtime {
         ensures arena { self.new.arena ≡ self.old.arena }
         ensures history { self.new.keeper.history ≡ self.old.keeper.history }
         ensures remembered { self.new.remembered ≡ self.old.remembered }
-        ensures cached { AnswersMiss (layout self.old.arena) self.old.remembered class (selector_number sel) (imp_number result) reader.old.sender self.old.keeper self.new.keeper self.old.report self.new.report }
+        ensures cached { CachesAnswer class sel result reader.old.sender self.old self.new }
         ensures reader { IsSenderOf self.old.arena reader.new }
         ensures number { reader.new.sender.number ≡ reader.old.sender.number }
         ensures begins { BeginsWith self.old.keeper.history reader.old.sender.front }
         ensures front { reader.new.sender.front ≡ self.old.keeper.history }
         ensures origin { self.old.keeper.history.origin ≡ self.old.arena.key.origin }
-        ensures found { imp_number result ≡ lookup self.old.keeper.history class (selector_number sel) }
+        ensures found { IsFoundAt self.old.keeper.history class sel result }
         ensures listed { imp_number result ≤ last_imp self.old.arena.key.origin.counts }
         ensures notes { AreNotesOf self.old.keeper.history notes.new }
         ensures noted { IsNoted self.old.keeper.history notes.new class (selector_number sel) (imp_number result) }
@@ -174,7 +173,7 @@ impl Runtime {
     /// The implementation that a lookup finds, from the tables alone: no cache is looked at or filled.
     pub fn lookup(&self, class: ClassRef, sel: Selector) -> ImpRef
         requires class { class.class < classes self.now.arena }
-        ensures found { imp_number result ≡ lookup self.now.keeper.history class (selector_number sel) }
+        ensures found { IsFoundAt self.now.keeper.history class sel result }
         ensures listed { imp_number result ≤ last_imp self.now.arena.key.origin.counts }
     {
         tables_are_of_their_origin();
@@ -212,9 +211,9 @@ impl Runtime {
     /// It looks at the classes that it marks and at one or two more, and takes no memory.
     pub fn reach(&self, change: &Change, marks: &mut Marks) -> Result<(), ChangeFault>
         requires { length marks.old ≡ 2 * classes self.now.arena }
-        ensures ok { OnOk result ((refusal (log self.now.keeper.history) change.now ≡ None) × MarksAffected (classes self.now.arena) (log self.now.keeper.history) change.now marks.old marks.new) }
+        ensures ok { OnOk result (MarksReached self.now change.now marks.old marks.new) }
         ensures err { OnErr result (marks.new ≡ marks.old) }
-        ensures fault { IfErr result (λ f. refusal (log self.now.keeper.history) change.now ≡ Some f) }
+        ensures fault { IfErr result (RefusesFor self.now change.now) }
         ensures room { length marks.new ≡ length marks.old }
     {
         tables_are_of_their_origin();
@@ -241,10 +240,10 @@ impl Runtime {
         ensures is { turn.new.history ≡ self.old.keeper.history }
         ensures same { self.new ≡ record self.old { keeper = lent self.old.keeper } }
         ensures ok { OnOk result (refused_from 0 (log self.old.keeper.history) changes.now ≡ None) }
-        ensures marks { OnOk result (MarksAffectedByAll (classes self.old.arena) (log self.old.keeper.history) changes.now marked.old marked.new) }
+        ensures marks { OnOk result (MarksAllReached self.old changes.now marked.old marked.new) }
         ensures refused { IfErr result (AreRefused changes.now self.old.keeper.history) }
         ensures before { IfErr result (λ r. r.fault ≢ ChangeFault.Memory
-            → MarksAffectedByAll (classes self.old.arena) (log self.old.keeper.history) (take r.place changes.now) marked.old marked.new) }
+            → MarksAllReached self.old (take r.place changes.now) marked.old marked.new) }
         ensures length { length marked.new ≡ length marked.old }
     {
         tables_are_of_their_origin();
@@ -268,12 +267,12 @@ impl Runtime {
         ensures turn { turn.new.table ≡ self.old.arena.table }
         ensures was { turn.old.history ≡ self.old.keeper.history }
         ensures is { turn.new.history ≡ self.new.keeper.history }
-        ensures ok { IfOk result (λ count. (refusal (log self.old.keeper.history) change.now ≡ None) × (self.new.keeper.history ≡ and_then self.old.keeper.history (change.now ∷ [])) × (count ≡ length self.new.keeper.history.changes)) }
+        ensures ok { IfOk result (IsMade self.old change.now self.new) }
         ensures err { OnErr result (self.new.keeper.history ≡ self.old.keeper.history) }
-        ensures caches { OnErr result ((self.new.keeper ≡ lent self.old.keeper) × (self.new.remembered ≡ self.old.remembered)) }
+        ensures caches { OnErr result (KeepsCaches self.old self.new) }
         ensures report { OnErr result (self.new.report ≡ self.old.report) }
-        ensures fault { IfErr result (λ f. f ≢ ChangeFault.Memory → refusal (log self.old.keeper.history) change.now ≡ Some f) }
-        ensures memory { IsErrOf result ChangeFault.Memory → refusal (log self.old.keeper.history) change.now ≡ None }
+        ensures fault { IfErr result (RefusesUnlessMemory self.old change.now) }
+        ensures memory { IsErrOf result ChangeFault.Memory → Accepts self.old change.now }
     {
         tables_are_of_their_origin();
         an_accepted_change_is_within_the_limit();
@@ -311,7 +310,7 @@ impl Runtime {
         ensures count { IfOk result (λ made. made.count ≡ length self.new.keeper.history.changes) }
         ensures back { IfOk result (λ made. TellsWayBack changes.now self.old.keeper.history made.written) }
         ensures err { OnErr result (self.new.keeper.history ≡ self.old.keeper.history) }
-        ensures caches { OnErr result ((self.new.keeper ≡ lent self.old.keeper) × (self.new.remembered ≡ self.old.remembered)) }
+        ensures caches { OnErr result (KeepsCaches self.old self.new) }
         ensures report { OnErr result (self.new.report ≡ self.old.report) }
         ensures refused { IfErr result (AreRefused changes.now self.old.keeper.history) }
     {
@@ -340,11 +339,11 @@ impl Runtime {
         requires arena { arena.now ≡ self.old.arena }
         ensures arena { self.new.arena ≡ self.old.arena }
         ensures remembered { self.new.remembered ≡ self.old.remembered }
-        ensures report { self.new.report ≡ cond (is_some result) self.old.report (after_refusal self.old.report) }
+        ensures report { CountsRefusalUnless (is_some result) self.old self.new }
         ensures reader { IfSome result (IsSenderOf self.old.arena) }
         ensures some { IfSome result (λ r. IsNew r.sender self.old.keeper self.new.keeper) }
         ensures front { IfSome result (λ r. r.sender.front ≡ self.old.keeper.history) }
-        ensures none { IsNone result → AreOut self.old.arena.key.senders self.old.keeper × (self.new.keeper ≡ self.old.keeper) }
+        ensures none { IsNone result → AllAreOut self.old × (self.new.keeper ≡ self.old.keeper) }
         ensures origin { self.old.keeper.history.origin ≡ self.old.arena.key.origin }
     {
         for number in 0..arena.senders() {
@@ -375,7 +374,7 @@ impl Runtime {
         ensures arena { self.new.arena ≡ self.old.arena }
         ensures remembered { self.new.remembered ≡ self.old.remembered }
         ensures report { self.new.report ≡ self.old.report }
-        ensures keeper { self.new.keeper ≡ cond (is_some result) (lent self.old.keeper) self.old.keeper }
+        ensures keeper { LendsTurnIf (is_some result) self.old self.new }
         ensures once { is_some result ≡ not (is_lent self.old.keeper.turn) }
         ensures turn { IfSome result (λ t. t.table ≡ self.old.arena.table) }
         ensures empty { IfSome result (λ t. t.history ≡ empty self.old.arena.key.origin) }
@@ -392,7 +391,7 @@ impl Runtime {
         ensures arena { self.new.arena ≡ self.old.arena }
         ensures remembered { self.new.remembered ≡ self.old.remembered }
         ensures report { self.new.report ≡ self.old.report }
-        ensures keeper { self.new.keeper ≡ given_out reader.old.sender.number (taken_in reader.old.sender (lent self.old.keeper)) }
+        ensures keeper { self.new.keeper ≡ given_again reader.old.sender (lent self.old.keeper) }
         ensures turn { turn.new.table ≡ self.old.arena.table }
         ensures reader { IsSenderOf self.old.arena reader.new }
         ensures number { reader.new.sender.number ≡ reader.old.sender.number }

@@ -1,6 +1,7 @@
 use Rattle.std.proofs.Common.{◌≡◌, ◌<◌}
 use Rattle.msg_names.specs.declared.value.ClassRef.{ClassRef}
-use Rattle.msg_runtime.specs.Parts.{IsKeeperOf, keeper_history, HasNoArray}
+use Rattle.msg_cache.specs.Ours.{HasNoArray}
+use Rattle.msg_runtime.specs.Parts.{IsKeeperOf, keeper_history}
 use Rattle.msg_runtime.proofs.flushing.flush_all.Given as goal
 
 abbrev pub invariant-loop-class : goal.invariant-loop-class

@@ -1,7 +1,8 @@
 use Rattle.std.proofs.Common.{◌≡◌, take, true}
 use Rattle.msg_names.specs.declared.value.ClassRef.{ClassRef}
 use Rattle.msg_tables.specs.Below.{is_among}
-use Rattle.msg_runtime.specs.Parts.{IsKeeperOf, keeper_history, HasNoArray}
+use Rattle.msg_cache.specs.Ours.{HasNoArray}
+use Rattle.msg_runtime.specs.Parts.{IsKeeperOf, keeper_history}
 use Rattle.msg_runtime.proofs.flushing.flush_each.Given as goal
 
 -- the caches of the first classes are flushed

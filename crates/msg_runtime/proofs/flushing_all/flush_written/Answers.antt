@@ -1,4 +1,4 @@
-use Rattle.std.proofs.Common.{◌≡◌, ◌+◌, [], ◌∷◌, length, take, true, sym, ap, subst, ◌∙◌, ⊎_elim, arith}
+use Rattle.std.proofs.Common.{◌≡◌, [], ◌∷◌, length, take, true, sym, ap, subst, ◌∙◌, ⊎_elim, arith}
 use Rattle.std.proofs.Math.Seq.{take-length}
 use Rattle.msg_tables.specs.Making.{is_told}
 use Rattle.msg_tables.proofs.AffectedAllLemmas.{told-next}

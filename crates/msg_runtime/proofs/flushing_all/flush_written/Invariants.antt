@@ -3,7 +3,8 @@ use Rattle.msg_names.specs.declared.value.ClassRef.{ClassRef}
 use Rattle.msg_tables.specs.Log.{Log}
 use Rattle.msg_tables.specs.Making.{is_told}
 use Rattle.msg_tables.specs.Stands.{StandsAt}
-use Rattle.msg_runtime.specs.Parts.{IsKeeperOf, keeper_history, HasNoArray}
+use Rattle.msg_cache.specs.Ours.{HasNoArray}
+use Rattle.msg_runtime.specs.Parts.{IsKeeperOf, keeper_history}
 use Rattle.msg_runtime.proofs.flushing_all.flush_written.Given as goal
 
 -- what the first entries tell of is flushed

@@ -1,5 +1,5 @@
 -- the tables stand at the longer history, and what the list affects is flushed
-use Rattle.std.proofs.Common.{rules, ◌≡◌, ◌≤◌, None, ap, sym, subst, ◌∙◌}
+use Rattle.std.proofs.Common.{rules, ◌≡◌, ◌≤◌, ap, sym, subst, ◌∙◌}
 use Rattle.msg_tables.specs.History.{History, and_then, log}
 use Rattle.msg_tables.specs.Origin.{class_total}
 use Rattle.msg_tables.specs.Several.{refusal_of_all}

@@ -1,0 +1,41 @@
+-- Whose caches are flushed.
+use Rattle.std.specs.Prelude.{◌≡◌, ◌<◌, ℕ, Bool, true, List, Option, if◌then◌else◌}
+use Rattle.msg_names.specs.declared.value.ClassRef.{ClassRef}
+use Rattle.msg_tables.specs.Log.{Log}
+use Rattle.msg_tables.specs.Origin.{OriginView, class_total}
+use Rattle.msg_tables.specs.Preorder.{is_in}
+use Rattle.msg_tables.specs.Several.{is_below}
+use Rattle.msg_tables.specs.Stands.{StandsAt}
+use Rattle.msg_tables.specs.View.{TablesView}
+use Rattle.msg_cache.specs.Ours.{HasNoArray}
+use Rattle.msg_cache.specs.Views.{ArenaView}
+use Rattle.msg_cache.specs.declared.keeper.Keeper.{Keeper}
+use Rattle.msg_runtime.specs.Reach.{are_reached}
+
+-- each class reference of which this is true at the tables' log has no live array
+abbrev pub AreFlushed : ArenaView → TablesView → Keeper → (Log → ClassRef → Bool) → Type 0
+AreFlushed a t k is_meant = (h : Log) → StandsAt t h → (c : ClassRef) → is_meant h c ≡ true → HasNoArray a k c
+
+-- the same of those of the first classes
+abbrev pub FirstAreFlushed : ℕ → ArenaView → TablesView → Keeper → (Log → ClassRef → Bool) → Type 0
+FirstAreFlushed classes a t k is_meant = (h : Log) → StandsAt t h → (c : ClassRef) → c.class < classes → is_meant h c ≡ true → HasNoArray a k c
+
+-- the same of the class references at these places and below one
+abbrev pub PlacesAreFlushed : ArenaView → TablesView → Keeper → (Log → List ClassRef) → Type 0
+PlacesAreFlushed a t k places = AreFlushed a t k (λ h. is_below h (places h))
+
+-- the same of the first classes' references that are reached from these places
+abbrev pub ReachedAreFlushed : ℕ → ArenaView → TablesView → Keeper → (Log → Option (List ClassRef)) → Type 0
+ReachedAreFlushed classes a t k places = FirstAreFlushed classes a t k (λ h c. are_reached h c (places h))
+
+-- a class has no live array if own is true, and its metaclass has none if meta is
+abbrev pub ClassIsFlushed : ArenaView → Keeper → ℕ → Bool → Bool → Type 0
+ClassIsFlushed a k class own meta = (c : ClassRef) → c.class ≡ class → (if c.meta then meta else own) ≡ true → HasNoArray a k c
+
+-- who had no live array has none
+abbrev pub StayFlushed : ArenaView → Keeper → Keeper → Type 0
+StayFlushed a k k' = (c : ClassRef) → HasNoArray a k c → HasNoArray a k' c
+
+-- they are numbers of classes
+abbrev pub AreClasses : List ℕ → OriginView → Type 0
+AreClasses numbers origin = (n : ℕ) → is_in n numbers ≡ true → n < class_total origin
