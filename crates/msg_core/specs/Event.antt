@@ -19,6 +19,10 @@ pub data Event : Type 0 where
   -- the count of changes is stored, after changes that are made as one
   Commit : List Change → Event
 
+-- the commit of one change
+abbrev pub commit_of : Change → Event
+commit_of x = Commit (x ∷ [])
+
 -- what is made to happen on a `Machine`, whose commits are of one change each
 abbrev pub event_of : made.Event → Event
 event_of (by.Enter n) = Enter n
@@ -30,4 +34,4 @@ event_of (by.Install c a) = Install c a
 event_of (by.Flush c) = Flush c
 event_of (by.Look n) = Look n
 event_of (by.Clear a p) = Clear a p
-event_of (by.Commit x) = Commit (x ∷ [])
+event_of (by.Commit x) = commit_of x

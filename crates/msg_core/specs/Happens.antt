@@ -1,8 +1,9 @@
 -- An event that happens to a machine.
-use Rattle.std.specs.Prelude.{◌≡◌, Option}
+use Rattle.std.specs.Prelude.{◌≡◌, ◌≢◌, Option, Some}
 use Rattle.msg_core.specs.Event.{Event, Enter, Header, Read, Leave, Fill, Install, Flush, Look, Clear, Commit}
 use Rattle.msg_tables.specs.History.{lookup}
 use Rattle.msg_core.specs.declared.fault.EventFault.{EventFault}
+use Rattle.msg_core.specs.declared.fault.EventFault.TheVariants.{Memory}
 use Rattle.msg_core.specs.State.{State}
 use Rattle.msg_core.specs.Steps.{after, event_refusal, Legal}
 use Rattle.msg_core.specs.View.{MachineView, layout_of, state_of}
@@ -20,6 +21,10 @@ pub record Becomes (old new : MachineView) (m : State) : Type 0 where
   pub layout : layout_of new ≡ layout_of old
   pub state : state_of new ≡ m
 
+-- its state has changed so
+abbrev pub ChangesBy : (State → State) → MachineView → MachineView → Type 0
+ChangesBy f old new = Becomes old new (f (state_of old))
+
 -- the event has happened
 abbrev pub Happens : MachineView → MachineView → Event → Type 0
 Happens old new e = Becomes old new (after (layout_of old) (state_of old) e)
@@ -36,3 +41,11 @@ IsCommit (Install c a) = ⊥
 IsCommit (Flush c) = ⊥
 IsCommit (Look n) = ⊥
 IsCommit (Clear a p) = ⊥
+
+-- the event is refused for this fault, where that isn't memory
+abbrev pub IsRefusedUnlessMemory : MachineView → Event → EventFault → Type 0
+IsRefusedUnlessMemory v e fault = fault ≢ Memory → refusal_of v e ≡ Some fault
+
+-- it is a commit that is not refused
+abbrev pub IsLegalCommit : MachineView → Event → Type 0
+IsLegalCommit v e = IsLegal v e × IsCommit e

@@ -2,7 +2,9 @@ pub mod Event
 pub mod FaultNumber
 pub mod Happens
 pub mod Inside
+pub mod Laws
 pub mod Runs
+pub mod Spoiled
 pub mod State
 pub mod Steps
 pub mod View

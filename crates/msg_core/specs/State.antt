@@ -1,8 +1,9 @@
 -- The state of the cache machine, and which states are lawful.
-use Rattle.std.specs.Prelude.{◌≡◌, ◌≢◌, ◌<◌, ◌≤◌, ◌⊎◌, ℕ, List, length, take, Bool, true, false, Option, Some, slice_index, slice_index_or}
+use Rattle.std.specs.Prelude.{◌≡◌, ◌≢◌, ◌<◌, ◌≤◌, ◌⊎◌, ℕ, List, length, map, replicate, take, Bool, true, false, Option, Some, slice_index, slice_index_or}
 use Rattle.msg_names.specs.declared.value.ClassRef.{ClassRef}
 use Rattle.msg_buckets.specs.Word.{sel_of, imp_of}
 use Rattle.msg_tables.specs.History.{History}
+use Rattle.msg_tables.specs.Origin.{OriginView, class_total}
 use Rattle.msg_core.specs.declared.state.Standing.{Standing}
 use Rattle.msg_core.specs.declared.state.Standing.TheVariants.{Free, Live, Retired}
 use Rattle.msg_core.specs.declared.state.Whereabouts.{Whereabouts}
@@ -14,8 +15,16 @@ pub record Layout : Type 0 where
   pub senders : ℕ
   pub capacities : List ℕ
 
+-- that of so many senders, and arrays of these capacities, for the classes of an origin
+abbrev pub layout_for : OriginView → ℕ → List ℕ → Layout
+layout_for origin senders capacities = record { classes = class_total origin; senders = senders; capacities = capacities }
+
 abbrev pub capacity : Layout → ℕ → ℕ
 capacity z a = slice_index z.capacities a
+
+-- the words of arrays that are empty
+abbrev pub empty_arrays_of : List ℕ → List (List ℕ)
+empty_arrays_of capacities = map (λ n. replicate n 0) capacities
 
 -- the history, and by number what the words say: the live array of each class reference, the words of each array, what it is for, and where each sender is
 pub record State : Type 0 where

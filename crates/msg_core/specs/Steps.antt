@@ -75,6 +75,32 @@ after z m (Look n) = record m { standing = if is_out (m.whereabouts n) then (λ 
 after z m (Clear a p) = record m { word = stored m.word (Some a) p 0 }
 after z m (Commit xs) = record m { history = and_then m.history xs }
 
+-- ---- one part of the state changed
+
+-- where a sender is
+abbrev pub sender_put : ℕ → Whereabouts → State → State
+sender_put n whereabouts m = record m { whereabouts = at m.whereabouts n whereabouts }
+
+-- the live array of a class reference
+abbrev pub live_put : ClassRef → Option ℕ → State → State
+live_put c array m = record m { live = at_class m.live c array }
+
+-- what an array is for
+abbrev pub standing_put : ℕ → Standing → State → State
+standing_put a standing m = record m { standing = at m.standing a standing }
+
+-- a word of an array
+abbrev pub word_put : ℕ → ℕ → ℕ → State → State
+word_put a p word m = record m { word = stored m.word (Some a) p word }
+
+-- the live array of a class reference, if there is one, is retired
+abbrev pub live_retired : Layout → ClassRef → State → State
+live_retired z c m = record m { standing = retired z m c (m.live c) }
+
+-- no array awaits the sender
+abbrev pub all_seen_out : ℕ → State → State
+all_seen_out n m = record m { standing = λ a. seen_out n (m.standing a) }
+
 -- ---- what it shows
 
 -- the word at a place of the array that is held
@@ -148,10 +174,14 @@ is_entry_in words (Some a) p = is_entry (words a p)
 abbrev pub disagrees : (ClassRef → ℕ → ℕ) → ClassRef → ℕ → Bool
 disagrees look c word = sel_of word == 0 || not (imp_of word == look c (sel_of word))
 
+-- a word is an entry that disagrees
+abbrev pub is_spoiled_entry : (ClassRef → ℕ → ℕ) → ClassRef → ℕ → Bool
+is_spoiled_entry look c word = is_entry word && disagrees look c word
+
 -- some entry of an array, if it is live, disagrees
 abbrev pub is_spoiled : (ClassRef → ℕ → ℕ) → ℕ → (ℕ → ℕ) → Standing → Bool
 is_spoiled look words word Free = false
-is_spoiled look words word (Live c) = some_below words (λ p. is_entry (word p) && disagrees look c (word p))
+is_spoiled look words word (Live c) = some_below words (λ p. is_spoiled_entry look c (word p))
 is_spoiled look words word (Retired c r awaited) = false
 
 module _ (look : History → ClassRef → ℕ → ℕ) (z : Layout) (m : State) where
@@ -176,9 +206,17 @@ module _ (look : History → ClassRef → ℕ → ℕ) (z : Layout) (m : State) 
   abbrev pub no_place : ℕ → Option ℕ → Option EventFault
   no_place p words = when (is_past p words) NoPlace
 
+  -- an array has an entry
+  abbrev pub has_entry : ℕ → Bool
+  has_entry a = some_below (capacity z a) (λ p. is_entry (m.word a p))
+
+  -- an array is live, and has a word that would not agree with the method lists after the changes
+  abbrev pub spoils_array : List Change → ℕ → Bool
+  spoils_array xs a = is_spoiled (look (and_then m.history xs)) (capacity z a) (m.word a) (m.standing a)
+
   -- some live array has a word that would not agree with the method lists after the changes
   abbrev pub spoils : List Change → Bool
-  spoils xs = some_below (length z.capacities) (λ a. is_spoiled (look (and_then m.history xs)) (capacity z a) (m.word a) (m.standing a))
+  spoils xs = some_below (length z.capacities) (spoils_array xs)
 
   -- what speaks against an event, in the order of the faults
   abbrev pub conditions : Event → List (Option EventFault)
@@ -188,7 +226,7 @@ module _ (look : History → ClassRef → ℕ → ℕ) (z : Layout) (m : State) 
   conditions (Leave n) = no_sender n ∷ when (is_out (m.whereabouts n)) NotIn ∷ []
   conditions (Fill c p word) = no_class c ∷ not_live c ∷ no_place p (option_map (capacity z) (m.live c))
       ∷ when (is_entry_in m.word (m.live c) p) NotEmpty ∷ when (disagrees (look m.history) c word) Disagrees ∷ []
-  conditions (Install c a) = no_class c ∷ no_array a ∷ not_free a ∷ when (some_below (capacity z a) (λ p. is_entry (m.word a p))) NotEmpty ∷ []
+  conditions (Install c a) = no_class c ∷ no_array a ∷ not_free a ∷ when (has_entry a) NotEmpty ∷ []
   conditions (Flush c) = no_class c ∷ not_live c ∷ []
   conditions (Look n) = no_sender n ∷ []
   conditions (Clear a p) = no_array a ∷ no_place p (Some (capacity z a)) ∷ not_free a ∷ []

@@ -1,6 +1,6 @@
 -- What contracts see of `Machine`, and the state that it is.
 use Rattle.std.specs.Prelude.{◌≡◌, ◌<◌, ◌≤◌, ◌*◌, ℕ, List, [], length, map, Option, Some, None, slice_index, slice_index_or}
-use Rattle.msg_tables.specs.Origin.{class_total}
+use Rattle.msg_tables.specs.Origin.{OriginView, class_total}
 use Rattle.msg_names.specs.declared.value.ClassRef.{ClassRef}
 use Rattle.msg_tables.specs.History.{History}
 use Rattle.msg_names.specs.ClassRef.{slot_of}
@@ -9,7 +9,7 @@ use Rattle.msg_core.specs.declared.state.Standing.TheVariants.{Free, Live, Retir
 use Rattle.msg_tables.specs.declared.limits.TheConstants.{MOST_SENDERS}
 use Rattle.msg_core.specs.declared.state.Whereabouts.{Whereabouts}
 use Rattle.msg_core.specs.declared.state.Whereabouts.TheVariants.{Out, In, Holding}
-use Rattle.msg_core.specs.State.{Layout, State}
+use Rattle.msg_core.specs.State.{Layout, State, layout_for}
 
 -- what contracts see of a machine: its history, and by number what each word says
 pub record MachineView : Type 0 where
@@ -42,6 +42,10 @@ layout_of v = record {
   capacities = map length v.arrays;
 }
 
+-- there are the classes of an origin, so many senders, and arrays of these capacities
+abbrev pub HasLayout : OriginView → ℕ → List ℕ → MachineView → Type 0
+HasLayout origin senders capacities v = layout_of v ≡ layout_for origin senders capacities
+
 -- the state of a machine
 abbrev pub state_of : MachineView → State
 state_of v = record {
@@ -61,6 +65,10 @@ pub record IsWhole (v : MachineView) : Type 0 where
   pub live_arrays : (c : ClassRef) (a : ℕ) → live_at v.live c ≡ Some a → a < length v.arrays
   pub held_arrays : (n : ℕ) (c : ClassRef) (a : ℕ) → sender_at v.whereabouts n ≡ Holding c a → a < length v.arrays
   pub live_classes : (a : ℕ) (c : ClassRef) → standing_at v.standings a ≡ Live c → c.class < class_total v.history.origin
+
+-- it is the number of an array
+abbrev pub HasArray : MachineView → ℕ → Type 0
+HasArray v a = a < length (layout_of v).capacities
 
 -- a fact about the array that is held, where one is
 abbrev pub IfHolding : Whereabouts → (ℕ → Type 0) → Type 0

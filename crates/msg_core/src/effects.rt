@@ -1,13 +1,13 @@
 //! What events do.
 
-ghost use Rattle.std.specs.Prelude.{[], ◌∷◌, ◌≡◌, ◌<◌, Some, None, Ok, Err, IfOk, OnErr, IfErr, IfSome, length};
+ghost use Rattle.std.specs.Prelude.{◌≡◌, ◌<◌, Some, None, Ok, Err, IfOk, OnErr, IfErr, IfSome, length};
 ghost use Rattle.msg_core.specs.Event as events;
-ghost use Rattle.msg_core.specs.Event.{event_of};
+ghost use Rattle.msg_core.specs.Event.{commit_of, event_of};
 ghost use Rattle.msg_core.specs.declared.fault.EventFault.{EventFault};
-ghost use Rattle.msg_core.specs.Happens.{Becomes, Happens, IsLegal, IsCommit};
+ghost use Rattle.msg_core.specs.Happens.{ChangesBy, Happens, IsLegal, IsCommit};
 ghost use Rattle.msg_core.specs.State.{capacity};
-ghost use Rattle.msg_core.specs.Steps.{shows, at, at_class, stored, retired, seen_out};
-ghost use Rattle.msg_core.specs.View.{layout_of, state_of, IfHolding, IfLive};
+ghost use Rattle.msg_core.specs.Steps.{shows, all_seen_out, live_put, live_retired, sender_put, standing_put, word_put};
+ghost use Rattle.msg_core.specs.View.{layout_of, state_of, HasArray, IfHolding, IfLive};
 
 use crate::awaited::{everyone, see_out};
 use crate::event::{Event, Seen};
@@ -22,16 +22,16 @@ use msg_tables::Change;
 impl Machine {
     fn set_whereabouts(&mut self, sender: u32, whereabouts: Whereabouts)
         requires sender { sender < (layout_of self.old).senders }
-        requires listed { IfHolding whereabouts (λ array. array < length (layout_of self.old).capacities) }
-        ensures { Becomes self.old self.new (record (state_of self.old) { whereabouts = at (state_of self.old).whereabouts sender whereabouts }) }
+        requires listed { IfHolding whereabouts (HasArray self.old) }
+        ensures { ChangesBy (sender_put sender whereabouts) self.old self.new }
     {
         self.whereabouts[sender as usize] = whereabouts;
     }
 
     fn set_live(&mut self, class: ClassRef, array: Option<u32>)
         requires class { class.class < (layout_of self.old).classes }
-        requires listed { IfSome array (λ a. a < length (layout_of self.old).capacities) }
-        ensures { Becomes self.old self.new (record (state_of self.old) { live = at_class (state_of self.old).live class array }) }
+        requires listed { IfSome array (HasArray self.old) }
+        ensures { ChangesBy (live_put class array) self.old self.new }
     {
         self.live[class.slot()] = array;
     }
@@ -39,7 +39,7 @@ impl Machine {
     fn set_standing(&mut self, array: u32, standing: Standing)
         requires array { array < length (layout_of self.old).capacities }
         requires listed { IfLive standing (λ class. class.class < (layout_of self.old).classes) }
-        ensures { Becomes self.old self.new (record (state_of self.old) { standing = at (state_of self.old).standing array standing }) }
+        ensures { ChangesBy (standing_put array standing) self.old self.new }
     {
         self.standings[array as usize] = standing;
     }
@@ -47,7 +47,7 @@ impl Machine {
     fn store(&mut self, array: u32, place: usize, word: u64)
         requires array { array < length (layout_of self.old).capacities }
         requires place { place < capacity (layout_of self.old) array }
-        ensures { Becomes self.old self.new (record (state_of self.old) { word = stored (state_of self.old).word (Some array) place word }) }
+        ensures { ChangesBy (word_put array place word) self.old self.new }
     {
         self.arrays[array as usize].store(place, word);
     }
@@ -55,9 +55,7 @@ impl Machine {
     // The live array of a class reference, if any, is retired.
     fn retire(&mut self, class: ClassRef)
         requires { class.class < (layout_of self.old).classes }
-        ensures { Becomes self.old self.new (record (state_of self.old) {
-          standing = retired (layout_of self.old) (state_of self.old) class ((state_of self.old).live class);
-        }) }
+        ensures { ChangesBy (live_retired (layout_of self.old) class) self.old self.new }
     {
         if let Some(array) = self.live_array(class) {
             let awaited = everyone(self.whereabouts.len());
@@ -69,7 +67,7 @@ impl Machine {
     // No array awaits the sender any more.
     fn await_no_more(&mut self, sender: u32)
         requires { sender < (layout_of self.old).senders }
-        ensures { Becomes self.old self.new (record (state_of self.old) { standing = λ a. seen_out sender ((state_of self.old).standing a) }) }
+        ensures { ChangesBy (all_seen_out sender) self.old self.new }
     {
         see_out(&mut self.standings, sender as usize);
     }
@@ -177,9 +175,9 @@ impl Machine {
 impl Machine {
     // The only event that takes memory: room for the change is made before it is applied.
     pub(crate) fn commit(&mut self, change: Change) -> Result<Seen, EventFault>
-        requires { IsLegal self.old (events.Commit (change ∷ [])) }
-        ensures happens { IfOk result (λ _. Happens self.old self.new (events.Commit (change ∷ []))) }
-        ensures seen { IfOk result (λ seen. seen ≡ shows (state_of self.old) (events.Commit (change ∷ []))) }
+        requires { IsLegal self.old (commit_of change) }
+        ensures happens { IfOk result (λ _. Happens self.old self.new (commit_of change)) }
+        ensures seen { IfOk result (λ seen. seen ≡ shows (state_of self.old) (commit_of change)) }
         ensures err { OnErr result (self.new ≡ self.old) }
         ensures memory { IfErr result (λ fault. fault ≡ EventFault.Memory) }
     {

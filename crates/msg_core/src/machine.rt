@@ -1,12 +1,12 @@
 //! The machine.
 
 ghost use Rattle.std.specs.Prelude.{◌≡◌, ◌<◌, nat_le, length, IfSome, None, [], ◌∷◌};
-ghost use Rattle.msg_tables.specs.History.{lookup, and_then, log};
+ghost use Rattle.msg_tables.specs.History.{lookup, log};
 ghost use Rattle.msg_tables.specs.Several.{refusal_of_all};
 ghost use Rattle.msg_names.specs.ClassRef.{slot_of};
 ghost use Rattle.msg_core.specs.State.{capacity};
-ghost use Rattle.msg_core.specs.Steps.{is_free, some_below, is_entry, disagrees, spoils, is_spoiled};
-ghost use Rattle.msg_core.specs.View.{layout_of, state_of, IfHolding, IfLive};
+ghost use Rattle.msg_core.specs.Steps.{is_free, has_entry, disagrees, spoils, spoils_array};
+ghost use Rattle.msg_core.specs.View.{layout_of, state_of, HasArray, IfHolding, IfLive};
 
 use crate::buckets::Buckets;
 use crate::spoiled::has_spoiled_word;
@@ -63,7 +63,7 @@ impl Machine {
     pub(crate) fn whereabouts_of(&self, sender: u32) -> Whereabouts
         requires { sender < (layout_of self.now).senders }
         ensures whereabouts { result ≡ (state_of self.now).whereabouts sender }
-        ensures listed { IfHolding result (λ array. array < length (layout_of self.now).capacities) }
+        ensures listed { IfHolding result (HasArray self.now) }
     {
         self.whereabouts[sender as usize]
     }
@@ -71,7 +71,7 @@ impl Machine {
     pub(crate) fn live_array(&self, class: ClassRef) -> Option<u32>
         requires { class.class < (layout_of self.now).classes }
         ensures array { result ≡ (state_of self.now).live class }
-        ensures listed { IfSome result (λ array. array < length (layout_of self.now).capacities) }
+        ensures listed { IfSome result (HasArray self.now) }
     {
         self.live[class.slot()]
     }
@@ -109,7 +109,7 @@ impl Machine {
     // Whether some word of the array isn't 0.
     pub(crate) fn has_entry(&self, array: u32) -> bool
         requires { array < length (layout_of self.now).capacities }
-        ensures { result ≡ some_below (capacity (layout_of self.now) array) (λ p. is_entry ((state_of self.now).word array p)) }
+        ensures { result ≡ has_entry lookup (layout_of self.now) (state_of self.now) array }
     {
         self.arrays[array as usize].has_entry()
     }
@@ -150,8 +150,7 @@ impl Machine {
     fn is_spoiled(&self, array: usize, change: &Change) -> bool
         requires array { array < length (layout_of self.now).capacities }
         requires accepted { refusal_of_all (log (state_of self.now).history) (change.now ∷ []) ≡ None }
-        ensures { result ≡ is_spoiled (lookup (and_then (state_of self.now).history (change.now ∷ []))) (capacity (layout_of self.now) array)
-            ((state_of self.now).word array) ((state_of self.now).standing array) }
+        ensures { result ≡ spoils_array lookup (layout_of self.now) (state_of self.now) (change.now ∷ []) array }
     {
         match self.standing(array) {
             Standing::Live(class) => {

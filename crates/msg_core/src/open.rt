@@ -1,10 +1,10 @@
 //! The machine before the first event.
 
-ghost use Rattle.std.specs.Prelude.{◌≡◌, ◌≤◌, IfOk, All, length, map, replicate};
+ghost use Rattle.std.specs.Prelude.{◌≡◌, ◌≤◌, IfOk, All};
 ghost use Rattle.msg_buckets.specs.Capacity.{IsCapacity};
-ghost use Rattle.msg_tables.specs.Origin.{class_total};
 ghost use Rattle.msg_core.specs.Runs.{opening};
-ghost use Rattle.msg_core.specs.View.{layout_of, state_of};
+ghost use Rattle.msg_core.specs.State.{empty_arrays_of};
+ghost use Rattle.msg_core.specs.View.{HasLayout, state_of};
 
 use crate::buckets::Buckets;
 use crate::machine::Machine;
@@ -15,7 +15,7 @@ use std::snapshot::Snapshot;
 
 // Empty arrays of these capacities.
 fn empty_arrays(alloc: Global, capacities: &[u32]) -> Result<Vec<Buckets>, AllocError>
-    ensures { IfOk result (λ arrays. arrays.items ≡ map (λ capacity. replicate capacity 0) capacities.now) }
+    ensures { IfOk result (λ arrays. arrays.items ≡ empty_arrays_of capacities.now) }
 {
     let mut arrays = Vec::new(alloc);
     for capacity in capacities {
@@ -36,7 +36,7 @@ impl Machine {
         requires some_sender { 1 ≤ senders }
         requires few_senders { senders ≤ MOST_SENDERS }
         requires arrays { All IsCapacity arrays.now }
-        ensures layout { IfOk result (λ machine. layout_of machine ≡ record { classes = class_total origin.now; senders = senders; capacities = arrays.now }) }
+        ensures layout { IfOk result (HasLayout origin.now senders arrays.now) }
         ensures state { IfOk result (λ machine. state_of machine ≡ opening origin.now) }
     {
         let classes = origin.class_count() as usize;
@@ -61,7 +61,7 @@ impl Machine {
         requires some_sender { 1 ≤ senders }
         requires few_senders { senders ≤ MOST_SENDERS }
         requires arrays { All IsCapacity arrays.now }
-        ensures layout { IfOk result (λ machine. layout_of machine ≡ record { classes = class_total (C.given classes.now); senders = senders; capacities = arrays.now }) }
+        ensures layout { IfOk result (HasLayout (C.given classes.now) senders arrays.now) }
         ensures state { IfOk result (λ machine. state_of machine ≡ opening (C.given classes.now)) }
     {
         Machine::of(alloc, classes.origin(), senders, arrays)

@@ -1,11 +1,10 @@
 //! Whether words of a live array will agree with the method lists once a change is made.
 
-ghost use Rattle.std.specs.Prelude.{◌≡◌, ◌<◌, ◌&&◌, length, slice_index};
-ghost use Rattle.msg_tables.specs.Log.{Log, lookup, and_then};
+ghost use Rattle.std.specs.Prelude.{◌≡◌, ◌<◌, length};
+ghost use Rattle.msg_tables.specs.Log.{Log};
 ghost use Rattle.msg_tables.specs.Stands.{StandsAt};
 ghost use Rattle.msg_tables.specs.Written.{SeeksAmong};
-ghost use Rattle.msg_core.specs.declared.state.Standing.TheVariants.{Live};
-ghost use Rattle.msg_core.specs.Steps.{is_entry, disagrees, is_spoiled};
+ghost use Rattle.msg_core.specs.Spoiled.{spoils_some, spoils_word};
 
 use crate::buckets::Buckets;
 use msg_buckets::unpack;
@@ -16,7 +15,7 @@ use msg_tables::{Change, Tables};
 fn would_disagree(tables: &Tables, change: &Change, class: ClassRef, word: u64) -> bool
     requires class { class.class < length tables.now.supers }
     requires listed { SeeksAmong (length tables.now.supers) change.now }
-    ensures { (h : Log) → StandsAt tables.now h → result ≡ (is_entry word && disagrees (lookup (and_then h change.now)) class word) }
+    ensures { (h : Log) → StandsAt tables.now h → result ≡ spoils_word h change.now class word }
 {
     if word == 0 {
         return false;
@@ -36,8 +35,7 @@ pub(crate) fn has_spoiled_word(
 ) -> bool
     requires class { class.class < length tables.now.supers }
     requires listed { SeeksAmong (length tables.now.supers) change.now }
-    ensures { (h : Log) → StandsAt tables.now h
-        → result ≡ is_spoiled (lookup (and_then h change.now)) (length words.now) (slice_index words.now) (Live class) }
+    ensures { (h : Log) → StandsAt tables.now h → result ≡ spoils_some h change.now class words.now }
 {
     for place in 0..words.capacity() {
         if would_disagree(tables, change, class, words.word(place)) {

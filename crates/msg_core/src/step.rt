@@ -1,9 +1,9 @@
 //! One event after another.
 
-ghost use Rattle.std.specs.Prelude.{◌≡◌, ◌≢◌, Some, IfOk, OnErr, IfErr, IsErrOf};
+ghost use Rattle.std.specs.Prelude.{◌≡◌, IfOk, OnErr, IfErr, IsErrOf};
 ghost use Rattle.msg_core.specs.declared.fault.EventFault.{EventFault};
 ghost use Rattle.msg_core.specs.Event.{event_of};
-ghost use Rattle.msg_core.specs.Happens.{Happens, IsLegal, IsCommit, refusal_of};
+ghost use Rattle.msg_core.specs.Happens.{Happens, IsLegal, IsLegalCommit, IsRefusedUnlessMemory};
 ghost use Rattle.msg_core.specs.Steps.{shows};
 ghost use Rattle.msg_core.specs.View.{layout_of, state_of};
 
@@ -21,8 +21,8 @@ impl Machine {
         ensures happens { IfOk result (λ _. Happens self.old self.new (event_of event)) }
         ensures seen { IfOk result (λ seen. seen ≡ shows (state_of self.old) (event_of event)) }
         ensures err { OnErr result (self.new ≡ self.old) }
-        ensures fault { IfErr result (λ fault. fault ≢ EventFault.Memory → refusal_of self.old (event_of event) ≡ Some fault) }
-        ensures memory { IsErrOf result EventFault.Memory → IsLegal self.old (event_of event) × IsCommit (event_of event) }
+        ensures fault { IfErr result (IsRefusedUnlessMemory self.old (event_of event)) }
+        ensures memory { IsErrOf result EventFault.Memory → IsLegalCommit self.old (event_of event) }
     {
         if let Some(fault) = self.refusal(&event) {
             return Err(fault);

@@ -1,0 +1,59 @@
+-- Laws of the machine: of every lookup, every layout with some sender, and every list of events that isn't refused.
+use Rattle.std.specs.Prelude.{◌≡◌, ◌≢◌, ℕ, ◌<◌, List, [], ◌∷◌, ◌++◌, All}
+use Rattle.msg_names.specs.declared.value.ClassRef.{ClassRef}
+use Rattle.msg_buckets.specs.Word.{sel_of}
+use Rattle.msg_tables.specs.Origin.{OriginView}
+use Rattle.msg_tables.specs.History.{History}
+use Rattle.msg_core.specs.Event.{Event, Header, Read, Install, Clear}
+use Rattle.msg_core.specs.declared.state.Whereabouts.TheVariants.{Holding}
+use Rattle.msg_core.specs.Runs.{opening, after_all, AreLegal, IsNoHeader, HasLoaded, AgreesBetween}
+use Rattle.msg_core.specs.State.{Layout, State, Lawful, Sound, size}
+use Rattle.msg_core.specs.Steps.{after, Legal, held_word}
+
+-- an event that isn't refused keeps a sound state sound
+abbrev pub EventsKeepSound : Type 0
+EventsKeepSound = (look : History → ClassRef → ℕ → ℕ) (z : Layout) (m : State) (e : Event) → 0 < z.senders → Sound look z m → Legal look z m e → Sound look z (after z m e)
+
+-- after a legal run the state is lawful
+abbrev pub RunsAreLawful : Type 0
+RunsAreLawful = (look : History → ClassRef → ℕ → ℕ) (z : Layout) (origin : OriginView) (es : List Event) → 0 < z.senders → AreLegal look z (opening origin) es
+    → Lawful look z (after_all z (opening origin) es)
+
+-- and its numbers are in range
+abbrev pub RunsAreSound : Type 0
+RunsAreSound = (look : History → ClassRef → ℕ → ℕ) (z : Layout) (origin : OriginView) (es : List Event) → 0 < z.senders → AreLegal look z (opening origin) es
+    → Sound look z (after_all z (opening origin) es)
+
+-- nobody holds an array that is installed next
+abbrev pub NobodyHoldsInstalled : Type 0
+NobodyHoldsInstalled = (look : History → ClassRef → ℕ → ℕ) (z : Layout) (origin : OriginView) (es : List Event) (c : ClassRef) (a : ℕ) → 0 < z.senders
+    → AreLegal look z (opening origin) (es ++ Install c a ∷ []) → (n : ℕ) (d : ClassRef) → (after_all z (opening origin) es).whereabouts n ≢ Holding d a
+
+-- nor one of which a word is cleared next
+abbrev pub NobodyHoldsCleared : Type 0
+NobodyHoldsCleared = (look : History → ClassRef → ℕ → ℕ) (z : Layout) (origin : OriginView) (es : List Event) (a p : ℕ) → 0 < z.senders
+    → AreLegal look z (opening origin) (es ++ Clear a p ∷ []) → (n : ℕ) (d : ClassRef) → (after_all z (opening origin) es).whereabouts n ≢ Holding d a
+
+-- who holds an array for a class reference has loaded its header word, and none since
+abbrev pub HolderHasLoaded : Type 0
+HolderHasLoaded = (z : Layout) (origin : OriginView) (es : List Event) (n : ℕ) (c : ClassRef) (a : ℕ)
+    → (after_all z (opening origin) es).whereabouts n ≡ Holding c a → HasLoaded n c es
+
+-- who reads next holds an array for a class reference, and has loaded its header word, and none since
+abbrev pub ReaderHolds : Type 0
+ReaderHolds = (look : History → ClassRef → ℕ → ℕ) (z : Layout) (origin : OriginView) (es : List Event) (n p : ℕ) → AreLegal look z (opening origin) (es ++ Read n p ∷ [])
+    → (c : ClassRef) × (a : ℕ) × ((after_all z (opening origin) es).whereabouts n ≡ Holding c a) × HasLoaded n c es
+
+-- a word that is read next has a selector, if it isn't 0
+abbrev pub ReadHasSelector : Type 0
+ReadHasSelector = (look : History → ClassRef → ℕ → ℕ) (z : Layout) (origin : OriginView) (es : List Event) (n p : ℕ) → 0 < z.senders
+    → AreLegal look z (opening origin) (es ++ Read n p ∷ [])
+    → let m = after_all z (opening origin) es in held_word m.word (m.whereabouts n) p ≢ 0 → 0 < sel_of (held_word m.word (m.whereabouts n) p)
+
+-- and the implementation that was looked up for that, not before the reader's last header load and not after the read
+abbrev pub ReadAgreesSinceHeader : Type 0
+ReadAgreesSinceHeader = (look : History → ClassRef → ℕ → ℕ) (z : Layout) (origin : OriginView) (before mid : List Event) (n : ℕ) (c : ClassRef) (p : ℕ) → 0 < z.senders
+    → AreLegal look z (opening origin) (before ++ Header n c ∷ mid ++ Read n p ∷ []) → All (IsNoHeader n) mid
+    → let m = after_all z (opening origin) (before ++ Header n c ∷ mid) in
+    held_word m.word (m.whereabouts n) p ≢ 0
+    → AgreesBetween look (size (after_all z (opening origin) before).history) m.history c (held_word m.word (m.whereabouts n) p)
