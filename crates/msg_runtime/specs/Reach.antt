@@ -17,17 +17,17 @@ abbrev pub unless_counted : Option CountsView → List ClassRef → Option (List
 unless_counted None places = Some places
 unless_counted (Some counts) places = None
 
--- where the method stands that a lookup finds, if it finds one
-abbrev pub place_of : Log → ClassRef → Selector → List ClassRef
-place_of h c s = at_most_one (holder h c (selector_number s))
+-- the class reference at which the method stands that a lookup finds, if it finds one
+abbrev pub holders_of : Log → ClassRef → Selector → List ClassRef
+holders_of h c s = at_most_one (holder h c (selector_number s))
 
 -- where a method is flushed that was set
 abbrev pub set_places : Log → ClassRef → Selector → Option (List ClassRef)
-set_places h c s = unless_counted h.origin.counts (place_of h c s)
+set_places h c s = unless_counted h.origin.counts (holders_of h c s)
 
 -- and two methods that were exchanged
 abbrev pub exchanged_places : Log → (ClassRef × Selector) → (ClassRef × Selector) → Option (List ClassRef)
-exchanged_places h one other = unless_counted h.origin.counts (place_of h one.0 one.1 ++ place_of h other.0 other.1)
+exchanged_places h one other = unless_counted h.origin.counts (holders_of h one.0 one.1 ++ holders_of h other.0 other.1)
 
 -- The class references that are flushed with all below them after a change, where this is then the log; none where all caches are flushed.
 abbrev pub flushed_places : Log → Change → Option (List ClassRef)

@@ -12,7 +12,7 @@ ghost use Rattle.msg_tables.specs.Stands.{StandsAt};
 ghost use Rattle.msg_cache.specs.Ours.{HasNoArray};
 ghost use Rattle.msg_runtime.specs.Flushed.{AreClasses, AreFlushed, ClassIsFlushed, FirstAreFlushed, PlacesAreFlushed, ReachedAreFlushed, StayFlushed};
 ghost use Rattle.msg_runtime.specs.Parts.{IsKeeperOf, keeper_history};
-ghost use Rattle.msg_runtime.specs.Reach.{exchanged_places, is_flushed, place_of, set_places};
+ghost use Rattle.msg_runtime.specs.Reach.{exchanged_places, is_flushed, holders_of, set_places};
 
 use msg_cache::{Arena, Keeper};
 use msg_names::{ClassRef, Selector};
@@ -130,7 +130,7 @@ fn flush_holder(
     requires room { length tables.now.supers ≤ below.old.room }
     ensures arena { IsKeeperOf arena.now keeper.new }
     ensures history { keeper_history keeper.new ≡ keeper_history keeper.old }
-    ensures flushed { PlacesAreFlushed arena.now tables.now keeper.new (λ h. place_of h class sel) }
+    ensures flushed { PlacesAreFlushed arena.now tables.now keeper.new (λ h. holders_of h class sel) }
     ensures others { StayFlushed arena.now keeper.old keeper.new }
     ensures room { length tables.now.supers ≤ below.new.room }
 {
