@@ -1,7 +1,8 @@
 /* Methods that stand in classes, and changes of them: by the proved calls of the tables and then of the rows, under one
  * lock. So what a row says nobody finds otherwise by the tables later; and what it no longer says, nobody has found
  * before by them, since what was changed is found anew under the lock alone. Trusted: this order, that rows and tables
- * say the same after each change, and that a change for whose function there is no number changes neither. */
+ * say the same after each change, that a change for whose function there is no number changes neither, and that of what
+ * a module brings no name is found before the tables have all of it. */
 #include "seat.h"
 #include "msg_objc.h"
 #include <stdlib.h>
@@ -27,12 +28,6 @@ static void make_room(struct record *record)
     record->room = room;
 }
 
-void shim_list(struct record *record, Method method)
-{
-    record->methods = shim_more(record->methods, record->method_count, &record->method_room, sizeof method);
-    record->methods[record->method_count++] = method;
-}
-
 static void put_row(struct record *record, Method method)
 {
     uint32_t sel = shim_sel(method->name.sel);
@@ -46,10 +41,11 @@ static void put_row(struct record *record, Method method)
     record->count++;
 }
 
-/* Of the methods that are listed from there on. */
-static void put_rows(struct record *record, uint32_t from)
+static void stand(struct record *record, Method method)
 {
-    for (uint32_t i = from; i < record->method_count; i++) put_row(record, record->methods[i]);
+    record->methods = shim_more(record->methods, record->method_count, &record->method_room, sizeof method);
+    record->methods[record->method_count++] = method;
+    put_row(record, method);
 }
 
 /* Goes through a class in construction, which has no place in the tables, to its superclass. */
@@ -88,8 +84,7 @@ static void add(struct record *record, Method method, uint32_t imp)
 {
     uint32_t sel = shim_sel(method->name.sel);
     put(record, sel, imp);
-    shim_list(record, method);
-    put_row(record, method);
+    stand(record, method);
     cache(record, sel);
 }
 
@@ -107,38 +102,6 @@ static void exchange(struct record *one, struct row *row, struct record *other, 
     shim_must(msg_exchange(shim_runtime, one->number, one->meta, row->sel, number, other->meta, sel), "exchange");
     shim_set_imp(row->method, other_row->method->imp);
     shim_set_imp(other_row->method, imp);
-}
-
-/* The newest first: of one name the first counts. */
-static msg_method *newest(struct record *record, uint32_t from)
-{
-    msg_method *list = shim_memory((record->method_count - from) * sizeof *list), *at = list;
-    for (uint32_t i = record->method_count; i-- > from;) {
-        Method method = record->methods[i];
-        *at++ = (msg_method){shim_sel(method->name.sel), shim_number(method->imp)};
-    }
-    return list;
-}
-
-void shim_attach(Class class_, uint32_t from, uint32_t class_from)
-{
-    struct record *record = class_->record, *meta = class_->isa->record;
-    msg_method *methods = newest(record, from), *class_methods = newest(meta, class_from);
-    size_t count = record->method_count - from, class_count = meta->method_count - class_from;
-    shim_must(msg_attach(shim_runtime, record->number, methods, count, class_methods, class_count), class_->name);
-    free(methods);
-    free(class_methods);
-    put_rows(record, from);
-    put_rows(meta, class_from);
-}
-
-void shim_make(Class class_)
-{
-    uint32_t number = class_->record->number;
-    Class above = class_->superclass.class_;
-    if (above) shim_must(msg_make_class(shim_runtime, number, above->record->number), class_->name);
-    else shim_must(msg_make_root_class(shim_runtime, number), class_->name);
-    shim_attach(class_, 0, 0);
 }
 
 /* ---- as programs ask for them ---- */
@@ -267,8 +230,58 @@ Method *class_copyMethodList(Class class_, unsigned int *count)
 
 /* ---- several at once: one change of the tables ---- */
 
-/* A part of it, and the method that it changes: the class's own, or one that is to be put; and what was found before. */
+/* A part of it, and the method that it changes: one that is to be put, or is there; and what was found before. */
 struct swap { msg_change part; struct record *record; Method method; bool is_new; IMP before; };
+
+/* What a module or a class pair brings, until it is made. */
+static struct swap *coming;
+static uint32_t coming_count, coming_room;
+
+/* 0 where the tables have made all that was planned; else there is the place of what they refuse, as where memory is wanting. */
+static uint32_t change_all(const struct swap *swaps, size_t count, size_t *place)
+{
+    if (*place < count) return MSG_BAD_CHANGE;
+    if (!count) return MSG_DONE;
+    msg_change *parts = shim_memory(count * sizeof *parts);
+    for (size_t i = 0; i < count; i++) parts[i] = swaps[i].part;
+    *place = 0;
+    uint32_t fault = msg_change_all(shim_runtime, parts, count, place);
+    free(parts);
+    if (!fault) *place = count;
+    return fault;
+}
+
+static void bring(struct swap swap)
+{
+    coming = shim_more(coming, coming_count, &coming_room, sizeof *coming);
+    coming[coming_count++] = swap;
+}
+
+void shim_bring_method(struct record *record, Method method, bool is_new)
+{
+    uint32_t sel = shim_sel(method->name.sel), imp = shim_number(method->imp);
+    bring((struct swap){{MSG_REPLACES, record->number, record->meta, sel, imp, 0, 0, 0}, record, method, is_new, NULL});
+}
+
+void shim_bring_class(Class class_)
+{
+    struct record *both[2] = {class_->record, class_->isa->record};
+    Class above = class_->superclass.class_;
+    uint32_t kind = above ? MSG_MAKES_CLASS : MSG_MAKES_ROOT_CLASS, other = above ? above->record->number : 0;
+    bring((struct swap){.part = {kind, both[0]->number, 0, 0, 0, other, 0, 0}});
+    for (int j = 0; j < 2; j++)
+        for (uint32_t i = 0; i < both[j]->method_count; i++) shim_bring_method(both[j], both[j]->methods[i], false);
+}
+
+void shim_make(const char *what)
+{
+    size_t place = coming_count;
+    shim_must(change_all(coming, coming_count, &place), what);
+    for (uint32_t i = 0; i < coming_count; i++)
+        if (coming[i].is_new) stand(coming[i].record, coming[i].method);
+    coming_count = 0;
+    shim_publish();
+}
 
 static bool is_named_before(const struct objc_method_swap *rows, size_t at)
 {
@@ -295,10 +308,8 @@ static bool plan(const struct objc_method_swap *rows, size_t at, struct swap *sw
 /* In the rows, after the tables: what was before comes into `imp`. */
 static void settle(struct swap *swap, struct objc_method_swap *it)
 {
-    if (swap->is_new) {
-        shim_list(swap->record, swap->method);
-        put_row(swap->record, swap->method);
-    } else shim_set_imp(swap->method, it->imp);
+    if (swap->is_new) stand(swap->record, swap->method);
+    else shim_set_imp(swap->method, it->imp);
     it->imp = swap->before;
 }
 
@@ -309,19 +320,6 @@ static void forget(struct swap *swap)
     free(swap->method);
 }
 
-/* Whether the tables have made all that was planned; else the place of what they refuse, as where memory is wanting. */
-static bool change_all(const struct swap *swaps, size_t count, size_t *place)
-{
-    if (*place < count || !count) return !count;
-    msg_change *parts = shim_memory(count * sizeof *parts);
-    for (size_t i = 0; i < count; i++) parts[i] = swaps[i].part;
-    *place = 0;
-    bool made = !msg_change_all(shim_runtime, parts, count, place);
-    free(parts);
-    if (made) *place = count;
-    return made;
-}
-
 size_t objc_replace_methods(struct objc_method_swap *rows, size_t count)
 {
     CHANGING;
@@ -329,7 +327,7 @@ size_t objc_replace_methods(struct objc_method_swap *rows, size_t count)
     size_t planned = 0;
     while (planned < count && plan(rows, planned, &swaps[planned])) planned++;
     size_t place = planned;
-    bool made = change_all(swaps, count, &place);
+    bool made = !change_all(swaps, count, &place);
     for (size_t i = 0; i < planned; i++) {
         if (made) settle(&swaps[i], &rows[i]);
         else forget(&swaps[i]);
@@ -354,7 +352,7 @@ size_t objc_exchange_methods(const struct objc_method_pair *pairs, size_t count)
     struct swap *swaps = shim_memory(count * sizeof *swaps);
     size_t place = 0;
     while (place < count && plan_exchange(&pairs[place], &swaps[place])) place++;
-    bool made = change_all(swaps, count, &place);
+    bool made = !change_all(swaps, count, &place);
     for (size_t i = 0; made && i < count; i++) {
         IMP imp = pairs[i].one->imp;
         shim_set_imp(pairs[i].one, pairs[i].other->imp);

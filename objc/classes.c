@@ -9,6 +9,7 @@ enum { PLACES = 16384 };
 Class shim_classes[MOST_CLASSES + 1];
 uint32_t shim_class_count, shim_class_room;
 static uint32_t in_construction; /* for which a number is kept */
+static _Atomic(uint32_t) made; /* the tables have the classes of the numbers up to this */
 static _Atomic(Class) by_name[PLACES]; /* the last that came of each place, and before it its record's next */
 static objc_get_unknown_class_handler unknown_class;
 
@@ -20,12 +21,16 @@ static uint32_t place_of(const char *name)
 }
 
 /* No class leaves the table, so it is read without the lock. */
-Class shim_class_named(const char *name)
+static Class named(const char *name, uint32_t last)
 {
     Class class_ = atomic_load_explicit(&by_name[place_of(name)], memory_order_acquire);
-    while (class_ && strcmp(class_->name, name)) class_ = class_->record->next;
+    while (class_ && (class_->record->number > last || strcmp(class_->name, name))) class_ = class_->record->next;
     return class_;
 }
+
+Class shim_class_named(const char *name) { return named(name, atomic_load_explicit(&made, memory_order_acquire)); }
+Class shim_class_coming(const char *name) { return named(name, MOST_CLASSES); }
+void shim_publish(void) { atomic_store(&made, shim_class_count); }
 
 struct record *shim_new_record(Class class_, bool meta)
 {
@@ -40,15 +45,11 @@ bool shim_has_class_number(void) { return shim_class_count + in_construction < s
 /* The class and its metaclass have records. */
 void shim_number_class(Class class_)
 {
+    _Atomic(Class) *place = &by_name[place_of(class_->name)];
     shim_classes[++shim_class_count] = class_;
     class_->record->number = shim_class_count;
     class_->isa->record->number = shim_class_count;
     class_->isa->record->plain = class_->record;
-}
-
-void shim_publish(Class class_)
-{
-    _Atomic(Class) *place = &by_name[place_of(class_->name)];
     class_->record->next = atomic_load(place);
     atomic_store(place, class_);
 }
@@ -149,8 +150,8 @@ void objc_registerClassPair(Class class_)
     if (!shim_in_construction(class_) || shim_class_named(class_->name)) return;
     in_construction--;
     shim_number_class(class_);
-    shim_make(class_);
-    shim_publish(class_);
+    shim_bring_class(class_);
+    shim_make(class_->name);
 }
 
 static void free_methods(struct record *record)

@@ -1,6 +1,6 @@
 /* Modules: classes are taken when their superclass is there; categories and constant objects wait for their class;
  * +load is sent once, a superclass's first. Trusted: that what a module says is taken once, in the order of classes
- * above others, and found by its name only with its methods. */
+ * above others, and that all of it is brought before it is made. */
 #include "shim.h"
 #include <stdio.h>
 #include <string.h>
@@ -27,7 +27,7 @@ static void take_method(Class class_, struct record *record, Method method)
     method->name.sel = shim_needed_selector(name, method->types);
     if (!shim_number(method->imp)) shim_stop("too many implementations", class_->name);
     if (record->meta && !strcmp(name, "load")) note_load(class_, NULL, method->imp, method->name.sel);
-    shim_list(record, method);
+    shim_bring_method(record, method, true);
 }
 
 static void take_lists(Class class_, struct record *record, struct method_list *list)
@@ -47,11 +47,10 @@ static void take_class(Class class_, Class above)
     shim_new_record(meta, true);
     shim_number_class(class_);
     note_load(class_, NULL, NULL, NULL);
+    shim_bring_class(class_);
     take_lists(class_, class_->record, class_->methods);
     take_lists(class_, meta->record, meta->methods);
-    shim_take_protocols(class_->protocols, shim_class_named("Protocol"));
-    shim_make(class_);
-    shim_publish(class_);
+    shim_take_protocols(class_->protocols, shim_class_coming("Protocol"));
 }
 
 /* A class for which there is no number waits, as one without its superclass. */
@@ -68,8 +67,8 @@ static bool has_number(Class class_)
 static bool try_class(void *row)
 {
     Class class_ = row;
-    if (shim_class_named(class_->name)) return true;
-    Class above = class_->superclass.text ? shim_class_named(class_->superclass.text) : NULL;
+    if (shim_class_coming(class_->name)) return true;
+    Class above = class_->superclass.text ? shim_class_coming(class_->superclass.text) : NULL;
     if ((class_->superclass.text && !above) || !has_number(class_)) return false;
     take_class(class_, above);
     return true;
@@ -78,7 +77,7 @@ static bool try_class(void *row)
 static void adopt(Class class_, struct protocol_list *list)
 {
     if (!list) return;
-    shim_take_protocols(list, shim_class_named("Protocol"));
+    shim_take_protocols(list, shim_class_coming("Protocol"));
     struct protocol_list *last = list;
     while (last->next) last = last->next;
     last->next = class_->protocols;
@@ -88,13 +87,11 @@ static void adopt(Class class_, struct protocol_list *list)
 static bool try_category(void *row)
 {
     struct objc_category *category = row;
-    Class class_ = shim_class_named(category->class_name);
+    Class class_ = shim_class_coming(category->class_name);
     if (!class_) return false;
-    uint32_t from = class_->record->method_count, class_from = class_->isa->record->method_count;
     note_load(class_, category, NULL, NULL);
     take_lists(class_, class_->record, category->methods);
     take_lists(class_, class_->isa->record, category->class_methods);
-    shim_attach(class_, from, class_from);
     adopt(class_, category->protocols);
     return true;
 }
@@ -136,10 +133,12 @@ static void take_symbols(struct symbols *symbols)
     for (struct constants **list = *at; list && *list; list++) wait_row(&constants, *list);
 }
 
-static void take_what_waits(void)
+/* What a module brings, and what it was waited for with, is one change. */
+static void take_what_waits(const char *name)
 {
     while (try_all(&classes, try_class)) {}
     try_all(&categories, try_category);
+    shim_make(name);
     try_all(&constants, try_constants);
 }
 
@@ -169,7 +168,7 @@ static void take_module(struct module *module)
     if (!begun) take_symbols(shim_roots.symbols);
     begun = true;
     if (module != &shim_roots) take_symbols(module->symbols);
-    take_what_waits();
+    take_what_waits(module->name);
 }
 
 /* A program may have no module, and those of others may come before. */

@@ -76,10 +76,11 @@ void shim_take_selector(struct objc_selector *sel);
 
 /* classes.c */
 Class shim_class_named(const char *name); /* without the lock */
+Class shim_class_coming(const char *name); /* or one that is numbered and not yet found by others */
 struct record *shim_new_record(Class class_, bool meta);
 bool shim_has_class_number(void);
 void shim_number_class(Class class_);
-void shim_publish(Class class_); /* found by its name from now on: the tables have it */
+void shim_publish(void); /* those that are numbered are found by their names from now on: the tables have them */
 static inline bool shim_in_construction(Class class_) { return class_->record && !class_->record->number; }
 
 /* roots.c: the module of Object, Protocol and NXConstantString; loading.c takes it. */
@@ -90,10 +91,10 @@ void shim_take_roots(void);
 void shim_take_protocol(struct protocol *protocol, Class class_);
 void shim_take_protocols(struct protocol_list *list, Class class_);
 
-/* changing.c: methods are listed, and then the tables make their class with them, or attach those from there on. */
-void shim_list(struct record *record, Method method);
-void shim_make(Class class_);
-void shim_attach(Class class_, uint32_t from, uint32_t class_from);
+/* changing.c: what a module or a class pair brings, in the order in which it counts, and then all of it as one change. */
+void shim_bring_class(Class class_); /* with the methods that it has by now */
+void shim_bring_method(struct record *record, Method method, bool is_new); /* or it is one of those */
+void shim_make(const char *what);
 Method shim_standing(Class class_, uint32_t sel); /* what the rows say; also without the lock */
 static inline IMP shim_imp(Method method) { return __atomic_load_n(&method->imp, __ATOMIC_ACQUIRE); }
 static inline void shim_set_imp(Method method, IMP imp) { __atomic_store_n(&method->imp, imp, __ATOMIC_RELEASE); }

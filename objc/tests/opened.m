@@ -1,4 +1,5 @@
-/* Modules are loaded beside threads that find their classes by name: who finds one can ask it and send to it. */
+/* Modules are loaded beside threads that find their classes by name: who finds one can ask it and send to it, and has all
+ * that its module brings to other classes, also where it was noted before that there is no such method. */
 #include "../roots.h"
 #include <dlfcn.h>
 #include <pthread.h>
@@ -12,9 +13,14 @@ __attribute__((objc_root_class)) @interface Base { Class isa; }
 @implementation Base
 + (int)value { return 1; }
 @end
+/* Of which no change of Base takes anything out of a cache. */
+__attribute__((objc_root_class)) @interface Apart { Class isa; }
+@end
+@implementation Apart
+@end
 
 static int wrong, found, waiting[2] = {-1, -1};
-static SEL value, own; /* there before, since a name is registered under a lock */
+static SEL value, own, added[MODULES_COUNT]; /* there before, since a name is registered under a lock */
 
 static void count(int *at) { __atomic_fetch_add(at, 1, __ATOMIC_SEQ_CST); }
 
@@ -26,6 +32,8 @@ static int is_right(Class class_, int module, int asks)
     return sent(class_, value) == 100 + module;
 }
 
+static int is_whole(int module) { return class_respondsToSelector(objc_getMetaClass("Apart"), added[module]); }
+
 /* Those of each module's classes that come first, in the middle and last. */
 static void *find(void *asks)
 {
@@ -36,11 +44,12 @@ static void *find(void *asks)
             Class class_;
             snprintf(name, sizeof name, "Opened%d_%s", module, ends[i]);
             do {
-                if (sent(objc_getClass("Base"), value) != 1) count(&wrong);
+                if (asks) is_whole(module);
+                else if (sent(objc_getClass("Base"), value) != 1) count(&wrong);
                 class_ = objc_lookUpClass(name);
                 __atomic_store_n(&waiting[asks != NULL], module, __ATOMIC_SEQ_CST);
             } while (!class_);
-            if (!is_right(class_, module, asks != NULL)) count(&wrong);
+            if (!is_whole(module) || !is_right(class_, module, asks != NULL)) count(&wrong);
             count(&found);
         }
     return NULL;
@@ -48,14 +57,13 @@ static void *find(void *asks)
 
 static void load(int module)
 {
-    char path[512], added[32];
+    char path[512];
     snprintf(path, sizeof path, "%s.%d.so", MODULES, module);
     if (!dlopen(path, RTLD_NOW)) {
         printf("%s\n", dlerror());
         count(&wrong);
     }
-    snprintf(added, sizeof added, "added%d", module);
-    if (sent(objc_getClass("Base"), sel_registerName(added)) != module) count(&wrong);
+    if (sent(objc_getClass("Apart"), added[module]) != module) count(&wrong);
 }
 
 int main(void)
@@ -63,6 +71,11 @@ int main(void)
     pthread_t threads[2];
     value = sel_registerName("value");
     own = sel_registerName("own");
+    for (int module = 0; module < MODULES_COUNT; module++) {
+        char name[32];
+        snprintf(name, sizeof name, "added%d", module);
+        added[module] = sel_registerName(name);
+    }
     [Base value];
     for (int i = 0; i < 2; i++) pthread_create(&threads[i], NULL, find, i ? &wrong : NULL);
     for (int module = 0; module < MODULES_COUNT; module++) {

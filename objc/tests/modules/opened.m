@@ -1,4 +1,4 @@
-/* A module of the test `opened`, of 64 classes, whose names have its number N. */
+/* A module of the test `opened`, of 64 classes, whose names have its number N, and a category. */
 #include "../../roots.h"
 
 @interface Base
@@ -21,8 +21,10 @@ SIXTEEN(0) SIXTEEN(1) SIXTEEN(2) SIXTEEN(3)
 
 #define ADDED(n) added##n
 #define ADDED_BY(n) ADDED(n)
-@interface Base (NAMED(By, N))
+@interface Apart
 @end
-@implementation Base (NAMED(By, N))
+@interface Apart (NAMED(By, N))
+@end
+@implementation Apart (NAMED(By, N))
 + (int)ADDED_BY(N) { return N; }
 @end
