@@ -1,7 +1,16 @@
 -- Texts as lists of bytes.
-use Rattle.std.specs.Prelude.{ℕ, List, map, Vec}
+use Rattle.std.specs.Prelude.{ℕ, List, Option, None, Vec, map, count_by, if◌then◌else◌, ◌==◌}
 use Rattle.std.specs.Global.{Global}
+use Rattle.msg_names.specs.Numbering.{name_at}
 
 -- the bytes of each text
 abbrev pub texts_of : List (Vec ℕ Global) → List (List ℕ)
 texts_of keys = map (λ (k : Vec ℕ Global). k.items) keys
+
+-- the text of a number, of which the first is 1
+abbrev pub text_at : List (List ℕ) → ℕ → Option (List ℕ)
+text_at texts number = if number == 0 then None else name_at texts number
+
+-- how many colons a text has
+abbrev pub colons_of : List ℕ → ℕ
+colons_of text = count_by (λ byte. byte == 58) text

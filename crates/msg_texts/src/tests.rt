@@ -20,6 +20,7 @@ fn texts_have_numbers_in_the_order_in_which_they_come(rt: HostRuntime) {
     assert_eq!(&rt; texts.find(b"valu"), None);
     assert_eq!(&rt; texts.text(3), Some(&b"\xff\x00"[..]));
     assert_eq!(&rt; texts.text(5), None);
+    assert_eq!(&rt; texts.text(0), None);
 }
 
 #[test]
@@ -32,4 +33,17 @@ fn there_is_room_for_more_than_a_document_has(rt: HostRuntime) {
         );
     }
     assert_eq!(&rt; texts.find(&4_999_u32.to_le_bytes()), Some(5_000));
+}
+
+#[test]
+fn colons_are_counted(rt: HostRuntime) {
+    let mut texts = Texts::new(rt.alloc());
+    interned(&rt, &mut texts, b"value");
+    interned(&rt, &mut texts, b"setValue:forKey:");
+    interned(&rt, &mut texts, b":\x00:\xba:");
+    assert_eq!(&rt; texts.colons(1), Some(0));
+    assert_eq!(&rt; texts.colons(2), Some(2));
+    assert_eq!(&rt; texts.colons(3), Some(3));
+    assert_eq!(&rt; texts.colons(4), None);
+    assert_eq!(&rt; texts.colons(0), None);
 }

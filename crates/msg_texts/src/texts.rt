@@ -3,8 +3,8 @@
 ghost use Rattle.std.specs.Prelude.{◌≡◌, ◌<◌, ◌≤◌, ◌↔◌, ◌^◌, [], length, map, IfOk, IfSome, IsErrOf, OnErr, OnOk, false, option_map};
 ghost use Rattle.std.specs.List.{list_any};
 ghost use Rattle.std.specs.Str.{bytes_eq};
-ghost use Rattle.msg_names.specs.Numbering.{number_of, name_at, with_name};
-ghost use Rattle.msg_texts.specs.Texts.{texts_of};
+ghost use Rattle.msg_names.specs.Numbering.{number_of, with_name};
+ghost use Rattle.msg_texts.specs.Texts.{texts_of, text_at, colons_of};
 ghost use Rattle.msg_texts.specs.declared.texts.TheConstants.{MAX_TEXTS};
 
 use indexmap::IndexSet;
@@ -68,10 +68,19 @@ impl Texts {
 
     /// The text of a number, where there is one.
     pub fn text(&self, number: u32) -> Option<&[u8]>
-        requires { 0 < number }
-        ensures { option_map (λ t. t.now) result ≡ name_at self.now number }
+        ensures { option_map (λ t. t.now) result ≡ text_at self.now number }
     {
         text_in(&self.set, number)
+    }
+
+    /// How many colons the text of a number has: as many arguments as a selector takes whose name it is.
+    pub fn colons(&self, number: u32) -> Option<usize>
+        ensures { result ≡ option_map colons_of (text_at self.now number) }
+    {
+        match self.text(number) {
+            Some(text) => Some(colons_in(text)),
+            None => None,
+        }
     }
 
     /// The number of a text. A text that is new gets the next; only then is memory wanted.
@@ -95,11 +104,19 @@ fn find_in(set: &IndexSet<Vec<u8>>, text: &[u8]) -> Option<u32>
 }
 
 fn text_in(set: &IndexSet<Vec<u8>>, number: u32) -> Option<&[u8]>
-    requires { 0 < number }
-    ensures { option_map (λ t. t.now) result ≡ name_at (texts_of set.now.keys) number }
+    ensures { option_map (λ t. t.now) result ≡ text_at (texts_of set.now.keys) number }
 {
+    if number == 0 {
+        return None;
+    }
     let text = set.get_index(number as usize - 1)?;
     Some(text.as_slice())
+}
+
+fn colons_in(text: &[u8]) -> usize
+    ensures { result ≡ colons_of text.now }
+{
+    text.iter().filter(|byte| **byte == b':').count()
 }
 
 fn copied(alloc: Global, text: &[u8]) -> Result<Vec<u8>, TextFault>
