@@ -4,9 +4,9 @@
  *
  *   - this header says what crates/msg_c exports;
  *   - pointers are not NULL, also of a slice of length 0 (but see msg_open), and point to as much as is said; a bool is 0 or 1;
- *   - a handle starts as MSG_RUNTIME_INIT or MSG_SENDER_INIT (zero bytes), its bytes are then left alone, and it is not copied: it is moved at most;
- *   - a handle is in one call at a time. Calls that take a msg_runtime are made under one lock of the host's, its runtime lock (a pthread mutex, a GIL).
- *     Calls that take a msg_sender alone want no lock: any number of senders may be in them at once, beside one that has the lock;
+ *   - a handle starts as MSG_RUNTIME_INIT, MSG_SENDER_INIT or MSG_TEXTS_INIT (zero bytes), its bytes are then left alone, and it is not copied: it is moved at most;
+ *   - a handle is in one call at a time. Calls that take a msg_runtime are made under one lock of the host's, its runtime lock (a pthread mutex, a GIL),
+ *     and so are those that take a msg_texts, under this lock or another. Calls that take a msg_sender alone want no lock: any number of senders may be in them at once, beside one that has the lock;
  *   - a handle goes to another thread by something that orders memory: a lock, a thread's start or join;
  *   - a sender is given only to calls on the runtime that it was opened from (the one `requires` that is left; no call can test it);
  *   - malloc, realloc and free are the C library's; there is enough stack; no call is made in a signal handler,
@@ -21,7 +21,8 @@
  *
  * A runtime opens without classes. All numbers are the host's to give: classes from 0, below the count of class numbers that the config reserves, selectors and implementations
  * from 1, any of 32 bits. A class is made by msg_make_class or msg_make_root_class, and gets its methods by msg_attach, msg_add and msg_replace. What a lookup answers is a
- * number that the host gave with a method, or 0, which is _objc_msgForward, the host's to write. Which name a number has, and how many arguments it takes, the host knows alone.
+ * number that the host gave with a method, or 0, which is _objc_msgForward, the host's to write. Which name a number has, and how many arguments it takes, the host knows alone;
+ * msg_texts helps it.
  */
 #ifndef MSG_RUNTIME_H
 #define MSG_RUNTIME_H
@@ -47,8 +48,10 @@ enum { MSG_NOTES = 2048 };
 
 typedef struct { void *at; bool open; } msg_runtime;
 typedef struct { void *at; bool open; msg_note notes[MSG_NOTES]; } msg_sender;
+typedef struct { void *at; bool open; } msg_texts;
 #define MSG_RUNTIME_INIT {0, 0}
 #define MSG_SENDER_INIT {0, 0, {{0, 0, 0, 0, 0}}}
+#define MSG_TEXTS_INIT {0, 0}
 
 /* A class, or its metaclass. */
 typedef struct { uint32_t number; bool meta; } msg_class;
@@ -92,7 +95,7 @@ enum {
     MSG_ARGUMENT_COUNT = 3,     /* never of a host's runtime: each implementation fits each selector */
     MSG_METHOD_PRESENT = 4,
     MSG_NO_METHOD = 5,
-    MSG_LIMIT = 6,              /* 2^48 changes were made, or more than 2^32 - 1 methods would stand */
+    MSG_LIMIT = 6,              /* 2^48 changes were made, or more than 2^32 - 1 methods would stand, or texts */
     MSG_CHANGE_MEMORY = 7,
     MSG_DUPLICATE_CLASS = 8,
     /* Any call answers these. */
@@ -102,7 +105,7 @@ enum {
     MSG_NO_SELECTOR = 67,       /* a selector's number is 0 */
     MSG_NO_SENDER = 68,         /* as many senders as the config says are out */
     MSG_NO_MEMORY = 69,
-    MSG_NONE = 70,              /* there is none: no superclass, no method */
+    MSG_NONE = 70,              /* there is none: no superclass, no method, no text */
     MSG_MISSED = 71,            /* of msg_probe: not cached. Ask msg_fill under the lock */
     MSG_BAD_CONFIG = 73,        /* of msg_open: beyond the most that is said beside a field, or a field that the library doesn't know */
     MSG_BAD_CHANGE = 75,        /* of lists of changes: a part of a kind that the library doesn't know, or whose meta isn't 0 or 1 */
@@ -176,6 +179,20 @@ size_t msg_recall(const msg_sender *sender, size_t slot, uint32_t sel, uint64_t 
 uint32_t msg_probe(msg_sender *sender, uint32_t number, bool meta, uint32_t sel, uint32_t *imp);
 /* How many changes there are, which the sender has then seen: nothing older is found by it from then on. */
 uint32_t msg_refresh(msg_sender *sender, uint64_t *count);
+
+/* ---- texts with numbers, for hosts that name things: under a lock, of any runtime or none ---- */
+
+/* Texts are any bytes. Each has a number, from 1 in the order in which they first came, and keeps it until they are closed. No texts yet, MSG_ALREADY_OPEN or MSG_NO_MEMORY. */
+uint32_t msg_texts_open(msg_texts *texts);
+uint32_t msg_texts_close(msg_texts *texts);
+/* sel_registerName: the text's number. Of a text that is new, the next; only then is memory wanted, and is MSG_LIMIT answered where 2^32 - 1 are there. */
+uint32_t msg_texts_intern(msg_texts *texts, const uint8_t *text, size_t length, uint32_t *number);
+/* The text's number, or MSG_NONE. */
+uint32_t msg_texts_find(msg_texts *texts, const uint8_t *text, size_t length, uint32_t *number);
+/* sel_getName: as much of the number's text as there is room for, and how long it is; or MSG_NONE. */
+uint32_t msg_texts_text(msg_texts *texts, uint32_t number, uint8_t *into, size_t room, size_t *length);
+/* How many colons it has: as many arguments as a selector takes that is named so; or MSG_NONE. */
+uint32_t msg_texts_colons(msg_texts *texts, uint32_t number, size_t *count);
 
 #ifdef __cplusplus
 }

@@ -13,6 +13,8 @@
 #include <mutex>
 #include <optional>
 #include <stdexcept>
+#include <string>
+#include <string_view>
 #include <utility>
 #include <vector>
 
@@ -417,6 +419,66 @@ inline void locked::meet(sender &of)
     if (of.at != at) throw std::invalid_argument("the sender is of another runtime");
     must(msg_meet(&at->handle, of.own.get()));
 }
+
+// Texts of any bytes with numbers, from 1 in the order in which they first came. As a container of the standard library:
+// one thread at a time.
+class texts {
+public:
+    texts() { must(msg_texts_open(&handle)); }
+    ~texts() { close(); }
+    texts(texts &&other) noexcept : handle(std::exchange(other.handle, none)) {}
+    texts &operator=(texts &&other) noexcept
+    {
+        std::swap(handle, other.handle);
+        return *this;
+    }
+
+    // Its number: of a text that is new the next.
+    std::uint32_t intern(std::string_view text)
+    {
+        std::uint32_t number = 0;
+        must(msg_texts_intern(&handle, bytes(text), text.size(), &number));
+        return number;
+    }
+    std::optional<std::uint32_t> find(std::string_view text)
+    {
+        std::uint32_t number = 0;
+        return there(msg_texts_find(&handle, bytes(text), text.size(), &number), number);
+    }
+    std::optional<std::string> text(std::uint32_t number)
+    {
+        std::size_t length = 0;
+        std::string found(1, 0); // never without a place
+        if (!there(msg_texts_text(&handle, number, place(found), 0, &length), number)) return std::nullopt;
+        found.resize(length + 1);
+        must(msg_texts_text(&handle, number, place(found), length, &length));
+        found.resize(length);
+        return found;
+    }
+    // How many arguments a selector takes that is named so.
+    std::optional<std::size_t> colons(std::uint32_t number)
+    {
+        std::size_t count = 0;
+        return there(msg_texts_colons(&handle, number, &count), count);
+    }
+    void close() noexcept { msg_texts_close(&handle); }
+
+private:
+    static constexpr msg_texts none = MSG_TEXTS_INIT;
+    template <class Found> static std::optional<Found> there(std::uint32_t answer, Found found)
+    {
+        if (answer == MSG_NONE) return std::nullopt;
+        must(answer);
+        return found;
+    }
+    static std::uint8_t *place(std::string &text) { return reinterpret_cast<std::uint8_t *>(text.data()); }
+    // Never NULL, also of no text.
+    static const std::uint8_t *bytes(std::string_view text)
+    {
+        return reinterpret_cast<const std::uint8_t *>(text.empty() ? "" : text.data());
+    }
+    msg_texts handle = MSG_TEXTS_INIT;
+};
 
 } // namespace msg
 

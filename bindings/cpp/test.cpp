@@ -31,6 +31,7 @@ constexpr auto root = msg::instances_of(ROOT), child = msg::instances_of(CHILD),
 
 static_assert(!std::is_copy_constructible_v<msg::runtime> && std::is_nothrow_move_constructible_v<msg::runtime>);
 static_assert(!std::is_copy_constructible_v<msg::sender> && std::is_nothrow_move_constructible_v<msg::sender>);
+static_assert(!std::is_copy_constructible_v<msg::texts> && std::is_nothrow_move_constructible_v<msg::texts>);
 static_assert(!std::is_copy_constructible_v<msg::locked> && !std::is_move_constructible_v<msg::locked>);
 
 static msg::runtime opened()
@@ -222,6 +223,22 @@ static void threads_beside_changes()
     for (auto &thread : threads) thread.join();
 }
 
+static void texts()
+{
+    msg::texts texts;
+    CHECK(texts.intern("value") == 1 && texts.intern("setValue:forKey:") == 2 && texts.intern({}) == 3);
+    CHECK(texts.intern("value") == 1 && texts.find("setValue:forKey:") == 2u && texts.find("") == 3u);
+    CHECK(!texts.find("valu") && texts.text(2) == "setValue:forKey:" && texts.text(3) == "");
+    CHECK(texts.colons(1) == 0u && texts.colons(2) == 2u && !texts.colons(4) && !texts.text(0));
+    msg::texts moved = std::move(texts);
+    FAULT(MSG_CLOSED, texts.intern("value"));
+    CHECK(moved.find("value") == 1u);
+    texts = std::move(moved);
+    CHECK(texts.text(1) == "value");
+    texts.close();
+    FAULT(MSG_CLOSED, texts.text(1));
+}
+
 int main()
 {
     questions();
@@ -232,6 +249,7 @@ int main()
     a_refused_change_is_no_change();
     moves_and_closes();
     threads_beside_changes();
-    std::puts("8 tests passed");
+    texts();
+    std::puts("9 tests passed");
     return 0;
 }

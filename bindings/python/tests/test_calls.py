@@ -209,6 +209,14 @@ class Calls(unittest.TestCase):
                 it.join()
         self.assertEqual([], wrong)
 
+    def test_texts(self):
+        with yeldrost.Texts(self.holds_gil) as texts:
+            for text, number in [(b"value", 1), (b"setValue:forKey:", 2), (b"", 3), (b"value", 1)]:
+                self.assertEqual((number, number, text), (texts.intern(text), texts.find(text), texts.text(number)))
+            self.assertEqual((None, None, None), (texts.find(b"valu"), texts.text(0), texts.text(4)))
+            self.assertEqual((0, 2, None), (texts.colons(1), texts.colons(2), texts.colons(4)))
+        self.assertRaises(yeldrost.Closed, texts.intern, b"value")
+
 
 class WithoutTheLock(Calls):
     holds_gil = False

@@ -18,7 +18,7 @@ import weakref
 
 from . import _header, _library
 
-__all__ = ["Runtime", "Sender", "ClassRef", "Change", "Fault", "instances_of", "class_itself", *_header.FAULTS]
+__all__ = ["Runtime", "Sender", "Texts", "ClassRef", "Change", "Fault", "instances_of", "class_itself", *_header.FAULTS]
 _NONE, _MISSED = _header.FAULTS["None_"][0], _header.FAULTS["Missed"][0]
 _MOST = 2**32 - 1
 
@@ -392,3 +392,61 @@ class Sender:
         self._own()
         _checked(of[0], selector)
         return self._shared.library.msg_recall(self._at, 2 * of[0] + of[1], selector, count) == _header.NOTED_NONE
+
+
+class Texts:
+    """Texts of any bytes with numbers, from 1 in the order in which they first came: names of selectors, or of classes. Any thread may use them."""
+
+    def __init__(self, holds_gil=True):
+        self._library, self._handle, self._lock = _library.load(holds_gil), _header.msg_texts(), threading.Lock()
+        _must(self._library.msg_texts_open(self._handle))
+        weakref.finalize(self, self._library.msg_texts_close, self._handle)
+
+    def __enter__(self):
+        return self
+
+    def __exit__(self, *_):
+        with contextlib.suppress(_CLOSED):
+            self.close()
+
+    def close(self):
+        with self._lock:
+            _must(self._library.msg_texts_close(self._handle))
+
+    def _told(self, kind, name, *words):
+        """What the call writes last, or None where there is none."""
+        told = kind()
+        with self._lock:
+            answer = getattr(self._library, name)(self._handle, *words, ctypes.byref(told))
+        if answer == _NONE:
+            return None
+        _must(answer)
+        return told.value
+
+    def intern(self, text):
+        """The number of a text: of one that is new the next."""
+        return self._told(ctypes.c_uint32, "msg_texts_intern", *_bytes(text))
+
+    def find(self, text):
+        """The number of a text, or None. It makes none."""
+        return self._told(ctypes.c_uint32, "msg_texts_find", *_bytes(text))
+
+    def text(self, number):
+        """The text of a number, or None."""
+        _checked(number)
+        length = self._told(ctypes.c_size_t, "msg_texts_text", number, *_bytes(b""))
+        if length is None:
+            return None
+        into, _ = _bytes(bytes(length))
+        self._told(ctypes.c_size_t, "msg_texts_text", number, into, length)
+        return bytes(into[:length])
+
+    def colons(self, number):
+        """How many colons it has, or None: as many arguments as a selector takes that is named so."""
+        _checked(number)
+        return self._told(ctypes.c_size_t, "msg_texts_colons", number)
+
+
+def _bytes(text):
+    """An array of the text's bytes, never without a place, and how many they are."""
+    return (ctypes.c_uint8 * max(1, len(text)))(*text), len(text)

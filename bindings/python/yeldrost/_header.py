@@ -17,6 +17,10 @@ class msg_sender(c.Structure):
     _fields_ = [("at", c.c_void_p), ("open", c.c_bool), ("notes", msg_note * NOTES)]
 
 
+class msg_texts(c.Structure):
+    _fields_ = [("at", c.c_void_p), ("open", c.c_bool)]
+
+
 class msg_class(c.Structure):
     _fields_ = [("number", c.c_uint32), ("meta", c.c_bool)]
 
@@ -50,7 +54,7 @@ class msg_report_row(c.Structure):
     ]
 
 
-STRUCTURES = (msg_note, msg_runtime, msg_sender, msg_class, msg_method, msg_change, msg_config, msg_report_row)
+STRUCTURES = (msg_note, msg_runtime, msg_sender, msg_texts, msg_class, msg_method, msg_change, msg_config, msg_report_row)
 
 FAULTS = {
     "NoSuchClass": (1, "no such class, or it isn't made"),
@@ -78,6 +82,7 @@ FAULTS = {
 _runtime, _sender = c.POINTER(msg_runtime), c.POINTER(msg_sender)
 _number, _meta, _selector, _imp = c.c_uint32, c.c_bool, c.c_uint32, c.c_uint32
 _told32, _told64 = c.POINTER(c.c_uint32), c.POINTER(c.c_uint64)
+_texts, _bytes = c.POINTER(msg_texts), c.POINTER(c.c_uint8)
 _methods, _changes, _size = c.POINTER(msg_method), c.POINTER(msg_change), c.POINTER(c.c_size_t)
 _answer = c.c_uint32
 
@@ -110,6 +115,12 @@ CALLS = {
     "msg_recall": (c.c_size_t, (_sender, c.c_size_t, _selector, c.c_uint64)),
     "msg_probe": (_answer, (_sender, _number, _meta, _selector, _told32)),
     "msg_refresh": (_answer, (_sender, _told64)),
+    "msg_texts_open": (_answer, (_texts,)),
+    "msg_texts_close": (_answer, (_texts,)),
+    "msg_texts_intern": (_answer, (_texts, _bytes, c.c_size_t, _told32)),
+    "msg_texts_find": (_answer, (_texts, _bytes, c.c_size_t, _told32)),
+    "msg_texts_text": (_answer, (_texts, _number, _bytes, c.c_size_t, _size)),
+    "msg_texts_colons": (_answer, (_texts, _number, _size)),
 }
 
 # What stands for the calls that the header has inline, which a shared library doesn't export.

@@ -1,3 +1,4 @@
 pub mod RuntimeAsBox
 pub mod NoteLemmas
 pub mod SenderAsBox
+pub mod TextsAsBox

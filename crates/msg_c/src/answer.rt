@@ -3,6 +3,9 @@
 /// It was done.
 pub const DONE: u32 = 0;
 
+/// As many texts have numbers as there may be.
+pub const LIMIT: u32 = 6;
+
 /// The handle isn't open.
 pub const CLOSED: u32 = 64;
 

@@ -2,6 +2,7 @@
 
 use crate::runtime_handle::RuntimeHandle;
 use crate::sender_handle::SenderHandle;
+use crate::texts_handle::TextsHandle;
 
 // Called at a type, this asks that its values may go to another thread.
 fn may_cross<T: Send>() {}
@@ -12,4 +13,8 @@ pub(crate) fn a_runtime_may_cross() {
 
 pub(crate) fn a_sender_may_cross() {
     may_cross::<SenderHandle>();
+}
+
+pub(crate) fn texts_may_cross() {
+    may_cross::<TextsHandle>();
 }

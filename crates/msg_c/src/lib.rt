@@ -27,4 +27,8 @@ mod sender_tests;
 mod sending;
 #[cfg(test)]
 mod tests;
+mod texts;
+mod texts_handle;
+#[cfg(test)]
+mod texts_tests;
 mod version;

@@ -34,6 +34,12 @@ pub struct msg_sender {
 }
 
 #[repr(C)]
+pub struct msg_texts {
+    pub at: *mut c_void,
+    pub open: bool,
+}
+
+#[repr(C)]
 #[derive(Clone, Copy, Default)]
 pub struct msg_class {
     pub number: u32,
@@ -91,6 +97,12 @@ pub struct msg_report_row {
 
 /// A closed runtime.
 pub const MSG_RUNTIME_INIT: msg_runtime = msg_runtime {
+    at: core::ptr::null_mut(),
+    open: false,
+};
+
+/// Closed texts.
+pub const MSG_TEXTS_INIT: msg_texts = msg_texts {
     at: core::ptr::null_mut(),
     open: false,
 };
@@ -222,6 +234,28 @@ extern "C" {
         imp: *mut u32,
     ) -> u32;
     pub fn msg_refresh(sender: *mut msg_sender, count: *mut u64) -> u32;
+    pub fn msg_texts_open(texts: *mut msg_texts) -> u32;
+    pub fn msg_texts_close(texts: *mut msg_texts) -> u32;
+    pub fn msg_texts_intern(
+        texts: *mut msg_texts,
+        text: *const u8,
+        length: usize,
+        number: *mut u32,
+    ) -> u32;
+    pub fn msg_texts_find(
+        texts: *mut msg_texts,
+        text: *const u8,
+        length: usize,
+        number: *mut u32,
+    ) -> u32;
+    pub fn msg_texts_text(
+        texts: *mut msg_texts,
+        number: u32,
+        into: *mut u8,
+        room: usize,
+        length: *mut usize,
+    ) -> u32;
+    pub fn msg_texts_colons(texts: *mut msg_texts, number: u32, count: *mut usize) -> u32;
 }
 
 /// Opens a runtime by a config.

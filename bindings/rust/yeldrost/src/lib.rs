@@ -23,11 +23,13 @@ mod change;
 mod fault;
 mod locked;
 mod sender;
+mod texts;
 
 pub use change::{Change, Refused};
 pub use fault::Fault;
 pub use locked::Locked;
 pub use sender::Sender;
+pub use texts::Texts;
 use std::num::NonZeroU32;
 use std::sync::atomic::AtomicU64;
 use std::sync::{Arc, Mutex, MutexGuard, PoisonError};

@@ -1,6 +1,8 @@
 //! Each call of the header through the safe crate, each kind of fault, and threads beside changes.
 use std::sync::atomic::{AtomicBool, Ordering};
-use yeldrost::{Change, ClassRef, Config, Fault, Imp, Method, Refused, Runtime, Selector, Sender};
+use yeldrost::{
+    Change, ClassRef, Config, Fault, Imp, Method, Refused, Runtime, Selector, Sender, Texts,
+};
 
 const ROOT: u32 = 0;
 const CHILD: u32 = 1;
@@ -334,4 +336,22 @@ fn threads_beside_changes() {
         }
         over.store(true, Ordering::SeqCst);
     });
+}
+
+#[test]
+fn texts() {
+    let mut texts = Texts::open().unwrap();
+    for (text, number) in [("value", 1), ("setValue:forKey:", 2), ("", 3), ("value", 1)] {
+        assert_eq!(Ok(s(number)), texts.intern(text.as_bytes()));
+        assert_eq!(Ok(Some(s(number))), texts.find(text.as_bytes()));
+        assert_eq!(Ok(Some(text.as_bytes().to_vec())), texts.text(number));
+    }
+    assert_eq!(Ok(None), texts.find(b"valu"));
+    assert_eq!((Ok(None), Ok(None)), (texts.text(0), texts.text(4)));
+    let mut texts = std::thread::spawn(|| texts).join().unwrap();
+    assert_eq!(
+        (Ok(Some(0)), Ok(Some(2))),
+        (texts.colons(1), texts.colons(2))
+    );
+    assert_eq!(Ok(None), texts.colons(4));
 }

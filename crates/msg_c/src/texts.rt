@@ -1,0 +1,175 @@
+//! Interned texts.
+
+ghost use Rattle.std.specs.Prelude.{◌≡◌, ◌≢◌, ◌⊎◌, ◌↔◌, ℕ, List, [], Some, None, option_map, is_some, true, false, length, bytes_eq};
+ghost use Rattle.std.specs.List.{list_any};
+ghost use Rattle.msg_names.specs.Numbering.{number_of, with_name};
+ghost use Rattle.msg_texts.specs.Texts.{colons_of, text_at};
+ghost use Rattle.msg_texts.specs.declared.texts.TheConstants.{MAX_TEXTS};
+ghost use Rattle.msg_c.specs.Interned.{TextsView, with_text};
+
+use crate::answer::{ALREADY_OPEN, CLOSED, DONE, LIMIT, NO_MEMORY, NONE};
+use crate::texts_handle::TextsHandle;
+use msg_texts::{TextFault, Texts};
+use std::alloc::Global;
+
+/// No texts yet.
+#[unsafe(no_mangle)]
+pub extern "C" fn msg_texts_open(alloc: Global, texts: &mut TextsHandle) -> u32
+    ensures already { is_some texts.old.held.state ≡ true → result ≡ ALREADY_OPEN }
+    ensures left { result ≢ 0 → texts.new.held.state ≡ texts.old.held.state }
+    ensures done { result ≡ 0 → texts.new.held.state ≡ Some [] }
+    ensures allowed { texts.old.held.state ≡ None → (result ≡ DONE) ⊎ (result ≡ NO_MEMORY) }
+{
+    if texts.is_open() {
+        return ALREADY_OPEN;
+    }
+    match Box::new(alloc, Texts::new(alloc)) {
+        Ok(made) => {
+            *texts = TextsHandle::of(made);
+            DONE
+        }
+        Err(_) => NO_MEMORY,
+    }
+}
+
+/// Gives back what the texts take.
+#[unsafe(no_mangle)]
+pub extern "C" fn msg_texts_close(alloc: Global, texts: &mut TextsHandle) -> u32
+    ensures closed { texts.new.held.state ≡ None }
+    ensures was_closed { texts.old.held.state ≡ None → result ≡ CLOSED }
+    ensures was_open { is_some texts.old.held.state ≡ true → result ≡ 0 }
+{
+    match texts.take(alloc) {
+        Some(held) => {
+            drop(held);
+            DONE
+        }
+        None => CLOSED,
+    }
+}
+
+/// The number of a text, as of `sel_registerName`. One that is new gets the next, from 1, and only then is memory wanted (69), or are there as many as there may be (6).
+#[unsafe(no_mangle)]
+pub extern "C" fn msg_texts_intern(
+    alloc: Global,
+    texts: &mut TextsHandle,
+    text: &[u8],
+    number: &mut u32,
+) -> u32
+    ensures closed { texts.old.held.state ≡ None → result ≡ CLOSED }
+    ensures left { result ≢ 0 → (number.new ≡ number.old) × (texts.new.held.state ≡ texts.old.held.state) }
+    ensures texts { result ≡ 0 → texts.new.held.state ≡ option_map (λ v. with_name v text.now) texts.old.held.state }
+    ensures number { result ≡ 0 → (v : TextsView) → texts.new.held.state ≡ Some v → number_of v text.now ≡ Some number.new }
+    ensures there { (v : TextsView) → texts.old.held.state ≡ Some v → list_any (bytes_eq text.now) v ≡ true → result ≡ 0 }
+    ensures many { (v : TextsView) → texts.old.held.state ≡ Some v → result ≡ LIMIT ↔ ((length v ≡ MAX_TEXTS) × (list_any (bytes_eq text.now) v ≡ false)) }
+    ensures answers { is_some texts.old.held.state ≡ true → (result ≡ DONE) ⊎ ((result ≡ LIMIT) ⊎ (result ≡ NO_MEMORY)) }
+{
+    let Some(mut held) = texts.take(alloc) else {
+        return CLOSED;
+    };
+    let interned = held.intern(text);
+    *texts = TextsHandle::of(held);
+    match interned {
+        Ok(made) => {
+            *number = made;
+            DONE
+        }
+        Err(TextFault::TooMany) => LIMIT,
+        Err(TextFault::Memory) => NO_MEMORY,
+    }
+}
+
+/// The number of a text, where it has one. It makes none.
+#[unsafe(no_mangle)]
+pub extern "C" fn msg_texts_find(
+    alloc: Global,
+    texts: &mut TextsHandle,
+    text: &[u8],
+    number: &mut u32,
+) -> u32
+    ensures kept { texts.new.held.state ≡ texts.old.held.state }
+    ensures closed { texts.old.held.state ≡ None → result ≡ CLOSED }
+    ensures left { result ≢ 0 → number.new ≡ number.old }
+    ensures none { (v : TextsView) → texts.old.held.state ≡ Some v → number_of v text.now ≡ None → result ≡ NONE }
+    ensures done { (v : TextsView) (n : ℕ) → texts.old.held.state ≡ Some v → number_of v text.now ≡ Some n → (result ≡ 0) × (number.new ≡ n) }
+{
+    let Some(held) = texts.take(alloc) else {
+        return CLOSED;
+    };
+    let found = held.find(text);
+    *texts = TextsHandle::of(held);
+    match found {
+        Some(found) => {
+            *number = found;
+            DONE
+        }
+        None => NONE,
+    }
+}
+
+// Writes as much of a text as there is room for.
+fn write(text: &[u8], into: &mut [u8])
+    ensures { into.new ≡ with_text text.now into.old }
+{
+    let count = text.len().min(into.len());
+    into[..count].copy_from_slice(&text[..count]);
+}
+
+/// `sel_getName`: as much of the text of a number as there is room for, and how long it is.
+#[unsafe(no_mangle)]
+pub extern "C" fn msg_texts_text(
+    alloc: Global,
+    texts: &mut TextsHandle,
+    number: u32,
+    into: &mut [u8],
+    size: &mut usize,
+) -> u32
+    ensures kept { texts.new.held.state ≡ texts.old.held.state }
+    ensures closed { texts.old.held.state ≡ None → result ≡ CLOSED }
+    ensures left { result ≢ 0 → (into.new ≡ into.old) × (size.new ≡ size.old) }
+    ensures none { (v : TextsView) → texts.old.held.state ≡ Some v → text_at v number ≡ None → result ≡ NONE }
+    ensures done { (v : TextsView) (t : List ℕ) → texts.old.held.state ≡ Some v → text_at v number ≡ Some t
+        → (result ≡ 0) × (size.new ≡ length t) × (into.new ≡ with_text t into.old) }
+{
+    let Some(held) = texts.take(alloc) else {
+        return CLOSED;
+    };
+    let answer = match held.text(number) {
+        Some(text) => {
+            write(text, into);
+            *size = text.len();
+            DONE
+        }
+        None => NONE,
+    };
+    *texts = TextsHandle::of(held);
+    answer
+}
+
+/// How many colons the text of a number has: as many arguments as a selector takes whose name it is.
+#[unsafe(no_mangle)]
+pub extern "C" fn msg_texts_colons(
+    alloc: Global,
+    texts: &mut TextsHandle,
+    number: u32,
+    count: &mut usize,
+) -> u32
+    ensures kept { texts.new.held.state ≡ texts.old.held.state }
+    ensures closed { texts.old.held.state ≡ None → result ≡ CLOSED }
+    ensures left { result ≢ 0 → count.new ≡ count.old }
+    ensures none { (v : TextsView) → texts.old.held.state ≡ Some v → text_at v number ≡ None → result ≡ NONE }
+    ensures done { (v : TextsView) (t : List ℕ) → texts.old.held.state ≡ Some v → text_at v number ≡ Some t → (result ≡ 0) × (count.new ≡ colons_of t) }
+{
+    let Some(held) = texts.take(alloc) else {
+        return CLOSED;
+    };
+    let colons = held.colons(number);
+    *texts = TextsHandle::of(held);
+    match colons {
+        Some(colons) => {
+            *count = colons;
+            DONE
+        }
+        None => NONE,
+    }
+}
