@@ -246,7 +246,8 @@ private:
         must(call(&at->handle, &number));
         return number;
     }
-    static std::optional<class_ref> there(std::uint32_t answer, msg_class found)
+    // By reference: the call that answers writes what is found.
+    static std::optional<class_ref> there(std::uint32_t answer, const msg_class &found)
     {
         if (answer == MSG_NONE) return std::nullopt;
         must(answer);
@@ -465,7 +466,7 @@ public:
 
 private:
     static constexpr msg_texts none = MSG_TEXTS_INIT;
-    template <class Found> static std::optional<Found> there(std::uint32_t answer, Found found)
+    template <class Found> static std::optional<Found> there(std::uint32_t answer, const Found &found)
     {
         if (answer == MSG_NONE) return std::nullopt;
         must(answer);
