@@ -58,7 +58,7 @@ impl<'d, N: ArenaName> Recalling<'d, N> {
     }
 
     /// The implementation that a lookup finds at what the sender has then seen. What it has noted of that point it answers with no load of a shared word.
-    #[inline]
+    #[inline(always)]
     pub fn find<R: Wait>(&mut self, rt: &R, class: ClassRef, sel: Selector) -> ImpRef
         requires class { class.class < class_total self.old.seen.front.origin }
         ensures begins { BeginsWith self.new.seen.front self.old.seen.front }
@@ -66,7 +66,10 @@ impl<'d, N: ArenaName> Recalling<'d, N> {
         ensures listed { imp_number result ≤ last_imp self.new.seen.front.origin.counts }
         ensures takings { (self.old.takings ≤ self.new.takings) × (self.new.takings ≤ self.old.takings + 1) }
     {
-        self.sender.find_noted(rt, &mut self.notes, class, sel)
+        match self.sender.recall(&self.notes, class, sel) {
+            Some(imp) => imp,
+            None => self.sender.find_lacking(rt, &mut self.notes, class, sel),
+        }
     }
 
     /// What it has noted of the point at which the sender stands. It waits for nothing, and no shared word is loaded.

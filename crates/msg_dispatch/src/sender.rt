@@ -133,9 +133,10 @@ impl<'d, N: ArenaName> Sender<'d, N> {
         self.reader.recall(notes, class, sel)
     }
 
-    /// As `find`, but first from the notes. What they lacked is then noted.
-    #[inline]
-    pub fn find_noted<R: Wait>(
+    // As `find`, of what the notes lack, which is then noted. Out of line, so that what they have is found on a short way.
+    #[cold]
+    #[inline(never)]
+    pub(crate) fn find_lacking<R: Wait>(
         &mut self,
         rt: &R,
         notes: &mut Notes,
@@ -150,7 +151,7 @@ impl<'d, N: ArenaName> Sender<'d, N> {
         ensures notes { AreNotesOf self.new.seen.front notes.new }
         ensures takings { (self.old.takings ≤ self.new.takings) × (self.new.takings ≤ self.old.takings + 1) }
     {
-        match self.reader.find(&self.dispatcher.arena, notes, class, sel) {
+        match self.reader.find_lacking(&self.dispatcher.arena, notes, class, sel) {
             Some(imp) => imp,
             None => self.find_locked_noted(rt, notes, class, sel),
         }

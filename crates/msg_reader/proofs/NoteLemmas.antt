@@ -1,6 +1,8 @@
 -- What is noted stays right where the history grows.
-use Rattle.std.proofs.Common.{◌≡◌, ◌≢◌, ◌<◌, ◌≤◌, ◌+◌, ℕ, List, [], ◌∷◌, ◌++◌, ◌^◌, length, get_or, set, refl, sym, ap, subst, ◌∙◌, arith, length-append, append-nil}
+use Rattle.std.proofs.Common.{◌≡◌, ◌<◌, ◌≤◌, ◌+◌, ◌-◌, ◌%◌, ◌⊎◌, inl, inr, ℕ, List, [], ◌∷◌, ◌++◌, ◌^◌, length, get_or, set, refl, sym, ap, subst, ◌∙◌, arith, length-append, append-nil}
+use Rattle.std.proofs.lemmas.Bool.{cases_eq, eq-eqb, ne_eqb}
 use Rattle.std.proofs.lemmas.List.{take-append-le, take_all}
+use Rattle.std.specs.Prelude.{◌==◌}
 use Rattle.std.proofs.lemmas.List.Elements.{All-set}
 use Rattle.msg_tables.specs.Origin.{OriginView, last_imp}
 use Rattle.msg_tables.specs.declared.change.Change.{Change}
@@ -15,6 +17,14 @@ use Rattle.msg_reader.specs.Notes.{point_at, key_of, none_bit, AreBlank, IsNoteO
 -- keys are one to one
 pub keys_differ : (slot sel other next : ℕ) → sel < 2 ^ 32 → next < 2 ^ 32 → key_of slot sel ≡ key_of other next → (slot ≡ other) × (sel ≡ next)
 keys_differ slot sel other next few less e = (omega (arith, e, few, less), omega (arith, e, few, less))
+
+-- in 64 bits a word less what stands beside a key is the key where the word is both
+pub word_less : (word beside key : ℕ) → word < 2 ^ 64 → beside ≤ 1 → key + 1 < 2 ^ 64 → ((word + (2 ^ 64 - beside)) % 2 ^ 64 == key) ≡ (word == key + beside)
+word_less word beside key fits one few = by_case (cases_eq word (key + beside))
+  where
+    by_case : (word ≡ key + beside) ⊎ (word ≡ key + beside → ⊥) → ((word + (2 ^ 64 - beside)) % 2 ^ 64 == key) ≡ (word == key + beside)
+    by_case (inl e) = eq-eqb _ _ (omega (arith, e, fits, one, few)) ∙ sym (eq-eqb _ _ e)
+    by_case (inr n) = ne_eqb _ _ (λ e. n (omega (arith, e, fits, one, few))) ∙ sym (ne_eqb _ _ n)
 
 -- a blank note is one of each history
 pub unnamed : (h : History) (n : Note) → (n.word ≡ 0) × (n.imp ≡ 0) → IsNoteOf h n

@@ -1,6 +1,6 @@
 //! What a sender notes of its lookups. No thread but its own sees it, and no call here takes a lock or reads a shared word.
 
-ghost use Rattle.std.specs.Prelude.{◌≡◌, ◌≢◌, ◌<◌, ◌≤◌, ◌==◌, ◌&&◌, ◌^◌, length, option_map, IfSome, None, Some};
+ghost use Rattle.std.specs.Prelude.{◌≡◌, ◌≢◌, ◌+◌, ◌<◌, ◌≤◌, ◌==◌, ◌&&◌, ◌^◌, length, option_map, IfSome, None, Some};
 ghost use Rattle.msg_names.specs.Number.{selector_number, imp_number};
 ghost use Rattle.msg_tables.specs.Origin.{last_imp};
 ghost use Rattle.msg_tables.specs.History.{History, lookup};
@@ -34,7 +34,8 @@ struct Note {
 #[inline(always)]
 fn key(slot: usize, sel: u32) -> u64
     requires { slot < 2 ^ 26 }
-    ensures { result ≡ key_of slot sel }
+    ensures key { result ≡ key_of slot sel }
+    ensures few { result + 1 < 2 ^ 64 }
 {
     slot as u64 * APART + u64::from(sel) * 32
 }
@@ -46,6 +47,17 @@ fn none_bit(imp: u32) -> u64
     ensures few { result ≤ 1 }
 {
     u64::from(imp == 0)
+}
+
+// Whether a word is this key with so much beside it. The word is made less: a processor takes that in one step less than adding to the key.
+#[inline(always)]
+#[tactic(auto, using(crate::proofs::NoteLemmas::word_less))]
+fn is_word_of(word: u64, beside: u64, key: u64) -> bool
+    requires beside { beside ≤ 1 }
+    requires key { key + 1 < 2 ^ 64 }
+    ensures { result ≡ (word == key + beside) }
+{
+    word.wrapping_sub(beside) == key
 }
 
 impl Note {
@@ -65,7 +77,7 @@ impl Note {
         ensures found { IfSome result (λ i. (h : History) → IsNoteOf h self.now → IsRecalled h count slot sel i) }
         ensures answer { result ≡ found_by self.now count slot sel }
     {
-        if self.word == key(slot, sel) + none_bit(self.imp) && self.count == count {
+        if is_word_of(self.word, none_bit(self.imp), key(slot, sel)) && self.count == count {
             Some(self.imp)
         } else {
             None

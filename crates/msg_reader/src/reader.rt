@@ -95,6 +95,7 @@ impl Reader {
     }
 
     /// How many changes there are, which the reader has then seen: nothing older is answered from then on. One shared word is loaded.
+    #[inline]
     pub fn refresh(&mut self, arena: &Arena) -> u64
         requires reader { IsSenderOf arena.now self.old }
         ensures reader { IsSenderOf arena.now self.new }
@@ -176,6 +177,55 @@ impl Reader {
         }
     }
 
+    /// As `find`, of what `recall` didn't have: the notes are asked again only where the reader didn't know how many changes there are. So a caller that recalls first
+    /// has in its way what the notes know and nothing more.
+    #[inline(always)]
+    pub fn find_lacking(
+        &mut self,
+        arena: &Arena,
+        notes: &mut Notes,
+        class: ClassRef,
+        sel: Selector,
+    ) -> Option<ImpRef>
+        requires reader { IsSenderOf arena.now self.old }
+        requires class { class.class < classes arena.now }
+        requires notes { AreNotesOf self.old.sender.front notes.old }
+        ensures reader { IsSenderOf arena.now self.new }
+        ensures begins { BeginsWith self.new.sender.front self.old.sender.front }
+        ensures some { IfSome result (λ i. imp_number i ≡ lookup self.new.sender.front class (selector_number sel)) }
+        ensures listed { IfSome result (λ i. imp_number i ≤ last_imp self.new.sender.front.origin.counts) }
+        ensures notes { AreNotesOf self.new.sender.front notes.new }
+        ensures noted { IfSome result (λ i. IsNoted self.new.sender.front notes.new class (selector_number sel) (imp_number i)) }
+    {
+        match self.count {
+            Some(count) => self.find_cached(arena, notes, count, class, sel),
+            None => self.find_anew(arena, notes, class, sel),
+        }
+    }
+
+    // As `find`, where the reader doesn't know how many changes there are.
+    #[cold]
+    #[inline(never)]
+    fn find_anew(
+        &mut self,
+        arena: &Arena,
+        notes: &mut Notes,
+        class: ClassRef,
+        sel: Selector,
+    ) -> Option<ImpRef>
+        requires reader { IsSenderOf arena.now self.old }
+        requires class { class.class < classes arena.now }
+        requires notes { AreNotesOf self.old.sender.front notes.old }
+        ensures reader { IsSenderOf arena.now self.new }
+        ensures begins { BeginsWith self.new.sender.front self.old.sender.front }
+        ensures some { IfSome result (λ i. imp_number i ≡ lookup self.new.sender.front class (selector_number sel)) }
+        ensures listed { IfSome result (λ i. imp_number i ≤ last_imp self.new.sender.front.origin.counts) }
+        ensures notes { AreNotesOf self.new.sender.front notes.new }
+        ensures noted { IfSome result (λ i. IsNoted self.new.sender.front notes.new class (selector_number sel) (imp_number i)) }
+    {
+        self.find(arena, notes, class, sel)
+    }
+
     // As `find`, of what the notes lack after so many changes.
     #[cold]
     #[inline(never)]
@@ -202,7 +252,7 @@ impl Reader {
         a_history_no_longer_is_the_same();
         a_found_implementation_is_listed();
         let imp = self.probe(arena, class, sel)?;
-        let count = self.seen(arena);
+        let count = self.refresh(arena);
         if count != before {
             return None;
         }

@@ -1,7 +1,6 @@
-use Rattle.std.proofs.Common.{◌≡◌, ◌<◌, ◌≤◌, ◌^◌, ◌∙◌, sym, ap, subst, length, ap₂}
 use Rattle.msg_names.specs.ClassRef.{slot_of}
 use Rattle.msg_names.specs.Number.{selector_number, imp_number}
-use Rattle.msg_reader.specs.Notes.{IsRecalled, IsNoteOf}
+use Rattle.msg_reader.specs.Notes.{IsRecalled}
 use Rattle.msg_reader.proofs.NoteLemmas.{recalled_now, notes_keep}
 use Rattle.msg_reader.proofs.notes.Notes.keep.Goals as goal
 

@@ -10,14 +10,14 @@ returns-clause-notes c =
     let grows = c.notes_are_of_longer_histories.ensures in
     let saw = c.args.self.now.sender.front in
     let probed = c.probe.new.self.sender.front in
-    let sees = c.seen-count.new.self.sender.front in
-    let onward = c.seen-count.ensures.begins in
+    let sees = c.refresh-count.new.self.sender.front in
+    let onward = c.refresh-count.ensures.begins in
     let on : BeginsWith probed saw = search rules in
-    let along : length probed.changes ≡ length sees.changes = omega (arith, ap length on.rest.1, length-append saw.changes on.rest.0, ap length onward.rest.1, length-append probed.changes onward.rest.0, c.requires.before, c.seen-count.ensures.length, c.if-count-before.false) in
+    let along : length probed.changes ≡ length sees.changes = omega (arith, ap length on.rest.1, length-append saw.changes on.rest.0, ap length onward.rest.1, length-append probed.changes onward.rest.0, c.requires.before, c.refresh-count.ensures.length, c.if-count-before.false) in
     let same : sees ≡ probed = c.a_history_no_longer_is_the_same.ensures sees probed onward (sym along) in
     let found : imp_number c.in_ok-imp.imp ≡ lookup sees c.args.class (selector_number c.args.sel) = subst (λ h. imp_number c.in_ok-imp.imp ≡ lookup h c.args.class (selector_number c.args.sel)) (sym same) (search rules) in
     let listed : imp_number c.in_ok-imp.imp ≤ last_imp sees.origin.counts = search rules in
-    c.keep.ensures.notes sees (grows sees probed c.args.notes.now onward (grows probed saw c.args.notes.now on c.requires.notes)) c.seen-count.ensures.length found listed
+    c.keep.ensures.notes sees (grows sees probed c.args.notes.now onward (grows probed saw c.args.notes.now on c.requires.notes)) c.refresh-count.ensures.length found listed
 
 pub returns-in_err-imp-clause-notes : goal.returns-in_err-imp-clause-notes
 returns-in_err-imp-clause-notes c =
@@ -29,6 +29,6 @@ returns-then-count-before-clause-notes c =
     let grows = c.notes_are_of_longer_histories.ensures in
     let saw = c.args.self.now.sender.front in
     let probed = c.probe.new.self.sender.front in
-    let sees = c.seen-count.new.self.sender.front in
+    let sees = c.refresh-count.new.self.sender.front in
     let on : BeginsWith probed saw = search rules in
-    grows sees probed c.args.notes.now c.seen-count.ensures.begins (grows probed saw c.args.notes.now on c.requires.notes)
+    grows sees probed c.args.notes.now c.refresh-count.ensures.begins (grows probed saw c.args.notes.now on c.requires.notes)
