@@ -1,13 +1,13 @@
 //! The changer.
 
-ghost use Rattle.std.specs.Prelude.{[], ◌∷◌, ◌≡◌, ◌≢◌, ◌*◌, length, take, IfOk, IfErr, IsErrOf, OnErr, OnOk, None, Some};
-ghost use Rattle.msg_tables.specs.History.{BeginsWith, and_then, log};
+ghost use Rattle.std.specs.Prelude.{◌≡◌, ◌*◌, length, IfOk, IfErr, IsErrOf, OnErr, OnOk, None};
+ghost use Rattle.msg_tables.specs.History.{BeginsWith, log};
 ghost use Rattle.msg_tables.specs.Made.{AreMade, AreRefused, TellsWayBack};
-ghost use Rattle.msg_tables.specs.Marking.{MarksAffectedByAll};
 ghost use Rattle.msg_tables.specs.Origin.{class_total};
-ghost use Rattle.msg_tables.specs.Refusal.{refusal};
 ghost use Rattle.msg_tables.specs.Several.{refused_from};
 ghost use Rattle.msg_tables.specs.declared.fault.ChangeFault.{ChangeFault};
+ghost use Rattle.msg_dispatch.specs.Changed.{Accepts, IsMadeAt, IsRefusedAt};
+ghost use Rattle.msg_dispatch.specs.Changed.{MarksBefore, MarksReached};
 
 use crate::dispatcher::Dispatcher;
 use crate::name::ArenaName;
@@ -35,8 +35,8 @@ pub struct Changer<'d, N: ArenaName> {
 }
 
 impl<'d, N: ArenaName> Model for Changer<'d, N> {
-    ghost use Rattle.std.specs.Prelude.{◌≡◌, length};
     ghost use Rattle.msg_tables.specs.History.{History};
+    ghost use Rattle.msg_dispatch.specs.Changed.{IsTurnAfter};
 
     ghost Value = { History };
 
@@ -46,16 +46,16 @@ impl<'d, N: ArenaName> Model for Changer<'d, N> {
 
     ghost view = { λ c. c.turn.history };
 
-    ghost invariant = { λ c. (c.turn.table ≡ N.arena.table) × (c.turn.history.origin ≡ N.arena.key.origin) × (c.count ≡ length c.turn.history.changes) };
+    ghost invariant = { λ c. IsTurnAfter N.arena c.turn c.count };
 }
 
 impl<'d, N: ArenaName> Changer<'d, N> {
     /// Makes a change, or says why not. Senders see the change and the flushes of caches that it takes as one.
     pub fn change<R: Wait>(&mut self, rt: &R, change: &Change) -> Result<Receipt, ChangeFault>
-        ensures ok { IfOk result (λ r. (refusal (log self.old) change.now ≡ None) × (self.new ≡ and_then self.old (change.now ∷ [])) × (r.count ≡ length self.new.changes)) }
+        ensures ok { IfOk result (λ r. IsMadeAt self.old change.now self.new r.count) }
         ensures err { OnErr result (self.new ≡ self.old) }
-        ensures fault { IfErr result (λ f. f ≢ ChangeFault.Memory → refusal (log self.old) change.now ≡ Some f) }
-        ensures memory { IsErrOf result ChangeFault.Memory → refusal (log self.old) change.now ≡ None }
+        ensures fault { IfErr result (IsRefusedAt self.old change.now) }
+        ensures memory { IsErrOf result ChangeFault.Memory → Accepts self.old change.now }
     {
         let dispatcher = self.dispatcher;
         let count = dispatcher
@@ -101,10 +101,9 @@ impl<'d, N: ArenaName> Changer<'d, N> {
         requires { length marked.old ≡ 2 * class_total self.old.origin }
         ensures same { self.new ≡ self.old }
         ensures ok { OnOk result (refused_from 0 (log self.old) changes.now ≡ None) }
-        ensures marks { OnOk result (MarksAffectedByAll (class_total self.old.origin) (log self.old) changes.now marked.old marked.new) }
+        ensures marks { OnOk result (MarksReached self.old changes.now marked.old marked.new) }
         ensures refused { IfErr result (AreRefused changes.now self.old) }
-        ensures before { IfErr result (λ r. r.fault ≢ ChangeFault.Memory
-            → MarksAffectedByAll (class_total self.old.origin) (log self.old) (take r.place changes.now) marked.old marked.new) }
+        ensures before { IfErr result (MarksBefore self.old changes.now marked.old marked.new) }
         ensures length { length marked.new ≡ length marked.old }
     {
         let dispatcher = self.dispatcher;

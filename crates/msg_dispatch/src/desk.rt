@@ -1,19 +1,20 @@
 //! What stands behind the runtime lock.
 
-ghost use Rattle.std.specs.Prelude.{[], ◌∷◌, ◌≡◌, ◌≢◌, ◌<◌, ◌≤◌, ◌*◌, length, take, IfOk, IfErr, IfSome, IsErrOf, IsNone, OnErr, OnOk, None, Some};
+ghost use Rattle.std.specs.Prelude.{◌≡◌, ◌<◌, ◌≤◌, ◌*◌, length};
+ghost use Rattle.std.specs.Prelude.{IfOk, IfErr, IfSome, IsErrOf, IsNone, OnErr, OnOk, None};
 ghost use Rattle.msg_tables.specs.Origin.{last_imp};
-ghost use Rattle.msg_names.specs.Number.{selector_number, imp_number};
-ghost use Rattle.msg_tables.specs.History.{BeginsWith, and_then, empty, lookup, log};
+ghost use Rattle.msg_names.specs.Number.{imp_number};
+ghost use Rattle.msg_tables.specs.History.{BeginsWith, empty, log};
 ghost use Rattle.msg_tables.specs.Made.{AreMade, AreRefused, TellsWayBack};
-ghost use Rattle.msg_tables.specs.Marking.{MarksAffectedByAll};
-ghost use Rattle.msg_tables.specs.Refusal.{refusal};
 ghost use Rattle.msg_tables.specs.Several.{refused_from};
 ghost use Rattle.msg_tables.specs.declared.fault.ChangeFault.{ChangeFault};
 ghost use Rattle.msg_cache.specs.Counts.{AreCounts, after_refusal};
 ghost use Rattle.msg_cache.specs.Plays.{taken_in};
 ghost use Rattle.msg_cache.specs.Views.{classes, IsSenderOf};
+ghost use Rattle.msg_reader.specs.Found.{IsFoundAt};
 ghost use Rattle.msg_reader.specs.Notes.{AreNotesOf};
 ghost use Rattle.msg_runtime.specs.Parts.{AreOut, IsNew};
+ghost use Rattle.msg_dispatch.specs.Changed.{Accepts, IsMadeAt, IsRefusedAt, MarksAll, MarksTo};
 
 use crate::name::ArenaName;
 use msg_cache::{Arena, Report, Turn};
@@ -61,7 +62,7 @@ impl<N: ArenaName> Desk<N> {
         ensures reader { IsSenderOf N.arena reader.new }
         ensures origin { reader.new.sender.front.origin ≡ N.arena.key.origin }
         ensures begins { BeginsWith reader.new.sender.front reader.old.sender.front }
-        ensures found { imp_number result ≡ lookup reader.new.sender.front class (selector_number sel) }
+        ensures found { IsFoundAt reader.new.sender.front class sel result }
         ensures listed { imp_number result ≤ last_imp N.arena.key.origin.counts }
     {
         self.runtime.answer(arena, reader, class, sel)
@@ -83,7 +84,7 @@ impl<N: ArenaName> Desk<N> {
         ensures reader { IsSenderOf N.arena reader.new }
         ensures origin { reader.new.sender.front.origin ≡ N.arena.key.origin }
         ensures begins { BeginsWith reader.new.sender.front reader.old.sender.front }
-        ensures found { imp_number result ≡ lookup reader.new.sender.front class (selector_number sel) }
+        ensures found { IsFoundAt reader.new.sender.front class sel result }
         ensures listed { imp_number result ≤ last_imp N.arena.key.origin.counts }
         ensures notes { AreNotesOf reader.new.sender.front notes.new }
     {
@@ -99,10 +100,10 @@ impl<N: ArenaName> Desk<N> {
         requires arena { arena.now ≡ N.arena }
         requires turn { turn.old.table ≡ N.arena.table }
         ensures turn { turn.new.table ≡ N.arena.table }
-        ensures ok { IfOk result (λ count. (refusal (log turn.old.history) change.now ≡ None) × (turn.new.history ≡ and_then turn.old.history (change.now ∷ [])) × (count ≡ length turn.new.history.changes)) }
+        ensures ok { IfOk result (IsMadeAt turn.old.history change.now turn.new.history) }
         ensures err { OnErr result (turn.new.history ≡ turn.old.history) }
-        ensures fault { IfErr result (λ f. f ≢ ChangeFault.Memory → refusal (log turn.old.history) change.now ≡ Some f) }
-        ensures memory { IsErrOf result ChangeFault.Memory → refusal (log turn.old.history) change.now ≡ None }
+        ensures fault { IfErr result (IsRefusedAt turn.old.history change.now) }
+        ensures memory { IsErrOf result ChangeFault.Memory → Accepts turn.old.history change.now }
     {
         self.runtime.change(arena, turn, change)
     }
@@ -119,7 +120,7 @@ impl<N: ArenaName> Desk<N> {
         ensures turn { turn.new.table ≡ N.arena.table }
         ensures ok { OnOk result (AreMade changes.now turn.old.history turn.new.history) }
         ensures count { IfOk result (λ made. made.count ≡ length turn.new.history.changes) }
-        ensures back { IfOk result (λ made. TellsWayBack changes.now turn.old.history made.written) }
+        ensures back { IfOk result (λ m. TellsWayBack changes.now turn.old.history m.written) }
         ensures err { OnErr result (turn.new.history ≡ turn.old.history) }
         ensures refused { IfErr result (AreRefused changes.now turn.old.history) }
     {
@@ -140,10 +141,9 @@ impl<N: ArenaName> Desk<N> {
         ensures turn { turn.new.table ≡ N.arena.table }
         ensures same { turn.new.history ≡ turn.old.history }
         ensures ok { OnOk result (refused_from 0 (log turn.old.history) changes.now ≡ None) }
-        ensures marks { OnOk result (MarksAffectedByAll (classes N.arena) (log turn.old.history) changes.now marked.old marked.new) }
+        ensures marks { OnOk result (MarksAll N.arena turn.old changes.now marked.old marked.new) }
         ensures refused { IfErr result (AreRefused changes.now turn.old.history) }
-        ensures before { IfErr result (λ r. r.fault ≢ ChangeFault.Memory
-            → MarksAffectedByAll (classes N.arena) (log turn.old.history) (take r.place changes.now) marked.old marked.new) }
+        ensures before { IfErr result (MarksTo N.arena turn.old changes.now marked.old marked.new) }
         ensures length { length marked.new ≡ length marked.old }
     {
         self.runtime.reach_all(alloc, arena, turn, changes, marked)

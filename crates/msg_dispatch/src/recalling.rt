@@ -1,9 +1,10 @@
 //! A sender with notes of its own.
 
-ghost use Rattle.std.specs.Prelude.{◌≡◌, ◌<◌, ◌≤◌, ◌+◌, length, IfErr, IfOk, IfSome};
-ghost use Rattle.msg_names.specs.Number.{selector_number, imp_number};
-ghost use Rattle.msg_tables.specs.Origin.{class_total, last_imp};
-ghost use Rattle.msg_tables.specs.History.{BeginsWith, lookup};
+ghost use Rattle.std.specs.Prelude.{◌≡◌, ◌<◌, length, IfErr, IfOk, IfSome};
+ghost use Rattle.msg_tables.specs.Origin.{class_total};
+ghost use Rattle.msg_tables.specs.History.{BeginsWith};
+ghost use Rattle.msg_reader.specs.Found.{IsFoundAt, IsListed};
+ghost use Rattle.msg_dispatch.specs.Seen.{TakesOnceAtMost};
 
 use crate::changer::Changer;
 use crate::name::ArenaName;
@@ -62,9 +63,9 @@ impl<'d, N: ArenaName> Recalling<'d, N> {
     pub fn find<R: Wait>(&mut self, rt: &R, class: ClassRef, sel: Selector) -> ImpRef
         requires class { class.class < class_total self.old.seen.front.origin }
         ensures begins { BeginsWith self.new.seen.front self.old.seen.front }
-        ensures found { imp_number result ≡ lookup self.new.seen.front class (selector_number sel) }
-        ensures listed { imp_number result ≤ last_imp self.new.seen.front.origin.counts }
-        ensures takings { (self.old.takings ≤ self.new.takings) × (self.new.takings ≤ self.old.takings + 1) }
+        ensures found { IsFoundAt self.new.seen.front class sel result }
+        ensures listed { IsListed self.new.seen.front result }
+        ensures takings { TakesOnceAtMost self.old self.new }
     {
         match self.sender.recall(&self.notes, class, sel) {
             Some(imp) => imp,
@@ -75,8 +76,8 @@ impl<'d, N: ArenaName> Recalling<'d, N> {
     /// What it has noted of the point at which the sender stands. It waits for nothing, and no shared word is loaded.
     #[inline]
     pub fn recall(&self, class: ClassRef, sel: Selector) -> Option<ImpRef>
-        ensures found { IfSome result (λ i. imp_number i ≡ lookup self.now.seen.front class (selector_number sel)) }
-        ensures listed { IfSome result (λ i. imp_number i ≤ last_imp self.now.seen.front.origin.counts) }
+        ensures found { IfSome result (IsFoundAt self.now.seen.front class sel) }
+        ensures listed { IfSome result (IsListed self.now.seen.front) }
     {
         self.sender.recall(&self.notes, class, sel)
     }

@@ -1,12 +1,13 @@
 //! Senders.
 
-ghost use Rattle.std.specs.Prelude.{◌≡◌, ◌<◌, ◌≤◌, ◌+◌, ◌-◌, ◌^◌, length, IfSome, IfNone};
-ghost use Rattle.msg_names.specs.Number.{selector_number, imp_number};
-ghost use Rattle.msg_tables.specs.Origin.{class_total, last_imp};
-ghost use Rattle.msg_tables.specs.History.{BeginsWith, lookup};
-ghost use Rattle.msg_cache.specs.Record.{Probes, Hits, Misses};
+ghost use Rattle.std.specs.Prelude.{◌≡◌, ◌<◌, ◌+◌, ◌-◌, ◌^◌, length, IfSome, IfNone};
+ghost use Rattle.msg_tables.specs.Origin.{class_total};
+ghost use Rattle.msg_tables.specs.History.{BeginsWith};
+ghost use Rattle.msg_cache.specs.Record.{Misses};
 ghost use Rattle.msg_cache.specs.Views.{layout};
+ghost use Rattle.msg_reader.specs.Found.{HitsCache, HitsAndIsFound, IsFoundAt, IsListed, ProbesFor};
 ghost use Rattle.msg_reader.specs.Notes.{AreNotesOf};
+ghost use Rattle.msg_dispatch.specs.Seen.{TakesOnceAtMost};
 
 use crate::dispatcher::Dispatcher;
 use crate::name::ArenaName;
@@ -25,9 +26,7 @@ pub struct Sender<'d, N: ArenaName> {
 }
 
 impl<'d, N: ArenaName> Model for Sender<'d, N> {
-    ghost use Rattle.std.specs.Prelude.{◌≡◌};
-    ghost use Rattle.msg_cache.specs.Views.{IsSenderOf};
-    ghost use Rattle.msg_dispatch.specs.Seen.{SenderView};
+    ghost use Rattle.msg_dispatch.specs.Seen.{IsReaderOf, SenderView};
 
     ghost Value = { SenderView };
 
@@ -37,7 +36,7 @@ impl<'d, N: ArenaName> Model for Sender<'d, N> {
 
     ghost view = { λ s. record { seen = s.reader.sender; takings = s.takings } };
 
-    ghost invariant = { λ s. IsSenderOf N.arena s.reader × (s.reader.sender.front.origin ≡ N.arena.key.origin) };
+    ghost invariant = { λ s. IsReaderOf N.arena s.reader };
 }
 
 impl<'d, N: ArenaName> Sender<'d, N> {
@@ -45,9 +44,9 @@ impl<'d, N: ArenaName> Sender<'d, N> {
     #[inline]
     pub fn find_cached(&mut self, class: ClassRef, sel: Selector) -> Option<ImpRef>
         requires class { class.class < class_total self.old.seen.front.origin }
-        ensures probes { Probes (layout N.arena) class (selector_number sel) self.old.seen self.new.seen }
+        ensures probes { ProbesFor N.arena class sel self.old.seen self.new.seen }
         ensures takings { self.new.takings ≡ self.old.takings }
-        ensures some { IfSome result (λ i. Hits self.new.seen.last (imp_number i) × (imp_number i ≡ lookup self.new.seen.front class (selector_number sel))) }
+        ensures some { IfSome result (HitsAndIsFound self.new.seen class sel) }
         ensures none { IfNone result (Misses (layout N.arena) self.new.seen.last) }
     {
         self.reader.probe(&self.dispatcher.arena, class, sel)
@@ -56,7 +55,7 @@ impl<'d, N: ArenaName> Sender<'d, N> {
     // The lock is taken once more.
     fn count_taking(&mut self)
         ensures seen { self.new.seen ≡ self.old.seen }
-        ensures takings { (self.old.takings ≤ self.new.takings) × (self.new.takings ≤ self.old.takings + 1) }
+        ensures takings { TakesOnceAtMost self.old self.new }
         ensures counted { self.old.takings < 2 ^ 64 - 1 → self.new.takings ≡ self.old.takings + 1 }
     {
         self.takings = self.takings.saturating_add(1);
@@ -66,9 +65,9 @@ impl<'d, N: ArenaName> Sender<'d, N> {
     fn find_locked<R: Wait>(&mut self, rt: &R, class: ClassRef, sel: Selector) -> ImpRef
         requires class { class.class < class_total self.old.seen.front.origin }
         ensures begins { BeginsWith self.new.seen.front self.old.seen.front }
-        ensures found { imp_number result ≡ lookup self.new.seen.front class (selector_number sel) }
-        ensures listed { imp_number result ≤ last_imp self.new.seen.front.origin.counts }
-        ensures takings { (self.old.takings ≤ self.new.takings) × (self.new.takings ≤ self.old.takings + 1) }
+        ensures found { IsFoundAt self.new.seen.front class sel result }
+        ensures listed { IsListed self.new.seen.front result }
+        ensures takings { TakesOnceAtMost self.old self.new }
         ensures counted { self.old.takings < 2 ^ 64 - 1 → self.new.takings ≡ self.old.takings + 1 }
     {
         self.count_taking();
@@ -92,10 +91,10 @@ impl<'d, N: ArenaName> Sender<'d, N> {
         requires class { class.class < class_total self.old.seen.front.origin }
         requires notes { AreNotesOf self.old.seen.front notes.old }
         ensures begins { BeginsWith self.new.seen.front self.old.seen.front }
-        ensures found { imp_number result ≡ lookup self.new.seen.front class (selector_number sel) }
-        ensures listed { imp_number result ≤ last_imp self.new.seen.front.origin.counts }
+        ensures found { IsFoundAt self.new.seen.front class sel result }
+        ensures listed { IsListed self.new.seen.front result }
         ensures notes { AreNotesOf self.new.seen.front notes.new }
-        ensures takings { (self.old.takings ≤ self.new.takings) × (self.new.takings ≤ self.old.takings + 1) }
+        ensures takings { TakesOnceAtMost self.old self.new }
     {
         self.count_taking();
         let dispatcher = self.dispatcher;
@@ -110,11 +109,11 @@ impl<'d, N: ArenaName> Sender<'d, N> {
     pub fn find<R: Wait>(&mut self, rt: &R, class: ClassRef, sel: Selector) -> ImpRef
         requires class { class.class < class_total self.old.seen.front.origin }
         ensures begins { BeginsWith self.new.seen.front self.old.seen.front }
-        ensures found { imp_number result ≡ lookup self.new.seen.front class (selector_number sel) }
-        ensures listed { imp_number result ≤ last_imp self.new.seen.front.origin.counts }
-        ensures takings { (self.old.takings ≤ self.new.takings) × (self.new.takings ≤ self.old.takings + 1) }
+        ensures found { IsFoundAt self.new.seen.front class sel result }
+        ensures listed { IsListed self.new.seen.front result }
+        ensures takings { TakesOnceAtMost self.old self.new }
         ensures hit { self.new.takings ≡ self.old.takings → self.old.takings < 2 ^ 64 - 1
-            → Probes (layout N.arena) class (selector_number sel) self.old.seen self.new.seen × Hits self.new.seen.last (imp_number result) }
+            → HitsCache N.arena class sel self.old.seen self.new.seen result }
     {
         a_found_implementation_is_listed();
         match self.find_cached(class, sel) {
@@ -127,8 +126,8 @@ impl<'d, N: ArenaName> Sender<'d, N> {
     #[inline]
     pub fn recall(&self, notes: &Notes, class: ClassRef, sel: Selector) -> Option<ImpRef>
         requires notes { AreNotesOf self.now.seen.front notes.now }
-        ensures found { IfSome result (λ i. imp_number i ≡ lookup self.now.seen.front class (selector_number sel)) }
-        ensures listed { IfSome result (λ i. imp_number i ≤ last_imp self.now.seen.front.origin.counts) }
+        ensures found { IfSome result (IsFoundAt self.now.seen.front class sel) }
+        ensures listed { IfSome result (IsListed self.now.seen.front) }
     {
         self.reader.recall(notes, class, sel)
     }
@@ -146,12 +145,15 @@ impl<'d, N: ArenaName> Sender<'d, N> {
         requires class { class.class < class_total self.old.seen.front.origin }
         requires notes { AreNotesOf self.old.seen.front notes.old }
         ensures begins { BeginsWith self.new.seen.front self.old.seen.front }
-        ensures found { imp_number result ≡ lookup self.new.seen.front class (selector_number sel) }
-        ensures listed { imp_number result ≤ last_imp self.new.seen.front.origin.counts }
+        ensures found { IsFoundAt self.new.seen.front class sel result }
+        ensures listed { IsListed self.new.seen.front result }
         ensures notes { AreNotesOf self.new.seen.front notes.new }
-        ensures takings { (self.old.takings ≤ self.new.takings) × (self.new.takings ≤ self.old.takings + 1) }
+        ensures takings { TakesOnceAtMost self.old self.new }
     {
-        match self.reader.find_lacking(&self.dispatcher.arena, notes, class, sel) {
+        match self
+            .reader
+            .find_lacking(&self.dispatcher.arena, notes, class, sel)
+        {
             Some(imp) => imp,
             None => self.find_locked_noted(rt, notes, class, sel),
         }

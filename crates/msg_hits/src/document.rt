@@ -17,9 +17,8 @@ fn methods(alloc: Global) -> Result<(String, String), AllocError> {
     for number in 1..SELECTORS {
         let comma = if number == 1 { "" } else { "," };
         methods.push_str(&format!(in alloc; "{comma}[\"s{number}\",\"i{number}\"]")?)?;
-        imps.push_str(&format!(in alloc;
-            "{comma}{{\"name\":\"i{number}\",\"class\":\"C0\",\"meta\":false,\"args\":0,\"body\":{number}}}"
-        )?)?;
+        imps.push_str(&format!(in alloc; "{comma}{{\"name\":\"i{number}\",\"class\":\"C0\",")?)?;
+        imps.push_str(&format!(in alloc; "\"meta\":false,\"args\":0,\"body\":{number}}}")?)?;
     }
     Ok((methods, imps))
 }
@@ -38,8 +37,12 @@ fn others(alloc: Global) -> Result<String, AllocError> {
 fn text(alloc: Global) -> Result<String, AllocError> {
     let (methods, imps) = methods(alloc)?;
     let others = others(alloc)?;
+    let root = format!(in alloc;
+        "{{\"name\":\"C0\",\"super\":null,\"methods\":[{methods}],\"class_methods\":[]}}"
+    )?;
+    let classes = format!(in alloc; "\"version\":1,\"classes\":[{root}{others}]")?;
     format!(in alloc;
-        "{{\"version\":1,\"classes\":[{{\"name\":\"C0\",\"super\":null,\"methods\":[{methods}],\"class_methods\":[]}}{others}],\"categories\":[],\"objects\":[],\"imps\":[{imps}],\"items\":[]}}"
+        "{{{classes},\"categories\":[],\"objects\":[],\"imps\":[{imps}],\"items\":[]}}"
     )
 }
 

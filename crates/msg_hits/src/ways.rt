@@ -17,6 +17,14 @@ use std::alloc::Global;
 use std::marker::Brand;
 use std::sync::Wait;
 
+/// So many lookups of queries in a way.
+#[derive(Clone, Copy)]
+struct Course<'q> {
+    way: Way,
+    queries: &'q Queries,
+    lookups: u64,
+}
+
 /// A way to look a method up.
 #[derive(Clone, Copy)]
 pub(crate) enum Way {
@@ -127,17 +135,20 @@ fn sum_by_tables(tables: &Tables, queries: &Queries, lookups: u64) -> u64
     sum
 }
 
-// What so many lookups by a sender find, added up.
+// What lookups by a sender find, added up.
 fn sum_by_sender<N: ArenaName, R: Wait>(
     rt: &R,
     alloc: Global,
     dispatcher: &Dispatcher<N>,
-    way: Way,
-    queries: &Queries,
-    lookups: u64,
+    course: Course<'_>,
 ) -> Result<u64>
     requires { class_total N.arena.key.origin ≡ 32 }
 {
+    let Course {
+        way,
+        queries,
+        lookups,
+    } = course;
     let sender = dispatcher.sender(rt)?;
     if let Way::Probe = way {
         let mut caller = Caller { sender };
@@ -159,9 +170,7 @@ fn sum_over<N: ArenaName, R: Wait>(
     arena: Arena,
     keeper: Keeper,
     image: &Image,
-    way: Way,
-    queries: &Queries,
-    lookups: u64,
+    course: Course<'_>,
 ) -> Result<u64>
     requires arena { arena ≡ N.arena }
     requires keeper { IsKeeperOf N.arena keeper }
@@ -172,7 +181,7 @@ fn sum_over<N: ArenaName, R: Wait>(
     let dispatcher: Dispatcher<N> = Dispatcher::open(alloc, arena, keeper, image).context(
         "opening the dispatcher",
     )?;
-    sum_by_sender(rt, alloc, &dispatcher, way, queries, lookups)
+    sum_by_sender(rt, alloc, &dispatcher, course)
 }
 
 // What so many lookups along the chain find, added up.
@@ -183,15 +192,8 @@ fn sum_along(alloc: Global, image: &Image, queries: &Queries, lookups: u64) -> R
     Ok(sum_by_tables(&tables, queries, lookups))
 }
 
-// What so many lookups by a sender find in a way, added up.
-fn sum_in<R: Wait>(
-    rt: &R,
-    alloc: Global,
-    image: &Image,
-    way: Way,
-    queries: &Queries,
-    lookups: u64,
-) -> Result<u64>
+// What lookups by a sender find, added up.
+fn sum_in<R: Wait>(rt: &R, alloc: Global, image: &Image, course: Course<'_>) -> Result<u64>
     requires { class_total (origin_of image.now) ≡ 32 }
 {
     let config = Config {
@@ -199,24 +201,17 @@ fn sum_in<R: Wait>(
         arrays: ARRAYS,
     };
     let (arena, keeper) = Arena::open(alloc, image, config).context("opening the arena")?;
-    sum_over::<Brand, R>(rt, alloc, arena, keeper, image, way, queries, lookups)
+    sum_over::<Brand, R>(rt, alloc, arena, keeper, image, course)
 }
 
-// What so many lookups of an image find in a way, added up.
-fn sum_of_image<R: Wait>(
-    rt: &R,
-    alloc: Global,
-    image: &Image,
-    way: Way,
-    queries: &Queries,
-    lookups: u64,
-) -> Result<u64> {
+// What lookups of an image find, added up.
+fn sum_of_image<R: Wait>(rt: &R, alloc: Global, image: &Image, course: Course<'_>) -> Result<u64> {
     if image.class_count() != 32 {
         bail!("not 32 classes");
     }
-    match way {
-        Way::Tables => sum_along(alloc, image, queries, lookups),
-        _ => sum_in(rt, alloc, image, way, queries, lookups),
+    match course.way {
+        Way::Tables => sum_along(alloc, image, course.queries, course.lookups),
+        _ => sum_in(rt, alloc, image, course),
     }
 }
 
@@ -230,5 +225,10 @@ pub(crate) fn sum_of<R: Wait>(
 ) -> Result<u64> {
     let image = image(alloc)?;
     let queries = drawn(alloc, load)?.1;
-    sum_of_image(rt, alloc, &image, way, &queries, lookups)
+    let course = Course {
+        way,
+        queries: &queries,
+        lookups,
+    };
+    sum_of_image(rt, alloc, &image, course)
 }

@@ -1,9 +1,14 @@
 -- What is noted of lookups.
 use Rattle.std.specs.Prelude.{◌≡◌, ◌≢◌, ◌<◌, ◌≤◌, ◌+◌, ◌*◌, ◌^◌, ◌%◌, ◌==◌, ◌&&◌, ℕ, Option, Some, None, if◌then◌else◌, length, nat_lt, slice_index_or, take, All}
 use Rattle.msg_names.specs.ClassRef.{slot_of}
+use Rattle.msg_names.specs.Number.{selector_number, imp_number}
 use Rattle.msg_names.specs.declared.value.ClassRef.{ClassRef}
+use Rattle.msg_names.specs.declared.value.ImpRef.{ImpRef}
+use Rattle.msg_names.specs.declared.value.Selector.{Selector}
 use Rattle.msg_tables.specs.Origin.{last_imp}
 use Rattle.msg_tables.specs.History.{History, lookup}
+use Rattle.msg_cache.specs.Views.{ProberView}
+use Rattle.msg_reader.specs.Found.{IsFoundAt, IsListed}
 use Rattle.msg_reader.specs.declared.notes.Note.{Note}
 use Rattle.msg_reader.specs.declared.notes.Notes.{Notes}
 
@@ -56,3 +61,41 @@ recalled n count slot sel = if nat_lt slot (2 ^ 26) then found_by (slice_index_o
 -- after all changes of the history the notes have this implementation of a lookup, where the slot is below 2^26
 abbrev pub IsNoted : History → Notes → ClassRef → ℕ → ℕ → Type 0
 IsNoted h n c sel imp = slot_of c < 2 ^ 26 → recalled n (length h.changes) (slot_of c) sel ≡ Some imp
+
+-- ---- what notes say
+
+-- no two lookups of slots and selectors in 32 bits have one key
+abbrev pub KeysAreOneToOne : Type 0
+KeysAreOneToOne = (slot sel other next : ℕ) → sel < 2 ^ 32 → next < 2 ^ 32 → key_of slot sel ≡ key_of other next → (slot ≡ other) × (sel ≡ next)
+
+-- of whatever history this is a note, there the lookup found this implementation after so many changes
+abbrev pub Tells : Note → ℕ → ℕ → ℕ → ℕ → Type 0
+Tells n count slot sel i = (h : History) → IsNoteOf h n → IsRecalled h count slot sel i
+
+-- of whatever history these are notes
+abbrev pub Tell : Notes → ℕ → ℕ → ℕ → ℕ → Type 0
+Tell n count slot sel i = (h : History) → AreNotesOf h n → IsRecalled h count slot sel i
+
+-- of whatever history of so many changes these are notes, there the lookup finds this implementation
+abbrev pub TellFound : Notes → ℕ → ClassRef → Selector → ImpRef → Type 0
+TellFound n count c s i = (h : History) → AreNotesOf h n → count ≡ length h.changes → IsFoundAt h c s i × IsListed h i
+
+-- of each history of so many changes at which the lookup finds this implementation, what were notes still are
+abbrev pub StayNotes : Notes → Notes → ℕ → ClassRef → Selector → ImpRef → Type 0
+StayNotes old new count c s i = (h : History) → AreNotesOf h old → count ≡ length h.changes → IsFoundAt h c s i → IsListed h i → AreNotesOf h new
+
+-- what notes have of a lookup
+abbrev pub recalled_of : Notes → ℕ → ClassRef → Selector → Option ℕ
+recalled_of n count c s = recalled n count (slot_of c) (selector_number s)
+
+-- they have this implementation of it, where the slot is below 2^26
+abbrev pub HaveKept : Notes → ℕ → ClassRef → Selector → ImpRef → Type 0
+HaveKept n count c s i = slot_of c < 2 ^ 26 → recalled_of n count c s ≡ Some (imp_number i)
+
+-- and after all changes of the history
+abbrev pub HaveNoted : History → Notes → ClassRef → Selector → ImpRef → Type 0
+HaveNoted h n c s i = IsNoted h n c (selector_number s) (imp_number i)
+
+-- the sender saw a change, or else the notes had nothing of the lookup at what it has seen
+abbrev pub LackedUnlessMoved : Notes → ClassRef → Selector → ProberView → ProberView → Type 0
+LackedUnlessMoved n c s old new = new.sender.front ≡ old.sender.front → recalled_of n (length old.sender.front.changes) c s ≡ None

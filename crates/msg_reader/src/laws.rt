@@ -1,10 +1,10 @@
 //! What is noted stays right.
 
-ghost use Rattle.std.specs.Prelude.{◌≡◌, ◌<◌, ◌^◌, ℕ, length};
+ghost use Rattle.std.specs.Prelude.{◌≡◌, ◌<◌, ◌^◌, length};
 ghost use Rattle.msg_names.specs.ClassRef.{slot_of};
 ghost use Rattle.msg_names.specs.declared.value.ClassRef.{ClassRef};
 ghost use Rattle.msg_tables.specs.History.{History, BeginsWith};
-ghost use Rattle.msg_reader.specs.Notes.{AreBlank, AreNotesOf, key_of};
+ghost use Rattle.msg_reader.specs.Notes.{AreBlank, AreNotesOf, KeysAreOneToOne};
 ghost use Rattle.msg_reader.specs.declared.notes.Notes.{Notes};
 
 /// Notes of a history are notes of each longer history.
@@ -33,5 +33,5 @@ pub fn a_slot_of_few_classes_is_short()
 /// No two lookups have one key.
 #[tactic(auto, using(crate::proofs::NoteLemmas::keys_differ))]
 pub fn keys_are_one_to_one()
-    ensures { (slot sel other next : ℕ) → sel < 2 ^ 32 → next < 2 ^ 32 → key_of slot sel ≡ key_of other next → (slot ≡ other) × (sel ≡ next) }
+    ensures { KeysAreOneToOne }
 {}

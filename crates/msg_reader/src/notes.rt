@@ -1,11 +1,12 @@
 //! What a sender notes of its lookups. No thread but its own sees it, and no call here takes a lock or reads a shared word.
 
-ghost use Rattle.std.specs.Prelude.{◌≡◌, ◌≢◌, ◌+◌, ◌<◌, ◌≤◌, ◌==◌, ◌&&◌, ◌^◌, length, option_map, IfSome, None, Some};
-ghost use Rattle.msg_names.specs.Number.{selector_number, imp_number};
-ghost use Rattle.msg_tables.specs.Origin.{last_imp};
-ghost use Rattle.msg_tables.specs.History.{History, lookup};
-ghost use Rattle.msg_names.specs.ClassRef.{slot_of};
-ghost use Rattle.msg_reader.specs.Notes.{AreBlank, IsNoteOf, AreNotesOf, IsRecalled, found_by, key_of, none_bit, place_of, recalled};
+ghost use Rattle.std.specs.Prelude.{◌≡◌, ◌==◌, ◌+◌, ◌<◌, ◌≤◌, ◌^◌, option_map, IfSome, None, Some};
+ghost use Rattle.msg_names.specs.Number.{imp_number};
+ghost use Rattle.msg_tables.specs.History.{History};
+ghost use Rattle.msg_reader.specs.Notes.{AreBlank, IsNoteOf, AreNotesOf, IsRecalled};
+ghost use Rattle.msg_reader.specs.Notes.{HaveKept, StayNotes, Tell, TellFound, Tells};
+ghost use Rattle.msg_reader.specs.Notes.{found_by, key_of, none_bit, place_of};
+ghost use Rattle.msg_reader.specs.Notes.{recalled, recalled_of};
 
 use msg_names::{ClassRef, ImpRef, Selector};
 
@@ -74,7 +75,7 @@ impl Note {
     #[tactic(auto, using(crate::proofs::NoteLemmas::as_noted))]
     fn answer(&self, count: u64, slot: usize, sel: u32) -> Option<u32>
         requires slot { slot < 2 ^ 26 }
-        ensures found { IfSome result (λ i. (h : History) → IsNoteOf h self.now → IsRecalled h count slot sel i) }
+        ensures found { IfSome result (Tells self.now count slot sel) }
         ensures answer { result ≡ found_by self.now count slot sel }
     {
         if is_word_of(self.word, none_bit(self.imp), key(slot, sel)) && self.count == count {
@@ -140,9 +141,8 @@ impl Notes {
     #[inline]
     #[tactic(auto, using(crate::proofs::NoteLemmas::recalled_whole))]
     pub fn recall(&self, count: u64, class: ClassRef, sel: Selector) -> Option<ImpRef>
-        ensures found { IfSome result (λ i. (h : History) → AreNotesOf h self.now → count ≡ length h.changes
-            → (imp_number i ≡ lookup h class (selector_number sel)) × (imp_number i ≤ last_imp h.origin.counts)) }
-        ensures noted { option_map imp_number result ≡ recalled self.now count (slot_of class) (selector_number sel) }
+        ensures found { IfSome result (TellFound self.now count class sel) }
+        ensures noted { option_map imp_number result ≡ recalled_of self.now count class sel }
     {
         match self.recall_method(count, class.slot(), sel.number()) {
             Some(imp) => Some(ImpRef::of(imp)),
@@ -153,7 +153,7 @@ impl Notes {
     /// As `recall`, in numbers: of the slot of a class reference and a selector's number the number of the implementation, 0 for forwarding.
     #[inline]
     pub fn recall_method(&self, count: u64, slot: usize, sel: u32) -> Option<u32>
-        ensures found { IfSome result (λ i. (h : History) → AreNotesOf h self.now → IsRecalled h count slot sel i) }
+        ensures found { IfSome result (Tell self.now count slot sel) }
         ensures noted { result ≡ recalled self.now count slot sel }
         ensures blank { AreBlank self.now → result ≡ None }
     {
@@ -168,9 +168,8 @@ impl Notes {
     #[inline]
     #[tactic(auto, using(crate::proofs::NoteLemmas::recalled_now))]
     pub fn keep(&mut self, count: u64, class: ClassRef, sel: Selector, imp: ImpRef)
-        ensures notes { (h : History) → AreNotesOf h self.old → count ≡ length h.changes → imp_number imp ≡ lookup h class (selector_number sel) → imp_number imp ≤ last_imp h.origin.counts
-            → AreNotesOf h self.new }
-        ensures kept { slot_of class < 2 ^ 26 → recalled self.new count (slot_of class) (selector_number sel) ≡ Some (imp_number imp) }
+        ensures notes { StayNotes self.old self.new count class sel imp }
+        ensures kept { HaveKept self.new count class sel imp }
     {
         let slot = class.slot();
         if slot < SLOTS {

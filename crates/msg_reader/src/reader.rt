@@ -3,16 +3,14 @@
 //! A lookup is answered from the notes where it was noted after as many changes as the reader has seen: then it is the lookup at what the reader has seen, and no word
 //! that threads share is read. What the notes lack is probed for, and is then noted. No lock is taken: what a cache lacks is the runtime's to answer.
 
-ghost use Rattle.std.specs.Prelude.{◌≡◌, ◌<◌, ◌≤◌, length, IfSome, IfNone, None};
-ghost use Rattle.msg_names.specs.ClassRef.{slot_of};
-ghost use Rattle.msg_names.specs.Number.{selector_number, imp_number};
-ghost use Rattle.msg_tables.specs.Origin.{last_imp};
-ghost use Rattle.msg_tables.specs.History.{BeginsWith, lookup};
+ghost use Rattle.std.specs.Prelude.{◌≡◌, ◌<◌, length, IfSome, IfNone};
+ghost use Rattle.msg_tables.specs.History.{BeginsWith};
 ghost use Rattle.msg_cache.specs.Ours.{IsOf, view};
-ghost use Rattle.msg_cache.specs.Plays.{given_out, taken_in, newcomer};
-ghost use Rattle.msg_cache.specs.Record.{Probes, Hits, Misses};
+ghost use Rattle.msg_cache.specs.Record.{Misses};
 ghost use Rattle.msg_cache.specs.Views.{IsSenderOf, classes, layout};
-ghost use Rattle.msg_reader.specs.Notes.{AreNotesOf, IsNoted, recalled};
+ghost use Rattle.msg_reader.specs.Found.{HitsAndIsFound, IsFoundAt, IsListed, ProbesFor};
+ghost use Rattle.msg_reader.specs.Found.{given_again, renewed};
+ghost use Rattle.msg_reader.specs.Notes.{AreNotesOf, HaveNoted, LackedUnlessMoved};
 
 use crate::laws::{a_history_no_longer_is_the_same, notes_are_of_longer_histories};
 use crate::notes::Notes;
@@ -71,9 +69,9 @@ impl Reader {
         ensures arena { IsOf arena.now keeper.new }
         ensures remembered { keeper.new.remembered.items ≡ keeper.old.remembered.items }
         ensures report { keeper.new.report ≡ keeper.old.report }
-        ensures view { view keeper.new ≡ given_out self.old.sender.number (taken_in self.old.sender (view keeper.old)) }
+        ensures view { view keeper.new ≡ given_again self.old.sender (view keeper.old) }
         ensures reader { IsSenderOf arena.now self.new }
-        ensures sender { self.new.sender ≡ newcomer self.old.sender.number (view keeper.old).history }
+        ensures sender { self.new.sender ≡ renewed self.old.sender (view keeper.old).history }
         ensures begins { BeginsWith (view keeper.old).history self.old.sender.front }
     {
         keeper.renew(arena, &mut self.prober);
@@ -86,8 +84,8 @@ impl Reader {
         requires reader { IsSenderOf arena.now self.old }
         requires class { class.class < classes arena.now }
         ensures reader { IsSenderOf arena.now self.new }
-        ensures probes { Probes (layout arena.now) class (selector_number sel) self.old.sender self.new.sender }
-        ensures some { IfSome result (λ i. Hits self.new.sender.last (imp_number i) × (imp_number i ≡ lookup self.new.sender.front class (selector_number sel))) }
+        ensures probes { ProbesFor arena.now class sel self.old.sender self.new.sender }
+        ensures some { IfSome result (HitsAndIsFound self.new.sender class sel) }
         ensures none { IfNone result (Misses (layout arena.now) self.new.sender.last) }
     {
         self.count = None;
@@ -137,8 +135,8 @@ impl Reader {
     #[inline]
     pub fn recall(&self, notes: &Notes, class: ClassRef, sel: Selector) -> Option<ImpRef>
         requires notes { AreNotesOf self.now.sender.front notes.now }
-        ensures found { IfSome result (λ i. imp_number i ≡ lookup self.now.sender.front class (selector_number sel)) }
-        ensures listed { IfSome result (λ i. imp_number i ≤ last_imp self.now.sender.front.origin.counts) }
+        ensures found { IfSome result (IsFoundAt self.now.sender.front class sel) }
+        ensures listed { IfSome result (IsListed self.now.sender.front) }
     {
         match self.count {
             Some(count) => notes.recall(count, class, sel),
@@ -162,11 +160,11 @@ impl Reader {
         requires notes { AreNotesOf self.old.sender.front notes.old }
         ensures reader { IsSenderOf arena.now self.new }
         ensures begins { BeginsWith self.new.sender.front self.old.sender.front }
-        ensures some { IfSome result (λ i. imp_number i ≡ lookup self.new.sender.front class (selector_number sel)) }
-        ensures listed { IfSome result (λ i. imp_number i ≤ last_imp self.new.sender.front.origin.counts) }
+        ensures some { IfSome result (IsFoundAt self.new.sender.front class sel) }
+        ensures listed { IfSome result (IsListed self.new.sender.front) }
         ensures notes { AreNotesOf self.new.sender.front notes.new }
-        ensures noted { IfSome result (λ i. IsNoted self.new.sender.front notes.new class (selector_number sel) (imp_number i)) }
-        ensures recalled { IfNone result (self.new.sender.front ≡ self.old.sender.front → recalled notes.old (length self.old.sender.front.changes) (slot_of class) (selector_number sel) ≡ None) }
+        ensures noted { IfSome result (HaveNoted self.new.sender.front notes.new class sel) }
+        ensures recalled { IfNone result (LackedUnlessMoved notes.old class sel self.old self.new) }
     {
         notes_are_of_longer_histories();
         a_history_no_longer_is_the_same();
@@ -192,10 +190,10 @@ impl Reader {
         requires notes { AreNotesOf self.old.sender.front notes.old }
         ensures reader { IsSenderOf arena.now self.new }
         ensures begins { BeginsWith self.new.sender.front self.old.sender.front }
-        ensures some { IfSome result (λ i. imp_number i ≡ lookup self.new.sender.front class (selector_number sel)) }
-        ensures listed { IfSome result (λ i. imp_number i ≤ last_imp self.new.sender.front.origin.counts) }
+        ensures some { IfSome result (IsFoundAt self.new.sender.front class sel) }
+        ensures listed { IfSome result (IsListed self.new.sender.front) }
         ensures notes { AreNotesOf self.new.sender.front notes.new }
-        ensures noted { IfSome result (λ i. IsNoted self.new.sender.front notes.new class (selector_number sel) (imp_number i)) }
+        ensures noted { IfSome result (HaveNoted self.new.sender.front notes.new class sel) }
     {
         match self.count {
             Some(count) => self.find_cached(arena, notes, count, class, sel),
@@ -218,10 +216,10 @@ impl Reader {
         requires notes { AreNotesOf self.old.sender.front notes.old }
         ensures reader { IsSenderOf arena.now self.new }
         ensures begins { BeginsWith self.new.sender.front self.old.sender.front }
-        ensures some { IfSome result (λ i. imp_number i ≡ lookup self.new.sender.front class (selector_number sel)) }
-        ensures listed { IfSome result (λ i. imp_number i ≤ last_imp self.new.sender.front.origin.counts) }
+        ensures some { IfSome result (IsFoundAt self.new.sender.front class sel) }
+        ensures listed { IfSome result (IsListed self.new.sender.front) }
         ensures notes { AreNotesOf self.new.sender.front notes.new }
-        ensures noted { IfSome result (λ i. IsNoted self.new.sender.front notes.new class (selector_number sel) (imp_number i)) }
+        ensures noted { IfSome result (HaveNoted self.new.sender.front notes.new class sel) }
     {
         self.find(arena, notes, class, sel)
     }
@@ -243,10 +241,10 @@ impl Reader {
         requires before { before ≡ length self.old.sender.front.changes }
         ensures reader { IsSenderOf arena.now self.new }
         ensures begins { BeginsWith self.new.sender.front self.old.sender.front }
-        ensures some { IfSome result (λ i. imp_number i ≡ lookup self.new.sender.front class (selector_number sel)) }
-        ensures listed { IfSome result (λ i. imp_number i ≤ last_imp self.new.sender.front.origin.counts) }
+        ensures some { IfSome result (IsFoundAt self.new.sender.front class sel) }
+        ensures listed { IfSome result (IsListed self.new.sender.front) }
         ensures notes { AreNotesOf self.new.sender.front notes.new }
-        ensures noted { IfSome result (λ i. IsNoted self.new.sender.front notes.new class (selector_number sel) (imp_number i)) }
+        ensures noted { IfSome result (HaveNoted self.new.sender.front notes.new class sel) }
     {
         notes_are_of_longer_histories();
         a_history_no_longer_is_the_same();
