@@ -1,10 +1,12 @@
 -- What the evaluator's functions are to find, each for what the code has at hand.
-use Rattle.std.specs.Prelude.{◌≡◌, ℕ, List}
+use Rattle.std.specs.Prelude.{◌≡◌, ℕ, List, []}
 use Rattle.msg_names.specs.Number.{imp_number}
 use Rattle.msg_names.specs.declared.value.ClassRef.{ClassRef}
 use Rattle.msg_names.specs.declared.value.ImpRef.{ImpRef}
 use Rattle.msg_names.specs.declared.value.Value.{Value}
 use Rattle.msg_image.specs.Parts.{Expression, Expressions}
+use Rattle.msg_image.specs.Plain.{plain_all}
+use Rattle.msg_image.specs.declared.expr.Expr.{Expr}
 use Rattle.msg_eval.specs.declared.frame.Frame.{Frame}
 use Rattle.msg_eval.specs.declared.frame.Message.{Message}
 use Rattle.msg_eval.specs.Evaluation.{eval, eval_all, bodies}
@@ -26,6 +28,10 @@ IsValue f e v = (n : ℕ) (k : Rest) → evaluated f e n k ≡ k v n
 
 abbrev pub all_evaluated : Frame → Expressions → List Value → ℕ → (List Value → ℕ → Meaning) → Meaning
 all_evaluated f es done n = eval_all f.image.now (bodies f.image.now f.depth) (scope_of f) es done n
+
+-- arguments, of which none is evaluated yet
+abbrev pub args_evaluated : Frame → List Expr → ℕ → (List Value → ℕ → Meaning) → Meaning
+args_evaluated f es n = all_evaluated f (plain_all es) [] n
 
 -- ---- for a message
 

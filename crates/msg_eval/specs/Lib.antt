@@ -1,6 +1,7 @@
 pub mod Argument
 pub mod Evaluated
 pub mod Evaluation
+pub mod Expressions
 pub mod Facts
 pub mod Finder
 pub mod Frame

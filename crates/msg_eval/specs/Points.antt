@@ -1,10 +1,12 @@
 -- Replies of a send whose lookups answer at points of a history.
-use Rattle.std.specs.Prelude.{◌≡◌, ℕ, suc, ◌+◌, List, [], ◌∷◌, length, Some, slice_get, take}
+use Rattle.std.specs.Prelude.{◌≡◌, ◌≤◌, ◌↔◌, ℕ, suc, ◌+◌, List, [], ◌∷◌, length, Some, slice_get, take}
 use Rattle.msg_names.specs.declared.value.ClassRef.{ClassRef}
 use Rattle.msg_names.specs.declared.value.Selector.{Selector}
 use Rattle.msg_names.specs.declared.value.Value.{Value}
 use Rattle.msg_image.specs.Parts.{ImageParts}
-use Rattle.msg_tables.specs.History.{History, lookup, BeginsWith}
+use Rattle.msg_tables.specs.History.{History, log, lookup, BeginsWith}
+use Rattle.msg_tables.specs.Stands.{StandsAt}
+use Rattle.msg_tables.specs.View.{TablesView}
 use Rattle.msg_eval.specs.declared.reply.Reply.{Reply}
 use Rattle.msg_eval.specs.Evaluation.{send_of}
 use Rattle.msg_eval.specs.Meaning.{Meaning, Ends, Asks}
@@ -37,10 +39,27 @@ pub record RepliesFrom (stands : History → Type 0) (h : History) (send : Meani
   pub ends : EndsAfter send points reply
   pub there : stands (last_of h points)
 
+-- from each history at which the finder stood
+abbrev pub Replies : {F : Type 0} → (F → History → Type 0) → F → F → Meaning → Reply → Type 0
+Replies stands old new send reply = (h : History) → stands old h → RepliesFrom (stands new) h send reply
+
+-- a send by tables that stay where they stand
+abbrev pub TablesReply : TablesView → History → Meaning → Reply → Type 0
+TablesReply tables h send reply = RepliesFrom (λ p. StandsAt tables (log p)) h send reply
+
+-- each send of a message that ends at points has no more of them
+abbrev pub EachEndsWithin : ℕ → Type 0
+EachEndsWithin most = (image : ImageParts) (receiver : Value) (s : Selector) (xs : List Value) (points : List History) (reply : Reply)
+    → SendAt image receiver s xs points reply → length points ≤ most
+
 -- the reply where every lookup answers at h
 abbrev pub plain_reply : History → Meaning → Reply
 plain_reply h (Ends r) = r
 plain_reply h (Asks c s go) = plain_reply h (go (lookup h c s))
+
+-- the reply is that one
+abbrev pub IsPlain : History → Meaning → Reply → Type 0
+IsPlain h send reply = reply ≡ plain_reply h send
 
 -- each point is h
 abbrev pub AllAre : History → List History → Type 0
@@ -50,7 +69,7 @@ AllAre h (p ∷ ps) = (p ≡ h) × AllAre h ps
 -- with every point h there is one reply and no other
 pub record HasOneReply (h : History) (send : Meaning) : Type 0 where
   pub exists : (points : List History) × AllAre h points × EndsAfter send points (plain_reply h send)
-  pub only : (points : List History) (reply : Reply) → AllAre h points → EndsAfter send points reply → reply ≡ plain_reply h send
+  pub only : (points : List History) (reply : Reply) → AllAre h points → EndsAfter send points reply → IsPlain h send reply
 
 -- ---- the same with lists of answers
 
@@ -71,3 +90,7 @@ pub record HasAnswersAt (send : Meaning) (used : ℕ) (points : List History) (r
   pub as_many : length answers ≡ length points
   pub each : (j : ℕ) (p : History) (i : ℕ) → slice_get points j ≡ Some p → slice_get answers j ≡ Some i → (c : ClassRef) × (s : ℕ) × (with_answers send (take j answers) used ≡ Asking c s) × (i ≡ lookup p c s)
   pub ended : with_answers send answers used ≡ Ended reply (used + length answers)
+
+-- at these points the send ends with a reply where there are answers with which it ends so
+abbrev pub EndsAsAnswered : Meaning → List History → Type 0
+EndsAsAnswered send points = (reply : Reply) → EndsAfter send points reply ↔ HasAnswersAt send 0 points reply

@@ -18,6 +18,10 @@ pub record Gives {A : Type 0} (stands : History → Type 0) (h : History) (part 
   pub there : stands point
   pub follows : (k : A → ℕ → Meaning) (g : History) (reply : Reply) → Leads (go_on result left k) point g reply → Leads (part k) h g reply
 
+-- From each history at which the finder stood, a part of a send comes to this result where the finder then stands, with so many lookups left.
+abbrev pub Means : {F A : Type 0} → (F → History → Type 0) → F → F → ((A → ℕ → Meaning) → Meaning) → Result A SendFault → ℕ → Type 0
+Means stands old new part result left = (h : History) → stands old h → Gives (stands new) h part result left
+
 -- the result with this in place of its value
 abbrev pub with_ok : {A B : Type 0} → A → Result B SendFault → Result A SendFault
 with_ok x (Ok u) = Ok x

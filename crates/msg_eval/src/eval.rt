@@ -2,21 +2,22 @@
 //!
 //! What evaluates a part of a send is a small function of its own, so that no frame on the stack has room for more than its part.
 
-ghost use Rattle.std.specs.Prelude.{◌≡◌, ◌<◌, ◌≤◌, ◌+◌, length, List, [], IfOk, All};
+ghost use Rattle.std.specs.Prelude.{◌≡◌, ◌<◌, ◌≤◌, ◌+◌, length, List, [], IfOk};
 ghost use Rattle.arrayvec.specs.ArrayVec.{array_vec_len};
 ghost use Rattle.msg_names.specs.Number.{imp_number};
 ghost use Rattle.msg_names.specs.declared.value.Value.{Value};
-ghost use Rattle.msg_image.specs.Parts.{Two, If, Send, Super, superclass_in, class_total};
+ghost use Rattle.msg_image.specs.Parts.{superclass_in, class_total};
 ghost use Rattle.msg_image.specs.Plain.{plain, plain_all};
 ghost use Rattle.msg_image.specs.Sizes.{arity};
 ghost use Rattle.msg_image.specs.Sound.{IsOf, IsExpressionOf, AreExpressionsOf};
-ghost use Rattle.msg_tables.specs.History.{History};
-ghost use Rattle.msg_eval.specs.Evaluated.{evaluated, all_evaluated, sent, sent_above, dispatched, forwarded, entered};
+ghost use Rattle.msg_eval.specs.Evaluated.{evaluated, args_evaluated, sent, sent_above};
+ghost use Rattle.msg_eval.specs.Evaluated.{dispatched, forwarded, entered};
 ghost use Rattle.msg_eval.specs.Evaluation.{send_of};
 ghost use Rattle.msg_eval.specs.Finder.{sizes_of};
-ghost use Rattle.msg_eval.specs.Operation.{op_of};
-ghost use Rattle.msg_eval.specs.Points.{RepliesFrom};
-ghost use Rattle.msg_eval.specs.Step.{Gives, with_ok};
+ghost use Rattle.msg_eval.specs.Expressions.{plain_two, plain_if, plain_send, plain_super};
+ghost use Rattle.msg_eval.specs.Facts.{AreOf};
+ghost use Rattle.msg_eval.specs.Points.{Replies};
+ghost use Rattle.msg_eval.specs.Step.{Means, with_ok};
 
 use crate::finder::Finder;
 use crate::frame::{Args, Frame, Message};
@@ -45,10 +46,10 @@ pub fn send<F: Finder>(
 ) -> Reply
     requires sizes { F.sizes (F.kept finder.old) ≡ sizes_of image.now }
     requires receiver_of { IsOf image.now receiver }
-    requires args_of { All (IsOf image.now) args.now.items }
+    requires args_of { AreOf image.now args.now.items }
     ensures kept { F.kept finder.new ≡ F.kept finder.old }
-    ensures meaning { (h : History) → F.stands finder.old h
-        → RepliesFrom (F.stands finder.new) h (send_of image.now receiver sel args.now.items) result }
+    ensures meaning { Replies F.stands finder.old finder.new
+        (send_of image.now receiver sel args.now.items) result }
 {
     let message = Message {
         image,
@@ -76,8 +77,8 @@ fn eval_expr<F: Finder>(
     ensures kept { F.kept finder.new ≡ F.kept finder.old }
     ensures no_more { left.new ≤ left.old }
     ensures value_of { IfOk result (IsOf frame.now.image.now) }
-    ensures meaning { (h : History) → F.stands finder.old h
-        → Gives (F.stands finder.new) h (evaluated frame.now (plain expr.now) left.old) result left.new }
+    ensures meaning { Means F.stands finder.old finder.new
+        (evaluated frame.now (plain expr.now) left.old) result left.new }
 {
     match expr {
         Expr::Const(value) => Ok(*value),
@@ -112,8 +113,8 @@ fn eval_two<F: Finder>(
     ensures kept { F.kept finder.new ≡ F.kept finder.old }
     ensures no_more { left.new ≤ left.old }
     ensures value_of { IfOk result (IsOf frame.now.image.now) }
-    ensures meaning { (h : History) → F.stands finder.old h
-        → Gives (F.stands finder.new) h (evaluated frame.now (Two (op_of op) (plain a.now) (plain b.now)) left.old) result left.new }
+    ensures meaning { Means F.stands finder.old finder.new
+        (evaluated frame.now (plain_two op a.now b.now) left.old) result left.new }
 {
     let x = match frame.leaf(a) {
         Some(value) => value,
@@ -143,8 +144,8 @@ fn eval_if<F: Finder>(
     ensures kept { F.kept finder.new ≡ F.kept finder.old }
     ensures no_more { left.new ≤ left.old }
     ensures value_of { IfOk result (IsOf frame.now.image.now) }
-    ensures meaning { (h : History) → F.stands finder.old h
-        → Gives (F.stands finder.new) h (evaluated frame.now (If (plain test.now) (plain yes.now) (plain no.now)) left.old) result left.new }
+    ensures meaning { Means F.stands finder.old finder.new
+        (evaluated frame.now (plain_if test.now yes.now no.now) left.old) result left.new }
 {
     let chosen = match frame.leaf(test) {
         Some(value) => value,
@@ -174,8 +175,8 @@ fn eval_send<F: Finder>(
     ensures kept { F.kept finder.new ≡ F.kept finder.old }
     ensures no_more { left.new ≤ left.old }
     ensures value_of { IfOk result (IsOf frame.now.image.now) }
-    ensures meaning { (h : History) → F.stands finder.old h
-        → Gives (F.stands finder.new) h (evaluated frame.now (Send (plain receiver.now) sel (plain_all args.now)) left.old) result left.new }
+    ensures meaning { Means F.stands finder.old finder.new
+        (evaluated frame.now (plain_send receiver.now sel args.now) left.old) result left.new }
 {
     let receiver = match frame.leaf(receiver) {
         Some(value) => value,
@@ -207,8 +208,8 @@ fn eval_super<F: Finder>(
     ensures kept { F.kept finder.new ≡ F.kept finder.old }
     ensures no_more { left.new ≤ left.old }
     ensures value_of { IfOk result (IsOf frame.now.image.now) }
-    ensures meaning { (h : History) → F.stands finder.old h
-        → Gives (F.stands finder.new) h (evaluated frame.now (Super sel (plain_all args.now)) left.old) result left.new }
+    ensures meaning { Means F.stands finder.old finder.new
+        (evaluated frame.now (plain_super sel args.now) left.old) result left.new }
 {
     let mut values = Args::new();
     eval_args(finder, frame, args, &mut values, left)?;
@@ -236,9 +237,9 @@ fn eval_args<F: Finder>(
     requires none { values.old.items ≡ [] }
     ensures kept { F.kept finder.new ≡ F.kept finder.old }
     ensures no_more { left.new ≤ left.old }
-    ensures values_of { All (IsOf frame.now.image.now) values.new.items }
-    ensures meaning { (h : History) → F.stands finder.old h
-        → Gives (F.stands finder.new) h (all_evaluated frame.now (plain_all exprs.now) [] left.old) (with_ok values.new.items result) left.new }
+    ensures values_of { AreOf frame.now.image.now values.new.items }
+    ensures meaning { Means F.stands finder.old finder.new
+        (args_evaluated frame.now exprs.now left.old) (with_ok values.new.items result) left.new }
 {
     for expr in exprs {
         let value = eval_expr(finder, frame, expr, left)?;
@@ -260,8 +261,8 @@ fn send_to<F: Finder>(
     ensures kept { F.kept finder.new ≡ F.kept finder.old }
     ensures no_more { left.new ≤ left.old }
     ensures value_of { IfOk result (IsOf message.now.image.now) }
-    ensures meaning { (h : History) → F.stands finder.old h
-        → Gives (F.stands finder.new) h (sent message.now receiver left.old) result left.new }
+    ensures meaning { Means F.stands finder.old finder.new
+        (sent message.now receiver left.old) result left.new }
 {
     if let Value::Nil = receiver {
         return Ok(Value::Nil);
@@ -287,8 +288,8 @@ fn send_super<F: Finder>(
     ensures kept { F.kept finder.new ≡ F.kept finder.old }
     ensures no_more { left.new ≤ left.old }
     ensures value_of { IfOk result (IsOf message.now.image.now) }
-    ensures meaning { (h : History) → F.stands finder.old h
-        → Gives (F.stands finder.new) h (sent_above message.now me home left.old) result left.new }
+    ensures meaning { Means F.stands finder.old finder.new
+        (sent_above message.now me home left.old) result left.new }
 {
     let Some(class) = class_of(message.image, me) else {
         return Err(SendFault::NotAnObject);
@@ -316,8 +317,8 @@ fn dispatch<F: Finder>(
     ensures kept { F.kept finder.new ≡ F.kept finder.old }
     ensures no_more { left.new ≤ left.old }
     ensures value_of { IfOk result (IsOf message.now.image.now) }
-    ensures meaning { (h : History) → F.stands finder.old h
-        → Gives (F.stands finder.new) h (dispatched message.now left.old me class from left.old) result left.new }
+    ensures meaning { Means F.stands finder.old finder.new
+        (dispatched message.now left.old me class from left.old) result left.new }
 {
     let mut me = me;
     let mut class = class;
@@ -350,8 +351,8 @@ fn forward<F: Finder>(
     ensures no_more { left.new ≤ left.old }
     ensures target_of { IfOk result (λ r. IsOf message.now.image.now r.0
         × (r.1.class < class_total message.now.image.now)) }
-    ensures meaning { (h : History) → F.stands finder.old h
-        → Gives (F.stands finder.new) h (forwarded message.now me class left.old) result left.new }
+    ensures meaning { Means F.stands finder.old finder.new
+        (forwarded message.now me class left.old) result left.new }
 {
     let sel = message.image.forwarding_selector();
     let unrecognized = SendFault::Unrecognized {
@@ -390,8 +391,8 @@ fn enter<F: Finder>(
     ensures kept { F.kept finder.new ≡ F.kept finder.old }
     ensures no_more { left.new ≤ left.old }
     ensures value_of { IfOk result (IsOf message.now.image.now) }
-    ensures meaning { (h : History) → F.stands finder.old h
-        → Gives (F.stands finder.new) h (entered message.now imp me left.old) result left.new }
+    ensures meaning { Means F.stands finder.old finder.new
+        (entered message.now imp me left.old) result left.new }
 {
     if message.depth == 0 {
         return Err(SendFault::Depth);

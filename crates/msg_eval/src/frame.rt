@@ -1,9 +1,9 @@
 //! What a body sees, and a message on its way to one.
 
-ghost use Rattle.std.specs.Prelude.{◌≡◌, ◌<◌, ℕ, All, IfSome, length};
+ghost use Rattle.std.specs.Prelude.{◌≡◌, ◌<◌, ℕ, IfSome, length};
 ghost use Rattle.msg_image.specs.Parts.{ImageParts};
 ghost use Rattle.msg_image.specs.Sound.{IsOf};
-ghost use Rattle.msg_eval.specs.Facts.{of_image, all_of_image};
+ghost use Rattle.msg_eval.specs.Facts.{AreOf, of_image, all_of_image};
 
 use arrayvec::ArrayVec;
 use msg_image::{Expr, Image};
@@ -21,7 +21,7 @@ pub(crate) struct Frame<'a> {
     pub(crate) home: ClassRef,
     pub(crate) depth: u32,
     ghost me_of: { IsOf image.now me } by { of_image image.now me },
-    ghost args_of: { All (IsOf image.now) args.now.items } by { all_of_image image.now args.now.items },
+    ghost args_of: { AreOf image.now args.now.items } by { all_of_image image.now args.now.items },
     ghost home_of: { home.class < length image.now.classes },
 }
 
@@ -32,7 +32,7 @@ pub(crate) struct Message<'a> {
     pub(crate) sel: Selector,
     pub(crate) args: &'a Args,
     pub(crate) depth: u32,
-    ghost args_of: { All (IsOf image.now) args.now.items } by { all_of_image image.now args.now.items },
+    ghost args_of: { AreOf image.now args.now.items } by { all_of_image image.now args.now.items },
 }
 
 impl Frame<'_> {

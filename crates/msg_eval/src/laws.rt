@@ -1,14 +1,12 @@
 //! Laws of the meaning of sends, over every history.
 
-ghost use Rattle.std.specs.Prelude.{◌≡◌, ◌≤◌, ◌↔◌, ℕ, List, length};
-ghost use Rattle.msg_names.specs.declared.value.Selector.{Selector};
-ghost use Rattle.msg_names.specs.declared.value.Value.{Value};
-ghost use Rattle.msg_image.specs.Parts.{ImageParts};
+ghost use Rattle.std.specs.Prelude.{◌≡◌, List};
 ghost use Rattle.msg_tables.specs.History.{History, log};
 ghost use Rattle.msg_tables.specs.Stands.{StandsAt};
 ghost use Rattle.msg_tables.specs.View.{TablesView};
 ghost use Rattle.msg_eval.specs.Meaning.{Meaning};
-ghost use Rattle.msg_eval.specs.Points.{Rise, last_of, EndsAfter, SendAt, RepliesFrom, HasOneReply, HasAnswersAt, plain_reply};
+ghost use Rattle.msg_eval.specs.Points.{Rise, last_of, EndsAfter, EndsAsAnswered, EachEndsWithin};
+ghost use Rattle.msg_eval.specs.Points.{HasOneReply, IsPlain, TablesReply};
 ghost use Rattle.msg_eval.specs.declared.reply.Reply.{Reply};
 
 use crate::eval::MAX_LOOKUPS;
@@ -20,23 +18,22 @@ pub fn one_history_is_one_reply()
 
 /// A send makes at most 10,000 lookups.
 pub fn points_are_few()
-    ensures { (image : ImageParts) (receiver : Value) (sel : Selector) (args : List Value) (points : List History) (reply : Reply)
-        → SendAt image receiver sel args points reply → length points ≤ MAX_LOOKUPS }
+    ensures { EachEndsWithin MAX_LOOKUPS }
 {}
 
 /// A send ends at its points where it has a list of answers, each of them the lookup at its point.
 pub fn points_have_answers()
-    ensures { (send : Meaning) (points : List History) (reply : Reply) → (EndsAfter send points reply) ↔ (HasAnswersAt send 0 points reply) }
+    ensures { (send : Meaning) (points : List History) → EndsAsAnswered send points }
 {}
 
 /// Tables that stay where they stand give the plain reply at their history.
 pub fn tables_reply_plainly()
     ensures { (tables : TablesView) (h : History) (send : Meaning) (reply : Reply)
-        → StandsAt tables (log h) → RepliesFrom (λ p. StandsAt tables (log p)) h send reply → reply ≡ plain_reply h send }
+        → StandsAt tables (log h) → TablesReply tables h send reply → IsPlain h send reply }
 {}
 
 /// A finder that stands no further than where it stood gave the plain reply there.
 pub fn a_finder_that_stays_replies_plainly()
-    ensures { (h : History) (send : Meaning) (points : List History) (reply : Reply)
-        → Rise h points → last_of h points ≡ h → EndsAfter send points reply → reply ≡ plain_reply h send }
+    ensures { (h : History) (send : Meaning) (points : List History) (reply : Reply) → Rise h points
+        → last_of h points ≡ h → EndsAfter send points reply → IsPlain h send reply }
 {}

@@ -2,9 +2,8 @@
 
 ghost use Rattle.std.specs.Prelude.{◌≡◌, ◌<◌, ◌≤◌, IfOk};
 ghost use Rattle.msg_names.specs.Number.{selector_number, imp_number};
-ghost use Rattle.msg_tables.specs.History.{History};
 ghost use Rattle.msg_eval.specs.Meaning.{ask};
-ghost use Rattle.msg_eval.specs.Step.{Gives, numbered};
+ghost use Rattle.msg_eval.specs.Step.{Means, numbered};
 
 use crate::finder::Finder;
 use crate::reply::SendFault;
@@ -22,8 +21,8 @@ pub(crate) fn ask<F: Finder>(
     ensures listed { IfOk result (λ i. imp_number i ≤ (F.sizes (F.kept finder.old)).imps) }
     ensures fewer { IfOk result (λ _. left.new < left.old) }
     ensures no_more { left.new ≤ left.old }
-    ensures meaning { (h : History) → F.stands finder.old h
-        → Gives (F.stands finder.new) h (ask class (selector_number sel) left.old) (numbered result) left.new }
+    ensures meaning { Means F.stands finder.old finder.new
+        (ask class (selector_number sel) left.old) (numbered result) left.new }
 {
     if *left == 0 {
         return Err(SendFault::Budget);
