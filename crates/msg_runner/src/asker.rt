@@ -1,9 +1,9 @@
 //! A sender as it answers a batch.
 
-ghost use Rattle.std.specs.Prelude.{◌≡◌, ◌<◌, ◌≤◌, length, IfSome};
-ghost use Rattle.msg_names.specs.Number.{selector_number, imp_number};
-ghost use Rattle.msg_tables.specs.Origin.{class_total, last_imp};
-ghost use Rattle.msg_tables.specs.History.{BeginsWith, lookup};
+ghost use Rattle.std.specs.Prelude.{◌≡◌, ◌<◌, length, IfSome};
+ghost use Rattle.msg_tables.specs.Origin.{class_total};
+ghost use Rattle.msg_tables.specs.History.{BeginsWith};
+ghost use Rattle.msg_reader.specs.Found.{IsFoundAt, IsListed};
 
 use msg_dispatch::{ArenaName, Recalling, Sender};
 use msg_names::{ClassRef, ImpRef, Selector};
@@ -70,8 +70,8 @@ impl<'d, N: ArenaName> Asker<'d, N> {
     // What it has noted of the point at which the sender stands. It waits for nothing.
     #[inline]
     pub(crate) fn recall(&self, class: ClassRef, sel: Selector) -> Option<ImpRef>
-        ensures found { IfSome result (λ i. imp_number i ≡ lookup self.now.seen.front class (selector_number sel)) }
-        ensures listed { IfSome result (λ i. imp_number i ≤ last_imp self.now.seen.front.origin.counts) }
+        ensures found { IfSome result (IsFoundAt self.now.seen.front class sel) }
+        ensures listed { IfSome result (IsListed self.now.seen.front) }
     {
         match &self.kind {
             Kind::Noting(sender) => sender.recall(class, sel),
@@ -85,8 +85,8 @@ impl<'d, N: ArenaName> Asker<'d, N> {
     pub(crate) fn find<R: Wait>(&mut self, rt: &R, class: ClassRef, sel: Selector) -> ImpRef
         requires class { class.class < class_total self.old.seen.front.origin }
         ensures begins { BeginsWith self.new.seen.front self.old.seen.front }
-        ensures found { imp_number result ≡ lookup self.new.seen.front class (selector_number sel) }
-        ensures listed { imp_number result ≤ last_imp self.new.seen.front.origin.counts }
+        ensures found { IsFoundAt self.new.seen.front class sel result }
+        ensures listed { IsListed self.new.seen.front result }
     {
         match &mut self.kind {
             Kind::Noting(sender) => sender.find(rt, class, sel),

@@ -1,6 +1,7 @@
 //! A batch: items whose sends are shared out among workers, while the changes among them are made.
 
-ghost use Rattle.std.specs.Prelude.{◌≡◌, ◌≤◌, ◌<◌, ◌+◌, ◌^◌, ◌⊎◌, [], true, count_by, length, map, vec_len, IfOk, OnOk};
+ghost use Rattle.std.specs.Prelude.{◌≡◌, ◌≤◌, ◌<◌, ◌+◌, ◌^◌, ◌⊎◌, [], true};
+ghost use Rattle.std.specs.Prelude.{count_by, length, map, vec_len, IfOk, OnOk};
 ghost use Rattle.msg_image.specs.Opened.{origin_of};
 ghost use Rattle.msg_image.specs.Plain.{item_parts};
 ghost use Rattle.msg_runner.specs.Parts.{history_past, HasServed, IsAnsweredBeside, IsSoundPart};

@@ -5,7 +5,8 @@ ghost use Rattle.msg_image.specs.Plain.{item_parts};
 ghost use Rattle.msg_tables.specs.History.{log};
 ghost use Rattle.msg_tables.specs.Refusal.{refusal};
 ghost use Rattle.msg_tables.specs.Several.{refused_from};
-ghost use Rattle.msg_runner.specs.Serial.{history_after, longer_by, outcome_at, outcome_of, outcome_of_first};
+ghost use Rattle.msg_runner.specs.Serial.{history_after, longer_by};
+ghost use Rattle.msg_runner.specs.Serial.{outcome_at, outcome_of, outcome_of_first};
 ghost use Rattle.msg_runner.specs.Serving as spec;
 ghost use Rattle.msg_runner.specs.Serving.{history_of, outcomes_of};
 

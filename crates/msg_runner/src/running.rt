@@ -1,16 +1,17 @@
 //! From bytes to bytes.
 
-ghost use Rattle.std.specs.Prelude.{◌≡◌, ◌≢◌, ◌<◌, ◌≤◌, ◌↔◌, ◌⊎◌, ℕ, List, length, false, true, Ok, Err, IfOk, IfErr, IfSome, OnErr, OnOk};
-ghost use Rattle.std.specs.Io.KnownBytes.{Appends};
+ghost use Rattle.std.specs.Prelude.{◌≡◌, ◌≢◌, ◌<◌, ◌≤◌, ◌↔◌, ◌⊎◌, ℕ, List, length, false, true};
+ghost use Rattle.std.specs.Prelude.{Ok, Err, IfOk, IfErr, IfSome, OnErr, OnOk};
 ghost use Rattle.msg_form.specs.declared.faults.DocumentFault.{DocumentFault};
 ghost use Rattle.msg_form.specs.declared.faults.DocumentFault.TheVariants as documents;
 ghost use Rattle.msg_image.specs.Answer.{IsAnswer};
 ghost use Rattle.msg_image.specs.DocumentParts.{document_parts};
 ghost use Rattle.msg_runner.specs.Device.{Marks};
 ghost use Rattle.msg_runner.specs.Lines.{AreLinesOf};
-ghost use Rattle.msg_runner.specs.Outcome.{Wrote, WroteFront, WroteBeside, WroteFrontBeside, Leaves};
+ghost use Rattle.msg_runner.specs.Outcome.{Leaves, Wrote, WroteBeside};
+ghost use Rattle.msg_runner.specs.Outcome.{WroteFront, WroteFrontBeside};
 ghost use Rattle.msg_runner.specs.Parts.{IsSoundDocument};
-ghost use Rattle.msg_runner.specs.Writing.{AppendsFront};
+ghost use Rattle.msg_runner.specs.Writing.{Writes, Starts};
 
 use crate::changes::Changes;
 use crate::context::Run;
@@ -98,9 +99,8 @@ fn admit<R: Source>(
 // Writes the text, which is whole.
 fn write<W: Sink>(sink: &mut W, text: &[u8]) -> Result<(), RunFault>
     requires { W.mark sink.old ≡ false }
-    ensures whole { OnOk result (Appends (W.contents sink.old) (W.contents sink.new) text.now) }
-    ensures front { OnErr result
-        (AppendsFront (W.contents sink.old) (W.contents sink.new) text.now) }
+    ensures whole { OnOk result (Writes W.contents sink.old sink.new text.now) }
+    ensures front { OnErr result (Starts W.contents sink.old sink.new text.now) }
     ensures fault { IfErr result (λ f. f ≡ RunFault.Write) }
     ensures mark { (result ≡ Err RunFault.Write) ↔ (W.mark sink.new ≡ true) }
 {
@@ -119,11 +119,11 @@ impl<'r, G: Gate, T: Threads + Wait + Sync> Run<'r, G, T> {
         requires first { self.now.deal.first ≡ 0 }
         ensures whole { OnOk result ((text : List ℕ) × AreLinesOf self.now.changes
             self.now.deal.workers self.now.deal.cut (document_parts document.now) text
-            × Appends (W.contents sink.old) (W.contents sink.new) text) }
+            × Writes W.contents sink.old sink.new text) }
         ensures front { result ≡ Err RunFault.Write → (text : List ℕ)
             × AreLinesOf self.now.changes self.now.deal.workers self.now.deal.cut
             (document_parts document.now) text
-            × AppendsFront (W.contents sink.old) (W.contents sink.new) text }
+            × Starts W.contents sink.old sink.new text }
         ensures nothing { Leaves (W.contents sink.old) (W.contents sink.new) result }
         ensures fault { IfErr result (λ f. (f ≡ RunFault.Memory) ⊎ (f ≡ RunFault.Write)) }
         ensures write { (result ≡ Err RunFault.Write) ↔ (W.mark sink.new ≡ true) }
@@ -149,7 +149,8 @@ pub fn run<R: Source, W: Sink, G: Gate, T: Threads + Wait + Sync>(
 ) -> Result<(), RunFault>
     requires unread { R.mark source.old ≡ false }
     requires unwritten { W.mark sink.old ≡ false }
-    ensures whole { OnOk result (IfSome (R.remaining source.old) (Wrote (W.contents sink.old) (W.contents sink.new))) }
+    ensures whole { OnOk result (IfSome (R.remaining source.old)
+        (Wrote (W.contents sink.old) (W.contents sink.new))) }
     ensures front { result ≡ Err RunFault.Write → IfSome (R.remaining source.old)
         (WroteFront (W.contents sink.old) (W.contents sink.new)) }
     ensures nothing { Leaves (W.contents sink.old) (W.contents sink.new) result }
