@@ -28,7 +28,7 @@ pub const MOST_ARRAYS: u32 = 65_535;
 pub const DEFAULT_ARRAYS: [u16; 9] = [4096, 2048, 512, 256, 128, 64, 32, 16, 8];
 
 /// How many methods may stand at any time.
-pub const HOST_ROWS: u32 = u32::MAX;
+pub const HOST_ROWS: u64 = 4_294_967_296;
 
 /// How many changes are accepted.
 pub const HOST_CHANGES: u64 = 281_474_976_710_656;

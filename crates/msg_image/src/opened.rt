@@ -12,7 +12,7 @@ use msg_tables::{Counts, Limits};
 use std::alloc::{AllocError, Global};
 
 /// How many rows may stand at any time in the tables of a document: as many as it may list.
-pub const MAX_ROWS: u32 = MAX_ENTRIES as u32;
+pub const MAX_ROWS: u64 = MAX_ENTRIES as u64;
 
 /// How many changes of a document's tables are accepted.
 pub const MAX_CHANGES: u64 = 65_536;

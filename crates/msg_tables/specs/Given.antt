@@ -1,16 +1,22 @@
 -- The fields of `Origin`.
-use Rattle.std.specs.Prelude.{◌++◌, map}
+use Rattle.std.specs.Prelude.{ℕ, List, ◌++◌, Option, map}
 use Rattle.msg_tables.specs.Attached.{listed_lists, category_lists}
-use Rattle.msg_tables.specs.Origin.{OriginView}
+use Rattle.msg_tables.specs.Origin.{CountsView, OriginView}
+use Rattle.msg_tables.specs.declared.limits.Limits.{Limits}
+use Rattle.msg_tables.specs.declared.origin.Category.{Category}
 use Rattle.msg_tables.specs.declared.origin.ListedClass.{ListedClass}
 use Rattle.msg_tables.specs.declared.origin.Origin.TheInside.{Inside}
 
+-- the origin of listed classes, of which so many more may be made, and of categories
+abbrev pub origin_of : List ListedClass → ℕ → List Category → Option CountsView → Limits → OriginView
+origin_of classes made categories counts limits = record {
+  superclasses = map (λ (c : ListedClass). c.superclass) classes;
+  made = made;
+  lists = listed_lists 0 classes ++ category_lists categories;
+  counts = counts;
+  limits = limits;
+}
+
 -- what contracts see of an origin
 abbrev pub origin_view : Inside → OriginView
-origin_view o = record {
-  superclasses = map (λ (c : ListedClass). c.superclass) o.classes.items;
-  made = o.made;
-  lists = listed_lists 0 o.classes.items ++ category_lists o.categories.items;
-  counts = o.counts;
-  limits = o.limits;
-}
+origin_view o = origin_of o.classes.items o.made o.categories.items o.counts o.limits

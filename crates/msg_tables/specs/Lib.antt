@@ -1,3 +1,4 @@
+pub mod Accepts
 pub mod Affected
 pub mod After
 pub mod Attached

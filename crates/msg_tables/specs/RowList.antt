@@ -1,5 +1,8 @@
 -- The rows of one class reference, as pairs of a selector and an implementation.
-use Rattle.std.specs.Prelude.{ℕ, suc, ◌-◌, ◌==◌, ◌&&◌, List, [], ◌∷◌, Option, Some, None, option_map, map, if◌then◌else◌, is_none, length, take}
+use Rattle.std.specs.Prelude.{ℕ, suc, ◌-◌, ◌==◌, ◌&&◌, List, [], ◌∷◌, ◌++◌, Option, Some, None, option_map, map, if◌then◌else◌, is_none, length, slice_index_or, slice_set, take}
+use Rattle.msg_names.specs.declared.value.ImpRef.{ImpRef}
+use Rattle.msg_names.specs.declared.value.Selector.{Selector}
+use Rattle.msg_names.specs.Number.{selector_number, imp_number}
 use Rattle.msg_tables.specs.Rows.{or_else}
 
 -- the rows, oldest first, and how many more there is room for
@@ -10,6 +13,18 @@ pub record RowList : Type 0 where
 -- the rows alone
 abbrev pub rows_of : List RowList → List (List (ℕ × ℕ))
 rows_of lists = map (λ (r : RowList). r.rows) lists
+
+-- one more row
+abbrev pub with_row : Selector → ImpRef → List (ℕ × ℕ) → List (ℕ × ℕ)
+with_row s i ms = ms ++ (selector_number s, imp_number i) ∷ []
+
+-- more rows
+abbrev pub with_rows : List (ℕ × ℕ) → List (ℕ × ℕ) → List (ℕ × ℕ)
+with_rows more ms = ms ++ more
+
+-- one of the lists is changed, and the others stay
+abbrev pub changed_at : (List (ℕ × ℕ) → List (ℕ × ℕ)) → ℕ → List (List (ℕ × ℕ)) → List (List (ℕ × ℕ))
+changed_at f at lists = slice_set lists at (f (slice_index_or lists at []))
 
 -- the implementation in the last row of a selector
 abbrev pub own_in : ℕ → List (ℕ × ℕ) → Option ℕ

@@ -1,6 +1,8 @@
 -- What a change writes where, before it is made.
-use Rattle.std.specs.Prelude.{ℕ, ◌<◌, ◌==◌, ◌&&◌, Option, Some, None, reverse, IfSome, if◌then◌else◌}
+use Rattle.std.specs.Prelude.{◌≡◌, ℕ, ◌<◌, ◌==◌, ◌&&◌, Option, Some, None, option_map, reverse, IfSome, if◌then◌else◌}
 use Rattle.msg_names.specs.declared.value.ClassRef.{ClassRef}
+use Rattle.msg_names.specs.declared.value.ImpRef.{ImpRef}
+use Rattle.msg_names.specs.declared.value.Selector.{Selector}
 use Rattle.msg_names.specs.Number.{selector_number, imp_number}
 use Rattle.msg_tables.specs.declared.change.Change.{Change}
 use Rattle.msg_tables.specs.declared.change.Change.TheVariants.{Add, Replace, SetImp, Exchange, Attach, AddClass}
@@ -8,7 +10,9 @@ use Rattle.msg_names.specs.ClassRef.{same_class}
 use Rattle.msg_tables.specs.Rows.{or_else}
 use Rattle.msg_tables.specs.RowList.{own_in}
 use Rattle.msg_tables.specs.After.{of_class, of_meta}
-use Rattle.msg_tables.specs.Log.{Log, lookup, holder}
+use Rattle.msg_tables.specs.Log.{Log, and_then, lookup, holder}
+use Rattle.msg_tables.specs.Stands.{StandsAt}
+use Rattle.msg_tables.specs.View.{TablesView}
 
 -- the implementation of a selector, where the method is written at this class reference
 abbrev pub at_ref : Option ClassRef → ClassRef → ℕ → ℕ → ℕ → Option ℕ
@@ -27,6 +31,14 @@ written h (Attach k methods class_methods) d u = or_else
     (if same_class (of_meta k) d then own_in u (reverse class_methods) else None)
     (if same_class (of_class k) d then own_in u (reverse methods) else None)
 written h (AddClass k d) e u = None
+
+-- what a change writes at a class reference for a selector, at whatever log tables stand
+abbrev pub IsWritten : TablesView → Change → ClassRef → Selector → Option ImpRef → Type 0
+IsWritten t x here s o = (h : Log) → StandsAt t h → option_map imp_number o ≡ written h x here (selector_number s)
+
+-- what a lookup finds once a change is made
+abbrev pub IsFoundAfter : TablesView → Change → ClassRef → Selector → ImpRef → Type 0
+IsFoundAfter t x c s i = (h : Log) → StandsAt t h → imp_number i ≡ lookup (and_then h x) c (selector_number s)
 
 -- the classes at which a change's methods are sought are among the first n
 abbrev pub SeeksAmong : ℕ → Change → Type 0

@@ -2,13 +2,14 @@
 
 ghost use Rattle.std.specs.Prelude.{◌≡◌, ◌≢◌, ◌<◌, ◌≤◌, Option, Some, None, OnOk, OnErr, IfErr, IsErrOf, length, ◌+◌, [], ◌∷◌};
 ghost use Rattle.msg_names.specs.declared.value.ImpRef.{ImpRef};
+ghost use Rattle.msg_tables.specs.Accepts.{AcceptsRows, Makes, Refuses};
 ghost use Rattle.msg_tables.specs.After.{of_class, of_meta};
 ghost use Rattle.msg_tables.specs.declared.entry.Entry.{Entry};
 ghost use Rattle.msg_tables.specs.declared.fault.ChangeFault.{ChangeFault};
 ghost use Rattle.msg_tables.specs.declared.edit.Edit.{Edit};
 ghost use Rattle.msg_tables.specs.declared.edit.MethodRow.{MethodRow};
-ghost use Rattle.msg_tables.specs.Edits.{Fits, IsOwn, Writes, AddsRows, added};
-ghost use Rattle.msg_tables.specs.Log.{Log, and_then};
+ghost use Rattle.msg_tables.specs.Edits.{Fits, IsOwn, Writes, added};
+ghost use Rattle.msg_tables.specs.Log.{Log};
 ghost use Rattle.msg_tables.specs.Journal.{IsImpOf, IsJournalOf, lists_rewritten, rewrote};
 ghost use Rattle.msg_tables.specs.Refusal.{refusal};
 ghost use Rattle.msg_tables.specs.Stands.{StandsAt};
@@ -19,7 +20,7 @@ use crate::fault::ChangeFault;
 use crate::methods::MethodList;
 use crate::presence::Presence;
 use crate::tables::Tables;
-use msg_names::ClassRef;
+use msg_names::{ClassRef, ImpRef};
 use std::alloc::AllocError;
 
 impl Tables {
@@ -34,14 +35,17 @@ impl Tables {
         Ok(())
     }
 
-    pub(crate) fn rewrite(&mut self, row: MethodRow)
+    // Rewrites an own row, and answers the implementation that it had.
+    pub(crate) fn rewrite(&mut self, row: MethodRow) -> ImpRef
         requires { IsOwn self.old row }
         ensures writes { Writes self.old self.new (Edit.Rewrite row) }
         ensures own { (other : MethodRow) → IsOwn self.old other → IsOwn self.new other }
         ensures value { self.new ≡ record self.old { lists = lists_rewritten row self.old.lists } }
+        ensures was { IsImpOf self.old row result }
         ensures back { (was : ImpRef) → IsImpOf self.old row was → IsJournalOf (rewrote row was ∷ []) self.old self.new }
     {
-        self.lists.rewrite_row(row.class.slot(), row.sel, row.imp);
+        let was = self.lists.rewrite_row(row.class.slot(), row.sel, row.imp);
+        was.unwrap()
     }
 
     pub(crate) fn rewrite_both(&mut self, first: MethodRow, second: MethodRow)
@@ -50,8 +54,8 @@ impl Tables {
         ensures writes { Writes self.old self.new (Edit.RewriteBoth first second) }
         ensures back { (one two : ImpRef) → IsImpOf self.old first one → IsImpOf self.old second two → IsJournalOf (rewrote first one ∷ rewrote second two ∷ []) self.old self.new }
     {
-        self.rewrite(second);
-        self.rewrite(first);
+        let _second = self.rewrite(second);
+        let _first = self.rewrite(first);
     }
 
     pub(crate) fn attach(
@@ -69,7 +73,7 @@ impl Tables {
         let meta = class_methods.as_slice();
         let at = ClassRef { class, meta: false }.slot();
         self.lists.attach_rows(at, own, meta)?;
-        self.row_count += (own.len() + meta.len()) as u32;
+        self.row_count += (own.len() + meta.len()) as u64;
         Ok(())
     }
 
@@ -92,7 +96,7 @@ impl Tables {
         match edit {
             Edit::Append(row) => self.append(row),
             Edit::Rewrite(row) => {
-                self.rewrite(row);
+                let _was = self.rewrite(row);
                 Ok(())
             }
             Edit::RewriteBoth(first, second) => {
@@ -122,12 +126,12 @@ impl Tables {
     ///
     /// A method is looked up once; a row that is rewritten is found in its bucket. All growths come first; only `Attach` goes over more than one row.
     pub fn apply(&mut self, change: &Change) -> Result<(), ChangeFault>
-        ensures ok { OnOk result ((h : Log) → StandsAt self.old h → (refusal h change.now ≡ None) × StandsAt self.new (and_then h change.now)) }
+        ensures ok { OnOk result (Makes self.old change.now self.new) }
         ensures err { OnErr result (self.new ≡ self.old) }
-        ensures fault { IfErr result (λ f. f ≢ ChangeFault.Memory → (h : Log) → StandsAt self.old h → refusal h change.now ≡ Some f) }
+        ensures fault { IfErr result (λ f. f ≢ ChangeFault.Memory → Refuses self.old change.now f) }
         ensures classes { length self.new.supers ≡ length self.old.supers }
         ensures counts { self.new.counts ≡ self.old.counts }
-        ensures memory { IsErrOf result ChangeFault.Memory → (h : Log) → StandsAt self.old h → (refusal h change.now ≡ None) × AddsRows h change.now }
+        ensures memory { IsErrOf result ChangeFault.Memory → AcceptsRows self.old change.now }
     {
         let edit = self.judge(change)?;
         self.write(edit)?;

@@ -3,12 +3,10 @@
 ghost use Rattle.std.specs.Prelude.{◌≡◌, ◌≢◌, ◌<◌, ◌≤◌, ◌+◌, ◌*◌, [], All, IfErr, IfOk, IsErrOf, None, OnErr, OnOk, Some, length, take};
 ghost use Rattle.std.specs.Vec.{vec_capacity};
 ghost use Rattle.msg_tables.specs.declared.fault.ChangeFault.{ChangeFault};
-ghost use Rattle.msg_tables.specs.Log.{Log, and_then};
+ghost use Rattle.msg_tables.specs.Accepts.{Accepts, Makes, Refuses};
 ghost use Rattle.msg_tables.specs.Journal.{NamesListed, classes_of};
 ghost use Rattle.msg_tables.specs.Making.{AreMadeBefore, HasPlaces, IsMade, IsPart, IsRefused, IsUndone, LacksMemory, StandAfter, TellsAll};
-ghost use Rattle.msg_tables.specs.Refusal.{refusal};
 ghost use Rattle.msg_tables.specs.Several.{made_by_all};
-ghost use Rattle.msg_tables.specs.Stands.{StandsAt};
 
 use crate::change::Change;
 use crate::entry::{Entry, Written};
@@ -48,11 +46,11 @@ impl Tables {
         journal: &mut Vec<Entry>,
     ) -> Result<(), ChangeFault>
         requires { length journal.old.items + 2 ≤ vec_capacity journal.old }
-        ensures ok { OnOk result ((h : Log) → StandsAt self.old h → (refusal h change.now ≡ None) × StandsAt self.new (and_then h change.now)) }
+        ensures ok { OnOk result (Makes self.old change.now self.new) }
         ensures part { OnOk result (IsPart change.now journal.old.items journal.new.items self.old self.new) }
         ensures err { OnErr result ((self.new ≡ self.old) × (journal.new.items ≡ journal.old.items)) }
-        ensures fault { IfErr result (λ f. f ≢ ChangeFault.Memory → (h : Log) → StandsAt self.old h → refusal h change.now ≡ Some f) }
-        ensures memory { IsErrOf result ChangeFault.Memory → (h : Log) → StandsAt self.old h → refusal h change.now ≡ None }
+        ensures fault { IfErr result (λ f. f ≢ ChangeFault.Memory → Refuses self.old change.now f) }
+        ensures memory { IsErrOf result ChangeFault.Memory → Accepts self.old change.now }
         ensures room { vec_capacity journal.old ≤ vec_capacity journal.new }
     {
         let edit = self.judge(change)?;

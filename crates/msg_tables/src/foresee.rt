@@ -5,13 +5,13 @@
 
 ghost use Rattle.std.specs.Prelude.{◌≡◌, ◌<◌, length, option_map, reverse, IfSome, true};
 ghost use Rattle.msg_names.specs.Number.{selector_number, imp_number};
-ghost use Rattle.msg_tables.specs.Log.{Log, lookup, and_then, table};
+ghost use Rattle.msg_tables.specs.Log.{Log, table};
 ghost use Rattle.msg_tables.specs.After.{rows_after, supers_after};
 ghost use Rattle.msg_tables.specs.Chain.{super_of, is_present};
 ghost use Rattle.msg_tables.specs.RowList.{own_in};
 ghost use Rattle.msg_tables.specs.Rows.{own};
 ghost use Rattle.msg_tables.specs.Stands.{StandsAt};
-ghost use Rattle.msg_tables.specs.Written.{written, at_ref, SeeksAmong};
+ghost use Rattle.msg_tables.specs.Written.{IsFoundAfter, IsWritten, SeeksAmong, at_ref, written};
 
 use crate::change::Change;
 use crate::methods::MethodList;
@@ -50,7 +50,7 @@ fn at_ref(
 // The implementation that the change writes at a class reference for a selector.
 fn written(tables: &Tables, change: &Change, here: ClassRef, sel: Selector) -> Option<ImpRef>
     requires { SeeksAmong (length tables.now.supers) change.now }
-    ensures { (h : Log) → StandsAt tables.now h → option_map imp_number result ≡ written h change.now here (selector_number sel) }
+    ensures { IsWritten tables.now change.now here sel result }
 {
     match change {
         Change::Add {
@@ -140,8 +140,7 @@ fn exchanged(
 ) -> Option<ImpRef>
     requires class { class.class < length tables.now.supers }
     requires other { other.class < length tables.now.supers }
-    ensures { (h : Log) → StandsAt tables.now h
-        → option_map imp_number result ≡ written h (Change.Exchange class named other other_sel) here (selector_number sel) }
+    ensures { IsWritten tables.now (Change.Exchange class named other other_sel) here sel result }
 {
     let first = tables.holder(class, named);
     let second = tables.holder(other, other_sel);
@@ -176,7 +175,7 @@ fn found_from(
     requires class { class.class < length tables.now.supers }
     requires present { is_present (supers_after tables.now.supers change.now) class.class ≡ true }
     requires listed { SeeksAmong (length tables.now.supers) change.now }
-    ensures { (h : Log) → StandsAt tables.now h → imp_number result ≡ lookup (and_then h change.now) class (selector_number sel) }
+    ensures { IsFoundAfter tables.now change.now class sel result }
 {
     let mut here = class;
     for _step in 0..classes {
@@ -201,7 +200,7 @@ impl Tables {
     pub fn lookup_after(&self, change: &Change, class: ClassRef, sel: Selector) -> ImpRef
         requires class { class.class < length self.now.supers }
         requires listed { SeeksAmong (length self.now.supers) change.now }
-        ensures { (h : Log) → StandsAt self.now h → imp_number result ≡ lookup (and_then h change.now) class (selector_number sel) }
+        ensures { IsFoundAfter self.now change.now class sel result }
     {
         if is_present_after(self, change, class) {
             found_from(self, self.supers.len(), change, class, sel)

@@ -139,12 +139,17 @@ impl IndexedRows {
         self.newest[bucket] = self.rows.len();
     }
 
-    // Writes another implementation into a selector's last row, where it has one.
-    pub(crate) fn set(&mut self, sel: Selector, imp: ImpRef)
-        ensures { self.new.rows ≡ set_last (selector_number sel) (imp_number imp) self.old.rows }
+    // Writes another implementation into a selector's last row, where it has one, and answers the one that stood there.
+    pub(crate) fn set(&mut self, sel: Selector, imp: ImpRef) -> Option<ImpRef>
+        ensures rows { self.new.rows ≡ set_last (selector_number sel) (imp_number imp) self.old.rows }
+        ensures was { option_map imp_number result ≡ own_in (selector_number sel) self.old.rows }
     {
         if let Some(place) = self.place(sel) {
+            let was = self.rows[place].1;
             self.rows[place] = (sel, imp);
+            Some(was)
+        } else {
+            None
         }
     }
 

@@ -102,8 +102,7 @@ impl Tables {
         ensures meaning { (h : Log) → StandsAt self.now h → result ≡ spec.is_full h more }
         ensures room { result ≡ false → (self.now.row_count + more ≤ self.now.limits.rows) × (self.now.change_count < self.now.limits.changes) }
     {
-        self.change_count >= self.limits.changes
-            || more > (self.limits.rows - self.row_count) as usize
+        self.change_count >= self.limits.changes || more as u64 > self.limits.rows - self.row_count
     }
 
     // Why the row could not stand, whatever stands there.

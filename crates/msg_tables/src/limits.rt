@@ -19,7 +19,7 @@ pub const MOST_WORDS: u64 = 268_435_456;
 #[derive(Clone, Copy, Debug, PartialEq, Eq)]
 pub struct Limits {
     /// How many rows may stand at any time.
-    pub rows: u32,
+    pub rows: u64,
     /// How many changes are accepted.
     pub changes: u64,
     /// How many senders there may be at most.

@@ -1,9 +1,9 @@
 //! The lists of rows, one for each class reference.
 
-ghost use Rattle.std.specs.Prelude.{◌≡◌, ◌<◌, ◌≤◌, ◌+◌, [], ◌∷◌, ◌++◌, length, reverse, OnOk, OnErr, slice_set, slice_index_or};
+ghost use Rattle.std.specs.Prelude.{◌≡◌, ◌<◌, ◌≤◌, ◌+◌, [], ◌∷◌, ◌++◌, length, reverse, OnOk, OnErr, option_map, slice_set, slice_index_or};
 ghost use Rattle.msg_names.specs.Number.{selector_number, imp_number};
 ghost use Rattle.msg_tables.specs.Methods.{method_numbers};
-ghost use Rattle.msg_tables.specs.RowList.{rows_of, set_last, without_last};
+ghost use Rattle.msg_tables.specs.RowList.{changed_at, rows_of, own_in, set_last, with_row, with_rows, without_last};
 
 use crate::rows::MethodRows;
 use msg_names::{ImpRef, Selector};
@@ -17,7 +17,7 @@ pub(crate) fn append_row(
     imp: ImpRef,
 ) -> Result<(), AllocError>
     requires { at < length lists.old.items }
-    ensures ok { OnOk result (rows_of lists.new.items ≡ slice_set (rows_of lists.old.items) at (slice_index_or (rows_of lists.old.items) at [] ++ (selector_number sel, imp_number imp) ∷ [])) }
+    ensures ok { OnOk result (rows_of lists.new.items ≡ changed_at (with_row sel imp) at (rows_of lists.old.items)) }
     ensures err { OnErr result (rows_of lists.new.items ≡ rows_of lists.old.items) }
 {
     let rows = &mut lists[at];
@@ -26,19 +26,25 @@ pub(crate) fn append_row(
     Ok(())
 }
 
-// Another implementation in the last row of a selector in one of the lists, where it has one.
-pub(crate) fn rewrite_row(lists: &mut Vec<MethodRows>, at: usize, sel: Selector, imp: ImpRef)
+// Another implementation in the last row of a selector in one of the lists, where it has one. Answers the one that stood there.
+pub(crate) fn rewrite_row(
+    lists: &mut Vec<MethodRows>,
+    at: usize,
+    sel: Selector,
+    imp: ImpRef,
+) -> Option<ImpRef>
     requires { at < length lists.old.items }
-    ensures { rows_of lists.new.items ≡ slice_set (rows_of lists.old.items) at (set_last (selector_number sel) (imp_number imp) (slice_index_or (rows_of lists.old.items) at [])) }
+    ensures rows { rows_of lists.new.items ≡ changed_at (set_last (selector_number sel) (imp_number imp)) at (rows_of lists.old.items) }
+    ensures was { option_map imp_number result ≡ own_in (selector_number sel) (slice_index_or (rows_of lists.old.items) at []) }
 {
     let rows = &mut lists[at];
-    rows.set(sel, imp);
+    rows.set(sel, imp)
 }
 
 // So many rows fewer at the end of one of the lists.
 pub(crate) fn shorten_rows(lists: &mut Vec<MethodRows>, at: usize, count: usize)
     requires { at < length lists.old.items }
-    ensures { rows_of lists.new.items ≡ slice_set (rows_of lists.old.items) at (without_last count (slice_index_or (rows_of lists.old.items) at [])) }
+    ensures { rows_of lists.new.items ≡ changed_at (without_last count) at (rows_of lists.old.items) }
 {
     let rows = &mut lists[at];
     rows.shorten(count);
@@ -51,7 +57,7 @@ pub(crate) fn append_rows(
     methods: &[(Selector, ImpRef)],
 ) -> Result<(), AllocError>
     requires { at < length lists.old.items }
-    ensures ok { OnOk result (rows_of lists.new.items ≡ slice_set (rows_of lists.old.items) at (slice_index_or (rows_of lists.old.items) at [] ++ method_numbers methods.now)) }
+    ensures ok { OnOk result (rows_of lists.new.items ≡ changed_at (with_rows (method_numbers methods.now)) at (rows_of lists.old.items)) }
     ensures err { OnErr result (rows_of lists.new.items ≡ rows_of lists.old.items) }
 {
     let rows = &mut lists[at];

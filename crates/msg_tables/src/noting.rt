@@ -64,8 +64,7 @@ impl Tables {
         ensures journals { Journals (Edit.Rewrite row) journal.old.items journal.new.items self.old self.new }
         ensures room { vec_capacity journal.old ≤ vec_capacity journal.new }
     {
-        let was = self.own(row.class, row.sel).unwrap();
-        self.rewrite(row);
+        let was = self.rewrite(row);
         note_rewritten(journal, row, was);
     }
 

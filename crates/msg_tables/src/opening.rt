@@ -100,7 +100,7 @@ impl Tables {
         ensures { OnOk result (Adds self.old self.new (rows_at class (method_numbers methods.now))) }
     {
         self.lists.append_rows(class.slot(), methods)?;
-        self.row_count += methods.len() as u32;
+        self.row_count += methods.len() as u64;
         Ok(())
     }
 

@@ -2,6 +2,7 @@
 
 ghost use Rattle.std.specs.Prelude.{◌≡◌, ◌<◌, ◌+◌, ◌*◌, ◌++◌, Some, drop, if◌then◌else◌, length, map, slice_get};
 ghost use Rattle.msg_tables.specs.Attached.{ListsAt, categories_in, category_lists, listed_lists};
+ghost use Rattle.msg_tables.specs.Given.{origin_of};
 ghost use Rattle.msg_tables.specs.Origin.{IsSound, class_total};
 ghost use Rattle.msg_tables.specs.declared.origin.ListedClass.{ListedClass};
 
@@ -61,8 +62,8 @@ impl Origin {
         counts: Option<Counts>,
         limits: Limits,
     ) -> Origin
-        requires { IsSound (record { superclasses = map (λ (c : ListedClass). c.superclass) classes.items; made = made; lists = listed_lists 0 classes.items ++ category_lists categories.items; counts = counts; limits = limits }) }
-        ensures { result ≡ record { superclasses = map (λ (c : ListedClass). c.superclass) classes.items; made = made; lists = listed_lists 0 classes.items ++ category_lists categories.items; counts = counts; limits = limits } }
+        requires { IsSound (origin_of classes.items made categories.items counts limits) }
+        ensures { result ≡ origin_of classes.items made categories.items counts limits }
     {
         Origin {
             classes,

@@ -2,10 +2,10 @@
 
 ghost use Rattle.std.specs.Prelude.{◌≡◌, ◌≢◌, ◌<◌, ◌≤◌, ◌+◌, ◌*◌, [], IfErr, IfOk, IsErrOf, None, OnErr, OnOk, Some, length, take};
 ghost use Rattle.std.specs.Vec.{vec_capacity};
+ghost use Rattle.msg_tables.specs.Accepts.{Accepts, Makes, Refuses};
 ghost use Rattle.msg_tables.specs.declared.fault.ChangeFault.{ChangeFault};
-ghost use Rattle.msg_tables.specs.Log.{Log, and_then};
+ghost use Rattle.msg_tables.specs.Log.{Log};
 ghost use Rattle.msg_tables.specs.Making.{AreMadeBefore, IsMade, IsPart, IsRefused, LacksMemory, Reaches, ReachesAll};
-ghost use Rattle.msg_tables.specs.Refusal.{refusal};
 ghost use Rattle.msg_tables.specs.Several.{refused_from};
 ghost use Rattle.msg_tables.specs.Stands.{StandsAt};
 
@@ -30,11 +30,11 @@ impl Tables {
         requires stands { (h : Log) × StandsAt self.old h }
         requires marks { length marked.old ≡ 2 * length self.old.supers }
         requires below { length self.old.supers ≤ below.old.room }
-        ensures ok { OnOk result ((h : Log) → StandsAt self.old h → (refusal h change.now ≡ None) × StandsAt self.new (and_then h change.now)) }
+        ensures ok { OnOk result (Makes self.old change.now self.new) }
         ensures part { OnOk result (IsPart change.now journal.old.items journal.new.items self.old self.new) }
         ensures err { OnErr result ((self.new ≡ self.old) × (journal.new.items ≡ journal.old.items)) }
-        ensures fault { IfErr result (λ f. f ≢ ChangeFault.Memory → (h : Log) → StandsAt self.old h → refusal h change.now ≡ Some f) }
-        ensures memory { IsErrOf result ChangeFault.Memory → (h : Log) → StandsAt self.old h → refusal h change.now ≡ None }
+        ensures fault { IfErr result (λ f. f ≢ ChangeFault.Memory → Refuses self.old change.now f) }
+        ensures memory { IsErrOf result ChangeFault.Memory → Accepts self.old change.now }
         ensures marks { OnOk result (Reaches change.now self.old marked.old marked.new) }
         ensures kept { IfErr result (λ f. f ≢ ChangeFault.Memory → marked.new ≡ marked.old) }
         ensures length { length marked.new ≡ length marked.old }

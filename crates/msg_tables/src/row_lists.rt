@@ -3,7 +3,7 @@
 ghost use Rattle.std.specs.Prelude.{◌≡◌, ◌<◌, ◌≤◌, ◌+◌, ◌-◌, [], ◌∷◌, ◌++◌, ℕ, IfOk, OnErr, OnOk, length, option_map, replicate, reverse, slice_index_or, slice_set};
 ghost use Rattle.msg_names.specs.Number.{selector_number, imp_number};
 ghost use Rattle.msg_tables.specs.Methods.{method_numbers};
-ghost use Rattle.msg_tables.specs.RowList.{rows_of, own_in, set_last, without_last};
+ghost use Rattle.msg_tables.specs.RowList.{changed_at, rows_of, own_in, set_last, with_row, with_rows, without_last};
 
 use crate::lists::{append_row, append_rows, attach_rows, rewrite_row, shorten_rows};
 use crate::rows::MethodRows;
@@ -81,25 +81,28 @@ impl RowLists {
         imp: ImpRef,
     ) -> Result<(), AllocError>
         requires { at < length self.old }
-        ensures ok { OnOk result (rows_of self.new ≡ slice_set (rows_of self.old) at (slice_index_or (rows_of self.old) at [] ++ (selector_number sel, imp_number imp) ∷ [])) }
+        ensures ok { OnOk result (rows_of self.new ≡ changed_at (with_row sel imp) at (rows_of self.old)) }
         ensures err { OnErr result (rows_of self.new ≡ rows_of self.old) }
     {
         reach(self.alloc, &mut self.written, at)?;
         append_row(&mut self.written, at, sel, imp)
     }
 
-    // Another implementation in the last row of a selector in one of the lists, where it has one.
-    pub(crate) fn rewrite_row(&mut self, at: usize, sel: Selector, imp: ImpRef)
-        ensures { rows_of self.new ≡ slice_set (rows_of self.old) at (set_last (selector_number sel) (imp_number imp) (slice_index_or (rows_of self.old) at [])) }
+    // Another implementation in the last row of a selector in one of the lists, where it has one. Answers the one that stood there.
+    pub(crate) fn rewrite_row(&mut self, at: usize, sel: Selector, imp: ImpRef) -> Option<ImpRef>
+        ensures rows { rows_of self.new ≡ changed_at (set_last (selector_number sel) (imp_number imp)) at (rows_of self.old) }
+        ensures was { option_map imp_number result ≡ own_in (selector_number sel) (slice_index_or (rows_of self.old) at []) }
     {
         if at < self.written.len() {
-            rewrite_row(&mut self.written, at, sel, imp);
+            rewrite_row(&mut self.written, at, sel, imp)
+        } else {
+            None
         }
     }
 
     // So many rows fewer at the end of one of the lists.
     pub(crate) fn shorten_rows(&mut self, at: usize, count: usize)
-        ensures { rows_of self.new ≡ slice_set (rows_of self.old) at (without_last count (slice_index_or (rows_of self.old) at [])) }
+        ensures { rows_of self.new ≡ changed_at (without_last count) at (rows_of self.old) }
     {
         if at < self.written.len() {
             shorten_rows(&mut self.written, at, count);
@@ -113,7 +116,7 @@ impl RowLists {
         methods: &[(Selector, ImpRef)],
     ) -> Result<(), AllocError>
         requires { at < length self.old }
-        ensures ok { OnOk result (rows_of self.new ≡ slice_set (rows_of self.old) at (slice_index_or (rows_of self.old) at [] ++ method_numbers methods.now)) }
+        ensures ok { OnOk result (rows_of self.new ≡ changed_at (with_rows (method_numbers methods.now)) at (rows_of self.old)) }
         ensures err { OnErr result (rows_of self.new ≡ rows_of self.old) }
     {
         reach(self.alloc, &mut self.written, at)?;

@@ -31,7 +31,7 @@ pub struct Tables {
     pub(crate) lists: RowLists,
     pub(crate) counts: Option<Counts>,
     pub(crate) limits: Limits,
-    pub(crate) row_count: u32,
+    pub(crate) row_count: u64,
     pub(crate) change_count: u64,
 }
 

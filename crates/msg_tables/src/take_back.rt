@@ -14,7 +14,7 @@ use crate::tables::Tables;
 // How many rows and changes there were before a list.
 #[derive(Clone, Copy)]
 pub(crate) struct Start {
-    pub(crate) rows: u32,
+    pub(crate) rows: u64,
     pub(crate) changes: u64,
 }
 
@@ -49,7 +49,7 @@ fn unwrite(
             false
         }
         Entry::Rewrote { class, sel, imp } => {
-            lists.rewrite_row(class.slot(), sel, imp);
+            let _later = lists.rewrite_row(class.slot(), sel, imp);
             false
         }
         Entry::Made { class } => {

@@ -1,21 +1,33 @@
 use Rattle.std.proofs.Common.{List, [], refl, sym, ap, ◌∙◌, arith}
 use Rattle.std.specs.Prelude.{slice_index_or, slice_set}
 use Rattle.msg_names.specs.Number.{selector_number, imp_number}
-use Rattle.msg_tables.specs.RowList.{RowList, rows_of, set_last}
-use Rattle.msg_tables.proofs.ReservedLemmas.{put-few, put-written, put-unwritten}
+use Rattle.msg_tables.specs.RowList.{RowList, own_in, rows_of, set_last}
+use Rattle.msg_tables.proofs.ReservedLemmas.{all-none, all-read, put-few, put-written, put-unwritten}
 use Rattle.msg_tables.proofs.row_lists.RowLists.rewrite_row.Goals as goal
 
 pub invariant_of-self : goal.invariant_of-self
-invariant_of-self c = record { few = put-few c.self.inside.written.items c.rewrite_row.new.lists.items c.self.inside.count c.args.at _ c.self.invariant.few c.rewrite_row.ensures }
+invariant_of-self c = record { few = put-few c.self.inside.written.items c.rewrite_row.new.lists.items c.self.inside.count c.args.at _ c.self.invariant.few c.rewrite_row.ensures.rows }
 
-pub returns-then-at-len : goal.returns-then-at-len
-returns-then-at-len c =
+pub returns-then-at-len-clause-rows : goal.returns-then-at-len-clause-rows
+returns-then-at-len-clause-rows c =
     let put = set_last (selector_number c.args.sel) (imp_number c.args.imp) in
-    put-written c.self.inside.written.items c.rewrite_row.new.lists.items c.self.inside.count c.args.at put (omega (arith, c.if-at-len.true, c.len.ensures, c.self.inside.written.ok.0)) c.rewrite_row.ensures
+    put-written c.self.inside.written.items c.rewrite_row.new.lists.items c.self.inside.count c.args.at put (omega (arith, c.if-at-len.true, c.len.ensures, c.self.inside.written.ok.0)) c.rewrite_row.ensures.rows
     ∙ ap (λ (ls : List RowList). slice_set (rows_of ls) c.args.at (put (slice_index_or (rows_of ls) c.args.at []))) c.self.view_is
 
-pub returns-else-at-len : goal.returns-else-at-len
-returns-else-at-len c =
+pub returns-else-at-len-clause-rows : goal.returns-else-at-len-clause-rows
+returns-else-at-len-clause-rows c =
     let put = set_last (selector_number c.args.sel) (imp_number c.args.imp) in
     ap rows_of (sym c.self.view_is) ∙ put-unwritten c.self.inside.written.items c.self.inside.count c.args.at put (omega (arith, c.if-at-len.false, c.len.ensures, c.self.inside.written.ok.0)) refl
     ∙ ap (λ (ls : List RowList). slice_set (rows_of ls) c.args.at (put (slice_index_or (rows_of ls) c.args.at []))) c.self.view_is
+
+pub returns-then-at-len-clause-was : goal.returns-then-at-len-clause-was
+returns-then-at-len-clause-was c =
+    c.rewrite_row.ensures.was ∙ ap (own_in (selector_number c.args.sel))
+    (sym (all-read c.self.inside.written.items c.self.inside.count c.args.at (omega (arith, c.if-at-len.true, c.len.ensures, c.self.inside.written.ok.0)))
+    ∙ ap (λ (ls : List RowList). slice_index_or (rows_of ls) c.args.at []) c.self.view_is)
+
+pub returns-else-at-len-clause-was : goal.returns-else-at-len-clause-was
+returns-else-at-len-clause-was c =
+    ap (own_in (selector_number c.args.sel))
+    (sym (all-none c.self.inside.written.items c.self.inside.count c.args.at (omega (arith, c.if-at-len.false, c.len.ensures, c.self.inside.written.ok.0)))
+    ∙ ap (λ (ls : List RowList). slice_index_or (rows_of ls) c.args.at []) c.self.view_is)

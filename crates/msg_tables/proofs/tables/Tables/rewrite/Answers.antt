@@ -1,7 +1,7 @@
-use Rattle.std.proofs.Common.{◌≡◌, ◌<◌, [], length, refl, sym, ap, ◌∙◌, subst, arith}
+use Rattle.std.proofs.Common.{◌≡◌, ◌<◌, [], length, option_map, refl, sym, ap, ◌∙◌, subst, arith}
 use Rattle.std.specs.Prelude.{slice_set, slice_index_or}
 use Rattle.msg_names.specs.Number.{selector_number, imp_number}
-use Rattle.msg_tables.specs.RowList.{rows_of, set_last}
+use Rattle.msg_tables.specs.RowList.{own_in, rows_of, set_last}
 use Rattle.msg_tables.specs.After.{set_own}
 use Rattle.msg_tables.specs.Stands.{Holds}
 use Rattle.msg_names.specs.ClassRef.{slot_of}
@@ -20,15 +20,15 @@ use Rattle.msg_tables.proofs.tables.Tables.rewrite.Goals as goal
 pub invariant_of-self : goal.invariant_of-self
 invariant_of-self c =
     let own = rw (← c.self.view_is) at c.requires in
-    let now = c.rewrite_row.ensures in
+    let now = c.rewrite_row-was.ensures.rows in
     let n = last_imp c.self.inside.counts in
     let write = set_last (selector_number c.args.row.sel) (imp_number c.args.row.imp) in
     record {
       order = c.self.invariant.order;
       room = c.self.invariant.room;
       preorder = c.self.invariant.preorder;
-      lists = put-length c.self.inside.lists c.rewrite_row.new.self c.slot.result _ now ∙ c.self.invariant.lists;
-      listed = put-listed n c.self.inside.lists c.rewrite_row.new.self c.slot.result write now c.self.invariant.listed
+      lists = put-length c.self.inside.lists c.rewrite_row-was.new.self c.slot.result _ now ∙ c.self.invariant.lists;
+      listed = put-listed n c.self.inside.lists c.rewrite_row-was.new.self c.slot.result write now c.self.invariant.listed
           (λ ms all. listed-set_last n (selector_number c.args.row.sel) (imp_number c.args.row.imp) ms own.imp all);
       few_classes = c.self.invariant.few_classes;
       few_rows = c.self.invariant.few_rows;
@@ -42,8 +42,8 @@ returns-clause-writes c =
     let class = c.args.row.class in
     let s = selector_number c.args.row.sel in
     let i = imp_number c.args.row.imp in
-    let is : rows_of c.rewrite_row.new.self ≡ slice_set (rows_of was) (slot_of class) (set_last s i (kept (rows_of was) class)) =
-    c.rewrite_row.ensures ∙ ap (λ p. slice_set (rows_of was) p (set_last s i (slice_index_or (rows_of was) p []))) c.slot.ensures in
+    let is : rows_of c.rewrite_row-was.new.self ≡ slice_set (rows_of was) (slot_of class) (set_last s i (kept (rows_of was) class)) =
+    c.rewrite_row-was.ensures.rows ∙ ap (λ p. slice_set (rows_of was) p (set_last s i (slice_index_or (rows_of was) p []))) c.slot.ensures in
     let inside = slot_of-inside class (length c.self.inside.supers.items) (length was) c.self.invariant.lists own.class in
     let room : slot_of class < length (rows_of was) = omega (arith, length-rows_of was, inside) in
     rw (← c.self.view_is) record {
@@ -58,8 +58,8 @@ returns-clause-own c other known =
     let class = c.args.row.class in
     let s = selector_number c.args.row.sel in
     let i = imp_number c.args.row.imp in
-    let is : rows_of c.rewrite_row.new.self ≡ slice_set (rows_of was) (slot_of class) (set_last s i (kept (rows_of was) class)) =
-    c.rewrite_row.ensures ∙ ap (λ p. slice_set (rows_of was) p (set_last s i (slice_index_or (rows_of was) p []))) c.slot.ensures in
+    let is : rows_of c.rewrite_row-was.new.self ≡ slice_set (rows_of was) (slot_of class) (set_last s i (kept (rows_of was) class)) =
+    c.rewrite_row-was.ensures.rows ∙ ap (λ p. slice_set (rows_of was) p (set_last s i (slice_index_or (rows_of was) p []))) c.slot.ensures in
     let old = rw (← c.self.view_is) at known in
     let own = rw (← c.self.view_is) at c.requires in
     let inside = slot_of-inside class (length c.self.inside.supers.items) (length was) c.self.invariant.lists own.class in
@@ -78,8 +78,8 @@ returns-clause-back c old known =
     let class = c.args.row.class in
     let s = selector_number c.args.row.sel in
     let i = imp_number c.args.row.imp in
-    let is : rows_of c.rewrite_row.new.self ≡ slice_set (rows_of was) (slot_of class) (set_last s i (kept (rows_of was) class)) =
-    c.rewrite_row.ensures ∙ ap (λ p. slice_set (rows_of was) p (set_last s i (slice_index_or (rows_of was) p []))) c.slot.ensures in
+    let is : rows_of c.rewrite_row-was.new.self ≡ slice_set (rows_of was) (slot_of class) (set_last s i (kept (rows_of was) class)) =
+    c.rewrite_row-was.ensures.rows ∙ ap (λ p. slice_set (rows_of was) p (set_last s i (slice_index_or (rows_of was) p []))) c.slot.ensures in
     let inside = slot_of-inside class (length c.self.inside.supers.items) (length was) c.self.invariant.lists own.class in
     let room : slot_of class < length (rows_of was) = omega (arith, length-rows_of was, inside) in
     rw (← c.self.view_is) record {
@@ -94,6 +94,13 @@ returns-clause-value c =
     let class = c.args.row.class in
     let s = selector_number c.args.row.sel in
     let i = imp_number c.args.row.imp in
-    let is : rows_of c.rewrite_row.new.self ≡ slice_set (rows_of was) (slot_of class) (set_last s i (kept (rows_of was) class)) =
-    c.rewrite_row.ensures ∙ ap (λ p. slice_set (rows_of was) p (set_last s i (slice_index_or (rows_of was) p []))) c.slot.ensures in
+    let is : rows_of c.rewrite_row-was.new.self ≡ slice_set (rows_of was) (slot_of class) (set_last s i (kept (rows_of was) class)) =
+    c.rewrite_row-was.ensures.rows ∙ ap (λ p. slice_set (rows_of was) p (set_last s i (slice_index_or (rows_of was) p []))) c.slot.ensures in
     rw (← c.self.view_is) (ap (λ lists. record (view_of c.self.inside) { lists = lists }) is)
+
+pub returns-clause-was : goal.returns-clause-was
+returns-clause-was c =
+    let was = c.self.inside.lists in
+    let s = selector_number c.args.row.sel in
+    let here : slice_index_or (rows_of was) c.slot.result [] ≡ kept (rows_of was) c.args.row.class = ap (λ p. slice_index_or (rows_of was) p []) c.slot.ensures in
+    rw (← c.self.view_is) (ap (own_in s) (sym here) ∙ sym c.rewrite_row-was.ensures.was ∙ ap (option_map imp_number) c.unwrap.ensures)

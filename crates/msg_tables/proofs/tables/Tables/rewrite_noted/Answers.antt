@@ -1,19 +1,18 @@
-use Rattle.std.proofs.Common.{[], ◌∷◌, option_map, refl, sym, ap, ◌∙◌, arith}
-use Rattle.msg_names.specs.Number.{imp_number}
+use Rattle.std.proofs.Common.{[], ◌∷◌, refl, arith}
 use Rattle.msg_tables.specs.declared.entry.Entry.TheVariants.{Rewrote}
 use Rattle.msg_tables.proofs.UndoJournalLemmas.{undone-own}
 use Rattle.msg_tables.proofs.tables.Tables.rewrite_noted.Goals as goal
 
 pub returns-clause-journals : goal.returns-clause-journals
 returns-clause-journals c =
-    let was = c.unwrap-was.result in
-    let is = sym c.own.ensures.own ∙ ap (option_map imp_number) c.unwrap-was.ensures in
+    let was = c.rewrite-was.result in
+    let is = c.rewrite-was.ensures.was in
     record {
-      writes = c.rewrite.ensures.writes;
+      writes = c.rewrite-was.ensures.writes;
       entries = Rewrote c.args.row.class c.args.row.sel was ∷ [];
       is = c.note_rewritten.ensures.items;
       few = omega arith;
-      back = c.rewrite.ensures.back was is;
+      back = c.rewrite-was.ensures.back was is;
       places = refl;
       made = refl;
       undone = undone-own c.args.self.now c.args.row was is;
