@@ -1,7 +1,8 @@
 -- Whose caches are flushed.
 use Rattle.std.specs.Prelude.{◌≡◌, ◌<◌, ℕ, Bool, true, List, Option, if◌then◌else◌}
 use Rattle.msg_names.specs.declared.value.ClassRef.{ClassRef}
-use Rattle.msg_tables.specs.Log.{Log}
+use Rattle.msg_tables.specs.Chain.{is_member}
+use Rattle.msg_tables.specs.Log.{Log, chain_at}
 use Rattle.msg_tables.specs.Origin.{OriginView, class_total}
 use Rattle.msg_tables.specs.Preorder.{is_in}
 use Rattle.msg_tables.specs.Several.{is_below}
@@ -15,6 +16,10 @@ use Rattle.msg_runtime.specs.Reach.{are_reached}
 -- each class reference of which this is true at the tables' log has no live array
 abbrev pub AreFlushed : ArenaView → TablesView → Keeper → (Log → ClassRef → Bool) → Type 0
 AreFlushed a t k is_meant = (h : Log) → StandsAt t h → (c : ClassRef) → is_meant h c ≡ true → HasNoArray a k c
+
+-- a class reference and all below it have no live array
+abbrev pub IsFlushedBelow : ArenaView → TablesView → Keeper → ClassRef → Type 0
+IsFlushedBelow a t k place = AreFlushed a t k (λ h c. is_member place (chain_at h c))
 
 -- the same of those of the first classes
 abbrev pub FirstAreFlushed : ℕ → ArenaView → TablesView → Keeper → (Log → ClassRef → Bool) → Type 0

@@ -5,12 +5,11 @@ ghost use Rattle.msg_names.specs.declared.value.ClassRef.{ClassRef};
 ghost use Rattle.msg_tables.specs.Origin.{class_total};
 ghost use Rattle.msg_tables.specs.Affected.{if_any};
 ghost use Rattle.msg_tables.specs.Below.{is_among};
-ghost use Rattle.msg_tables.specs.Chain.{is_member};
-ghost use Rattle.msg_tables.specs.Log.{Log, and_then, chain_at};
+ghost use Rattle.msg_tables.specs.Log.{Log, and_then};
 ghost use Rattle.msg_tables.specs.Refusal.{refusal};
 ghost use Rattle.msg_tables.specs.Stands.{StandsAt};
 ghost use Rattle.msg_cache.specs.Ours.{HasNoArray};
-ghost use Rattle.msg_runtime.specs.Flushed.{AreClasses, AreFlushed, ClassIsFlushed, FirstAreFlushed, PlacesAreFlushed, ReachedAreFlushed, StayFlushed};
+ghost use Rattle.msg_runtime.specs.Flushed.{AreClasses, ClassIsFlushed, FirstAreFlushed, IsFlushedBelow, PlacesAreFlushed, ReachedAreFlushed, StayFlushed};
 ghost use Rattle.msg_runtime.specs.Parts.{IsKeeperOf, keeper_history};
 ghost use Rattle.msg_runtime.specs.Reach.{exchanged_places, is_flushed, holders_of, set_places};
 
@@ -70,7 +69,7 @@ pub(crate) fn flush_below(
     requires room { length tables.now.supers ≤ below.old.room }
     ensures arena { IsKeeperOf arena.now keeper.new }
     ensures history { keeper_history keeper.new ≡ keeper_history keeper.old }
-    ensures flushed { AreFlushed arena.now tables.now keeper.new (λ h c. is_member class (chain_at h c)) }
+    ensures flushed { IsFlushedBelow arena.now tables.now keeper.new class }
     ensures others { StayFlushed arena.now keeper.old keeper.new }
     ensures room { length tables.now.supers ≤ below.new.room }
 {

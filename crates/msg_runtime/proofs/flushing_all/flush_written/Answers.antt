@@ -6,15 +6,16 @@ use Rattle.msg_runtime.proofs.flushing_all.flush_written.Goals as goal
 
 pub loop-entry-preserved : goal.loop-entry-preserved
 loop-entry-preserved c = record {
-  arena = c.flush_entry.ensures.arena;
-  history = c.flush_entry.ensures.history ∙ c.loop-entry.invariant.history;
-  room = c.flush_entry.ensures.room;
+  arena = c.flush_entry-last.ensures.arena;
+  history = c.flush_entry-last.ensures.history ∙ c.loop-entry.invariant.history;
+  room = c.flush_entry-last.ensures.room;
+  last = c.flush_entry-last.ensures.last;
   flushed = λ h stands d told.
       let items = c.as_slice-entry-items.result.now in
       let i = c.loop-entry.entry-index in
       let entry = c.entry-item.result in
-      ⊎_elim (λ (before : is_told h (take i items) d ≡ true). c.flush_entry.ensures.others d (c.loop-entry.invariant.flushed h stands d before))
-      (λ (now : is_told h (entry ∷ []) d ≡ true). c.flush_entry.ensures.flushed h stands d now)
+      ⊎_elim (λ (before : is_told h (take i items) d ≡ true). c.flush_entry-last.ensures.others d (c.loop-entry.invariant.flushed h stands d before))
+      (λ (now : is_told h (entry ∷ []) d ≡ true). c.flush_entry-last.ensures.flushed h stands d now)
       (told-next h items i entry d c.loop-entry-test.true c.entry-item.is told);
 }
 

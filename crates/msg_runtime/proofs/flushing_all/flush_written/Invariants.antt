@@ -1,10 +1,8 @@
-use Rattle.std.proofs.Common.{◌≡◌, ◌≤◌, length, take, true}
-use Rattle.msg_names.specs.declared.value.ClassRef.{ClassRef}
-use Rattle.msg_tables.specs.Log.{Log}
+use Rattle.std.specs.Prelude.{IfSome}
+use Rattle.std.proofs.Common.{◌≡◌, ◌≤◌, length, take}
 use Rattle.msg_tables.specs.Making.{is_told}
-use Rattle.msg_tables.specs.Stands.{StandsAt}
-use Rattle.msg_cache.specs.Ours.{HasNoArray}
 use Rattle.msg_runtime.specs.Parts.{IsKeeperOf, keeper_history}
+use Rattle.msg_runtime.specs.Flushed.{AreFlushed, IsFlushedBelow}
 use Rattle.msg_runtime.proofs.flushing_all.flush_written.Given as goal
 
 -- what the first entries tell of is flushed
@@ -13,5 +11,6 @@ invariant-loop-entry l = record {
   arena : IsKeeperOf l.arena l.keeper;
   history : keeper_history l.keeper ≡ keeper_history l.fn.keeper;
   room : length l.tables.supers ≤ l.below.room;
-  flushed : (h : Log) → StandsAt l.tables h → (c : ClassRef) → is_told h (take l.entry-index l.entry-items) c ≡ true → HasNoArray l.arena l.keeper c;
+  last : IfSome l.last (IsFlushedBelow l.arena l.tables l.keeper);
+  flushed : AreFlushed l.arena l.tables l.keeper (λ h. is_told h (take l.entry-index l.entry-items));
 }
