@@ -3,7 +3,8 @@
 ghost use Rattle.std.specs.Prelude.{◌≡◌, ◌<◌, length, IfErr, IfOk, IfSome};
 ghost use Rattle.msg_tables.specs.Origin.{class_total};
 ghost use Rattle.msg_tables.specs.History.{BeginsWith};
-ghost use Rattle.msg_reader.specs.Found.{IsFoundAt, IsListed};
+ghost use Rattle.msg_cache.specs.Views.{IsFoundAt};
+ghost use Rattle.msg_reader.specs.Found.{IsListed};
 ghost use Rattle.msg_dispatch.specs.Seen.{TakesOnceAtMost};
 
 use crate::changer::Changer;

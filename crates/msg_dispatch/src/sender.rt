@@ -4,8 +4,8 @@ ghost use Rattle.std.specs.Prelude.{◌≡◌, ◌<◌, ◌+◌, ◌-◌, ◌^�
 ghost use Rattle.msg_tables.specs.Origin.{class_total};
 ghost use Rattle.msg_tables.specs.History.{BeginsWith};
 ghost use Rattle.msg_cache.specs.Record.{Misses};
-ghost use Rattle.msg_cache.specs.Views.{layout};
-ghost use Rattle.msg_reader.specs.Found.{HitsCache, HitsAndIsFound, IsFoundAt, IsListed, ProbesFor};
+ghost use Rattle.msg_cache.specs.Views.{HitsAndIsFound, IsFoundAt, ProbesFor, layout};
+ghost use Rattle.msg_reader.specs.Found.{HitsCache, IsListed};
 ghost use Rattle.msg_reader.specs.Notes.{AreNotesOf};
 ghost use Rattle.msg_dispatch.specs.Seen.{TakesOnceAtMost};
 

@@ -7,8 +7,8 @@ use Rattle.msg_names.specs.declared.value.ImpRef.{ImpRef}
 use Rattle.msg_names.specs.declared.value.Selector.{Selector}
 use Rattle.msg_tables.specs.Origin.{last_imp}
 use Rattle.msg_tables.specs.History.{History, lookup}
-use Rattle.msg_cache.specs.Views.{ProberView}
-use Rattle.msg_reader.specs.Found.{IsFoundAt, IsListed}
+use Rattle.msg_cache.specs.Views.{IsFoundAt, ProberView}
+use Rattle.msg_reader.specs.Found.{IsListed}
 use Rattle.msg_reader.specs.declared.notes.Note.{Note}
 use Rattle.msg_reader.specs.declared.notes.Notes.{Notes}
 

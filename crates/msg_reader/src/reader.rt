@@ -7,9 +7,9 @@ ghost use Rattle.std.specs.Prelude.{◌≡◌, ◌<◌, length, IfSome, IfNone};
 ghost use Rattle.msg_tables.specs.History.{BeginsWith};
 ghost use Rattle.msg_cache.specs.Ours.{IsOf, view};
 ghost use Rattle.msg_cache.specs.Record.{Misses};
-ghost use Rattle.msg_cache.specs.Views.{IsSenderOf, classes, layout};
-ghost use Rattle.msg_reader.specs.Found.{HitsAndIsFound, IsFoundAt, IsListed, ProbesFor};
-ghost use Rattle.msg_reader.specs.Found.{given_again, renewed};
+ghost use Rattle.msg_cache.specs.Views.{HitsAndIsFound, IsFoundAt, IsSenderOf, ProbesFor, classes, layout};
+ghost use Rattle.msg_cache.specs.Plays.{given_again, renewed};
+ghost use Rattle.msg_reader.specs.Found.{IsListed};
 ghost use Rattle.msg_reader.specs.Notes.{AreNotesOf, HaveNoted, LackedUnlessMoved};
 
 use crate::laws::{a_history_no_longer_is_the_same, notes_are_of_longer_histories};

@@ -3,7 +3,8 @@
 ghost use Rattle.std.specs.Prelude.{◌≡◌, ◌<◌, length, IfSome};
 ghost use Rattle.msg_tables.specs.Origin.{class_total};
 ghost use Rattle.msg_tables.specs.History.{BeginsWith};
-ghost use Rattle.msg_reader.specs.Found.{IsFoundAt, IsListed};
+ghost use Rattle.msg_cache.specs.Views.{IsFoundAt};
+ghost use Rattle.msg_reader.specs.Found.{IsListed};
 
 use msg_dispatch::{ArenaName, Recalling, Sender};
 use msg_names::{ClassRef, ImpRef, Selector};
