@@ -1,12 +1,14 @@
 -- What calls answer.
 use Rattle.std.specs.Prelude.{◌≡◌, ◌==◌, ◌||◌, if◌then◌else◌, ℕ, Bool, List, Option, Some, None, not, option_map}
-use Rattle.msg_tables.specs.declared.change.Change.{Change}
+use Rattle.msg_names.specs.declared.value.ClassRef.{ClassRef}
 use Rattle.msg_tables.specs.History.{History, BeginsWith}
-use Rattle.msg_cache.specs.Views.{ArenaView}
-use Rattle.msg_host.specs.Asking.{ChangesBy, ask_fault_number}
+use Rattle.msg_cache.specs.Views.{ArenaView, classes}
+use Rattle.msg_host.specs.Asking.{ask_fault, ask_fault_number}
 use Rattle.msg_host.specs.Config.{are_known, config_of, is_beyond}
 use Rattle.msg_host.specs.View.{RuntimeView, SenderView}
 use Rattle.msg_host.specs.declared.fault.AskFault.{AskFault}
+use Rattle.msg_c.specs.declared.answer.TheConstants.{NONE}
+use Rattle.msg_c.specs.declared.asking.MsgClass.{MsgClass}
 
 -- the number of a question's fault, and 0 where it has none
 abbrev pub number_of_fault : Option AskFault → ℕ
@@ -22,9 +24,25 @@ number_of_recalled (Some imp) = if imp == 0 then 4294967296 else imp
 abbrev pub are_refused : List ℕ → Bool
 are_refused words = not (are_known words) || is_beyond (config_of words)
 
--- A change took a handle's state from was to is with the answer n.
-abbrev pub Changes : Option RuntimeView → Option RuntimeView → Change → ℕ → Type 0
-Changes was is x n = (v w : RuntimeView) → was ≡ Some v → is ≡ Some w → ChangesBy v w x n
+-- the answer to a question for a class and a selector of an arena's, as far as it is a fault's
+abbrev pub fault_in : ArenaView → ℕ → ℕ → ℕ
+fault_in a class sel = number_of_fault (ask_fault (classes a) class sel)
+
+-- the question is asked: there are so many classes, and the selector has a number
+abbrev pub IsAsked : ArenaView → ℕ → ℕ → Type 0
+IsAsked a class sel = ask_fault (classes a) class sel ≡ None
+
+-- where it isn't asked, the number of its fault is answered
+abbrev pub TellsFault : ArenaView → ℕ → ℕ → ℕ → Type 0
+TellsFault a class sel n = (f : AskFault) → ask_fault (classes a) class sel ≡ Some f → n ≡ ask_fault_number f
+
+-- a question that is asked finds nothing, and so it is answered
+abbrev pub TellsNone : ArenaView → ℕ → ℕ → Option ClassRef → ℕ → Type 0
+TellsNone a class sel found n = IsAsked a class sel → found ≡ None → n ≡ NONE
+
+-- a class reference is written out
+abbrev pub Shows : MsgClass → ClassRef → Type 0
+Shows out c = (out.class ≡ c.class) × (out.meta ≡ c.meta)
 
 -- the arena and the history of a runtime, if there is one
 abbrev pub runtime_arena : Option RuntimeView → Option ArenaView

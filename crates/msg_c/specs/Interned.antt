@@ -1,5 +1,7 @@
 -- What a handle of texts holds, and what is written of it.
-use Rattle.std.specs.Prelude.{ℕ, List, Option, None, Some, [], ◌++◌, length, take, drop}
+use Rattle.std.specs.Prelude.{◌≡◌, ℕ, Bool, false, List, Option, None, Some, [], ◌++◌, bytes_eq, length, take, drop}
+use Rattle.std.specs.List.{list_any}
+use Rattle.msg_texts.specs.declared.texts.TheConstants.{MAX_TEXTS}
 
 -- what contracts see of texts: the bytes of each, in the order of their numbers
 abbrev pub TextsView : Type 0
@@ -13,3 +15,11 @@ texts_in (Some v) = v
 -- bytes after a text was written there: as much of it as there is room for, and then what was there
 abbrev pub with_text : List ℕ → List ℕ → List ℕ
 with_text text bytes = take (length bytes) text ++ drop (length text) bytes
+
+-- the text is one of these
+abbrev pub is_among : List ℕ → TextsView → Bool
+is_among text v = list_any (bytes_eq text) v
+
+-- no text that isn't there gets a number
+abbrev pub IsFull : TextsView → List ℕ → Type 0
+IsFull v text = (length v ≡ MAX_TEXTS) × (is_among text v ≡ false)

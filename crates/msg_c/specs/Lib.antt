@@ -1,4 +1,5 @@
 pub mod Answers
+pub mod Handles
 pub mod Interned
 pub mod Notes
 pub mod Nothing

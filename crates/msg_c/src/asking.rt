@@ -5,10 +5,9 @@ ghost use Rattle.msg_names.specs.declared.value.ClassRef.{ClassRef};
 ghost use Rattle.msg_tables.specs.Origin.{last_imp};
 ghost use Rattle.msg_tables.specs.History.{holder, lookup, superclass};
 ghost use Rattle.msg_cache.specs.Views.{classes};
-ghost use Rattle.msg_host.specs.Asking.{ask_fault, ask_fault_number};
-ghost use Rattle.msg_host.specs.declared.fault.AskFault.{AskFault};
-ghost use Rattle.msg_host.specs.View.{RuntimeView};
-ghost use Rattle.msg_c.specs.Answers.{number_of_fault};
+ghost use Rattle.msg_c.specs.Answers.{IsAsked, Shows, TellsFault, TellsNone, fault_in};
+ghost use Rattle.msg_host.specs.Named.{ref_of};
+ghost use Rattle.msg_c.specs.Handles.{IfOpen};
 
 use crate::answer::{CLOSED, DONE, NONE};
 use crate::runtime_handle::RuntimeHandle;
@@ -33,8 +32,8 @@ pub extern "C" fn msg_class_count(
     ensures kept { runtime.new.held.state ≡ runtime.old.held.state }
     ensures closed { runtime.old.held.state ≡ None → result ≡ CLOSED }
     ensures left { result ≢ 0 → count.new ≡ count.old }
-    ensures done { (v : RuntimeView) → runtime.old.held.state ≡ Some v → (result ≡ 0) × (count.new ≡ classes v.arena) }
-    ensures origin { (v : RuntimeView) → runtime.old.held.state ≡ Some v → v.history.origin ≡ v.arena.key.origin }
+    ensures done { IfOpen runtime.old (λ v. (result ≡ 0) × (count.new ≡ classes v.arena)) }
+    ensures origin { IfOpen runtime.old (λ v. v.history.origin ≡ v.arena.key.origin) }
 {
     let Some(held) = runtime.take(alloc) else {
         return CLOSED;
@@ -54,7 +53,7 @@ pub extern "C" fn msg_change_count(
     ensures kept { runtime.new.held.state ≡ runtime.old.held.state }
     ensures closed { runtime.old.held.state ≡ None → result ≡ CLOSED }
     ensures left { result ≢ 0 → count.new ≡ count.old }
-    ensures done { (v : RuntimeView) → runtime.old.held.state ≡ Some v → (result ≡ 0) × (count.new ≡ length v.history.changes) }
+    ensures done { IfOpen runtime.old (λ v. (result ≡ 0) × (count.new ≡ length v.history.changes)) }
 {
     let Some(held) = runtime.take(alloc) else {
         return CLOSED;
@@ -77,9 +76,9 @@ pub extern "C" fn msg_lookup(
     ensures kept { runtime.new.held.state ≡ runtime.old.held.state }
     ensures closed { runtime.old.held.state ≡ None → result ≡ CLOSED }
     ensures left { result ≢ 0 → imp.new ≡ imp.old }
-    ensures fault { (v : RuntimeView) → runtime.old.held.state ≡ Some v → result ≡ number_of_fault (ask_fault (classes v.arena) class sel) }
-    ensures done { (v : RuntimeView) → runtime.old.held.state ≡ Some v → result ≡ 0 → imp.new ≡ lookup v.history (record { class = class; meta = meta }) sel }
-    ensures listed { (v : RuntimeView) → runtime.old.held.state ≡ Some v → result ≡ 0 → imp.new ≤ last_imp v.history.origin.counts }
+    ensures fault { IfOpen runtime.old (λ v. result ≡ fault_in v.arena class sel) }
+    ensures done { IfOpen runtime.old (λ v. result ≡ 0 → imp.new ≡ lookup v.history (ref_of class meta) sel) }
+    ensures listed { IfOpen runtime.old (λ v. result ≡ 0 → imp.new ≤ last_imp v.history.origin.counts) }
 {
     let Some(held) = runtime.take(alloc) else {
         return CLOSED;
@@ -97,7 +96,7 @@ pub extern "C" fn msg_lookup(
 
 // Writes a class reference out, where there is one.
 fn put(found: Option<ClassRef>, out: &mut MsgClass) -> u32
-    ensures done { (c : ClassRef) → found ≡ Some c → (result ≡ 0) × (out.new.class ≡ c.class) × (out.new.meta ≡ c.meta) }
+    ensures done { (c : ClassRef) → found ≡ Some c → (result ≡ 0) × Shows out.new c }
     ensures none { found ≡ None → (result ≡ NONE) × (out.new ≡ out.old) }
 {
     match found {
@@ -124,10 +123,10 @@ pub extern "C" fn msg_superclass(
     ensures kept { runtime.new.held.state ≡ runtime.old.held.state }
     ensures closed { runtime.old.held.state ≡ None → result ≡ CLOSED }
     ensures left { result ≢ 0 → above.new ≡ above.old }
-    ensures fault { (v : RuntimeView) (f : AskFault) → runtime.old.held.state ≡ Some v → ask_fault (classes v.arena) class 1 ≡ Some f → result ≡ ask_fault_number f }
-    ensures none { (v : RuntimeView) → runtime.old.held.state ≡ Some v → ask_fault (classes v.arena) class 1 ≡ None → superclass v.history (record { class = class; meta = meta }) ≡ None → result ≡ NONE }
-    ensures done { (v : RuntimeView) (c : ClassRef) → runtime.old.held.state ≡ Some v → ask_fault (classes v.arena) class 1 ≡ None → superclass v.history (record { class = class; meta = meta }) ≡ Some c
-        → (result ≡ 0) × (above.new.class ≡ c.class) × (above.new.meta ≡ c.meta) }
+    ensures fault { IfOpen runtime.old (λ v. TellsFault v.arena class 1 result) }
+    ensures none { IfOpen runtime.old (λ v. TellsNone v.arena class 1 (superclass v.history (ref_of class meta)) result) }
+    ensures done { IfOpen runtime.old (λ v. IsAsked v.arena class 1 → (c : ClassRef)
+        → superclass v.history (ref_of class meta) ≡ Some c → (result ≡ 0) × Shows above.new c) }
 {
     let Some(held) = runtime.take(alloc) else {
         return CLOSED;
@@ -153,10 +152,10 @@ pub extern "C" fn msg_holder(
     ensures kept { runtime.new.held.state ≡ runtime.old.held.state }
     ensures closed { runtime.old.held.state ≡ None → result ≡ CLOSED }
     ensures left { result ≢ 0 → at.new ≡ at.old }
-    ensures fault { (v : RuntimeView) (f : AskFault) → runtime.old.held.state ≡ Some v → ask_fault (classes v.arena) class sel ≡ Some f → result ≡ ask_fault_number f }
-    ensures none { (v : RuntimeView) → runtime.old.held.state ≡ Some v → ask_fault (classes v.arena) class sel ≡ None → holder v.history (record { class = class; meta = meta }) sel ≡ None → result ≡ NONE }
-    ensures done { (v : RuntimeView) (c : ClassRef) → runtime.old.held.state ≡ Some v → ask_fault (classes v.arena) class sel ≡ None → holder v.history (record { class = class; meta = meta }) sel ≡ Some c
-        → (result ≡ 0) × (at.new.class ≡ c.class) × (at.new.meta ≡ c.meta) }
+    ensures fault { IfOpen runtime.old (λ v. TellsFault v.arena class sel result) }
+    ensures none { IfOpen runtime.old (λ v. TellsNone v.arena class sel (holder v.history (ref_of class meta) sel) result) }
+    ensures done { IfOpen runtime.old (λ v. IsAsked v.arena class sel → (c : ClassRef)
+        → holder v.history (ref_of class meta) sel ≡ Some c → (result ≡ 0) × Shows at.new c) }
 {
     let Some(held) = runtime.take(alloc) else {
         return CLOSED;

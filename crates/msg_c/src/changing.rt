@@ -1,12 +1,11 @@
 //! Changes.
 
-ghost use Rattle.std.specs.Prelude.{◌≡◌, ◌≢◌, ◌<◌, ◌⊎◌, Some, None, is_some, true};
-ghost use Rattle.msg_names.specs.Number.{imp_ref_of, selector_of};
+ghost use Rattle.std.specs.Prelude.{◌≡◌, ◌≢◌, ◌<◌, ◌⊎◌, None, Some, is_some, true};
 ghost use Rattle.msg_tables.specs.declared.change.Change.{Change};
-ghost use Rattle.msg_host.specs.Asking.{ChangesBy, IsListFault, ask_fault_number, pairs_of};
-ghost use Rattle.msg_host.specs.View.{RuntimeView};
-ghost use Rattle.msg_host.specs.declared.fault.AskFault.{AskFault};
-ghost use Rattle.msg_c.specs.Answers.{Changes, runtime_arena};
+ghost use Rattle.msg_host.specs.Asking.{ChangesBy, IsListFault, want_of_selector};
+ghost use Rattle.msg_host.specs.Named.{addition, attachment, exchange, ref_of, replacement, setting};
+ghost use Rattle.msg_c.specs.Answers.{runtime_arena};
+ghost use Rattle.msg_c.specs.Handles.{Changes, IfOpen};
 
 use crate::answer::CLOSED;
 use crate::runtime_handle::RuntimeHandle;
@@ -27,8 +26,8 @@ pub extern "C" fn msg_add(
     ensures arena { runtime_arena runtime.new.held.state ≡ runtime_arena runtime.old.held.state }
     ensures closed { runtime.old.held.state ≡ None → result ≡ CLOSED }
     ensures left { result ≢ 0 → runtime.new.held.state ≡ runtime.old.held.state }
-    ensures no_selector { sel ≡ 0 → is_some runtime.old.held.state ≡ true → result ≡ ask_fault_number AskFault.NoSelector }
-    ensures change { 0 < sel → Changes runtime.old.held.state runtime.new.held.state (Change.Add (record { class = class; meta = meta }) (selector_of sel) (imp_ref_of imp)) result }
+    ensures no_selector { sel ≡ 0 → is_some runtime.old.held.state ≡ true → result ≡ want_of_selector }
+    ensures change { 0 < sel → Changes runtime.old runtime.new (addition class meta sel imp) result }
 {
     let Some(mut held) = runtime.take(alloc) else {
         return CLOSED;
@@ -51,8 +50,8 @@ pub extern "C" fn msg_replace(
     ensures arena { runtime_arena runtime.new.held.state ≡ runtime_arena runtime.old.held.state }
     ensures closed { runtime.old.held.state ≡ None → result ≡ CLOSED }
     ensures left { result ≢ 0 → runtime.new.held.state ≡ runtime.old.held.state }
-    ensures no_selector { sel ≡ 0 → is_some runtime.old.held.state ≡ true → result ≡ ask_fault_number AskFault.NoSelector }
-    ensures change { 0 < sel → Changes runtime.old.held.state runtime.new.held.state (Change.Replace (record { class = class; meta = meta }) (selector_of sel) (imp_ref_of imp)) result }
+    ensures no_selector { sel ≡ 0 → is_some runtime.old.held.state ≡ true → result ≡ want_of_selector }
+    ensures change { 0 < sel → Changes runtime.old runtime.new (replacement class meta sel imp) result }
 {
     let Some(mut held) = runtime.take(alloc) else {
         return CLOSED;
@@ -75,8 +74,8 @@ pub extern "C" fn msg_set_imp(
     ensures arena { runtime_arena runtime.new.held.state ≡ runtime_arena runtime.old.held.state }
     ensures closed { runtime.old.held.state ≡ None → result ≡ CLOSED }
     ensures left { result ≢ 0 → runtime.new.held.state ≡ runtime.old.held.state }
-    ensures no_selector { sel ≡ 0 → is_some runtime.old.held.state ≡ true → result ≡ ask_fault_number AskFault.NoSelector }
-    ensures change { 0 < sel → Changes runtime.old.held.state runtime.new.held.state (Change.SetImp (record { class = class; meta = meta }) (selector_of sel) (imp_ref_of imp)) result }
+    ensures no_selector { sel ≡ 0 → is_some runtime.old.held.state ≡ true → result ≡ want_of_selector }
+    ensures change { 0 < sel → Changes runtime.old runtime.new (setting class meta sel imp) result }
 {
     let Some(mut held) = runtime.take(alloc) else {
         return CLOSED;
@@ -101,9 +100,10 @@ pub extern "C" fn msg_exchange(
     ensures arena { runtime_arena runtime.new.held.state ≡ runtime_arena runtime.old.held.state }
     ensures closed { runtime.old.held.state ≡ None → result ≡ CLOSED }
     ensures left { result ≢ 0 → runtime.new.held.state ≡ runtime.old.held.state }
-    ensures no_selector { sel ≡ 0 → is_some runtime.old.held.state ≡ true → result ≡ ask_fault_number AskFault.NoSelector }
-    ensures no_other { other_sel ≡ 0 → is_some runtime.old.held.state ≡ true → result ≡ ask_fault_number AskFault.NoSelector }
-    ensures change { 0 < sel → 0 < other_sel → Changes runtime.old.held.state runtime.new.held.state (Change.Exchange (record { class = class; meta = meta }) (selector_of sel) (record { class = other; meta = other_meta }) (selector_of other_sel)) result }
+    ensures no_selector { sel ≡ 0 → is_some runtime.old.held.state ≡ true → result ≡ want_of_selector }
+    ensures no_other { other_sel ≡ 0 → is_some runtime.old.held.state ≡ true → result ≡ want_of_selector }
+    ensures change { 0 < sel → 0 < other_sel
+        → Changes runtime.old runtime.new (exchange (ref_of class meta) sel (ref_of other other_meta) other_sel) result }
 {
     let Some(mut held) = runtime.take(alloc) else {
         return CLOSED;
@@ -130,9 +130,9 @@ pub extern "C" fn msg_attach(
     ensures arena { runtime_arena runtime.new.held.state ≡ runtime_arena runtime.old.held.state }
     ensures closed { runtime.old.held.state ≡ None → result ≡ CLOSED }
     ensures left { result ≢ 0 → runtime.new.held.state ≡ runtime.old.held.state }
-    ensures made { result ≡ 0 → Changes runtime.old.held.state runtime.new.held.state (Change.Attach class (pairs_of methods.now) (pairs_of class_methods.now)) 0 }
-    ensures fault { result ≢ 0 → (v : RuntimeView) → runtime.old.held.state ≡ Some v
-        → IsListFault methods.now result ⊎ IsListFault class_methods.now result ⊎ ChangesBy v v (Change.Attach class (pairs_of methods.now) (pairs_of class_methods.now)) result }
+    ensures made { result ≡ 0 → Changes runtime.old runtime.new (attachment class methods.now class_methods.now) 0 }
+    ensures fault { result ≢ 0 → IfOpen runtime.old (λ v. IsListFault methods.now result
+        ⊎ IsListFault class_methods.now result ⊎ ChangesBy v v (attachment class methods.now class_methods.now) result) }
 {
     let Some(mut held) = runtime.take(alloc) else {
         return CLOSED;
@@ -153,7 +153,7 @@ pub extern "C" fn msg_make_class(
     ensures arena { runtime_arena runtime.new.held.state ≡ runtime_arena runtime.old.held.state }
     ensures closed { runtime.old.held.state ≡ None → result ≡ CLOSED }
     ensures left { result ≢ 0 → runtime.new.held.state ≡ runtime.old.held.state }
-    ensures change { Changes runtime.old.held.state runtime.new.held.state (Change.AddClass class (Some superclass)) result }
+    ensures change { Changes runtime.old runtime.new (Change.AddClass class (Some superclass)) result }
 {
     let Some(mut held) = runtime.take(alloc) else {
         return CLOSED;
@@ -169,7 +169,7 @@ pub extern "C" fn msg_make_root_class(alloc: Global, runtime: &mut RuntimeHandle
     ensures arena { runtime_arena runtime.new.held.state ≡ runtime_arena runtime.old.held.state }
     ensures closed { runtime.old.held.state ≡ None → result ≡ CLOSED }
     ensures left { result ≢ 0 → runtime.new.held.state ≡ runtime.old.held.state }
-    ensures change { Changes runtime.old.held.state runtime.new.held.state (Change.AddClass class None) result }
+    ensures change { Changes runtime.old runtime.new (Change.AddClass class None) result }
 {
     let Some(mut held) = runtime.take(alloc) else {
         return CLOSED;

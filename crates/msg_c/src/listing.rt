@@ -1,11 +1,11 @@
 //! Several changes as one.
 
-ghost use Rattle.std.specs.Prelude.{◌≡◌, ◌≢◌, ◌<◌, ◌*◌, Some, None, length};
+ghost use Rattle.std.specs.Prelude.{◌≡◌, ◌≢◌, ◌<◌, ◌*◌, ◌⊎◌, None, length};
 ghost use Rattle.msg_cache.specs.Views.{classes};
-ghost use Rattle.msg_host.specs.Asking.{want_of_memory, want_of_room};
-ghost use Rattle.msg_host.specs.Listing.{AreRefusedRows, MakesRows, ReachesRows, UndoesRows};
-ghost use Rattle.msg_host.specs.View.{RuntimeView};
+ghost use Rattle.msg_host.specs.Asking.{IsRefusal, want_of_memory, want_of_room};
+ghost use Rattle.msg_host.specs.Listing.{UndoesRows};
 ghost use Rattle.msg_c.specs.Answers.{runtime_arena};
+ghost use Rattle.msg_c.specs.Handles.{IfOpen, MakesRowsIn, ReachesRowsIn, RefusesRowsIn};
 
 use crate::answer::CLOSED;
 use crate::runtime_handle::RuntimeHandle;
@@ -25,11 +25,10 @@ pub extern "C" fn msg_change_all(
     ensures arena { runtime_arena runtime.new.held.state ≡ runtime_arena runtime.old.held.state }
     ensures closed { runtime.old.held.state ≡ None → (result ≡ CLOSED) × (place.new ≡ place.old) }
     ensures left { result ≢ 0 → runtime.new.held.state ≡ runtime.old.held.state }
-    ensures made { result ≡ 0 → (v w : RuntimeView) → runtime.old.held.state ≡ Some v → runtime.new.held.state ≡ Some w → MakesRows changes.now v.history w.history }
+    ensures made { result ≡ 0 → MakesRowsIn changes.now runtime.old runtime.new }
     ensures kept { result ≡ 0 → place.new ≡ place.old }
-    ensures place { result ≢ 0 → (v : RuntimeView) → runtime.old.held.state ≡ Some v → place.new < length changes.now }
-    ensures fault { result ≢ 0 → result ≢ want_of_memory → (v : RuntimeView) → runtime.old.held.state ≡ Some v
-        → AreRefusedRows changes.now v.history place.new result }
+    ensures place { result ≢ 0 → IfOpen runtime.old (λ v. place.new < length changes.now) }
+    ensures fault { result ≢ 0 → result ≢ want_of_memory → RefusesRowsIn runtime.old changes.now place.new result }
 {
     let Some(mut held) = runtime.take(alloc) else {
         return CLOSED;
@@ -53,12 +52,14 @@ pub extern "C" fn msg_change_all_with_undo(
     ensures arena { runtime_arena runtime.new.held.state ≡ runtime_arena runtime.old.held.state }
     ensures closed { runtime.old.held.state ≡ None → result ≡ CLOSED }
     ensures left { result ≢ 0 → runtime.new.held.state ≡ runtime.old.held.state }
-    ensures made { result ≡ 0 → (v w : RuntimeView) → runtime.old.held.state ≡ Some v → runtime.new.held.state ≡ Some w → MakesRows changes.now v.history w.history }
-    ensures undo { result ≡ 0 → (v : RuntimeView) → runtime.old.held.state ≡ Some v → UndoesRows changes.now v.history undo.new undone.new }
-    ensures room { length undo.old < 2 * length changes.now → (v : RuntimeView) → runtime.old.held.state ≡ Some v → result ≡ want_of_room }
-    ensures place { result ≢ 0 → result ≢ want_of_room → (v : RuntimeView) → runtime.old.held.state ≡ Some v → place.new < length changes.now }
-    ensures fault { result ≢ 0 → result ≢ want_of_memory → result ≢ want_of_room → (v : RuntimeView) → runtime.old.held.state ≡ Some v
-        → AreRefusedRows changes.now v.history place.new result }
+    ensures made { result ≡ 0 → MakesRowsIn changes.now runtime.old runtime.new }
+    ensures undo { result ≡ 0 → IfOpen runtime.old (λ v. UndoesRows changes.now v.history undo.new undone.new) }
+    ensures room { length undo.old < 2 * length changes.now → IfOpen runtime.old (λ v. result ≡ want_of_room) }
+    ensures short { result ≡ want_of_room → length undo.old < 2 * length changes.now }
+    ensures unwritten { result ≢ 0 → (undo.new ≡ undo.old) × (undone.new ≡ undone.old) }
+    ensures kept { (result ≡ 0) ⊎ (result ≡ want_of_room) → place.new ≡ place.old }
+    ensures place { result ≢ 0 → result ≢ want_of_room → IfOpen runtime.old (λ v. place.new < length changes.now) }
+    ensures fault { IsRefusal result → RefusesRowsIn runtime.old changes.now place.new result }
 {
     let Some(mut held) = runtime.take(alloc) else {
         return CLOSED;
@@ -81,12 +82,13 @@ pub extern "C" fn msg_reach(
 ) -> u32
     ensures same { runtime.new.held.state ≡ runtime.old.held.state }
     ensures closed { runtime.old.held.state ≡ None → (result ≡ CLOSED) × (reached.new ≡ reached.old) }
-    ensures reached { result ≡ 0 → (v : RuntimeView) → runtime.old.held.state ≡ Some v → ReachesRows changes.now v.history (classes v.arena) reached.old reached.new }
-    ensures room { (v : RuntimeView) → runtime.old.held.state ≡ Some v → length reached.old ≢ 2 * classes v.arena → result ≡ want_of_room }
+    ensures reached { result ≡ 0 → ReachesRowsIn runtime.old changes.now reached.old reached.new }
+    ensures room { IfOpen runtime.old (λ v. length reached.old ≢ 2 * classes v.arena → result ≡ want_of_room) }
+    ensures short { result ≡ want_of_room → IfOpen runtime.old (λ v. length reached.old ≢ 2 * classes v.arena) }
     ensures unmarked { result ≡ want_of_room → reached.new ≡ reached.old }
-    ensures place { result ≢ 0 → result ≢ want_of_room → (v : RuntimeView) → runtime.old.held.state ≡ Some v → place.new < length changes.now }
-    ensures fault { result ≢ 0 → result ≢ want_of_memory → result ≢ want_of_room → (v : RuntimeView) → runtime.old.held.state ≡ Some v
-        → AreRefusedRows changes.now v.history place.new result }
+    ensures kept { (result ≡ 0) ⊎ (result ≡ want_of_room) → place.new ≡ place.old }
+    ensures place { result ≢ 0 → result ≢ want_of_room → IfOpen runtime.old (λ v. place.new < length changes.now) }
+    ensures fault { IsRefusal result → RefusesRowsIn runtime.old changes.now place.new result }
 {
     let Some(mut held) = runtime.take(alloc) else {
         return CLOSED;

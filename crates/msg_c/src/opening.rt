@@ -50,7 +50,8 @@ pub extern "C" fn msg_open_words(alloc: Global, runtime: &mut RuntimeHandle, con
     ensures open { result ≡ 0 → is_some runtime.new.held.state ≡ true }
     ensures done { result ≡ 0 → IfSome runtime.new.held.state (λ v. OpensAs (config_of config.now) v) }
     ensures refused { runtime.old.held.state ≡ None → are_refused config.now ≡ true → result ≡ BAD_CONFIG }
-    ensures allowed { runtime.old.held.state ≡ None → are_refused config.now ≡ false → (result ≡ DONE) ⊎ (result ≡ NO_MEMORY) }
+    ensures allowed { runtime.old.held.state ≡ None → are_refused config.now ≡ false
+        → (result ≡ DONE) ⊎ (result ≡ NO_MEMORY) }
 {
     if runtime.is_open() {
         return ALREADY_OPEN;

@@ -2,12 +2,12 @@
 
 ghost use Rattle.std.specs.Prelude.{◌≡◌, ◌≢◌, ◌≤◌, ◌%◌, ◌⊎◌, length, Some, None, is_some, true};
 ghost use Rattle.msg_tables.specs.Origin.{last_imp};
-ghost use Rattle.msg_tables.specs.History.{History, lookup};
-ghost use Rattle.msg_cache.specs.Views.{ArenaView, classes};
-ghost use Rattle.msg_host.specs.Asking.{ask_fault};
-ghost use Rattle.msg_names.specs.ClassRef.{slot_of};
+ghost use Rattle.msg_tables.specs.History.{lookup};
 ghost use Rattle.msg_reader.specs.Notes.{IsRecalled, recalled};
-ghost use Rattle.msg_c.specs.Answers.{AreOfOneArena, SeesOn, number_of_fault, number_of_recalled, runtime_arena, runtime_history, sender_arena, sender_front};
+ghost use Rattle.msg_c.specs.Answers.{AreOfOneArena, IsAsked, SeesOn};
+ghost use Rattle.msg_c.specs.Answers.{fault_in, number_of_recalled, runtime_arena, runtime_history, sender_arena, sender_front};
+ghost use Rattle.msg_host.specs.Named.{HaveNoted, ref_of};
+ghost use Rattle.msg_c.specs.Handles.{HasLacked, IfAt, IfOfArena, IfOpen, IfSeen};
 
 use crate::answer::{
     ALREADY_OPEN, CLOSED, DONE, MISSED, NO_MEMORY, NO_SENDER, NOT_NOTED, NOTED_NONE,
@@ -41,11 +41,13 @@ pub extern "C" fn msg_sender_open(
 ) -> u32
     ensures kept { runtime.new.held.state ≡ runtime.old.held.state }
     ensures closed { runtime.old.held.state ≡ None → sender.old.held.state ≡ None → result ≡ CLOSED }
-    ensures refused { is_some runtime.old.held.state ≡ true → sender.old.held.state ≡ None → result ≢ 0 → (result ≡ NO_SENDER) ⊎ (result ≡ NO_MEMORY) }
+    ensures refused { is_some runtime.old.held.state ≡ true → sender.old.held.state ≡ None → result ≢ 0
+        → (result ≡ NO_SENDER) ⊎ (result ≡ NO_MEMORY) }
     ensures already { is_some sender.old.held.state ≡ true → result ≡ ALREADY_OPEN }
     ensures left { result ≢ 0 → sender.new.held.state ≡ sender.old.held.state }
     ensures open { result ≡ 0 → is_some sender.new.held.state ≡ true }
-    ensures done { result ≡ 0 → (sender_arena sender.new.held.state ≡ runtime_arena runtime.old.held.state) × (sender_front sender.new.held.state ≡ runtime_history runtime.old.held.state) }
+    ensures of { result ≡ 0 → sender_arena sender.new.held.state ≡ runtime_arena runtime.old.held.state }
+    ensures front { result ≡ 0 → sender_front sender.new.held.state ≡ runtime_history runtime.old.held.state }
 {
     if sender.is_open() {
         return ALREADY_OPEN;
@@ -113,12 +115,12 @@ pub extern "C" fn msg_probe(
     ensures left { result ≢ 0 → imp.new ≡ imp.old }
     ensures still { result ≢ 0 → result ≢ MISSED → sender.new.held.state ≡ sender.old.held.state }
     ensures begins { SeesOn (sender_front sender.old.held.state) (sender_front sender.new.held.state) }
-    ensures hit { result ≡ 0 → (h : History) → sender_front sender.new.held.state ≡ Some h → imp.new ≡ lookup h (record { class = class; meta = meta }) sel }
-    ensures listed { result ≡ 0 → (a : ArenaView) → sender_arena sender.old.held.state ≡ Some a → imp.new ≤ last_imp a.key.origin.counts }
-    ensures fault { (a : ArenaView) → sender_arena sender.old.held.state ≡ Some a → result ≢ 0 → result ≢ MISSED → result ≡ number_of_fault (ask_fault (classes a) class sel) }
-    ensures noted { result ≡ 0 → (h : History) → sender_front sender.new.held.state ≡ Some h → recalled sender.new.notes (length h.changes) (slot_of (record { class = class; meta = meta })) sel ≡ Some imp.new }
-    ensures miss { (a : ArenaView) → sender_arena sender.old.held.state ≡ Some a → result ≡ MISSED → ask_fault (classes a) class sel ≡ None }
-    ensures recalled { result ≡ MISSED → (h : History) → sender_front sender.old.held.state ≡ Some h → sender_front sender.new.held.state ≡ Some h → recalled sender.old.notes (length h.changes) (slot_of (record { class = class; meta = meta })) sel ≡ None }
+    ensures hit { result ≡ 0 → IfSeen sender.new (λ h. imp.new ≡ lookup h (ref_of class meta) sel) }
+    ensures listed { result ≡ 0 → IfOfArena sender.old (λ a. imp.new ≤ last_imp a.key.origin.counts) }
+    ensures fault { IfOfArena sender.old (λ a. result ≢ 0 → result ≢ MISSED → result ≡ fault_in a class sel) }
+    ensures noted { result ≡ 0 → IfSeen sender.new (λ h. HaveNoted sender.new.notes h (ref_of class meta) sel imp.new) }
+    ensures miss { IfOfArena sender.old (λ a. result ≡ MISSED → IsAsked a class sel) }
+    ensures recalled { result ≡ MISSED → HasLacked sender.old sender.new (ref_of class meta) sel }
 {
     if !sender.is_open() {
         return CLOSED;
@@ -142,7 +144,7 @@ pub extern "C" fn msg_probe(
 /// It takes no lock, loads no word that threads share, and writes nothing: a few loads from the handle.
 #[unsafe(no_mangle)]
 pub extern "C" fn msg_recall(sender: &SenderHandle, slot: usize, sel: u32, count: u64) -> usize
-    ensures found { result ≢ NOT_NOTED → (h : History) → sender_front sender.now.held.state ≡ Some h → IsRecalled h count slot sel (result % NOTED_NONE) }
+    ensures found { result ≢ NOT_NOTED → IfSeen sender.now (λ h. IsRecalled h count slot sel (result % NOTED_NONE)) }
     ensures closed { sender.now.held.state ≡ None → result ≡ NOT_NOTED }
     ensures answer { result ≡ number_of_recalled (recalled sender.now.notes count slot sel) }
 {
@@ -178,12 +180,12 @@ pub extern "C" fn msg_fill(
     ensures closed { runtime.old.held.state ≡ None → result ≡ CLOSED }
     ensures no_sender { sender.old.held.state ≡ None → result ≡ CLOSED }
     ensures left { result ≢ 0 → (imp.new ≡ imp.old) × (sender.new.held.state ≡ sender.old.held.state) }
-    ensures done { result ≡ 0 → (h : History) → runtime_history runtime.old.held.state ≡ Some h → imp.new ≡ lookup h (record { class = class; meta = meta }) sel }
-    ensures listed { result ≡ 0 → (h : History) → runtime_history runtime.old.held.state ≡ Some h → imp.new ≤ last_imp h.origin.counts }
+    ensures done { result ≡ 0 → IfAt runtime.old (λ h. imp.new ≡ lookup h (ref_of class meta) sel) }
+    ensures listed { result ≡ 0 → IfAt runtime.old (λ h. imp.new ≤ last_imp h.origin.counts) }
     ensures front { result ≡ 0 → sender_front sender.new.held.state ≡ runtime_history runtime.old.held.state }
     ensures begins { result ≡ 0 → SeesOn (sender_front sender.old.held.state) (sender_front sender.new.held.state) }
-    ensures noted { result ≡ 0 → (h : History) → runtime_history runtime.old.held.state ≡ Some h → recalled sender.new.notes (length h.changes) (slot_of (record { class = class; meta = meta })) sel ≡ Some imp.new }
-    ensures fault { (a : ArenaView) → runtime_arena runtime.old.held.state ≡ Some a → is_some sender.old.held.state ≡ true → result ≡ number_of_fault (ask_fault (classes a) class sel) }
+    ensures noted { result ≡ 0 → IfAt runtime.old (λ h. HaveNoted sender.new.notes h (ref_of class meta) sel imp.new) }
+    ensures fault { is_some sender.old.held.state ≡ true → IfOpen runtime.old (λ v. result ≡ fault_in v.arena class sel) }
 {
     let Some(mut held) = runtime.take(alloc) else {
         return CLOSED;
@@ -244,7 +246,7 @@ pub extern "C" fn msg_refresh(alloc: Global, sender: &mut SenderHandle, count: &
     ensures was_open { is_some sender.old.held.state ≡ true → result ≡ 0 }
     ensures left { result ≢ 0 → count.new ≡ count.old }
     ensures begins { SeesOn (sender_front sender.old.held.state) (sender_front sender.new.held.state) }
-    ensures done { (h : History) → sender_front sender.new.held.state ≡ Some h → count.new ≡ length h.changes }
+    ensures done { IfSeen sender.new (λ h. count.new ≡ length h.changes) }
 {
     if !sender.is_open() {
         return CLOSED;

@@ -1,11 +1,10 @@
 //! Interned texts.
 
-ghost use Rattle.std.specs.Prelude.{◌≡◌, ◌≢◌, ◌⊎◌, ◌↔◌, ℕ, List, [], Some, None, option_map, is_some, true, false, length, bytes_eq};
-ghost use Rattle.std.specs.List.{list_any};
+ghost use Rattle.std.specs.Prelude.{◌≡◌, ◌≢◌, ◌⊎◌, ◌↔◌, ℕ, List, [], Some, None, option_map, is_some, true, length};
 ghost use Rattle.msg_names.specs.Numbering.{number_of, with_name};
 ghost use Rattle.msg_texts.specs.Texts.{colons_of, text_at};
-ghost use Rattle.msg_texts.specs.declared.texts.TheConstants.{MAX_TEXTS};
-ghost use Rattle.msg_c.specs.Interned.{TextsView, with_text};
+ghost use Rattle.msg_c.specs.Interned.{IsFull, is_among, with_text};
+ghost use Rattle.msg_c.specs.Handles.{IfInterned};
 
 use crate::answer::{ALREADY_OPEN, CLOSED, DONE, LIMIT, NO_MEMORY, NONE};
 use crate::texts_handle::TextsHandle;
@@ -59,9 +58,9 @@ pub extern "C" fn msg_texts_intern(
     ensures closed { texts.old.held.state ≡ None → result ≡ CLOSED }
     ensures left { result ≢ 0 → (number.new ≡ number.old) × (texts.new.held.state ≡ texts.old.held.state) }
     ensures texts { result ≡ 0 → texts.new.held.state ≡ option_map (λ v. with_name v text.now) texts.old.held.state }
-    ensures number { result ≡ 0 → (v : TextsView) → texts.new.held.state ≡ Some v → number_of v text.now ≡ Some number.new }
-    ensures there { (v : TextsView) → texts.old.held.state ≡ Some v → list_any (bytes_eq text.now) v ≡ true → result ≡ 0 }
-    ensures many { (v : TextsView) → texts.old.held.state ≡ Some v → result ≡ LIMIT ↔ ((length v ≡ MAX_TEXTS) × (list_any (bytes_eq text.now) v ≡ false)) }
+    ensures number { result ≡ 0 → IfInterned texts.new (λ v. number_of v text.now ≡ Some number.new) }
+    ensures there { IfInterned texts.old (λ v. is_among text.now v ≡ true → result ≡ 0) }
+    ensures many { IfInterned texts.old (λ v. result ≡ LIMIT ↔ IsFull v text.now) }
     ensures answers { is_some texts.old.held.state ≡ true → (result ≡ DONE) ⊎ ((result ≡ LIMIT) ⊎ (result ≡ NO_MEMORY)) }
 {
     let Some(mut held) = texts.take(alloc) else {
@@ -90,8 +89,8 @@ pub extern "C" fn msg_texts_find(
     ensures kept { texts.new.held.state ≡ texts.old.held.state }
     ensures closed { texts.old.held.state ≡ None → result ≡ CLOSED }
     ensures left { result ≢ 0 → number.new ≡ number.old }
-    ensures none { (v : TextsView) → texts.old.held.state ≡ Some v → number_of v text.now ≡ None → result ≡ NONE }
-    ensures done { (v : TextsView) (n : ℕ) → texts.old.held.state ≡ Some v → number_of v text.now ≡ Some n → (result ≡ 0) × (number.new ≡ n) }
+    ensures none { IfInterned texts.old (λ v. number_of v text.now ≡ None → result ≡ NONE) }
+    ensures done { IfInterned texts.old (λ v. (n : ℕ) → number_of v text.now ≡ Some n → (result ≡ 0) × (number.new ≡ n)) }
 {
     let Some(held) = texts.take(alloc) else {
         return CLOSED;
@@ -127,9 +126,9 @@ pub extern "C" fn msg_texts_text(
     ensures kept { texts.new.held.state ≡ texts.old.held.state }
     ensures closed { texts.old.held.state ≡ None → result ≡ CLOSED }
     ensures left { result ≢ 0 → (into.new ≡ into.old) × (size.new ≡ size.old) }
-    ensures none { (v : TextsView) → texts.old.held.state ≡ Some v → text_at v number ≡ None → result ≡ NONE }
-    ensures done { (v : TextsView) (t : List ℕ) → texts.old.held.state ≡ Some v → text_at v number ≡ Some t
-        → (result ≡ 0) × (size.new ≡ length t) × (into.new ≡ with_text t into.old) }
+    ensures none { IfInterned texts.old (λ v. text_at v number ≡ None → result ≡ NONE) }
+    ensures done { IfInterned texts.old (λ v. (t : List ℕ)
+        → text_at v number ≡ Some t → (result ≡ 0) × (size.new ≡ length t) × (into.new ≡ with_text t into.old)) }
 {
     let Some(held) = texts.take(alloc) else {
         return CLOSED;
@@ -157,8 +156,9 @@ pub extern "C" fn msg_texts_colons(
     ensures kept { texts.new.held.state ≡ texts.old.held.state }
     ensures closed { texts.old.held.state ≡ None → result ≡ CLOSED }
     ensures left { result ≢ 0 → count.new ≡ count.old }
-    ensures none { (v : TextsView) → texts.old.held.state ≡ Some v → text_at v number ≡ None → result ≡ NONE }
-    ensures done { (v : TextsView) (t : List ℕ) → texts.old.held.state ≡ Some v → text_at v number ≡ Some t → (result ≡ 0) × (count.new ≡ colons_of t) }
+    ensures none { IfInterned texts.old (λ v. text_at v number ≡ None → result ≡ NONE) }
+    ensures done { IfInterned texts.old (λ v. (t : List ℕ)
+        → text_at v number ≡ Some t → (result ≡ 0) × (count.new ≡ colons_of t)) }
 {
     let Some(held) = texts.take(alloc) else {
         return CLOSED;

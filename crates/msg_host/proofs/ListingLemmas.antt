@@ -1,5 +1,5 @@
 -- Rows that take changes back.
-use Rattle.std.proofs.Common.{◌≡◌, ◌<◌, ◌+◌, ℕ, zero, suc, List, [], ◌∷◌, ◌++◌, Bool, true, false, Some, None, Option, Ok, length, map, take, refl, sym, ap, ap₂, ◌∙◌, arith}
+use Rattle.std.proofs.Common.{◌≡◌, ◌≢◌, ◌<◌, ◌+◌, ℕ, zero, suc, List, [], ◌∷◌, ◌++◌, Bool, true, false, Some, None, Option, Ok, length, map, take, refl, sym, ap, ap₂, ◌∙◌, arith}
 use Rattle.std.specs.Prelude.{◌==◌, if◌then◌else◌, slice_set}
 use Rattle.std.proofs.lemmas.Bool.Decides.{nat_tests}
 use Rattle.std.proofs.lemmas.List.{map-append, take_more_set}
@@ -9,8 +9,23 @@ use Rattle.msg_names.specs.declared.value.Selector.{Selector}
 use Rattle.msg_names.specs.Number.{selector_of, selector_number}
 use Rattle.msg_tables.specs.declared.change.Change.{Change}
 use Rattle.msg_tables.specs.declared.change.Change.TheVariants.{Replace}
+use Rattle.msg_tables.specs.FaultNumber.{change_fault_number}
+use Rattle.msg_tables.specs.declared.fault.ChangeFault.{ChangeFault}
+use Rattle.msg_tables.specs.declared.fault.ChangeFault.TheVariants as faults
+use Rattle.msg_host.specs.Asking.{want_of_room}
 use Rattle.msg_host.specs.Listing.{AreMeant, change_in, ref_in, replacing, selector_in}
 use Rattle.msg_host.specs.declared.listing.ChangeRow.{ChangeRow}
+
+-- no change is refused for want of room
+pub no_want_of_room : (f : ChangeFault) → change_fault_number f ≢ want_of_room
+no_want_of_room faults.NoClass e = absurd (omega (arith, e))
+no_want_of_room faults.NoImp e = absurd (omega (arith, e))
+no_want_of_room faults.ArgumentCount e = absurd (omega (arith, e))
+no_want_of_room faults.MethodPresent e = absurd (omega (arith, e))
+no_want_of_room faults.NoMethod e = absurd (omega (arith, e))
+no_want_of_room faults.Limit e = absurd (omega (arith, e))
+no_want_of_room faults.Memory e = absurd (omega (arith, e))
+no_want_of_room faults.DuplicateClass e = absurd (omega (arith, e))
 
 selector-in : (n : ℕ) (s : Selector) → 0 < n → selector_of n ≡ s → selector_in n ≡ Ok s
 selector-in n s lt e =

@@ -7,18 +7,21 @@ use Rattle.msg_tables.specs.Refusal.{refusal}
 use Rattle.msg_host.specs.View.{RuntimeView}
 use Rattle.msg_host.specs.declared.changing.MethodRow.{MethodRow}
 use Rattle.msg_host.specs.declared.fault.AskFault.{AskFault}
-use Rattle.msg_host.specs.declared.fault.AskFault.TheVariants.{NoClass, NoSelector, BadRow, NoRoom}
+use Rattle.msg_host.specs.declared.fault.AskFault.TheVariants.{NoClass, NoSelector, BadRow}
 
 -- the numbers of the faults of questions
 abbrev pub ask_fault_number : AskFault → ℕ
 ask_fault_number NoClass = 66
 ask_fault_number NoSelector = 67
 ask_fault_number BadRow = 75
-ask_fault_number NoRoom = 76
 
--- the number that says that an array has too few places
+-- the number of the fault that a selector's number is 0
+abbrev pub want_of_selector : ℕ
+want_of_selector = ask_fault_number NoSelector
+
+-- the number that says that an array has too few places: no fault of a question or a change has it
 abbrev pub want_of_room : ℕ
-want_of_room = ask_fault_number NoRoom
+want_of_room = 76
 
 -- why so many classes aren't asked for this class and selector
 abbrev pub ask_fault : ℕ → ℕ → ℕ → Option AskFault
@@ -27,6 +30,14 @@ ask_fault classes class sel = if nat_lt class classes then (if sel == 0 then Som
 -- the number that stands for want of memory among the faults of changes
 abbrev pub want_of_memory : ℕ
 want_of_memory = 7
+
+-- the number of a fault, but not of want of memory or of room
+abbrev pub IsRefusal : ℕ → Type 0
+IsRefusal n = (n ≢ 0) × (n ≢ want_of_memory) × (n ≢ want_of_room)
+
+-- the selector's number is 0, and so it is answered; nothing has changed
+abbrev pub LacksSelector : RuntimeView → RuntimeView → ℕ → ℕ → Type 0
+LacksSelector v w sel n = sel ≡ 0 → (n ≡ want_of_selector) × (w ≡ v)
 
 -- A change took a runtime from v to w with the answer n: 0 where it was made, and else its fault's number, and nothing has changed.
 pub record ChangesBy (v w : RuntimeView) (x : Change) (n : ℕ) : Type 0 where

@@ -1,6 +1,8 @@
 pub mod Asking
+pub mod Calls
 pub mod Config
 pub mod Inside
 pub mod Listing
+pub mod Named
 pub mod Opening
 pub mod View

@@ -12,15 +12,18 @@ use Rattle.msg_tables.specs.declared.fault.ChangeFault.{ChangeFault}
 use Rattle.msg_tables.specs.FaultNumber.{change_fault_number}
 use Rattle.msg_tables.specs.History.{History, log}
 use Rattle.msg_tables.specs.Log.{table}
-use Rattle.msg_tables.specs.Made.{AreMade}
+use Rattle.msg_tables.specs.Made.{AreMade, TellsWayBack}
 use Rattle.msg_tables.specs.Marking.{MarksAffectedByAll}
 use Rattle.msg_tables.specs.Several.{refused_from}
 use Rattle.msg_tables.specs.Journal.{undo_entry}
 use Rattle.msg_tables.specs.Undo.{and_before, undo_all}
-use Rattle.msg_host.specs.Asking.{ask_fault_number, want_of_memory}
+use Rattle.msg_cache.specs.Views.{classes}
+use Rattle.msg_host.specs.View.{RuntimeView}
+use Rattle.msg_host.specs.Asking.{ask_fault_number, want_of_memory, want_of_room}
 use Rattle.msg_host.specs.declared.fault.AskFault.{AskFault}
 use Rattle.msg_host.specs.declared.fault.AskFault.TheVariants.{NoSelector, BadRow}
 use Rattle.msg_host.specs.declared.listing.ChangeRow.{ChangeRow}
+use Rattle.msg_host.specs.declared.listing.RowFault.{RowFault}
 
 -- the class reference of a number: 0 beside it is for the class, 1 for its metaclass
 abbrev pub ref_in : ℕ → ℕ → Result ClassRef AskFault
@@ -44,10 +47,18 @@ method_in k meta s = both (ref_in k meta) (selector_in s)
 abbrev pub replacing : ClassRef → Selector → ImpRef → ChangeRow
 replacing c s i = record { kind = 2; class = c.class; meta = if c.meta then 1 else 0; sel = selector_number s; imp = imp_number i; other = 0; other_meta = 0; other_sel = 0 }
 
+-- the exchange of two methods
+abbrev pub exchange_of : ClassRef × Selector → ClassRef × Selector → Change
+exchange_of m n = Exchange m.0 m.1 n.0 n.1
+
 -- a change of what numbers name
 abbrev pub change_of : {A : Type 0} → (A → Change) → Result A AskFault → Result Change AskFault
 change_of make (Ok a) = Ok (make a)
 change_of make (Err f) = Err f
+
+-- the exchange that a row means
+abbrev pub exchange_in : ChangeRow → Result Change AskFault
+exchange_in r = change_of (λ m. exchange_of m.0 m.1) (both (method_in r.class r.meta r.sel) (method_in r.other r.other_meta r.other_sel))
 
 -- the change that a row means, or why it means none
 abbrev pub change_in : ChangeRow → Result Change AskFault
@@ -55,7 +66,7 @@ change_in r =
     if r.kind == 1 then change_of (λ m. Add m.0 m.1 (imp_ref_of r.imp)) (method_in r.class r.meta r.sel)
     else (if r.kind == 2 then change_of (λ m. Replace m.0 m.1 (imp_ref_of r.imp)) (method_in r.class r.meta r.sel)
     else (if r.kind == 3 then change_of (λ m. SetImp m.0 m.1 (imp_ref_of r.imp)) (method_in r.class r.meta r.sel)
-    else (if r.kind == 4 then change_of (λ m. Exchange m.0.0 m.0.1 m.1.0 m.1.1) (both (method_in r.class r.meta r.sel) (method_in r.other r.other_meta r.other_sel))
+    else (if r.kind == 4 then exchange_in r
     else (if r.kind == 5 then Ok (AddClass r.class (Some r.other))
     else (if r.kind == 6 then Ok (AddClass r.class None) else Err BadRow)))))
 
@@ -80,6 +91,17 @@ IsRefusedRow rows h place n = (xs : List Change) × AreMeant rows xs × (f : Cha
 abbrev pub AreRefusedRows : List ChangeRow → History → ℕ → ℕ → Type 0
 AreRefusedRows rows h place n = IsBadRow rows place n ⊎ IsRefusedRow rows h place n
 
+-- Why the changes of rows aren't made at a history: the number of a fault at the place of a row. But for want of memory, that row means no change, or its change is the first that would be refused.
+pub record IsRowFault (rows : List ChangeRow) (h : History) (r : RowFault) : Type 0 where
+  pub some : r.number ≢ 0
+  pub room : r.number ≢ want_of_room
+  pub place : r.place < length rows
+  pub fault : r.number ≢ want_of_memory → AreRefusedRows rows h r.place r.number
+
+-- what was written tells the way back from the changes that the rows mean, directly after they are made at a history
+abbrev pub TellsRowsBack : List ChangeRow → History → List Entry → Type 0
+TellsRowsBack rows h entries = (xs : List Change) × AreMeant rows xs × TellsWayBack xs h entries
+
 -- the first rows mean what takes changes back, where there is a way back; else there are none
 abbrev pub AreWayBack : Option (List Change) → List ChangeRow → ℕ → Type 0
 AreWayBack None undo n = n ≡ 0
@@ -92,6 +114,10 @@ UndoesRows rows h undo n = (xs : List Change) × AreMeant rows xs × AreWayBack 
 -- the changes that the rows mean would be made, and what they may alter is marked beside what was
 abbrev pub ReachesRows : List ChangeRow → History → ℕ → List Bool → List Bool → Type 0
 ReachesRows rows h n old new = (xs : List Change) × AreMeant rows xs × (refused_from 0 (log h) xs ≡ None) × MarksAffectedByAll n (log h) xs old new
+
+-- so it is of a runtime
+abbrev pub ReachesRowsOf : RuntimeView → List ChangeRow → List Bool → List Bool → Type 0
+ReachesRowsOf v rows old new = ReachesRows rows v.history (classes v.arena) old new
 
 -- an entry that has a way back was given back behind the first `count` rows: the rows up to `n` then mean that too
 abbrev pub GivesBack : Entry → ℕ → List ChangeRow → ℕ → List ChangeRow → Type 0

@@ -1,10 +1,9 @@
 //! Changes in numbers.
 
 ghost use Rattle.std.specs.Prelude.{◌≡◌, ◌≢◌, ◌<◌, ◌⊎◌, IfOk, IfErr};
-ghost use Rattle.msg_names.specs.Number.{imp_ref_of, selector_of};
 ghost use Rattle.msg_tables.specs.declared.change.Change.{Change};
-ghost use Rattle.msg_host.specs.Asking.{ChangesBy, IsListFault, ask_fault_number, pairs_of};
-ghost use Rattle.msg_host.specs.declared.fault.AskFault.{AskFault};
+ghost use Rattle.msg_host.specs.Asking.{ChangesBy, IsListFault, LacksSelector, pairs_of};
+ghost use Rattle.msg_host.specs.Named.{addition, attachment, exchange, replacement, setting};
 
 use crate::fault::{AskFault, selector};
 use crate::runtime::HostedRuntime;
@@ -52,8 +51,8 @@ impl HostedRuntime {
 
     /// `class_addMethod`. 0, or the number of the fault, after which nothing has changed.
     pub fn add(&mut self, class: u32, meta: bool, sel: u32, imp: u32) -> u32
-        ensures no_selector { sel ≡ 0 → (result ≡ ask_fault_number AskFault.NoSelector) × (self.new ≡ self.old) }
-        ensures change { 0 < sel → ChangesBy self.old self.new (Change.Add (record { class = class; meta = meta }) (selector_of sel) (imp_ref_of imp)) result }
+        ensures no_selector { LacksSelector self.old self.new sel result }
+        ensures change { 0 < sel → ChangesBy self.old self.new (addition class meta sel imp) result }
     {
         match selector(sel) {
             Ok(sel) => self.make(&Change::Add {
@@ -67,8 +66,8 @@ impl HostedRuntime {
 
     /// `class_replaceMethod`, alike.
     pub fn replace(&mut self, class: u32, meta: bool, sel: u32, imp: u32) -> u32
-        ensures no_selector { sel ≡ 0 → (result ≡ ask_fault_number AskFault.NoSelector) × (self.new ≡ self.old) }
-        ensures change { 0 < sel → ChangesBy self.old self.new (Change.Replace (record { class = class; meta = meta }) (selector_of sel) (imp_ref_of imp)) result }
+        ensures no_selector { LacksSelector self.old self.new sel result }
+        ensures change { 0 < sel → ChangesBy self.old self.new (replacement class meta sel imp) result }
     {
         match selector(sel) {
             Ok(sel) => self.make(&Change::Replace {
@@ -82,8 +81,8 @@ impl HostedRuntime {
 
     /// `method_setImplementation` of the method that `class_getInstanceMethod` finds, alike.
     pub fn set(&mut self, class: u32, meta: bool, sel: u32, imp: u32) -> u32
-        ensures no_selector { sel ≡ 0 → (result ≡ ask_fault_number AskFault.NoSelector) × (self.new ≡ self.old) }
-        ensures change { 0 < sel → ChangesBy self.old self.new (Change.SetImp (record { class = class; meta = meta }) (selector_of sel) (imp_ref_of imp)) result }
+        ensures no_selector { LacksSelector self.old self.new sel result }
+        ensures change { 0 < sel → ChangesBy self.old self.new (setting class meta sel imp) result }
     {
         match selector(sel) {
             Ok(sel) => self.make(&Change::SetImp {
@@ -97,9 +96,9 @@ impl HostedRuntime {
 
     /// `method_exchangeImplementations` of two methods that `class_getInstanceMethod` finds, alike.
     pub fn exchange(&mut self, class: ClassRef, sel: u32, other: ClassRef, other_sel: u32) -> u32
-        ensures no_selector { sel ≡ 0 → (result ≡ ask_fault_number AskFault.NoSelector) × (self.new ≡ self.old) }
-        ensures no_other { other_sel ≡ 0 → (result ≡ ask_fault_number AskFault.NoSelector) × (self.new ≡ self.old) }
-        ensures change { 0 < sel → 0 < other_sel → ChangesBy self.old self.new (Change.Exchange class (selector_of sel) other (selector_of other_sel)) result }
+        ensures no_selector { LacksSelector self.old self.new sel result }
+        ensures no_other { LacksSelector self.old self.new other_sel result }
+        ensures change { 0 < sel → 0 < other_sel → ChangesBy self.old self.new (exchange class sel other other_sel) result }
     {
         match (selector(sel), selector(other_sel)) {
             (Ok(sel), Ok(other_sel)) => self.make(&Change::Exchange {
@@ -121,9 +120,10 @@ impl HostedRuntime {
         class_methods: &[MethodRow],
     ) -> u32
         ensures arena { self.new.arena ≡ self.old.arena }
-        ensures made { result ≡ 0 → ChangesBy self.old self.new (Change.Attach class (pairs_of methods.now) (pairs_of class_methods.now)) 0 }
+        ensures made { result ≡ 0 → ChangesBy self.old self.new (attachment class methods.now class_methods.now) 0 }
         ensures left { result ≢ 0 → self.new ≡ self.old }
-        ensures fault { result ≢ 0 → IsListFault methods.now result ⊎ IsListFault class_methods.now result ⊎ ChangesBy self.old self.old (Change.Attach class (pairs_of methods.now) (pairs_of class_methods.now)) result }
+        ensures fault { result ≢ 0 → IsListFault methods.now result ⊎ IsListFault class_methods.now result
+            ⊎ ChangesBy self.old self.old (attachment class methods.now class_methods.now) result }
     {
         let methods = match method_list(alloc, methods) {
             Ok(methods) => methods,

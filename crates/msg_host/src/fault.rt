@@ -1,8 +1,9 @@
 //! Numbers that mean nothing.
 
-ghost use Rattle.std.specs.Prelude.{◌≡◌, ◌<◌, ◌≤◌, None, Some, IfOk, IfErr, OnOk};
+ghost use Rattle.std.specs.Prelude.{◌≡◌, ◌≢◌, ◌<◌, ◌≤◌, None, Some, IfOk, IfErr, OnOk};
 ghost use Rattle.msg_names.specs.Number.{selector_of};
-ghost use Rattle.msg_host.specs.Asking.{ask_fault, ask_fault_number};
+ghost use Rattle.msg_host.specs.Asking.{ask_fault, ask_fault_number, want_of_room};
+ghost use Rattle.msg_host.specs.Named.{ref_of};
 ghost use Rattle.msg_host.specs.declared.fault.OpenFault.TheVariants as opening;
 ghost use Rattle.msg_host.specs.declared.fault.SenderFault.TheVariants as sending;
 
@@ -18,20 +19,21 @@ pub enum AskFault {
     NoSelector,
     /// A row of a list of changes is of no kind, or names neither a class nor its metaclass.
     BadRow,
-    /// The array for the answer has fewer places than it may need.
-    NoRoom,
 }
+
+// The number of the fault that the array for an answer has too few places, or another count than is asked for. No question or change is refused for it.
+pub(crate) const NO_ROOM: u32 = 76;
 
 impl AskFault {
     /// The number of the fault, which is no document's or change's.
     pub fn number(self) -> u32
-        ensures { result ≡ ask_fault_number self }
+        ensures number { result ≡ ask_fault_number self }
+        ensures room { result ≢ want_of_room }
     {
         match self {
             AskFault::NoClass => 66,
             AskFault::NoSelector => 67,
             AskFault::BadRow => 75,
-            AskFault::NoRoom => 76,
         }
     }
 }
@@ -81,7 +83,7 @@ pub(crate) fn selector(number: u32) -> Result<Selector, AskFault>
 
 // The class of a number, where there are so many.
 pub(crate) fn asked_class(classes: u32, class: u32, meta: bool) -> Result<ClassRef, AskFault>
-    ensures ok { IfOk result (λ c. (class < classes) × (c ≡ record { class = class; meta = meta })) }
+    ensures ok { IfOk result (λ c. (class < classes) × (c ≡ ref_of class meta)) }
     ensures err { IfErr result (λ f. (classes ≤ class) × (f ≡ AskFault.NoClass)) }
 {
     if class < classes {
@@ -98,7 +100,7 @@ pub(crate) fn asked(
     meta: bool,
     sel: u32,
 ) -> Result<(ClassRef, Selector), AskFault>
-    ensures ok { IfOk result (λ a. (class < classes) × (a.0 ≡ record { class = class; meta = meta }) × (a.1 ≡ selector_of sel)) }
+    ensures ok { IfOk result (λ a. (class < classes) × (a.0 ≡ ref_of class meta) × (a.1 ≡ selector_of sel)) }
     ensures none { OnOk result (ask_fault classes class sel ≡ None) }
     ensures some { IfErr result (λ f. ask_fault classes class sel ≡ Some f) }
 {

@@ -1,15 +1,17 @@
 //! Lists of changes in numbers.
 
-ghost use Rattle.std.specs.Prelude.{◌≡◌, ◌≢◌, ◌<◌, ◌⊎◌, IfOk, IfErr, length};
+ghost use Rattle.std.specs.Prelude.{◌≡◌, ◌≢◌, ◌<◌, ◌⊎◌, IfOk, IfErr, OnErr, OnOk, length};
 ghost use Rattle.msg_tables.specs.declared.change.Change.{Change};
-ghost use Rattle.msg_host.specs.Asking.{want_of_memory};
-ghost use Rattle.msg_host.specs.Listing.{AreMeant, IsBadRow, IsRefusedRow, MakesRows, both, change_in, change_of, method_in, ref_in, selector_in};
+ghost use Rattle.msg_tables.specs.FaultNumber.{change_fault_number};
+ghost use Rattle.msg_host.specs.Asking.{want_of_memory, want_of_room};
+ghost use Rattle.msg_host.specs.Listing.{AreMeant, AreRefusedRows, IsBadRow, IsRowFault, MakesRows, TellsRowsBack, change_in, exchange_in, method_in, ref_in};
 ghost use Rattle.msg_host.specs.declared.fault.AskFault.{AskFault};
 
 use crate::fault::{AskFault, selector};
 use crate::runtime::HostedRuntime;
 use msg_names::{ClassRef, ImpRef, Selector};
-use msg_tables::{Change, ChangeFault};
+use msg_runtime::Made;
+use msg_tables::{Change, ChangeFault, Refused};
 use std::alloc::Global;
 
 /// A change in numbers. Its kind says which call makes it alone, and it reads the fields that this call takes: 1 `add`, 2 `replace`, 3 `set`, 4 `exchange`, 5 `make_class` with the
@@ -27,11 +29,35 @@ pub struct ChangeRow {
     pub other_sel: u32,
 }
 
-// Why rows aren't taken as a list of changes: the place of the first that means none, and the number of its fault.
+// Why the changes of rows aren't made, or what they reach isn't told: the place of a row, and the number of its fault.
 #[derive(Clone, Copy)]
-pub(crate) struct BadRow {
+pub(crate) struct RowFault {
     pub(crate) place: usize,
     pub(crate) number: u32,
+}
+
+impl RowFault {
+    // Of a list of changes that was refused.
+    #[tactic(auto, using(crate::proofs::ListingLemmas::no_want_of_room))]
+    pub(crate) fn of(refused: Refused) -> RowFault
+        ensures place { result.place ≡ refused.place }
+        ensures number { result.number ≡ change_fault_number refused.fault }
+        ensures room { result.number ≢ want_of_room }
+    {
+        RowFault {
+            place: refused.place,
+            number: refused.fault.number(),
+        }
+    }
+
+    // Writes the place down, and answers the number.
+    pub(crate) fn tell(self, place: &mut usize) -> u32
+        ensures place { place.new ≡ self.place }
+        ensures number { result ≡ self.number }
+    {
+        *place = self.place;
+        self.number
+    }
 }
 
 // The class reference of a number and of what stands beside it.
@@ -64,7 +90,7 @@ impl ChangeRow {
 
     // The exchange of the two methods that it names.
     fn exchange(self) -> Result<Change, AskFault>
-        ensures { result ≡ change_of (λ m. Change.Exchange m.0.0 m.0.1 m.1.0 m.1.1) (both (method_in self.class self.meta self.sel) (method_in self.other self.other_meta self.other_sel)) }
+        ensures { result ≡ exchange_in self }
     {
         let (class, sel) = self.method()?;
         let (other, other_sel) = method_of_row(self.other, self.other_meta, self.other_sel)?;
@@ -111,34 +137,53 @@ impl ChangeRow {
 }
 
 // The changes that rows mean.
-pub(crate) fn changes_of(alloc: Global, rows: &[ChangeRow]) -> Result<Vec<Change>, BadRow>
+pub(crate) fn changes_of(alloc: Global, rows: &[ChangeRow]) -> Result<Vec<Change>, RowFault>
     ensures ok { IfOk result (λ changes. AreMeant rows.now changes.items) }
     ensures err { IfErr result (λ r. r.number ≢ want_of_memory → IsBadRow rows.now r.place r.number) }
-    ensures fault { IfErr result (λ r. r.number ≢ 0) }
+    ensures fault { IfErr result (λ r. (r.number ≢ 0) × (r.number ≢ want_of_room)) }
     ensures place { IfErr result (λ r. r.place < length rows.now) }
 {
-    let mut changes = Vec::new(alloc);
+    let Ok(mut changes) = Vec::with_capacity(alloc, rows.len()) else {
+        return Err(RowFault {
+            place: 0,
+            number: ChangeFault::Memory.number(),
+        });
+    };
     for (place, row) in rows.iter().enumerate() {
-        let change = match row.change() {
-            Ok(change) => change,
-            Err(fault) => {
-                return Err(BadRow {
-                    place,
-                    number: fault.number(),
-                });
+        match row.change() {
+            Ok(change) => {
+                let pushed: Result<_, _> = changes.push(change);
+                pushed.unwrap();
             }
-        };
-        if changes.push(change).is_err() {
-            return Err(BadRow {
-                place,
-                number: ChangeFault::Memory.number(),
-            });
+            Err(fault) => {
+                let number = fault.number();
+                return Err(RowFault { place, number });
+            }
         }
     }
     Ok(changes)
 }
 
 impl HostedRuntime {
+    // Makes the changes of rows as one, or says why not and changes nothing.
+    pub(crate) fn change_rows(
+        &mut self,
+        alloc: Global,
+        rows: &[ChangeRow],
+    ) -> Result<Made, RowFault>
+        ensures arena { self.new.arena ≡ self.old.arena }
+        ensures made { OnOk result (MakesRows rows.now self.old.history self.new.history) }
+        ensures back { IfOk result (λ made. TellsRowsBack rows.now self.old.history made.written) }
+        ensures left { OnErr result (self.new ≡ self.old) }
+        ensures fault { IfErr result (IsRowFault rows.now self.old.history) }
+    {
+        let changes = changes_of(alloc, rows)?;
+        match self.change_all(alloc, &changes) {
+            Ok(made) => Ok(made),
+            Err(refused) => Err(RowFault::of(refused)),
+        }
+    }
+
     /// Makes the changes of rows as one. 0, or the number of the fault, after which nothing has changed; then `place` is that of the row, from 0, which means no change or is the first that
     /// would be refused, or at which memory was wanting. Rows that mean no change are found before any is made.
     pub fn make_all(&mut self, alloc: Global, rows: &[ChangeRow], place: &mut usize) -> u32
@@ -147,21 +192,11 @@ impl HostedRuntime {
         ensures left { result ≢ 0 → self.new ≡ self.old }
         ensures place { result ≢ 0 → place.new < length rows.now }
         ensures kept { result ≡ 0 → place.new ≡ place.old }
-        ensures fault { result ≢ 0 → result ≢ want_of_memory → IsBadRow rows.now place.new result ⊎ IsRefusedRow rows.now self.old.history place.new result }
+        ensures fault { result ≢ 0 → result ≢ want_of_memory → AreRefusedRows rows.now self.old.history place.new result }
     {
-        let changes = match changes_of(alloc, rows) {
-            Ok(changes) => changes,
-            Err(bad) => {
-                *place = bad.place;
-                return bad.number;
-            }
-        };
-        match self.change_all(alloc, &changes) {
-            Ok(_count) => 0,
-            Err(refused) => {
-                *place = refused.place;
-                refused.fault.number()
-            }
+        match self.change_rows(alloc, rows) {
+            Ok(_made) => 0,
+            Err(fault) => fault.tell(place),
         }
     }
 }

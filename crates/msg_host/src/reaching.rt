@@ -1,16 +1,35 @@
 //! What changes in numbers would reach.
 
-ghost use Rattle.std.specs.Prelude.{◌≡◌, ◌≢◌, ◌<◌, ◌*◌, ◌⊎◌, length};
+ghost use Rattle.std.specs.Prelude.{◌≡◌, ◌≢◌, ◌<◌, ◌*◌, ◌⊎◌, IfErr, OnOk, length};
 ghost use Rattle.msg_cache.specs.Views.{classes};
-ghost use Rattle.msg_host.specs.Asking.{want_of_memory, want_of_room};
-ghost use Rattle.msg_host.specs.Listing.{AreRefusedRows, ReachesRows};
+ghost use Rattle.msg_host.specs.Asking.{IsRefusal, want_of_room};
+ghost use Rattle.msg_host.specs.Listing.{AreRefusedRows, IsRowFault, ReachesRowsOf};
 
-use crate::fault::AskFault;
-use crate::listing::{BadRow, ChangeRow, changes_of};
+use crate::fault::NO_ROOM;
+use crate::listing::{ChangeRow, RowFault, changes_of};
 use crate::runtime::HostedRuntime;
 use std::alloc::Global;
 
 impl HostedRuntime {
+    // Marks what the changes of rows may alter if they are made as one, or says why they would be refused.
+    fn rows_reach(
+        &mut self,
+        alloc: Global,
+        rows: &[ChangeRow],
+        reached: &mut [bool],
+    ) -> Result<(), RowFault>
+        requires { length reached.old ≡ 2 * classes self.old.arena }
+        ensures same { self.new ≡ self.old }
+        ensures reached { OnOk result (ReachesRowsOf self.old rows.now reached.old reached.new) }
+        ensures fault { IfErr result (IsRowFault rows.now self.old.history) }
+    {
+        let changes = changes_of(alloc, rows)?;
+        match self.reach_all(alloc, &changes, reached) {
+            Ok(()) => Ok(()),
+            Err(refused) => Err(RowFault::of(refused)),
+        }
+    }
+
     /// Marks the class references whose lookups the changes of rows may alter if they are made as one, beside those that are marked, and makes none. A class has its place at twice its number,
     /// and its metaclass the next; there are so many places, or else 76 is answered and nothing marked. 0, or the number of the fault for which they would be refused, with the place of the row.
     pub fn reach_rows(
@@ -21,28 +40,20 @@ impl HostedRuntime {
         place: &mut usize,
     ) -> u32
         ensures same { self.new ≡ self.old }
-        ensures reached { result ≡ 0 → ReachesRows rows.now self.old.history (classes self.old.arena) reached.old reached.new }
+        ensures reached { result ≡ 0 → ReachesRowsOf self.old rows.now reached.old reached.new }
         ensures room { length reached.old ≢ 2 * classes self.old.arena → result ≡ want_of_room }
+        ensures short { result ≡ want_of_room → length reached.old ≢ 2 * classes self.old.arena }
         ensures unmarked { result ≡ want_of_room → reached.new ≡ reached.old }
+        ensures kept { (result ≡ 0) ⊎ (result ≡ want_of_room) → place.new ≡ place.old }
         ensures place { result ≢ 0 → result ≢ want_of_room → place.new < length rows.now }
-        ensures fault { result ≢ 0 → result ≢ want_of_memory → result ≢ want_of_room → AreRefusedRows rows.now self.old.history place.new result }
+        ensures fault { IsRefusal result → AreRefusedRows rows.now self.old.history place.new result }
     {
         if reached.len() != 2 * self.class_count() as usize {
-            return AskFault::NoRoom.number();
+            return NO_ROOM;
         }
-        let changes = match changes_of(alloc, rows) {
-            Ok(changes) => changes,
-            Err(BadRow { place: bad, number }) => {
-                *place = bad;
-                return number;
-            }
-        };
-        match self.reach_all(alloc, &changes, reached) {
+        match self.rows_reach(alloc, rows, reached) {
             Ok(()) => 0,
-            Err(refused) => {
-                *place = refused.place;
-                refused.fault.number()
-            }
+            Err(fault) => fault.tell(place),
         }
     }
 }

@@ -1,19 +1,19 @@
 //! The runtime.
 
-ghost use Rattle.std.specs.Prelude.{[], ◌∷◌, ◌≡◌, ◌≢◌, ◌<◌, ◌≤◌, ◌*◌, length, take, replicate, None, Some, IfOk, IfErr, IsErrOf, OnErr, OnOk, false, true};
+ghost use Rattle.std.specs.Prelude.{◌≡◌, ◌≢◌, ◌<◌, ◌≤◌, ◌*◌, length, take, replicate, None, Some, IfOk, IfErr, IsErrOf, OnErr, OnOk, false, true};
 ghost use Rattle.msg_names.specs.Number.{selector_number, imp_number};
 ghost use Rattle.msg_tables.specs.Origin.{last_imp};
-ghost use Rattle.msg_tables.specs.History.{BeginsWith, and_then, lookup, log};
-ghost use Rattle.msg_tables.specs.Marking.{MarksAffected, MarksAffectedByAll};
+ghost use Rattle.msg_tables.specs.History.{BeginsWith, lookup, log};
 ghost use Rattle.msg_tables.specs.Made.{AreMade, AreRefused, TellsWayBack};
 ghost use Rattle.msg_tables.specs.Refusal.{refusal};
 ghost use Rattle.msg_tables.specs.Several.{refused_from};
 ghost use Rattle.msg_tables.specs.declared.fault.ChangeFault.{ChangeFault};
 ghost use Rattle.msg_cache.specs.Counts.{AreCounts};
 ghost use Rattle.msg_cache.specs.Views.{classes};
-ghost use Rattle.msg_names.specs.ClassRef.{slot_of};
-ghost use Rattle.msg_reader.specs.Notes.{AreNotesOf, recalled};
+ghost use Rattle.msg_reader.specs.Notes.{AreNotesOf};
+ghost use Rattle.msg_host.specs.Calls.{Accepts, IsMade, MarksAllReached, MarksReached, RefusesUnlessMemory};
 ghost use Rattle.msg_host.specs.Config.{is_beyond};
+ghost use Rattle.msg_host.specs.Named.{HaveNoted};
 ghost use Rattle.msg_host.specs.Opening.{OpensAs};
 ghost use Rattle.msg_host.specs.declared.fault.OpenFault.{OpenFault};
 
@@ -102,7 +102,7 @@ impl HostedRuntime {
     /// It looks at the classes that it marks and at one or two more, and takes no memory. Outside what is marked the change alters no lookup.
     pub fn reach(&self, change: &Change, marks: &mut Marks) -> Result<(), ChangeFault>
         requires { length marks.old ≡ 2 * classes self.now.arena }
-        ensures ok { OnOk result ((refusal (log self.now.history) change.now ≡ None) × MarksAffected (classes self.now.arena) (log self.now.history) change.now marks.old marks.new) }
+        ensures ok { OnOk result (MarksReached self.now change.now marks.old marks.new) }
         ensures err { OnErr result (marks.new ≡ marks.old) }
         ensures fault { IfErr result (λ f. refusal (log self.now.history) change.now ≡ Some f) }
         ensures room { length marks.new ≡ length marks.old }
@@ -121,10 +121,10 @@ impl HostedRuntime {
         requires { length marked.old ≡ 2 * classes self.old.arena }
         ensures same { self.new ≡ self.old }
         ensures ok { OnOk result (refused_from 0 (log self.old.history) changes.now ≡ None) }
-        ensures marks { OnOk result (MarksAffectedByAll (classes self.old.arena) (log self.old.history) changes.now marked.old marked.new) }
+        ensures marks { OnOk result (MarksAllReached self.old changes.now marked.old marked.new) }
         ensures refused { IfErr result (AreRefused changes.now self.old.history) }
         ensures before { IfErr result (λ r. r.fault ≢ ChangeFault.Memory
-            → MarksAffectedByAll (classes self.old.arena) (log self.old.history) (take r.place changes.now) marked.old marked.new) }
+            → MarksAllReached self.old (take r.place changes.now) marked.old marked.new) }
         ensures length { length marked.new ≡ length marked.old }
     {
         self.runtime
@@ -134,10 +134,10 @@ impl HostedRuntime {
     /// Makes a change, flushes the caches that it reaches, and answers how many times changes were made. After an error nothing was changed or flushed.
     pub fn change(&mut self, change: &Change) -> Result<u64, ChangeFault>
         ensures arena { self.new.arena ≡ self.old.arena }
-        ensures ok { IfOk result (λ count. (refusal (log self.old.history) change.now ≡ None) × (self.new.history ≡ and_then self.old.history (change.now ∷ [])) × (count ≡ length self.new.history.changes)) }
+        ensures ok { IfOk result (IsMade self.old change.now self.new) }
         ensures err { OnErr result (self.new ≡ self.old) }
-        ensures fault { IfErr result (λ f. f ≢ ChangeFault.Memory → refusal (log self.old.history) change.now ≡ Some f) }
-        ensures memory { IsErrOf result ChangeFault.Memory → refusal (log self.old.history) change.now ≡ None }
+        ensures fault { IfErr result (RefusesUnlessMemory self.old change.now) }
+        ensures memory { IsErrOf result ChangeFault.Memory → Accepts self.old change.now }
     {
         self.runtime.change(&self.arena, &mut self.turn, change)
     }
@@ -205,7 +205,7 @@ impl HostedRuntime {
         ensures found { imp_number result ≡ lookup self.old.history class (selector_number sel) }
         ensures listed { imp_number result ≤ last_imp self.old.history.origin.counts }
         ensures notes { AreNotesOf self.old.history notes.new }
-        ensures noted { recalled notes.new (length self.old.history.changes) (slot_of class) (selector_number sel) ≡ Some (imp_number result) }
+        ensures noted { HaveNoted notes.new self.old.history class (selector_number sel) (imp_number result) }
     {
         a_slot_of_few_classes_is_short();
         self.runtime

@@ -1,12 +1,12 @@
 //! Senders.
 
-ghost use Rattle.std.specs.Prelude.{◌≡◌, ◌<◌, ◌≤◌, length, IfSome, IfNone, Some, None};
+ghost use Rattle.std.specs.Prelude.{◌≡◌, ◌<◌, ◌≤◌, length, IfSome, IfNone};
 ghost use Rattle.msg_names.specs.Number.{selector_number, imp_number};
-ghost use Rattle.msg_tables.specs.Origin.{class_total, last_imp};
-ghost use Rattle.msg_tables.specs.History.{BeginsWith, lookup};
-ghost use Rattle.msg_cache.specs.Views.{classes};
-ghost use Rattle.msg_names.specs.ClassRef.{slot_of};
-ghost use Rattle.msg_reader.specs.Notes.{AreNotesOf, recalled};
+ghost use Rattle.msg_tables.specs.Origin.{last_imp};
+ghost use Rattle.msg_tables.specs.History.{BeginsWith};
+ghost use Rattle.msg_cache.specs.Views.{IsFoundAt, classes};
+ghost use Rattle.msg_reader.specs.Notes.{AreNotesOf};
+ghost use Rattle.msg_host.specs.Named.{HaveLacked, HaveNoted};
 
 use msg_cache::Arena;
 use msg_names::{ClassRef, ImpRef, Selector};
@@ -70,11 +70,11 @@ impl HostedSender {
         requires notes { AreNotesOf self.old.seen.front notes.old }
         ensures arena { self.new.arena ≡ self.old.arena }
         ensures begins { BeginsWith self.new.seen.front self.old.seen.front }
-        ensures some { IfSome result (λ i. imp_number i ≡ lookup self.new.seen.front class (selector_number sel)) }
+        ensures some { IfSome result (IsFoundAt self.new.seen.front class sel) }
         ensures listed { IfSome result (λ i. imp_number i ≤ last_imp self.old.arena.key.origin.counts) }
         ensures notes { AreNotesOf self.new.seen.front notes.new }
-        ensures noted { IfSome result (λ i. recalled notes.new (length self.new.seen.front.changes) (slot_of class) (selector_number sel) ≡ Some (imp_number i)) }
-        ensures recalled { IfNone result (self.new.seen.front ≡ self.old.seen.front → recalled notes.old (length self.old.seen.front.changes) (slot_of class) (selector_number sel) ≡ None) }
+        ensures noted { IfSome result (λ i. HaveNoted notes.new self.new.seen.front class (selector_number sel) (imp_number i)) }
+        ensures recalled { IfNone result (HaveLacked notes.old self.old.seen.front self.new.seen.front class (selector_number sel)) }
     {
         a_slot_of_few_classes_is_short();
         self.reader.find(&self.arena, notes, class, sel)

@@ -1,14 +1,14 @@
 //! Lists of changes in numbers, and the way back from them.
 
-ghost use Rattle.std.specs.Prelude.{◌≡◌, ◌≢◌, ◌<◌, ◌≤◌, ◌+◌, ◌*◌, IfSome, IsNone, None, length};
+ghost use Rattle.std.specs.Prelude.{◌≡◌, ◌≢◌, ◌<◌, ◌≤◌, ◌+◌, ◌*◌, ◌⊎◌, IfSome, IsNone, None, length};
 ghost use Rattle.msg_names.specs.Number.{selector_number, selector_of};
 ghost use Rattle.msg_tables.specs.Journal.{undo_entry, undo_journal};
-ghost use Rattle.msg_host.specs.Asking.{want_of_memory, want_of_room};
+ghost use Rattle.msg_host.specs.Asking.{IsRefusal, want_of_room};
 ghost use Rattle.msg_host.specs.Listing as spec;
 ghost use Rattle.msg_host.specs.Listing.{AreRefusedRows, AreWayBack, GivesBack, MakesRows, UndoesRows};
 
-use crate::fault::AskFault;
-use crate::listing::{BadRow, ChangeRow, changes_of};
+use crate::fault::NO_ROOM;
+use crate::listing::ChangeRow;
 use crate::runtime::HostedRuntime;
 use msg_names::{ClassRef, ImpRef, Selector};
 use msg_tables::Entry;
@@ -82,28 +82,21 @@ impl HostedRuntime {
         ensures undo { result ≡ 0 → UndoesRows rows.now self.old.history undo.new undone.new }
         ensures left { result ≢ 0 → self.new ≡ self.old }
         ensures room { length undo.old < 2 * length rows.now → result ≡ want_of_room }
+        ensures short { result ≡ want_of_room → length undo.old < 2 * length rows.now }
+        ensures unwritten { result ≢ 0 → (undo.new ≡ undo.old) × (undone.new ≡ undone.old) }
+        ensures kept { (result ≡ 0) ⊎ (result ≡ want_of_room) → place.new ≡ place.old }
         ensures place { result ≢ 0 → result ≢ want_of_room → place.new < length rows.now }
-        ensures fault { result ≢ 0 → result ≢ want_of_memory → result ≢ want_of_room → AreRefusedRows rows.now self.old.history place.new result }
+        ensures fault { IsRefusal result → AreRefusedRows rows.now self.old.history place.new result }
     {
         if undo.len() / 2 < rows.len() {
-            return AskFault::NoRoom.number();
+            return NO_ROOM;
         }
-        let changes = match changes_of(alloc, rows) {
-            Ok(changes) => changes,
-            Err(BadRow { place: bad, number }) => {
-                *place = bad;
-                return number;
-            }
-        };
-        match self.change_all(alloc, &changes) {
+        match self.change_rows(alloc, rows) {
             Ok(made) => {
                 *undone = write_way_back(made.written.as_slice(), undo).unwrap_or(0);
                 0
             }
-            Err(refused) => {
-                *place = refused.place;
-                refused.fault.number()
-            }
+            Err(fault) => fault.tell(place),
         }
     }
 }

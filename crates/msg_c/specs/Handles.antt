@@ -1,0 +1,57 @@
+-- What handles hold, where they are open, and what calls make of it.
+use Rattle.std.specs.Prelude.{◌≡◌, ℕ, Bool, List, Some, None}
+use Rattle.msg_names.specs.declared.value.ClassRef.{ClassRef}
+use Rattle.msg_tables.specs.declared.change.Change.{Change}
+use Rattle.msg_tables.specs.History.{History}
+use Rattle.msg_cache.specs.Views.{ArenaView, classes}
+use Rattle.msg_host.specs.Asking.{ChangesBy}
+use Rattle.msg_host.specs.Listing.{AreRefusedRows, MakesRows, ReachesRows}
+use Rattle.msg_host.specs.Named.{noted_at}
+use Rattle.msg_host.specs.View.{RuntimeView}
+use Rattle.msg_host.specs.declared.listing.ChangeRow.{ChangeRow}
+use Rattle.msg_c.specs.Answers.{runtime_history, sender_arena, sender_front}
+use Rattle.msg_c.specs.Interned.{TextsView}
+use Rattle.msg_c.specs.declared.runtime_handle.RuntimeHandle.{RuntimeHandle}
+use Rattle.msg_c.specs.declared.sender_handle.SenderHandle.{SenderHandle}
+use Rattle.msg_c.specs.declared.texts_handle.TextsHandle.{TextsHandle}
+
+-- so it is with the runtime in a handle that is open
+abbrev pub IfOpen : RuntimeHandle → (RuntimeView → Type 0) → Type 0
+IfOpen r is_so = (v : RuntimeView) → r.held.state ≡ Some v → is_so v
+
+-- so it is with the history of that runtime
+abbrev pub IfAt : RuntimeHandle → (History → Type 0) → Type 0
+IfAt r is_so = (h : History) → runtime_history r.held.state ≡ Some h → is_so h
+
+-- a change took what a handle holds from was to is, with the answer n
+abbrev pub Changes : RuntimeHandle → RuntimeHandle → Change → ℕ → Type 0
+Changes was is x n = (v w : RuntimeView) → was.held.state ≡ Some v → is.held.state ≡ Some w → ChangesBy v w x n
+
+-- the changes that rows mean took what a handle holds from was to is, as one
+abbrev pub MakesRowsIn : List ChangeRow → RuntimeHandle → RuntimeHandle → Type 0
+MakesRowsIn rows was is = (v w : RuntimeView) → was.held.state ≡ Some v → is.held.state ≡ Some w → MakesRows rows v.history w.history
+
+-- rows are refused by the runtime in a handle: that of this place, for the fault of this number
+abbrev pub RefusesRowsIn : RuntimeHandle → List ChangeRow → ℕ → ℕ → Type 0
+RefusesRowsIn r rows place n = IfOpen r (λ v. AreRefusedRows rows v.history place n)
+
+-- what the changes of rows may alter in the runtime of a handle is marked, beside what was
+abbrev pub ReachesRowsIn : RuntimeHandle → List ChangeRow → List Bool → List Bool → Type 0
+ReachesRowsIn r rows old new = IfOpen r (λ v. ReachesRows rows v.history (classes v.arena) old new)
+
+-- so it is with the history that the sender in an open handle has seen
+abbrev pub IfSeen : SenderHandle → (History → Type 0) → Type 0
+IfSeen s is_so = (h : History) → sender_front s.held.state ≡ Some h → is_so h
+
+-- so it is with that sender's arena
+abbrev pub IfOfArena : SenderHandle → (ArenaView → Type 0) → Type 0
+IfOfArena s is_so = (a : ArenaView) → sender_arena s.held.state ≡ Some a → is_so a
+
+-- the notes of a handle lacked a lookup at what its sender has seen, if it has seen no more since
+abbrev pub HasLacked : SenderHandle → SenderHandle → ClassRef → ℕ → Type 0
+HasLacked was is c sel =
+    (h : History) → sender_front was.held.state ≡ Some h → sender_front is.held.state ≡ Some h → noted_at was.notes h c sel ≡ None
+
+-- so it is with the texts in an open handle
+abbrev pub IfInterned : TextsHandle → (TextsView → Type 0) → Type 0
+IfInterned t is_so = (v : TextsView) → t.held.state ≡ Some v → is_so v
