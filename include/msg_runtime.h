@@ -16,7 +16,7 @@
  *
  * Not trusted, since it is refused by a number: a handle that is closed, or opened twice; numbers of classes, selectors and implementations that are nobody's.
  *
- * Every call answers MSG_DONE or the number of a fault. After a fault nothing has changed and nothing was written to what a pointer points to.
+ * Every call answers MSG_DONE or the number of a fault. After a fault nothing has changed, and nothing was written to what a pointer points to, but where a call says so.
  * No call blocks, panics or aborts.
  *
  * A runtime opens without classes. All numbers are the host's to give: classes from 0, below the count of class numbers that the config reserves, selectors and implementations
@@ -95,7 +95,7 @@ enum {
     MSG_ARGUMENT_COUNT = 3,     /* never of a host's runtime: each implementation fits each selector */
     MSG_METHOD_PRESENT = 4,
     MSG_NO_METHOD = 5,
-    MSG_LIMIT = 6,              /* 2^48 changes were made, or more than 2^32 - 1 methods would stand, or texts */
+    MSG_LIMIT = 6,              /* 2^48 changes were made, more than 2^32 methods would stand, or texts more than 2^32 - 1 */
     MSG_CHANGE_MEMORY = 7,
     MSG_DUPLICATE_CLASS = 8,
     /* Any call answers these. */
@@ -146,8 +146,8 @@ uint32_t msg_make_root_class(msg_runtime *runtime, uint32_t number);
  * part is that would be refused if those before it were made; that part's place is written, from 0. A part that means no change (67, 75) is found before any is made. Then, and where
  * memory is wanting, nothing has changed. Of no parts nothing is made, and the count stays. */
 uint32_t msg_change_all(msg_runtime *runtime, const msg_change *changes, size_t count, size_t *place);
-/* The same, and `undone` parts are written to `undo`, which has room for two for each: made as one directly afterwards they take it back. `undone` is 0 where there is no way back, since a
- * method was added or a class made. */
+/* The same, and `undone` parts are written to `undo`: made as one directly afterwards they take it back. `undone` is 0 where there is no way back, since a method was added or a class
+ * made. `undo` has room for two for each part, or else MSG_NO_ROOM is answered and not even a place is written. */
 uint32_t msg_change_all_with_undo(msg_runtime *runtime, const msg_change *changes, size_t count, msg_change *undo, size_t room, size_t *undone, size_t *place);
 /* Which lookups msg_change_all would alter, without making it: in `reached`, which has two places for each class number, that of a class at twice its number and its metaclass's next, those
  * are set of which lookups may change, and the others stay as they were. It costs a walk over the classes that it sets. A fault is msg_change_all's, with its place; then what the parts
