@@ -4,13 +4,14 @@
 #include <stdlib.h>
 #include <string.h>
 
-enum { PLACES = 16384 };
+enum { PLACES = 16384, GUESSES = 1024 };
 
 Class shim_classes[MOST_CLASSES + 1];
 uint32_t shim_class_count, shim_class_room;
 static uint32_t in_construction; /* for which a number is kept */
 static _Atomic(uint32_t) made; /* the tables have the classes of the numbers up to this */
 static _Atomic(Class) by_name[PLACES]; /* the last that came of each place, and before it its record's next */
+static _Atomic(Class) guesses[GUESSES]; /* what was found of a name that lay at such an address: its text says whether it is meant */
 static objc_get_unknown_class_handler unknown_class;
 
 static uint32_t place_of(const char *name)
@@ -28,7 +29,17 @@ static Class named(const char *name, uint32_t last)
     return class_;
 }
 
-Class shim_class_named(const char *name) { return named(name, atomic_load_explicit(&made, memory_order_acquire)); }
+/* A program asks by the same text at the same address each time. */
+Class shim_class_named(const char *name)
+{
+    _Atomic(Class) *guess = &guesses[(uintptr_t)name % GUESSES];
+    Class class_ = atomic_load_explicit(guess, memory_order_acquire);
+    if (class_ && !strcmp(class_->name, name)) return class_;
+    class_ = named(name, atomic_load_explicit(&made, memory_order_acquire));
+    if (class_) atomic_store_explicit(guess, class_, memory_order_release);
+    return class_;
+}
+
 Class shim_class_coming(const char *name) { return named(name, MOST_CLASSES); }
 void shim_publish(void) { atomic_store(&made, shim_class_count); }
 

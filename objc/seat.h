@@ -24,10 +24,9 @@ enum { METHOD, NO_METHOD, NOTHING };
  * send: first it is seen that the note isn't older, then the number is loaded, then it is seen that it is the key's. So
  * it is wrong only where the place had another key's, and the handler sends the same as what it interrupts between the
  * last two. With MSG_CHECK it is compared with the proved msg_recall. */
-static inline uint64_t shim_note(Class class_, SEL sel, uint32_t *number)
+static inline uint64_t shim_note_at(uint64_t count, Class class_, SEL sel, uint32_t *number)
 {
     const msg_sender *sender = __atomic_load_n(&msg_process_own.sender, __ATOMIC_RELAXED);
-    uint64_t count = __atomic_load_n(&msg_process_changes.begun, __ATOMIC_ACQUIRE);
     uint64_t key = __atomic_load_n(&class_->key, __ATOMIC_ACQUIRE) + sel->name.key;
     const msg_note *note = MSG_NOTE_OF(sender, key);
     if (__builtin_expect(note->count != count, 0)) return NOTHING;
@@ -39,6 +38,10 @@ static inline uint64_t shim_note(Class class_, SEL sel, uint32_t *number)
              note->word != word || note->count != count);
     return word - key;
 }
+
+/* By how many changes were begun, or a number that no note has while one is made. */
+static inline uint64_t shim_begun(void) { return __atomic_load_n(&msg_process_changes.begun, __ATOMIC_ACQUIRE); }
+static inline uint64_t shim_note(Class class_, SEL sel, uint32_t *number) { return shim_note_at(shim_begun(), class_, sel, number); }
 
 /* The function that is noted, or NULL, which is number 0's, where it is noted that the lookup finds nothing. */
 static inline bool shim_noted(Class class_, SEL sel, IMP *imp)

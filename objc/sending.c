@@ -44,12 +44,21 @@ IMP shim_look(Class class_, SEL sel)
     return shim_noted(class_, sel, &imp) ? imp : shim_find(class_, shim_sel(sel));
 }
 
+/* Whether a thread's note said so after just as many changes as are begun now: it is then so for all threads. */
+static inline bool has_no_resolver(Class class_) { return __atomic_load_n(&class_->record->unresolved, __ATOMIC_RELAXED) == shim_begun(); }
+
 static inline bool resolve(Class class_, SEL sel)
 {
-    IMP imp;
+    uint32_t number;
+    uint64_t count = shim_begun();
     Class plain = plain_class(class_);
     SEL asked = &shim_own[class_->record->meta ? RESOLVE_CLASS : RESOLVE_INSTANCE];
-    if (!shim_noted(plain->isa, asked, &imp)) imp = shim_find(plain->isa, shim_sel(asked));
+    uint64_t said = shim_note_at(count, plain->isa, asked, &number);
+    if (said == NO_METHOD) {
+        __atomic_store_n(&class_->record->unresolved, count, __ATOMIC_RELAXED);
+        return false;
+    }
+    IMP imp = said == METHOD ? shim_function(number) : shim_find(plain->isa, shim_sel(asked));
     return __builtin_expect(imp != NULL, 0) && ((BOOL (*)(id, SEL, SEL))(void (*)(void))imp)((id)plain, asked, sel);
 }
 
@@ -95,7 +104,7 @@ static __attribute__((noinline)) IMP find_slowly(id receiver, SEL sel)
     uint32_t number;
     Class class_ = shim_class_of(receiver);
     if (__builtin_expect(shim_note(class_, sel, &number) != NO_METHOD, 0)) return find_from(receiver, class_, sel);
-    IMP imp = resolved(class_, sel);
+    IMP imp = has_no_resolver(class_) ? NULL : resolved(class_, sel);
     return imp ? imp : shim_forward(receiver, sel);
 }
 
@@ -127,7 +136,7 @@ BOOL class_respondsToSelector(Class class_, SEL sel)
     uint32_t number;
     if (!class_ || !sel) return false;
     uint64_t said = shim_note(class_, sel, &number);
-    if (said <= NO_METHOD) return said == METHOD || find_resolved(class_, sel);
+    if (said <= NO_METHOD) return said == METHOD || (!has_no_resolver(class_) && find_resolved(class_, sel));
     return class_->record && !shim_in_construction(class_) && find_first(class_, sel);
 }
 

@@ -36,6 +36,7 @@ struct record {
     uint32_t number;
     Class next;
     atomic_int initialized;
+    uint64_t unresolved; /* the last count of changes after which a note said that it has no resolver; 0 is none's */
     struct record *plain;
     _Atomic(struct rows *) rows;
     _Atomic(uint32_t) count;

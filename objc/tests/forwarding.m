@@ -43,6 +43,8 @@ static double half(id self, SEL sel) { return 0.5; }
 - (void)doesNotRecognize:(SEL)sel { printf("not recognized: %s\n", sel_getName(sel)); }
 @end
 
+static int asked;
+static BOOL resolve_late(id self, SEL sel, SEL lacking) { return asked++ && class_addMethod((Class)self, lacking, (IMP)late, "l16@0:8"); }
 static long by_hook(id self, SEL sel) { return 13; }
 static IMP hook(id self, SEL sel) { return sel_isEqual(sel, @selector(hooked)) ? (IMP)by_hook : NULL; }
 
@@ -59,6 +61,10 @@ int main(void)
     __objc_msg_forward2 = hook;
     printf("hooked %ld\n", [asking hooked]);
     [asking lost];
+    for (int time = 0; time < 3; time++) printf("late %d\n", class_respondsToSelector([asking class], @selector(late)));
+    class_addMethod(((id)[asking class])->isa, @selector(resolveInstanceMethod:), (IMP)resolve_late, "c@:@:");
+    for (int time = 0; time < 2; time++) printf("asked a resolver %d\n", class_respondsToSelector([asking class], @selector(late)));
+    printf("resolved later %ld\n", [asking late]);
     object_dispose(adding);
     object_dispose(passing);
     object_dispose(asking);
