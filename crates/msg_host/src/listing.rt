@@ -13,6 +13,10 @@ use msg_names::{ClassRef, ImpRef, Selector};
 use msg_runtime::Made;
 use msg_tables::{Change, ChangeFault, Refused};
 use std::alloc::Global;
+use std::mem::replace;
+
+// The room of so many changes is kept from one list to the next.
+const KEPT_CHANGES: usize = 32;
 
 /// A change in numbers. Its kind says which call makes it alone, and it reads the fields that this call takes: 1 `add`, 2 `replace`, 3 `set`, 4 `exchange`, 5 `make_class` with the
 /// superclass in `other`, 6 `make_class` without one. A class number with 0 beside it is the class, with 1 its metaclass.
@@ -136,19 +140,23 @@ impl ChangeRow {
     }
 }
 
-// The changes that rows mean.
-pub(crate) fn changes_of(alloc: Global, rows: &[ChangeRow]) -> Result<Vec<Change>, RowFault>
+// The changes that rows mean, in the room of others.
+pub(crate) fn changes_of(
+    rows: &[ChangeRow],
+    mut changes: Vec<Change>,
+) -> Result<Vec<Change>, RowFault>
     ensures ok { IfOk result (λ changes. AreMeant rows.now changes.items) }
     ensures err { IfErr result (λ r. r.number ≢ want_of_memory → IsBadRow rows.now r.place r.number) }
     ensures fault { IfErr result (λ r. (r.number ≢ 0) × (r.number ≢ want_of_room)) }
     ensures place { IfErr result (λ r. r.place < length rows.now) }
 {
-    let Ok(mut changes) = Vec::with_capacity(alloc, rows.len()) else {
+    changes.clear();
+    if changes.reserve(rows.len()).is_err() {
         return Err(RowFault {
             place: 0,
             number: ChangeFault::Memory.number(),
         });
-    };
+    }
     for (place, row) in rows.iter().enumerate() {
         match row.change() {
             Ok(change) => {
@@ -177,10 +185,22 @@ impl HostedRuntime {
         ensures left { OnErr result (self.new ≡ self.old) }
         ensures fault { IfErr result (IsRowFault rows.now self.old.history) }
     {
-        let changes = changes_of(alloc, rows)?;
-        match self.change_all(alloc, &changes) {
+        let room = replace(&mut self.changes, Vec::new(alloc));
+        let changes = changes_of(rows, room)?;
+        let outcome = self.change_all(alloc, &changes);
+        self.keep_changes(changes);
+        match outcome {
             Ok(made) => Ok(made),
             Err(refused) => Err(RowFault::of(refused)),
+        }
+    }
+
+    // Keeps the room of changes that were made for the next, if it isn't large.
+    pub(crate) fn keep_changes(&mut self, changes: Vec<Change>)
+        ensures { self.new ≡ self.old }
+    {
+        if changes.len() <= KEPT_CHANGES {
+            self.changes = changes;
         }
     }
 
@@ -195,7 +215,10 @@ impl HostedRuntime {
         ensures fault { result ≢ 0 → result ≢ want_of_memory → AreRefusedRows rows.now self.old.history place.new result }
     {
         match self.change_rows(alloc, rows) {
-            Ok(_made) => 0,
+            Ok(made) => {
+                self.runtime.keep_room(made.written);
+                0
+            }
             Err(fault) => fault.tell(place),
         }
     }

@@ -39,6 +39,8 @@ pub struct HostedRuntime {
     arena: Arc<Arena, Global>,
     pub(crate) runtime: Runtime,
     turn: Turn,
+    // room for the changes that the next rows mean
+    pub(crate) changes: Vec<Change>,
     // how many class numbers are reserved
     classes: u32,
 }
@@ -78,6 +80,7 @@ impl HostedRuntime {
             arena,
             runtime,
             turn,
+            changes: Vec::new(alloc),
             classes: origin.class_count(),
         })
     }

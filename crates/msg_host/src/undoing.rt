@@ -94,6 +94,7 @@ impl HostedRuntime {
         match self.change_rows(alloc, rows) {
             Ok(made) => {
                 *undone = write_way_back(made.written.as_slice(), undo).unwrap_or(0);
+                self.runtime.keep_room(made.written);
                 0
             }
             Err(fault) => fault.tell(place),

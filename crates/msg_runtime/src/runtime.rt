@@ -25,6 +25,7 @@ use msg_tables::laws::{an_accepted_change_is_within_the_limit, tables_are_of_the
 use msg_tables::{Below, Change, ChangeFault, HasOrigin, Marks, Origin, Refused, Tables, Written};
 use std::alloc::{AllocError, Global};
 use std::marker::Model;
+use std::mem::replace;
 use std::snapshot::Snapshot;
 
 /// What is said of a list of changes that was made as one.
@@ -45,9 +46,14 @@ pub struct Runtime {
     keeper: Keeper,
     tables: Tables,
     below: Below,
+    // room for what the next list of changes writes
+    room: Written,
     classes: u32,
     arena: Snapshot<Arena>,
 }
+
+// Room for so many entries is kept from one list of changes to the next.
+const KEPT_ENTRIES: usize = 64;
 
 impl Model for Runtime {
     ghost use Rattle.msg_runtime.specs.View.{RuntimeView};
@@ -102,6 +108,7 @@ impl Runtime {
             keeper,
             tables,
             below,
+            room: Written::none(alloc),
             classes: origin.class_count(),
             arena: Snapshot::of(arena),
         })
@@ -292,7 +299,8 @@ impl Runtime {
     /// Makes a list of changes as one, flushes the caches that it reaches, and answers how many times changes were made and what was written; or says which of them would be refused. After an
     /// error nothing was changed or flushed. An empty list changes nothing and isn't counted.
     ///
-    /// The turn's history is the runtime's, before and after. It costs what its changes cost, and the room for what they write, but for one count that is stored.
+    /// The turn's history is the runtime's, before and after. It costs what its changes cost but for one count that is stored, and room for what they write, which is that of an earlier list where
+    /// that was given back and is large enough.
     pub fn change_all(
         &mut self,
         alloc: Global,
@@ -316,7 +324,8 @@ impl Runtime {
     {
         tables_are_of_their_origin();
         self.keeper.face(arena, turn);
-        let written = self.tables.apply_all(alloc, changes)?;
+        let room = replace(&mut self.room, Written::none(alloc));
+        let written = self.tables.apply_all(changes, room)?;
         if changes.is_empty() {
             let count = self.keeper.count();
             return Ok(Made { count, written });
@@ -330,6 +339,15 @@ impl Runtime {
         );
         let count = self.keeper.commit_all(arena, turn, changes);
         Ok(Made { count, written })
+    }
+
+    /// Takes back what was written, once it isn't looked at any more: the next list of changes writes there, if it isn't large.
+    pub fn keep_room(&mut self, written: Written)
+        ensures { self.new ≡ self.old }
+    {
+        if written.as_slice().len() <= KEPT_ENTRIES {
+            self.room = written;
+        }
     }
 
     /// A reader of a sender number that isn't given out, where there is one. It has seen the whole history.

@@ -12,7 +12,6 @@ use crate::change::Change;
 use crate::entry::{Entry, Written};
 use crate::fault::ChangeFault;
 use crate::tables::Tables;
-use std::alloc::Global;
 
 /// Why a list of changes was not made: the place of the first that was refused, from 0, and its fault.
 #[derive(Clone, Copy, Debug, PartialEq, Eq)]
@@ -40,6 +39,7 @@ impl Tables {
     }
 
     // Makes a change of a list, and notes what it wrote.
+    #[inline(always)]
     pub(crate) fn apply_part(
         &mut self,
         change: &Change,
@@ -78,9 +78,10 @@ impl Tables {
 
     /// Makes a list of changes as one, or says which would be refused and changes nothing.
     ///
-    /// Each is judged and made after those before it, as by [`apply`](Tables::apply). The room for what they write to the journal comes first, of two entries for each. Where one is refused, or memory is wanting,
-    /// those before it are taken back, from the last to the first; that takes no memory, and goes over the rows of the lists that rows are taken from, for each of these rows, and over all classes where one was made.
-    pub fn apply_all(&mut self, alloc: Global, changes: &[Change]) -> Result<Written, Refused>
+    /// Each is judged and made after those before it, as by [`apply`](Tables::apply). The room for what they write to the journal comes first, of two entries for each: it is that of an
+    /// earlier journal, made larger where it is too small. Where one is refused, or memory is wanting, those before it are taken back, from the last to the first; that takes no memory, and
+    /// goes over the rows of the lists that rows are taken from, for each of these rows, and over all classes where one was made.
+    pub fn apply_all(&mut self, changes: &[Change], room: Written) -> Result<Written, Refused>
         ensures ok { OnOk result (StandAfter changes.now self.old self.new) }
         ensures err { OnErr result (self.new ≡ self.old) }
         ensures fault { IfErr result (λ r. r.fault ≢ ChangeFault.Memory → IsRefused changes.now self.old r) }
@@ -97,7 +98,7 @@ impl Tables {
         ensures counts { self.new.counts ≡ self.old.counts }
     {
         let start = self.start();
-        let Ok(mut entries) = Vec::with_capacity(alloc, 2 * changes.len()) else {
+        let Ok(mut entries) = room.emptied(2 * changes.len()) else {
             return Err(self.lacks_room(changes));
         };
         match self.apply_each(changes, &mut entries) {

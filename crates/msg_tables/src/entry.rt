@@ -1,6 +1,7 @@
 //! What a list of changes wrote.
 
-ghost use Rattle.std.specs.Prelude.{◌≡◌, ◌<◌, ℕ, IfOk, IfSome, None, Some, false, option_map, true};
+ghost use Rattle.std.specs.Prelude.{◌≡◌, ◌<◌, ◌≤◌, ℕ, [], IfOk, IfSome, None, OnErr, Some, false, option_map, true};
+ghost use Rattle.std.specs.Vec.{vec_capacity};
 ghost use Rattle.msg_tables.specs.Journal.{NamesListed, place_of, undo_entry, undo_journal};
 ghost use Rattle.msg_tables.specs.Undo.{and_before};
 
@@ -75,6 +76,27 @@ impl Model for Written {
 }
 
 impl Written {
+    /// Of no changes, with no room for more.
+    pub fn none(alloc: Global) -> Written
+        ensures { result ≡ [] }
+    {
+        Written {
+            entries: Vec::new(alloc),
+        }
+    }
+
+    // Its room, made large enough for so many entries, with none in it.
+    pub(crate) fn emptied(self, count: usize) -> Result<Vec<Entry>, AllocError>
+        ensures none { IfOk result (λ entries. entries.items ≡ []) }
+        ensures room { IfOk result (λ entries. count ≤ vec_capacity entries) }
+        ensures wanting { OnErr result (0 < count) }
+    {
+        let Written { mut entries } = self;
+        entries.clear();
+        entries.reserve(count)?;
+        Ok(entries)
+    }
+
     /// The changes that take the list back directly after it, the last first: each own row that was rewritten gets its implementation again. None where rows were added or a class was made, which have no way back.
     pub fn undo(&self, alloc: Global) -> Result<Option<Vec<Change>>, AllocError>
         ensures { IfOk result (λ undo. option_map (λ changes. changes.items) undo ≡ undo_journal self.now) }

@@ -126,6 +126,7 @@ impl Tables {
     }
 
     // Writes what an edit says, and notes it.
+    #[inline(always)]
     pub(crate) fn write_noted(
         &mut self,
         edit: Edit,

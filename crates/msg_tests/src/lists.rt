@@ -8,7 +8,7 @@ use crate::same::{same, same_at};
 use crate::tables::{CHILD, GRAND, ROOT, SIDE, category, image, metaclass, opened, selector};
 use msg_image::{Change, Image};
 use msg_names::{ClassRef, ImpRef, Selector};
-use msg_tables::{ChangeFault, Entry, Refused, Tables};
+use msg_tables::{ChangeFault, Entry, Refused, Tables, Written};
 use std::alloc::Global;
 use std::process::Abort;
 
@@ -55,7 +55,7 @@ fn a_list_is_made_and_told(rt: HostRuntime) {
     let tag = selector(&rt, &image, "tag");
     let changes = three(&rt, rt.alloc(), value, tag);
     let written = tables
-        .apply_all(rt.alloc(), &changes)
+        .apply_all(&changes, Written::none(rt.alloc()))
         .expect(&rt, "no fault");
     let after = [(GRAND, value, 2), (CHILD, value, 12), (SIDE, tag, 1)];
     are_found(&rt, &image, &tables, &after);
@@ -103,13 +103,13 @@ fn a_refused_list_leaves_all_as_it_was(rt: HostRuntime) {
     };
     same(
         &rt,
-        tables.apply_all(rt.alloc(), &changes).err(),
+        tables.apply_all(&changes, Written::none(rt.alloc())).err(),
         Some(refused),
     );
     let before = [(GRAND, value, 1), (CHILD, value, 1), (SIDE, tag, 13)];
     are_found(&rt, &image, &tables, &before);
     let _last = changes.pop();
-    same(&rt, tables.apply_all(rt.alloc(), &changes).is_ok(), true);
+    same(&rt, tables.apply_all(&changes, Written::none(rt.alloc())).is_ok(), true);
 }
 
 // A method that is set where it stands, and one that is exchanged with it.
@@ -139,13 +139,13 @@ fn a_list_is_undone(rt: HostRuntime) {
     let name = selector(&rt, &image, "name");
     let changes = two(&rt, rt.alloc(), value, name);
     let written = tables
-        .apply_all(rt.alloc(), &changes)
+        .apply_all(&changes, Written::none(rt.alloc()))
         .expect(&rt, "no fault");
     let after = [(ROOT, value, 11), (GRAND, name, 12), (SIDE, name, 2)];
     are_found(&rt, &image, &tables, &after);
     let undo = written.undo(rt.alloc()).expect(&rt, "memory");
     let back = undo.expect(&rt, "no row was added");
-    same(&rt, tables.apply_all(rt.alloc(), &back).is_ok(), true);
+    same(&rt, tables.apply_all(&back, Written::none(rt.alloc())).is_ok(), true);
     let before = [(ROOT, value, 1), (GRAND, name, 11), (SIDE, name, 2)];
     are_found(&rt, &image, &tables, &before);
 }
