@@ -46,6 +46,10 @@ super_step s = plain.super_send s.selector.now (expressions s.args.now)
 abbrev pub expr_view : Expr → Expression
 expr_view = fold-Expr Expression Expression Expression Expression Expression expr_step binary_step if_step send_step super_step
 
+-- two expressions without their pointers
+abbrev pub pair_of_exprs_view : Expr × Expr → Expression × Expression
+pair_of_exprs_view es = (expr_view es.0, expr_view es.1)
+
 abbrev pub exprs_view : List Expr → Expressions
 exprs_view es = expressions (map expr_view es)
 

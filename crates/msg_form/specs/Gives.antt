@@ -1,5 +1,6 @@
 -- What a reader returned, beside what the definitions say.
-use Rattle.std.specs.Prelude.{◌≡◌, Option, Some, None, Result, Ok, Err}
+use Rattle.std.specs.Prelude.{◌≡◌, List, Option, Some, None, Result, Ok, Err, Vec, map}
+use Rattle.std.specs.Global.{Global}
 use Rattle.msg_form.specs.declared.faults.ReadFault.{ReadFault}
 use Rattle.msg_form.specs.declared.faults.ReadFault.TheVariants as faults
 
@@ -12,3 +13,7 @@ Fails faults.Shape spelled = spelled ≡ None
 abbrev pub Gives : {X Y : Type 0} → (X → Y) → Result X ReadFault → Option Y → Type 0
 Gives view (Ok x) spelled = spelled ≡ Some (view x)
 Gives view (Err e) spelled = Fails e spelled
+
+-- the result's elements, as view shows them, are what is spelled
+abbrev pub GivesAll : {X Y : Type 0} → (X → Y) → Result (Vec X Global) ReadFault → Option (List Y) → Type 0
+GivesAll view result spelled = Gives (λ v. map view v.items) result spelled

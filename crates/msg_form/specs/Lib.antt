@@ -20,3 +20,5 @@ pub mod BodyFaults
 pub mod BodyWalk
 pub mod ImpArgs
 pub mod Unread
+pub mod Filling
+pub mod Laws

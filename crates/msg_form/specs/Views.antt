@@ -1,10 +1,10 @@
 -- The form that the program's parts stand for.
-use Rattle.std.specs.Prelude.{List, map, option_map}
+use Rattle.std.specs.Prelude.{ℕ, List, Option, map, option_map}
 use Rattle.std.specs.Borrow.{Bor}
 use Rattle.msg_form.specs.ExprView.{constant_view, expr_view}
 use Rattle.msg_form.specs.Form as plain
 use Rattle.msg_form.specs.Form.{PairForm, ClassForm, CategoryForm, ObjectForm, ImpForm, MethodForm, ChangeForm, ItemForm}
-use Rattle.msg_form.specs.Text.{texts_view}
+use Rattle.msg_form.specs.Text.{Text, number_among, texts_view}
 use Rattle.msg_form.specs.declared.form.Category.{Category}
 use Rattle.msg_form.specs.declared.form.Change.{Change}
 use Rattle.msg_form.specs.declared.form.Change.TheVariants.{Add, Replace, SetImp, Exchange, Attach, Make}
@@ -33,6 +33,14 @@ class_view c = record { name = c.name.now; superclass = option_map (λ s. s.now)
 
 abbrev pub classes_view : List Class → List ClassForm
 classes_view cs = map class_view cs
+
+-- the names of classes
+abbrev pub names_view : List Class → List Text
+names_view cs = map (λ c. (class_view c).name) cs
+
+-- the superclasses of classes, by their numbers among these names
+abbrev pub superclasses_among : List Text → List Class → List (Option ℕ)
+superclasses_among names cs = map (λ c. option_map (number_among names) (class_view c).superclass) cs
 
 -- a category without its pointers
 abbrev pub category_view : Category → CategoryForm

@@ -3,7 +3,7 @@
 ghost use Rattle.std.specs.Prelude.{◌≡◌, IfErr, IfOk, Option, map};
 ghost use Rattle.serde_json.specs.Data.{Data};
 ghost use Rattle.msg_json.specs.View.{view};
-ghost use Rattle.msg_form.specs.Gives.{Gives};
+ghost use Rattle.msg_form.specs.Gives.{Gives, GivesAll};
 ghost use Rattle.msg_form.specs.Json.{each, field_of, list_of, value_of};
 ghost use Rattle.msg_form.specs.declared.faults.ReadFault.TheVariants.{Memory};
 
@@ -37,7 +37,7 @@ fn list_of<'v, T: FromValue<'v>>(
     bump: &'v Bump,
     value: &Tree<'v, '_>,
 ) -> Result<Vec<T>, ReadFault>
-    ensures { Gives (λ v. map T.plain v.items) result (list_of T.spelled (view value.now)) }
+    ensures { GivesAll T.plain result (list_of T.spelled (view value.now)) }
 {
     match list(value) {
         Some(values) => each(alloc, bump, values),
@@ -52,7 +52,7 @@ fn list_at<'v, T: FromValue<'v>>(
     value: &Tree<'v, '_>,
     key: &str,
 ) -> Result<Vec<T>, ReadFault>
-    ensures { Gives (λ v. map T.plain v.items) result (field_of (list_of T.spelled) key.now (view value.now)) }
+    ensures { GivesAll T.plain result (field_of (list_of T.spelled) key.now (view value.now)) }
 {
     match get(value, key) {
         Some(value) => list_of(alloc, bump, value),
@@ -67,7 +67,7 @@ fn list_in<'v, T: FromValue<'v>>(
     values: &[Tree<'v, '_>],
     place: usize,
 ) -> Result<Vec<T>, ReadFault>
-    ensures { Gives (λ v. map T.plain v.items) result (value_of (list_of T.spelled) place (map view values.now)) }
+    ensures { GivesAll T.plain result (value_of (list_of T.spelled) place (map view values.now)) }
 {
     match value_in(values, place) {
         Some(value) => list_of(alloc, bump, value),
@@ -92,7 +92,7 @@ fn each<'v, T: FromValue<'v>>(
     bump: &'v Bump,
     values: &[Tree<'v, '_>],
 ) -> Result<Vec<T>, ReadFault>
-    ensures { Gives (λ v. map T.plain v.items) result (each T.spelled (map view values.now)) }
+    ensures { GivesAll T.plain result (each T.spelled (map view values.now)) }
 {
     let mut parts = Vec::with_capacity(alloc, values.len())?;
     for value in values {

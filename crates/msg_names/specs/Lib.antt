@@ -1,4 +1,5 @@
 pub mod ClassRef
+pub mod Laws
 pub mod Name
 pub mod Number
 pub mod Numbering

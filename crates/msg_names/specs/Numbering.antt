@@ -1,9 +1,12 @@
 -- How a list of names numbers them.
-use Rattle.std.specs.Prelude.{◌≡◌, ◌≤◌, ℕ, suc, ◌+◌, ◌-◌, List, [], ◌∷◌, ◌++◌, length, true, if◌then◌else◌, Option, Some, None, option_map, slice_get}
+use Rattle.std.specs.Prelude.{◌≡◌, ◌≤◌, ℕ, suc, ◌+◌, ◌-◌, List, [], ◌∷◌, ◌++◌, length, map, true, false, if◌then◌else◌, Option, Some, None, option_map, slice_get, string_bytes, String}
+use Rattle.std.specs.Global.{Global}
 use Rattle.std.specs.List.{list_any, list_all}
 use Rattle.std.specs.Str.{bytes_eq}
 use Rattle.msg_names.specs.Name.{is_selector_name}
+use Rattle.msg_names.specs.Number.{selector_number}
 use Rattle.msg_names.specs.declared.names.TheConstants.{MAX_NAMES}
+use Rattle.msg_names.specs.declared.value.Selector.{Selector}
 
 -- the number of a text: the place at which it stands, from 1
 abbrev pub number_of : List (List ℕ) → List ℕ → Option ℕ
@@ -27,3 +30,23 @@ pub record AreNames (names : List (List ℕ)) : Type 0 where
   pub few : length names ≤ MAX_NAMES
   pub named : list_all is_selector_name names ≡ true
   pub numbered : AreNumbered names
+
+-- the texts of strings
+abbrev pub texts_of : List (String Global) → List (List ℕ)
+texts_of strings = map string_bytes strings
+
+-- the name of a selector
+abbrev pub name_of : List (List ℕ) → Selector → Option (List ℕ)
+name_of names s = name_at names (selector_number s)
+
+-- the text has a selector's number
+abbrev pub IsSelectorOf : List (List ℕ) → List ℕ → Selector → Type 0
+IsSelectorOf names text s = number_of names text ≡ Some (selector_number s)
+
+-- the text is none of the names
+abbrev pub LacksName : List (List ℕ) → List ℕ → Type 0
+LacksName names text = list_any (bytes_eq text) names ≡ false
+
+-- it is a selector name and none of these, of which there are as many as fit
+abbrev pub LacksPlaceFor : List (List ℕ) → List ℕ → Type 0
+LacksPlaceFor names text = (is_selector_name text ≡ true) × (length names ≡ MAX_NAMES) × LacksName names text

@@ -1,8 +1,8 @@
 //! Laws of names and numbers, over every list of names.
 
-ghost use Rattle.std.specs.Prelude.{◌≡◌, ◌+◌, ℕ, List, Some, None, length};
+ghost use Rattle.std.specs.Prelude.{◌≡◌};
 ghost use Rattle.msg_names.specs.Number.{imp_number};
-ghost use Rattle.msg_names.specs.Numbering.{number_of, name_at, with_name};
+ghost use Rattle.msg_names.specs.Laws.{NumbersAreOneToOne, NumberedTextIsItsName, NewNameHasNextNumber, NumbersStay};
 
 use crate::value::ImpRef;
 
@@ -13,20 +13,20 @@ pub fn forwarding_has_number_0()
 
 /// Two texts with one number are one text.
 pub fn one_number_is_one_name()
-    ensures { (names : List (List ℕ)) (s t : List ℕ) (n : ℕ) → number_of names s ≡ Some n → number_of names t ≡ Some n → s ≡ t }
+    ensures { NumbersAreOneToOne }
 {}
 
 /// The text that has a number is the name of that number.
 pub fn a_number_has_its_name()
-    ensures { (names : List (List ℕ)) (t : List ℕ) (n : ℕ) → number_of names t ≡ Some n → name_at names n ≡ Some t }
+    ensures { NumberedTextIsItsName }
 {}
 
 /// A name that is added gets the number after the last.
 pub fn a_new_name_has_the_next_number()
-    ensures { (names : List (List ℕ)) (t : List ℕ) → number_of names t ≡ None → number_of (with_name names t) t ≡ Some (length names + 1) }
+    ensures { NewNameHasNextNumber }
 {}
 
 /// A number stays, whatever name is added.
 pub fn a_number_stays()
-    ensures { (names : List (List ℕ)) (s t : List ℕ) (n : ℕ) → number_of names t ≡ Some n → number_of (with_name names s) t ≡ Some n }
+    ensures { NumbersStay }
 {}

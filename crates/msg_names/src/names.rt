@@ -1,11 +1,11 @@
 //! The selectors' names.
 
-ghost use Rattle.std.specs.Prelude.{◌≡◌, ℕ, ◌+◌, ◌<◌, ◌≤◌, ◌↔◌, [], Some, length, map, string_bytes, IfOk, IfSome, IsErrOf, IsTrue, OnErr, OnOk, true, false, option_map};
-ghost use Rattle.std.specs.List.{list_any};
-ghost use Rattle.std.specs.Str.{bytes_eq};
+ghost use Rattle.std.specs.Prelude.{◌≡◌, ◌+◌, ◌<◌, ◌≤◌, ◌↔◌, [], length, option_map};
+ghost use Rattle.std.specs.Prelude.{IfOk, IfSome, IsErrOf, IsTrue, OnErr, OnOk, false};
 ghost use Rattle.msg_names.specs.Name as spec;
 ghost use Rattle.msg_names.specs.Number.{selector_number};
-ghost use Rattle.msg_names.specs.Numbering.{number_of, name_at, with_name, AreNames};
+ghost use Rattle.msg_names.specs.Numbering.{AreNames, IsSelectorOf, LacksName, LacksPlaceFor};
+ghost use Rattle.msg_names.specs.Numbering.{number_of, name_of, texts_of, with_name};
 
 use crate::name::{MAX_ARGUMENTS, colon_count, is_selector_name};
 use crate::value::Selector;
@@ -37,14 +37,14 @@ pub struct Names {
 }
 
 impl Model for Names {
-    ghost use Rattle.std.specs.Prelude.{ℕ, List, map, string_bytes};
-    ghost use Rattle.msg_names.specs.Numbering.{AreNames};
+    ghost use Rattle.std.specs.Prelude.{ℕ, List};
+    ghost use Rattle.msg_names.specs.Numbering.{AreNames, texts_of};
 
     ghost Value = { List (List ℕ) };
 
-    ghost view = { λ n. map string_bytes n.set.keys };
+    ghost view = { λ n. texts_of n.set.keys };
 
-    ghost invariant = { λ n. AreNames (map string_bytes n.set.keys) };
+    ghost invariant = { λ n. AreNames (texts_of n.set.keys) };
 }
 
 impl Names {
@@ -80,15 +80,15 @@ impl Names {
 
     /// The name of a selector. Only a selector whose number is above [`len`](Self::len) has none.
     pub fn text(&self, selector: Selector) -> Option<&str>
-        ensures text { option_map (λ s. s.now) result ≡ name_at self.now (selector_number selector) }
-        ensures numbered { IfSome result (λ s. number_of self.now s.now ≡ Some (selector_number selector)) }
+        ensures text { option_map (λ s. s.now) result ≡ name_of self.now selector }
+        ensures numbered { IfSome result (λ s. IsSelectorOf self.now s.now selector) }
     {
         text_in(&self.set, selector)
     }
 
     /// How many arguments a selector takes: the colons of its name.
     pub fn colons(&self, selector: Selector) -> Option<u8>
-        ensures colons { result ≡ option_map spec.colons_of (name_at self.now (selector_number selector)) }
+        ensures colons { result ≡ option_map spec.colons_of (name_of self.now selector) }
         ensures few { IfSome result (λ n. n ≤ MAX_ARGUMENTS) }
     {
         let text = text_in(&self.set, selector)?;
@@ -97,12 +97,11 @@ impl Names {
 
     /// The selector of a name. A name that is new gets the next number; only then is memory wanted.
     pub fn intern(&mut self, text: &str) -> Result<Selector, NameFault>
-        ensures ok { IfOk result (λ s. number_of self.new text.now ≡ Some (selector_number s)) }
+        ensures ok { IfOk result (IsSelectorOf self.new text.now) }
         ensures names { OnOk result (self.new ≡ with_name self.old text.now) }
         ensures bad { IsErrOf result NameFault.BadName ↔ (spec.is_selector_name text.now ≡ false) }
-        ensures many { IsErrOf result NameFault.TooMany
-            ↔ ((spec.is_selector_name text.now ≡ true) × (length self.old ≡ MAX_NAMES) × (list_any (bytes_eq text.now) self.old ≡ false)) }
-        ensures memory { IsErrOf result NameFault.Memory → list_any (bytes_eq text.now) self.old ≡ false }
+        ensures many { IsErrOf result NameFault.TooMany ↔ LacksPlaceFor self.old text.now }
+        ensures memory { IsErrOf result NameFault.Memory → LacksName self.old text.now }
         ensures err { OnErr result (self.new ≡ self.old) }
     {
         if !is_selector_name(text) {
@@ -121,14 +120,14 @@ fn selector_at(index: usize) -> Selector
 
 fn find_in(set: &IndexSet<String>, text: &str) -> Option<Selector>
     requires { length set.now.keys ≤ MAX_NAMES }
-    ensures { option_map selector_number result ≡ number_of (map string_bytes set.now.keys) text.now }
+    ensures { option_map selector_number result ≡ number_of (texts_of set.now.keys) text.now }
 {
     let index = set.get_index_of(text)?;
     Some(selector_at(index))
 }
 
 fn text_in(set: &IndexSet<String>, selector: Selector) -> Option<&str>
-    ensures { option_map (λ s. s.now) result ≡ name_at (map string_bytes set.now.keys) (selector_number selector) }
+    ensures { option_map (λ s. s.now) result ≡ name_of (texts_of set.now.keys) selector }
 {
     let name = set.get_index(selector.number() as usize - 1)?;
     Some(name.as_str())
@@ -137,13 +136,13 @@ fn text_in(set: &IndexSet<String>, selector: Selector) -> Option<&str>
 // The selector of a selector name.
 fn intern_in(set: &mut IndexSet<String>, text: &str) -> Result<Selector, NameFault>
     requires few { length set.old.keys ≤ MAX_NAMES }
-    ensures ok { IfOk result (λ s. number_of (map string_bytes set.new.keys) text.now ≡ Some (selector_number s)) }
-    ensures names { OnOk result (map string_bytes set.new.keys ≡ with_name (map string_bytes set.old.keys) text.now) }
+    ensures ok { IfOk result (IsSelectorOf (texts_of set.new.keys) text.now) }
+    ensures names { OnOk result (texts_of set.new.keys ≡ with_name (texts_of set.old.keys) text.now) }
     ensures few { length set.new.keys ≤ MAX_NAMES }
     ensures bad { IsErrOf result NameFault.BadName → ⊥ }
     ensures many { IsErrOf result NameFault.TooMany
-        ↔ ((length set.old.keys ≡ MAX_NAMES) × (list_any (bytes_eq text.now) (map string_bytes set.old.keys) ≡ false)) }
-    ensures memory { IsErrOf result NameFault.Memory → list_any (bytes_eq text.now) (map string_bytes set.old.keys) ≡ false }
+        ↔ ((length set.old.keys ≡ MAX_NAMES) × LacksName (texts_of set.old.keys) text.now) }
+    ensures memory { IsErrOf result NameFault.Memory → LacksName (texts_of set.old.keys) text.now }
     ensures err { OnErr result (set.new.keys ≡ set.old.keys) }
 {
     if let Some(selector) = find_in(set, text) {

@@ -1,2 +1,3 @@
 pub mod Superclasses
 pub mod Order
+pub mod Laws

@@ -1,8 +1,8 @@
 //! The order of classes.
 
-ghost use Rattle.std.specs.Prelude.{◌≡◌, ◌<◌, ◌≤◌, ◌^◌, None, length, false, true, is_none, slice_index_or, IfOk, IfSome, OnOk};
-ghost use Rattle.msg_order.specs.Order.{ArePlaced, IsClassOrder, Stay};
-ghost use Rattle.msg_order.specs.Superclasses.{AreListed, depth_up, has_cycle};
+ghost use Rattle.std.specs.Prelude.{◌≡◌, ◌<◌, ◌^◌, length, false, true, is_none, IfOk, IfSome, OnOk};
+ghost use Rattle.msg_order.specs.Order.{HasPlaced, IsClassOrder, IsPlacing, Stay};
+ghost use Rattle.msg_order.specs.Superclasses.{AreListed, depth_up, has_cycle, super_of};
 
 use std::alloc::{AllocError, Global};
 
@@ -15,7 +15,7 @@ struct Placing {
 
 impl Placing {
     fn new(alloc: Global, supers: &[Option<u32>]) -> Result<Placing, AllocError>
-        ensures { IfOk result (λ p. ArePlaced supers.now p.marks.items p.order.items) }
+        ensures { IfOk result (IsPlacing supers.now) }
     {
         Ok(Placing {
             order: Vec::with_capacity(alloc, supers.len())?,
@@ -26,10 +26,10 @@ impl Placing {
     // Puts a class at the end, unless it stands in the order.
     fn push(&mut self, supers: &[Option<u32>], class: u32) -> Result<(), AllocError>
         requires class { class < length supers.now }
-        requires placed { ArePlaced supers.now self.old.marks.items self.old.order.items }
-        requires above { IfSome (slice_index_or supers.now class None) (λ d. slice_index_or self.old.marks.items d false ≡ true) }
-        ensures placed { OnOk result (ArePlaced supers.now self.new.marks.items self.new.order.items) }
-        ensures marked { OnOk result (slice_index_or self.new.marks.items class false ≡ true) }
+        requires placed { IsPlacing supers.now self.old }
+        requires above { IfSome (super_of supers.now class) (HasPlaced self.old) }
+        ensures placed { OnOk result (IsPlacing supers.now self.new) }
+        ensures marked { OnOk result (HasPlaced self.new class) }
         ensures stays { OnOk result (Stay self.old.marks.items self.new.marks.items) }
     {
         if !self.marks[class as usize] {
@@ -43,9 +43,9 @@ impl Placing {
     fn place(&mut self, supers: &[Option<u32>], class: u32, room: usize) -> Result<bool, AllocError>
         requires listed { AreListed supers.now }
         requires class { class < length supers.now }
-        requires placed { ArePlaced supers.now self.old.marks.items self.old.order.items }
-        ensures placed { OnOk result (ArePlaced supers.now self.new.marks.items self.new.order.items) }
-        ensures marked { IfOk result (λ b. b ≡ true → slice_index_or self.new.marks.items class false ≡ true) }
+        requires placed { IsPlacing supers.now self.old }
+        ensures placed { OnOk result (IsPlacing supers.now self.new) }
+        ensures marked { IfOk result (λ b. b ≡ true → HasPlaced self.new class) }
         ensures stays { OnOk result (Stay self.old.marks.items self.new.marks.items) }
         ensures endless { IfOk result (λ b. b ≡ false → depth_up room supers.now class ≡ room) }
     {

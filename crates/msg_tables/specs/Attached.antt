@@ -1,5 +1,5 @@
 -- The method lists of classes and categories, in the order in which they are attached.
-use Rattle.std.specs.Prelude.{◌≡◌, ℕ, ◌+◌, ◌*◌, List, [], ◌∷◌, ◌++◌, Some, slice_get}
+use Rattle.std.specs.Prelude.{◌≡◌, ℕ, ◌+◌, ◌*◌, Bool, List, Option, [], ◌∷◌, ◌++◌, Some, if◌then◌else◌, slice_get}
 use Rattle.msg_tables.specs.After.{of_class, of_meta}
 use Rattle.msg_tables.specs.Methods.{MethodsOf}
 use Rattle.msg_tables.specs.declared.origin.ListedClass.{ListedClass}
@@ -28,3 +28,11 @@ pub record ListsAt (lists : List MethodsOf) (pair class : ℕ) (methods class_me
 abbrev pub categories_in : List MethodsOf → List Category
 categories_in (own ∷ meta ∷ ls) = record { class = own.class.class; methods = own.methods; class_methods = meta.methods } ∷ categories_in ls
 categories_in _ = []
+
+-- the place of a method list of a pair: the class's, or the metaclass's, which comes next
+abbrev pub list_place : ℕ → Bool → ℕ
+list_place pair meta = 2 * pair + (if meta then 1 else 0)
+
+-- the method list there
+abbrev pub list_in : List MethodsOf → ℕ → Bool → Option MethodsOf
+list_in lists pair meta = slice_get lists (list_place pair meta)

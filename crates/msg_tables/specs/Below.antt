@@ -1,7 +1,9 @@
 -- Class references at and below one.
-use Rattle.std.specs.Prelude.{◌&&◌, ℕ, List, Bool, if◌then◌else◌}
+use Rattle.std.specs.Prelude.{◌≡◌, ◌&&◌, ℕ, List, Bool, if◌then◌else◌}
 use Rattle.std.specs.Vec.{vec_capacity}
 use Rattle.msg_names.specs.declared.value.ClassRef.{ClassRef}
+use Rattle.msg_tables.specs.Chain.{is_member}
+use Rattle.msg_tables.specs.Log.{Log, chain_at}
 use Rattle.msg_tables.specs.Preorder.{is_in}
 use Rattle.msg_tables.specs.declared.below.Below.TheInside.{Inside}
 
@@ -16,6 +18,10 @@ pub record BelowView : Type 0 where
 -- a class reference is one of these
 abbrev pub is_among : BelowView → ClassRef → Bool
 is_among b c = (if c.meta then b.meta else b.own) && is_in c.class b.classes
+
+-- they are a class reference and those below it, at a log
+abbrev pub AreBelow : Log → ClassRef → BelowView → Type 0
+AreBelow h class b = (c : ClassRef) → is_among b c ≡ is_member class (chain_at h c)
 
 -- what contracts see of them
 abbrev pub below_of : Inside → BelowView

@@ -1,5 +1,5 @@
 -- Chains of superclasses.
-use Rattle.std.specs.Prelude.{ℕ, zero, suc, ◌+◌, if◌then◌else◌, ◌==◌, Bool, List, [], ◌∷◌, Option, Some, None, slice_index_or, length, is_some, is_none, true}
+use Rattle.std.specs.Prelude.{ℕ, zero, suc, ◌+◌, ◌<◌, if◌then◌else◌, ◌==◌, Bool, List, [], ◌∷◌, Option, Some, None, slice_index_or, length, is_some, is_none, true}
 use Rattle.std.specs.Option.{option_map_or}
 use Rattle.std.specs.List.{list_any}
 use Rattle.msg_names.specs.declared.value.ClassRef.{ClassRef}
@@ -39,6 +39,10 @@ index_in (x ∷ xs) k = if x == k then 0 else suc (index_in xs k)
 -- at least as many as stand above a class reference, where each superclass stands before its subclasses in the order
 abbrev pub steps_of : List ℕ → ClassRef → ℕ
 steps_of order c = index_in order c.class + (if c.meta then 1 else 0)
+
+-- fewer may stand above this class reference than above another
+abbrev pub HasFewerSteps : List ℕ → ClassRef → ClassRef → Type 0
+HasFewerSteps order c above = steps_of order above < steps_of order c
 
 -- one of the list
 abbrev pub is_member : ClassRef → List ClassRef → Bool

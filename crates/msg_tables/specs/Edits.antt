@@ -2,6 +2,7 @@
 use Rattle.std.specs.Prelude.{◌≡◌, ◌<◌, ◌≤◌, ℕ, ◌+◌, List, [], ◌∷◌, ◌++◌, Some, None, Result, Ok, Err, IsSome, length, reverse, true, false, Option, IfSome, slice_set}
 use Rattle.msg_names.specs.Number.{selector_number, imp_number}
 use Rattle.msg_tables.specs.declared.change.Change.{Change}
+use Rattle.msg_tables.specs.declared.change.Change.TheVariants as changes
 use Rattle.msg_tables.specs.declared.edit.MethodRow.{MethodRow}
 use Rattle.msg_tables.specs.declared.edit.Edit.{Edit}
 use Rattle.msg_tables.specs.declared.edit.Edit.TheVariants.{Append, Rewrite, RewriteBoth, Attach, Make}
@@ -12,8 +13,8 @@ use Rattle.msg_tables.specs.Rows.{Row}
 use Rattle.msg_tables.specs.RowList.{own_in}
 use Rattle.msg_tables.specs.After.{row, rows_at, of_class, of_meta, set_own, rows_after, supers_after}
 use Rattle.msg_tables.specs.Log.{Log, table}
-use Rattle.msg_tables.specs.Refusal.{refusal}
-use Rattle.msg_tables.specs.Stands.{Holds}
+use Rattle.msg_tables.specs.Refusal.{least_change_fault, refusal, unfit, unfit_methods}
+use Rattle.msg_tables.specs.Stands.{Holds, StandsAt}
 use Rattle.msg_tables.specs.View.{TablesView, kept}
 use Rattle.msg_tables.specs.Origin.{last_imp, are_listed}
 
@@ -62,10 +63,38 @@ pub record Fits (t : TablesView) (e : Edit) : Type 0 where
   pub rows : t.row_count + added e ≤ t.limits.rows
   pub changes : t.change_count < t.limits.changes
 
+-- n more rows and one more change are within the limits
+abbrev pub HasRoomFor : TablesView → ℕ → Type 0
+HasRoomFor t n = (t.row_count + n ≤ t.limits.rows) × (t.change_count < t.limits.changes)
+
+-- why a row could not stand, whatever stands there
+abbrev pub fault_of_row : Log → MethodRow → Option ChangeFault
+fault_of_row h r = least_change_fault (unfit h r.class r.sel r.imp)
+
+-- why methods could not be attached, whatever stands there
+abbrev pub fault_of_methods : Log → List (ℕ × ℕ) → List (ℕ × ℕ) → Option ChangeFault
+fault_of_methods h methods class_methods = least_change_fault (unfit_methods h (methods ++ class_methods))
+
+-- the change that adds a row
+abbrev pub adding : MethodRow → Change
+adding r = changes.Add r.class r.sel r.imp
+
+-- that replaces it in the class itself
+abbrev pub replacing : MethodRow → Change
+replacing r = changes.Replace r.class r.sel r.imp
+
+-- that sets its implementation where the method is found
+abbrev pub setting : MethodRow → Change
+setting r = changes.SetImp r.class r.sel r.imp
+
 -- a change was judged at a log
 abbrev pub Judges : Log → Change → Result Edit ChangeFault → Type 0
 Judges h x (Ok e) = (refusal h x ≡ None) × (rows_after (table h) x ≡ edited e (table h).rows) × (supers_after (table h).supers x ≡ supers_edited e (table h).supers)
 Judges h x (Err f) = refusal h x ≡ Some f
+
+-- and at whatever log tables stand
+abbrev pub IsJudged : TablesView → Change → Result Edit ChangeFault → Type 0
+IsJudged t x r = (h : Log) → StandsAt t h → Judges h x r
 
 -- the tables' rows were changed by an edit, and nothing else
 pub record Writes (old new : TablesView) (e : Edit) : Type 0 where

@@ -21,6 +21,7 @@ use Rattle.msg_tables.specs.Log.{Log, table}
 use Rattle.msg_tables.specs.Order.{IsOrder}
 use Rattle.msg_tables.specs.Origin.{last_imp, are_listed}
 use Rattle.msg_tables.specs.RowList.{own_in, set_last, without_last}
+use Rattle.msg_tables.specs.Several.{made_by}
 use Rattle.msg_tables.specs.Stands.{StandsAt}
 use Rattle.msg_tables.specs.Undo.{and_before, undo}
 use Rattle.msg_tables.specs.View.{TablesView, kept}
@@ -110,6 +111,10 @@ edit_places (Make k d) = []
 abbrev pub edit_made : Edit → List ℕ
 edit_made (Make k d) = k ∷ []
 edit_made _ = []
+
+-- that is the class that a change makes
+abbrev pub MakesTheSame : Change → Edit → Type 0
+MakesTheSame x e = edit_made e ≡ made_by x
 
 -- how many entries tell of it
 abbrev pub entry_count : Edit → ℕ

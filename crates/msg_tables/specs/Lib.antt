@@ -13,6 +13,8 @@ pub mod Indexed
 pub mod Inside
 pub mod Journal
 pub mod Kept
+pub mod Laws
+pub mod ListLaws
 pub mod Log
 pub mod Made
 pub mod Making

@@ -1,5 +1,5 @@
 -- Changes of a list that were made, and the journal of what they wrote.
-use Rattle.std.specs.Prelude.{◌≡◌, ◌≤◌, ◌+◌, ◌*◌, ◌||◌, Bool, true, List, ◌++◌, Some, None, length, take}
+use Rattle.std.specs.Prelude.{◌≡◌, ◌≢◌, ◌<◌, ◌≤◌, ◌+◌, ◌*◌, ◌||◌, Bool, true, List, ◌++◌, Some, None, length, take}
 use Rattle.msg_names.specs.declared.value.ClassRef.{ClassRef}
 use Rattle.msg_tables.specs.declared.change.Change.{Change}
 use Rattle.msg_tables.specs.declared.apply_all.Refused.{Refused}
@@ -10,7 +10,7 @@ use Rattle.msg_tables.specs.Log.{Log, table}
 use Rattle.msg_tables.specs.Marking.{MarksAffected, MarksAffectedByAll}
 use Rattle.msg_tables.specs.Journal.{AllNameListed, IsJournalOf, classes_of, places_of, undo_journal}
 use Rattle.msg_tables.specs.Origin.{IsSound}
-use Rattle.msg_tables.specs.Refusal.{AreAccepted}
+use Rattle.msg_tables.specs.Refusal.{AreAccepted, refusal}
 use Rattle.msg_tables.specs.Several.{and_all, is_affected_by_all, is_below, is_of_one, made_by, made_by_all, refused_from, written_by_all}
 use Rattle.msg_tables.specs.Stands.{StandsAt}
 use Rattle.msg_tables.specs.Undo.{undo, undo_all}
@@ -56,9 +56,21 @@ pub record IsMade (xs : List Change) (journal : List Entry) (old new : TablesVie
 abbrev pub StandAfter : List Change → TablesView → TablesView → Type 0
 StandAfter xs old new = (h : Log) → StandsAt old h → (refused_from 0 h xs ≡ None) × StandsAt new (and_all h xs)
 
+-- the changes of a list before one of them were made
+abbrev pub AreMadeTo : List Change → List Entry → TablesView → TablesView → Refused → Type 0
+AreMadeTo xs journal old new r = (r.place < length xs) × IsMade (take r.place xs) journal old new
+
+-- none of a list would be refused
+abbrev pub RefusesNone : List Change → TablesView → Type 0
+RefusesNone xs old = (h : Log) → StandsAt old h → refused_from 0 h xs ≡ None
+
 -- this is the first of a list that would be refused, and its fault
 abbrev pub IsRefused : List Change → TablesView → Refused → Type 0
 IsRefused xs old r = (h : Log) → StandsAt old h → refused_from 0 h xs ≡ Some (r.place, r.fault)
+
+-- unless memory was wanting
+abbrev pub IsRefusedUnlessMemory : List Change → TablesView → Refused → Type 0
+IsRefusedUnlessMemory xs old r = r.fault ≢ Memory → IsRefused xs old r
 
 -- those before it would be made
 abbrev pub AreMadeBefore : List Change → TablesView → Refused → Type 0
@@ -72,9 +84,17 @@ LacksMemory xs old r = r.fault ≡ Memory → (h : Log) → StandsAt old h → r
 abbrev pub Reaches : Change → TablesView → List Bool → List Bool → Type 0
 Reaches x t old new = (h : Log) → StandsAt t h → MarksAffected (length t.supers) h x old new
 
+-- it would be accepted, and what it affects is marked
+abbrev pub AcceptsAndReaches : Change → TablesView → List Bool → List Bool → Type 0
+AcceptsAndReaches x t old new = (h : Log) → StandsAt t h → (refusal h x ≡ None) × MarksAffected (length t.supers) h x old new
+
 -- what a list affects is marked, beside what was
 abbrev pub ReachesAll : List Change → TablesView → List Bool → List Bool → Type 0
 ReachesAll xs t old new = (h : Log) → StandsAt t h → MarksAffectedByAll (length t.supers) h xs old new
+
+-- what those before one of a list affect is marked, unless memory was wanting
+abbrev pub ReachesBefore : List Change → TablesView → List Bool → List Bool → Refused → Type 0
+ReachesBefore xs t old new r = r.fault ≢ Memory → ReachesAll (take r.place xs) t old new
 
 -- the class reference is of a class that a journal tells of, or is one of its places or below one
 abbrev pub is_told : Log → List Entry → ClassRef → Bool

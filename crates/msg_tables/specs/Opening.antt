@@ -1,7 +1,8 @@
 -- How tables are filled as they are opened.
-use Rattle.std.specs.Prelude.{◌≡◌, ℕ, ◌+◌, ◌*◌, List, [], ◌++◌, None, length, replicate}
+use Rattle.std.specs.Prelude.{◌≡◌, ℕ, ◌+◌, ◌*◌, Bool, List, [], ◌++◌, None, length, replicate, sum_by, take}
 use Rattle.msg_names.specs.declared.value.ClassRef.{ClassRef}
 use Rattle.msg_tables.specs.Origin.{OriginView, class_total}
+use Rattle.msg_tables.specs.Attached.{list_place}
 use Rattle.msg_tables.specs.Methods.{MethodsOf}
 use Rattle.msg_tables.specs.Rows.{Row, own}
 use Rattle.msg_tables.specs.After.{opened_supers, rows_at}
@@ -18,13 +19,25 @@ pub record Adds (old new : TablesView) (more : List Row) : Type 0 where
 abbrev pub size_of_list : MethodsOf → ℕ
 size_of_list l = length l.methods
 
+-- how many rows the method lists before that of a pair bring
+abbrev pub rows_before : List MethodsOf → ℕ → Bool → ℕ
+rows_before lists pair meta = sum_by size_of_list (take (list_place pair meta) lists)
+
+-- the rows of a method list were added
+abbrev pub AddsList : TablesView → TablesView → MethodsOf → Type 0
+AddsList old new l = Adds old new (rows_at l.class l.methods)
+
 -- a method list has no method of this selector for the class reference
 abbrev pub Lacks : ClassRef → ℕ → MethodsOf → Type 0
 Lacks c s l = own (rows_at l.class l.methods) c s ≡ None
 
+-- the tables have as many classes as the origin
+abbrev pub HasClassesOf : OriginView → TablesView → Type 0
+HasClassesOf o t = length t.supers ≡ class_total o
+
 -- the tables have the origin's classes, counts and limits
 pub record IsFor (o : OriginView) (t : TablesView) : Type 0 where
-  pub classes : length t.supers ≡ class_total o
+  pub classes : HasClassesOf o t
   pub counts : t.counts ≡ o.counts
   pub limits : t.limits ≡ o.limits
 

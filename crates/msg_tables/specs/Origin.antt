@@ -1,6 +1,9 @@
 -- What tables are opened of: classes with their methods, and limits.
 use Rattle.std.specs.Prelude.{◌≡◌, ◌<◌, ◌≤◌, ◌+◌, ◌-◌, ◌==◌, ◌||◌, ℕ, nat_lt, nat_le, not, Bool, true, false, List, Option, Some, None, length, slice_get, sum_by, All}
-use Rattle.std.specs.List.{list_all}
+use Rattle.std.specs.List.{list_all, list_any}
+use Rattle.msg_names.specs.Number.{selector_number, imp_number}
+use Rattle.msg_names.specs.declared.value.ImpRef.{ImpRef}
+use Rattle.msg_names.specs.declared.value.Selector.{Selector}
 use Rattle.msg_order.specs.Superclasses.{AreListed, has_cycle}
 use Rattle.msg_tables.specs.declared.limits.Limits.{Limits}
 use Rattle.msg_tables.specs.Methods.{MethodsOf}
@@ -50,6 +53,14 @@ misfits_in (Some c) s i = differ (slice_get c.colons (s - 1)) (slice_get c.args 
 abbrev pub unlike_in : Option CountsView → ℕ → ℕ → Bool
 unlike_in None s u = false
 unlike_in (Some c) s u = differ (slice_get c.colons (s - 1)) (slice_get c.colons (u - 1))
+
+-- some method has an implementation that there isn't
+abbrev pub any_lacks_imp : Option CountsView → List (Selector × ImpRef) → Bool
+any_lacks_imp counts methods = list_any (λ m. lacks_imp counts (imp_number m.1)) methods
+
+-- some method has an implementation that takes another number of arguments
+abbrev pub any_misfits : Option CountsView → List (Selector × ImpRef) → Bool
+any_misfits counts methods = list_any (λ m. misfits_in counts (selector_number m.0) (imp_number m.1)) methods
 
 -- each implementation is one of the first n
 abbrev pub are_listed : ℕ → List (ℕ × ℕ) → Bool

@@ -1,6 +1,8 @@
 -- The classes that are present, in an order in which those below a class come right after it.
 use Rattle.std.specs.Prelude.{◌≡◌, ◌<◌, ◌≤◌, ◌==◌, ℕ, suc, slice_set, List, [], ◌∷◌, Option, Some, None, Bool, true, false, if◌then◌else◌, length, nat_lt, slice_index_or}
 use Rattle.std.specs.List.{list_any}
+use Rattle.msg_tables.specs.declared.limits.TheConstants.{MAX_CLASSES}
+use Rattle.msg_tables.specs.declared.preorder.Preorder.{Preorder}
 use Rattle.msg_tables.specs.declared.presence.Presence.{Presence}
 use Rattle.msg_tables.specs.After.{of_class}
 use Rattle.msg_tables.specs.Chain.{is_present, descends}
@@ -72,3 +74,19 @@ depths_with depths k (Some d) = slice_set depths k (suc (depth_at depths d))
 abbrev pub nexts_with : List (Option ℕ) → ℕ → Option ℕ → List (Option ℕ)
 nexts_with nexts k None = slice_set nexts k None
 nexts_with nexts k (Some d) = slice_set (slice_set nexts k (next_at nexts d)) d (Some k)
+
+-- ---- what the program keeps of it
+
+-- there is room for a class, and it is less deep than there may be classes
+abbrev pub CanBeSuperclass : Preorder → ℕ → Type 0
+CanBeSuperclass p d = (d < length p.depths.items) × (d < length p.nexts.items) × (depth_at p.depths.items d < MAX_CLASSES)
+
+-- a class is one of those that stand in such an order, of which there is room for as many as have numbers
+abbrev pub CanBeGathered : Preorder → ℕ → ℕ → Type 0
+CanBeGathered p class room =
+    (supers : List (Option Presence)) × HavePreorder supers p.depths.items p.nexts.items × (is_present supers class ≡ true) × (length supers ≤ room)
+
+-- of whatever classes this is the order, a class that is present and those below it are these
+abbrev pub AreAllBelow : Preorder → ℕ → List ℕ → Type 0
+AreAllBelow p class found = (supers : List (Option Presence)) → HavePreorder supers p.depths.items p.nexts.items → is_present supers class ≡ true
+    → (k : ℕ) → is_in k found ≡ descends supers (of_class class) (of_class k)

@@ -36,9 +36,17 @@ no_imp h i = lacks_imp h.origin.counts i
 unfoldable pub misfits : Log → ℕ → ℕ → Bool
 misfits h s i = misfits_in h.origin.counts s i
 
+-- the same of a selector and an implementation themselves
+abbrev pub misfit : Log → Selector → ImpRef → Bool
+misfit h s i = misfits h (selector_number s) (imp_number i)
+
 -- two selectors that take different numbers of arguments
 unfoldable pub unlike : Log → ℕ → ℕ → Bool
 unlike h s u = unlike_in h.origin.counts s u
+
+-- the same of selectors themselves
+abbrev pub are_unlike : Log → Selector → Selector → Bool
+are_unlike h s u = unlike h (selector_number s) (selector_number u)
 
 -- the class itself has the method
 unfoldable pub has_own : Log → ClassRef → ℕ → Bool

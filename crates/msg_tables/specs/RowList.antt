@@ -1,8 +1,9 @@
 -- The rows of one class reference, as pairs of a selector and an implementation.
-use Rattle.std.specs.Prelude.{ℕ, suc, ◌-◌, ◌==◌, ◌&&◌, List, [], ◌∷◌, ◌++◌, Option, Some, None, option_map, map, if◌then◌else◌, is_none, length, slice_index_or, slice_set, take}
+use Rattle.std.specs.Prelude.{◌≡◌, ℕ, suc, ◌+◌, ◌-◌, ◌==◌, ◌&&◌, List, [], ◌∷◌, ◌++◌, Option, Some, None, option_map, map, if◌then◌else◌, is_none, length, replicate, reverse, slice_index_or, slice_set, take}
 use Rattle.msg_names.specs.declared.value.ImpRef.{ImpRef}
 use Rattle.msg_names.specs.declared.value.Selector.{Selector}
 use Rattle.msg_names.specs.Number.{selector_number, imp_number}
+use Rattle.msg_tables.specs.Methods.{method_numbers}
 use Rattle.msg_tables.specs.Rows.{or_else}
 
 -- the rows, oldest first, and how many more there is room for
@@ -44,3 +45,35 @@ without_last n ms = take (length ms - n) ms
 abbrev pub set_last : ℕ → ℕ → List (ℕ × ℕ) → List (ℕ × ℕ)
 set_last s i [] = []
 set_last s i (m ∷ ms) = (if (m.0 == s) && is_none (own_in s ms) then (s, i) else m) ∷ set_last s i ms
+
+-- the same of a selector and an implementation themselves
+abbrev pub with_imp : Selector → ImpRef → List (ℕ × ℕ) → List (ℕ × ℕ)
+with_imp s i ms = set_last (selector_number s) (imp_number i) ms
+
+-- more methods
+abbrev pub with_methods : List (Selector × ImpRef) → List (ℕ × ℕ) → List (ℕ × ℕ)
+with_methods methods ms = with_rows (method_numbers methods) ms
+
+-- more methods, from the last to the first
+abbrev pub with_methods_reversed : List (Selector × ImpRef) → List (ℕ × ℕ) → List (ℕ × ℕ)
+with_methods_reversed methods ms = ms ++ reverse (method_numbers methods)
+
+-- ---- lists of rows, before and after
+
+-- one of the lists was changed, and the others stayed
+abbrev pub ChangesAt : (List (ℕ × ℕ) → List (ℕ × ℕ)) → ℕ → List RowList → List RowList → Type 0
+ChangesAt f at old new = rows_of new ≡ changed_at f at (rows_of old)
+
+-- methods were attached to the list of a class and to that of its metaclass, which comes next, each from the last to the first
+abbrev pub Attaches : ℕ → List (Selector × ImpRef) → List (Selector × ImpRef) → List RowList → List RowList → Type 0
+Attaches at methods class_methods old new = rows_of new ≡ slice_set
+    (slice_set (rows_of old) at (with_methods_reversed methods (slice_index_or (rows_of old) at [])))
+    (at + 1) (with_methods_reversed class_methods (slice_index_or (rows_of old) (at + 1) []))
+
+-- lists without rows came to the end
+abbrev pub GainsEmpty : List RowList → List RowList → Type 0
+GainsEmpty old new = rows_of new ≡ rows_of old ++ replicate (length new - length old) []
+
+-- the implementation in the last row of a selector in one of the lists, if it has one
+abbrev pub IsOwnIn : List RowList → ℕ → Selector → Option ImpRef → Type 0
+IsOwnIn lists at s o = option_map imp_number o ≡ own_in (selector_number s) (slice_index_or (rows_of lists) at [])

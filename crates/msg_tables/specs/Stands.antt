@@ -25,3 +25,7 @@ pub record StandsAt (t : TablesView) (h : Log) : Type 0 where
   pub changes : t.change_count ≡ length h.changes
   pub counts : t.counts ≡ h.origin.counts
   pub limits : t.limits ≡ h.origin.limits
+
+-- it holds at each log at which the tables stand
+abbrev pub AtLog : TablesView → (Log → Type 0) → Type 0
+AtLog t P = (h : Log) → StandsAt t h → P h

@@ -1,10 +1,13 @@
 -- What contracts see of `Tables`.
-use Rattle.std.specs.Prelude.{ℕ, List, [], ◌∷◌, Option, Some, None, slice_index_or}
+use Rattle.std.specs.Prelude.{◌≡◌, ℕ, List, [], ◌∷◌, Option, Some, None, slice_index_or, true}
 use Rattle.std.specs.Option.{option_map_or}
 use Rattle.msg_names.specs.ClassRef.{slot_of}
+use Rattle.msg_names.specs.Number.{selector_number}
 use Rattle.msg_names.specs.declared.value.ClassRef.{ClassRef}
+use Rattle.msg_names.specs.declared.value.Selector.{Selector}
+use Rattle.msg_tables.specs.Chain.{is_present}
 use Rattle.msg_tables.specs.declared.presence.Presence.{Presence}
-use Rattle.msg_tables.specs.Origin.{CountsView}
+use Rattle.msg_tables.specs.Origin.{CountsView, are_listed, last_imp}
 use Rattle.msg_tables.specs.declared.limits.Limits.{Limits}
 use Rattle.msg_tables.specs.RowList.{own_in}
 
@@ -29,3 +32,15 @@ kept lists c = slice_index_or lists (slot_of c) []
 abbrev pub kept_method : List (List (ℕ × ℕ)) → List ClassRef → ℕ → Option (ClassRef × ℕ)
 kept_method lists [] s = None
 kept_method lists (c ∷ cs) s = option_map_or (λ i. Some (c, i)) (own_in s (kept lists c)) (kept_method lists cs s)
+
+-- the implementation in the own row of a class reference and a selector
+abbrev pub own_of : TablesView → ClassRef → Selector → Option ℕ
+own_of t c s = own_in (selector_number s) (kept t.lists c)
+
+-- the class is present
+abbrev pub HasClass : TablesView → ℕ → Type 0
+HasClass t k = is_present t.supers k ≡ true
+
+-- each implementation of the methods is one that there is
+abbrev pub HaveListedImps : TablesView → List (ℕ × ℕ) → Type 0
+HaveListedImps t methods = are_listed (last_imp t.counts) methods ≡ true

@@ -7,10 +7,10 @@ use Rattle.msg_names.specs.Number.{selector_number, imp_number}
 use Rattle.msg_tables.specs.declared.change.Change.{Change}
 use Rattle.msg_tables.specs.declared.change.Change.TheVariants.{Add, Replace, SetImp, Exchange, Attach, AddClass}
 use Rattle.msg_names.specs.ClassRef.{same_class}
-use Rattle.msg_tables.specs.Rows.{or_else}
+use Rattle.msg_tables.specs.Rows.{or_else, own}
 use Rattle.msg_tables.specs.RowList.{own_in}
-use Rattle.msg_tables.specs.After.{of_class, of_meta}
-use Rattle.msg_tables.specs.Log.{Log, and_then, lookup, holder}
+use Rattle.msg_tables.specs.After.{of_class, of_meta, rows_after}
+use Rattle.msg_tables.specs.Log.{Log, and_then, lookup, holder, table}
 use Rattle.msg_tables.specs.Stands.{StandsAt}
 use Rattle.msg_tables.specs.View.{TablesView}
 
@@ -18,6 +18,10 @@ use Rattle.msg_tables.specs.View.{TablesView}
 abbrev pub at_ref : Option ClassRef → ClassRef → ℕ → ℕ → ℕ → Option ℕ
 at_ref None d s u i = None
 at_ref (Some c) d s u i = if same_class c d && (s == u) then Some i else None
+
+-- the same of selectors and an implementation themselves
+abbrev pub imp_at_ref : Option ClassRef → ClassRef → Selector → Selector → ImpRef → Option ℕ
+imp_at_ref place here named sel imp = at_ref place here (selector_number named) (selector_number sel) (imp_number imp)
 
 -- the implementation that a change writes at a class reference for a selector, if it writes one
 abbrev pub written : Log → Change → ClassRef → ℕ → Option ℕ
@@ -32,9 +36,17 @@ written h (Attach k methods class_methods) d u = or_else
     (if same_class (of_class k) d then own_in u (reverse methods) else None)
 written h (AddClass k d) e u = None
 
--- what a change writes at a class reference for a selector, at whatever log tables stand
+-- this is what a change writes at a class reference for a selector, at a log
+abbrev pub IsWrittenAt : Log → Change → ClassRef → Selector → Option ImpRef → Type 0
+IsWrittenAt h x here s o = option_map imp_number o ≡ written h x here (selector_number s)
+
+-- and at whatever log tables stand
 abbrev pub IsWritten : TablesView → Change → ClassRef → Selector → Option ImpRef → Type 0
-IsWritten t x here s o = (h : Log) → StandsAt t h → option_map imp_number o ≡ written h x here (selector_number s)
+IsWritten t x here s o = (h : Log) → StandsAt t h → IsWrittenAt h x here s o
+
+-- the implementation that a class reference itself has for a selector once a change is made
+abbrev pub IsOwnAfter : TablesView → Change → ClassRef → Selector → Option ImpRef → Type 0
+IsOwnAfter t x here s o = (h : Log) → StandsAt t h → option_map imp_number o ≡ own (rows_after (table h) x) here (selector_number s)
 
 -- what a lookup finds once a change is made
 abbrev pub IsFoundAfter : TablesView → Change → ClassRef → Selector → ImpRef → Type 0

@@ -1,12 +1,9 @@
 //! The class references at and below one.
 
 ghost use Rattle.std.specs.Prelude.{◌≡◌, ◌<◌, ◌≤◌, [], ℕ, IfOk, length, true};
-ghost use Rattle.msg_names.specs.declared.value.ClassRef.{ClassRef};
-ghost use Rattle.msg_tables.specs.Below.{is_among};
-ghost use Rattle.msg_tables.specs.Chain.{is_member};
-ghost use Rattle.msg_tables.specs.Log.{Log, chain_at};
+ghost use Rattle.msg_tables.specs.Below.{AreBelow};
 ghost use Rattle.msg_tables.specs.Preorder.{is_in};
-ghost use Rattle.msg_tables.specs.Stands.{StandsAt};
+ghost use Rattle.msg_tables.specs.Stands.{AtLog};
 
 use crate::tables::Tables;
 use msg_names::ClassRef;
@@ -75,7 +72,7 @@ impl Tables {
     pub fn below(&self, class: ClassRef, below: &mut Below)
         requires class { class.class < length self.now.supers }
         requires room { length self.now.supers ≤ below.old.room }
-        ensures below { (h : Log) → StandsAt self.now h → (c : ClassRef) → is_among below.new c ≡ is_member class (chain_at h c) }
+        ensures below { AtLog self.now (λ h. AreBelow h class below.new) }
         ensures classes { (k : ℕ) → is_in k below.new.classes ≡ true → k < length self.now.supers }
         ensures room { below.old.room ≤ below.new.room }
     {

@@ -5,13 +5,12 @@
 
 ghost use Rattle.std.specs.Prelude.{◌≡◌, ◌<◌, length, option_map, reverse, IfSome, true};
 ghost use Rattle.msg_names.specs.Number.{selector_number, imp_number};
-ghost use Rattle.msg_tables.specs.Log.{Log, table};
-ghost use Rattle.msg_tables.specs.After.{rows_after, supers_after};
+ghost use Rattle.msg_tables.specs.Log.{Log};
+ghost use Rattle.msg_tables.specs.After.{supers_after};
 ghost use Rattle.msg_tables.specs.Chain.{super_of, is_present};
 ghost use Rattle.msg_tables.specs.RowList.{own_in};
-ghost use Rattle.msg_tables.specs.Rows.{own};
-ghost use Rattle.msg_tables.specs.Stands.{StandsAt};
-ghost use Rattle.msg_tables.specs.Written.{IsFoundAfter, IsWritten, SeeksAmong, at_ref, written};
+ghost use Rattle.msg_tables.specs.Written.{IsFoundAfter, IsOwnAfter, IsWritten, IsWrittenAt};
+ghost use Rattle.msg_tables.specs.Written.{SeeksAmong, imp_at_ref};
 
 use crate::change::Change;
 use crate::methods::MethodList;
@@ -39,7 +38,7 @@ fn at_ref(
     sel: Selector,
     imp: ImpRef,
 ) -> Option<ImpRef>
-    ensures { option_map imp_number result ≡ at_ref place here (selector_number named) (selector_number sel) (imp_number imp) }
+    ensures { option_map imp_number result ≡ imp_at_ref place here named sel imp }
 {
     match place {
         Some(class) if class == here && named == sel => Some(imp),
@@ -117,7 +116,7 @@ fn attached(
     here: ClassRef,
     sel: Selector,
 ) -> Option<ImpRef>
-    ensures { (h : Log) → option_map imp_number result ≡ written h (Change.Attach class methods.now class_methods.now) here (selector_number sel) }
+    ensures { (h : Log) → IsWrittenAt h (Change.Attach class methods.now class_methods.now) here sel result }
 {
     if here == (ClassRef { class, meta: true }) {
         listed(class_methods, sel)
@@ -155,7 +154,7 @@ fn exchanged(
 fn own_after(tables: &Tables, change: &Change, here: ClassRef, sel: Selector) -> Option<ImpRef>
     requires here { here.class < length tables.now.supers }
     requires listed { SeeksAmong (length tables.now.supers) change.now }
-    ensures { (h : Log) → StandsAt tables.now h → option_map imp_number result ≡ own (rows_after (table h) change.now) here (selector_number sel) }
+    ensures { IsOwnAfter tables.now change.now here sel result }
 {
     match written(tables, change, here, sel) {
         Some(imp) => Some(imp),

@@ -1,10 +1,10 @@
 //! The rows of one class reference, with their index.
 
-ghost use Rattle.std.specs.Prelude.{◌≡◌, ◌+◌, ◌<◌, ◌≤◌, [], ◌∷◌, ◌++◌, IfOk, OnOk, OnErr, length, option_map, replicate};
+ghost use Rattle.std.specs.Prelude.{◌≡◌, ◌+◌, ◌<◌, ◌≤◌, [], IfOk, OnOk, OnErr, length, option_map, replicate};
 ghost use Rattle.msg_names.specs.Number.{selector_number, imp_number};
 ghost use Rattle.msg_tables.specs.Buckets.{AreLinked, bucket_of};
 ghost use Rattle.msg_tables.specs.Methods.{method_numbers};
-ghost use Rattle.msg_tables.specs.RowList.{own_in, last_index, set_last, without_last};
+ghost use Rattle.msg_tables.specs.RowList.{own_in, last_index, with_imp, with_row, without_last};
 
 use msg_names::{ImpRef, Selector};
 use std::alloc::{AllocError, Global};
@@ -128,7 +128,7 @@ impl IndexedRows {
 
     pub(crate) fn push(&mut self, sel: Selector, imp: ImpRef)
         requires { 0 < self.old.room }
-        ensures rows { self.new.rows ≡ self.old.rows ++ (selector_number sel, imp_number imp) ∷ [] }
+        ensures rows { self.new.rows ≡ with_row sel imp self.old.rows }
         ensures room { self.old.room ≤ self.new.room + 1 }
     {
         let bucket = bucket(sel, self.newest.len());
@@ -141,7 +141,7 @@ impl IndexedRows {
 
     // Writes another implementation into a selector's last row, where it has one, and answers the one that stood there.
     pub(crate) fn set(&mut self, sel: Selector, imp: ImpRef) -> Option<ImpRef>
-        ensures rows { self.new.rows ≡ set_last (selector_number sel) (imp_number imp) self.old.rows }
+        ensures rows { self.new.rows ≡ with_imp sel imp self.old.rows }
         ensures was { option_map imp_number result ≡ own_in (selector_number sel) self.old.rows }
     {
         if let Some(place) = self.place(sel) {

@@ -1,19 +1,16 @@
 //! Judging changes: each fault is a test of its own, they come in their order, and a method is looked up once: the edit that is answered says where it stands.
 
-ghost use Rattle.std.specs.Prelude.{◌≡◌, ◌<◌, ◌≤◌, ◌+◌, ◌-◌, ◌++◌, ◌||◌, length, true, false, if◌then◌else◌, slice_get, IfOk, IfSome, IsSome, Option, Some, None, option_map, nat_lt, not};
-ghost use Rattle.msg_tables.specs.Chain.{is_present};
-ghost use Rattle.std.specs.List.{list_any};
+ghost use Rattle.std.specs.Prelude.{◌≡◌, ◌<◌, ◌≤◌, ◌||◌, length, false, true, not, IfOk, IfSome, IsSome, None};
 ghost use Rattle.msg_names.specs.Number.{selector_number, imp_number};
-ghost use Rattle.msg_tables.specs.declared.change.Change.{Change};
-ghost use Rattle.msg_tables.specs.Log.{Log};
+ghost use Rattle.msg_tables.specs.Chain.{is_present};
+ghost use Rattle.msg_tables.specs.Edits.{Fits, HasRoomFor, IsJudged, adding, replacing, setting};
+ghost use Rattle.msg_tables.specs.Edits.{fault_of_methods, fault_of_row};
+ghost use Rattle.msg_tables.specs.Journal.{IsUndoneBy, MakesTheSame, WritesAt};
+ghost use Rattle.msg_tables.specs.Origin.{any_lacks_imp, any_misfits, lacks_imp, last_imp, misfits_in};
 ghost use Rattle.msg_tables.specs.Refusal as spec;
-ghost use Rattle.msg_tables.specs.Edits.{Fits, Judges};
-ghost use Rattle.msg_tables.specs.Journal.{IsUndoneBy, WritesAt, edit_made};
-ghost use Rattle.msg_tables.specs.Several.{made_by};
-ghost use Rattle.msg_tables.specs.Stands.{StandsAt};
-ghost use Rattle.msg_tables.specs.RowList.{own_in};
-ghost use Rattle.msg_tables.specs.View.{kept};
-ghost use Rattle.msg_tables.specs.Origin.{last_imp, are_listed, lacks_imp, misfits_in};
+ghost use Rattle.msg_tables.specs.Stands.{AtLog};
+ghost use Rattle.msg_tables.specs.View.{HasClass, HaveListedImps, own_of};
+ghost use Rattle.msg_tables.specs.declared.change.Change.TheVariants.{AddClass, Attach, Exchange};
 
 use crate::change::Change;
 use crate::counts::{last_imp, misfits, unlike};
@@ -42,7 +39,7 @@ impl Tables {
     }
 
     fn no_class(&self, class: ClassRef) -> bool
-        ensures meaning { (h : Log) → StandsAt self.now h → result ≡ spec.no_class h class }
+        ensures meaning { AtLog self.now (λ h. result ≡ spec.no_class h class) }
         ensures listed { result ≡ false → class.class < length self.now.supers }
         ensures present { result ≡ not (is_present self.now.supers class.class) }
     {
@@ -51,7 +48,7 @@ impl Tables {
 
     // No class can be made with this number.
     fn no_number(&self, class: u32) -> bool
-        ensures meaning { (h : Log) → StandsAt self.now h → result ≡ spec.no_number h class }
+        ensures meaning { AtLog self.now (λ h. result ≡ spec.no_number h class) }
         ensures listed { result ≡ false → class < length self.now.supers }
     {
         self.supers.len() <= class as usize
@@ -59,8 +56,8 @@ impl Tables {
 
     // The superclass that is named isn't present.
     fn no_superclass(&self, superclass: Option<u32>) -> bool
-        ensures meaning { (h : Log) → StandsAt self.now h → result ≡ spec.no_superclass h superclass }
-        ensures present { result ≡ false → IfSome superclass (λ d. is_present self.now.supers d ≡ true) }
+        ensures meaning { AtLog self.now (λ h. result ≡ spec.no_superclass h superclass) }
+        ensures present { result ≡ false → IfSome superclass (HasClass self.now) }
     {
         match superclass {
             Some(class) => self.no_class(ClassRef { class, meta: false }),
@@ -70,7 +67,7 @@ impl Tables {
 
     fn no_imp(&self, imp: ImpRef) -> bool
         ensures value { result ≡ lacks_imp self.now.counts (imp_number imp) }
-        ensures meaning { (h : Log) → StandsAt self.now h → result ≡ spec.no_imp h (imp_number imp) }
+        ensures meaning { AtLog self.now (λ h. result ≡ spec.no_imp h (imp_number imp)) }
         ensures listed { result ≡ false → imp_number imp ≤ last_imp self.now.counts }
     {
         imp.number() == 0 || imp.number() as usize > last_imp(&self.counts)
@@ -78,36 +75,36 @@ impl Tables {
 
     fn misfits(&self, sel: Selector, imp: ImpRef) -> bool
         ensures value { result ≡ misfits_in self.now.counts (selector_number sel) (imp_number imp) }
-        ensures meaning { (h : Log) → StandsAt self.now h → result ≡ spec.misfits h (selector_number sel) (imp_number imp) }
+        ensures meaning { AtLog self.now (λ h. result ≡ spec.misfit h sel imp) }
     {
         misfits(&self.counts, sel, imp)
     }
 
     fn unlike(&self, sel: Selector, other: Selector) -> bool
-        ensures { (h : Log) → StandsAt self.now h → result ≡ spec.unlike h (selector_number sel) (selector_number other) }
+        ensures { AtLog self.now (λ h. result ≡ spec.are_unlike h sel other) }
     {
         unlike(&self.counts, sel, other)
     }
 
     fn has_own(&self, class: ClassRef, sel: Selector) -> bool
         requires { class.class < length self.now.supers }
-        ensures meaning { (h : Log) → StandsAt self.now h → result ≡ spec.has_own h class (selector_number sel) }
-        ensures own { result ≡ true → IsSome (own_in (selector_number sel) (kept self.now.lists class)) }
+        ensures meaning { AtLog self.now (λ h. result ≡ spec.has_own h class (selector_number sel)) }
+        ensures own { result ≡ true → IsSome (own_of self.now class sel) }
     {
         self.own(class, sel).is_some()
     }
 
     // Whether there is no room for so many more rows, or for one more change.
     fn is_full(&self, more: usize) -> bool
-        ensures meaning { (h : Log) → StandsAt self.now h → result ≡ spec.is_full h more }
-        ensures room { result ≡ false → (self.now.row_count + more ≤ self.now.limits.rows) × (self.now.change_count < self.now.limits.changes) }
+        ensures meaning { AtLog self.now (λ h. result ≡ spec.is_full h more) }
+        ensures room { result ≡ false → HasRoomFor self.now more }
     {
         self.change_count >= self.limits.changes || more as u64 > self.limits.rows - self.row_count
     }
 
     // Why the row could not stand, whatever stands there.
     fn unfit(&self, row: MethodRow) -> Option<ChangeFault>
-        ensures meaning { (h : Log) → StandsAt self.now h → result ≡ spec.least_change_fault (spec.unfit h row.class row.sel row.imp) }
+        ensures meaning { AtLog self.now (λ h. result ≡ fault_of_row h row) }
         ensures class { result ≡ None → row.class.class < length self.now.supers }
         ensures imp { result ≡ None → imp_number row.imp ≤ last_imp self.now.counts }
     {
@@ -123,11 +120,11 @@ impl Tables {
     }
 
     fn judge_add<'c>(&self, row: MethodRow) -> Result<Edit<'c>, ChangeFault>
-        ensures meaning { (h : Log) → StandsAt self.now h → Judges h (Change.Add row.class row.sel row.imp) result }
+        ensures meaning { IsJudged self.now (adding row) result }
         ensures fits { IfOk result (Fits self.now) }
-        ensures places { IfOk result (WritesAt self.now (Change.Add row.class row.sel row.imp)) }
-        ensures made { IfOk result (λ e. edit_made e ≡ made_by (Change.Add row.class row.sel row.imp)) }
-        ensures undo { IfOk result (IsUndoneBy self.now (Change.Add row.class row.sel row.imp)) }
+        ensures places { IfOk result (WritesAt self.now (adding row)) }
+        ensures made { IfOk result (MakesTheSame (adding row)) }
+        ensures undo { IfOk result (IsUndoneBy self.now (adding row)) }
     {
         if let Some(fault) = self.unfit(row) {
             return Err(fault);
@@ -142,11 +139,11 @@ impl Tables {
     }
 
     fn judge_replace<'c>(&self, row: MethodRow) -> Result<Edit<'c>, ChangeFault>
-        ensures meaning { (h : Log) → StandsAt self.now h → Judges h (Change.Replace row.class row.sel row.imp) result }
+        ensures meaning { IsJudged self.now (replacing row) result }
         ensures fits { IfOk result (Fits self.now) }
-        ensures places { IfOk result (WritesAt self.now (Change.Replace row.class row.sel row.imp)) }
-        ensures made { IfOk result (λ e. edit_made e ≡ made_by (Change.Replace row.class row.sel row.imp)) }
-        ensures undo { IfOk result (IsUndoneBy self.now (Change.Replace row.class row.sel row.imp)) }
+        ensures places { IfOk result (WritesAt self.now (replacing row)) }
+        ensures made { IfOk result (MakesTheSame (replacing row)) }
+        ensures undo { IfOk result (IsUndoneBy self.now (replacing row)) }
     {
         if let Some(fault) = self.unfit(row) {
             return Err(fault);
@@ -164,11 +161,11 @@ impl Tables {
     }
 
     fn judge_set<'c>(&self, row: MethodRow) -> Result<Edit<'c>, ChangeFault>
-        ensures meaning { (h : Log) → StandsAt self.now h → Judges h (Change.SetImp row.class row.sel row.imp) result }
+        ensures meaning { IsJudged self.now (setting row) result }
         ensures fits { IfOk result (Fits self.now) }
-        ensures places { IfOk result (WritesAt self.now (Change.SetImp row.class row.sel row.imp)) }
-        ensures made { IfOk result (λ e. edit_made e ≡ made_by (Change.SetImp row.class row.sel row.imp)) }
-        ensures undo { IfOk result (IsUndoneBy self.now (Change.SetImp row.class row.sel row.imp)) }
+        ensures places { IfOk result (WritesAt self.now (setting row)) }
+        ensures made { IfOk result (MakesTheSame (setting row)) }
+        ensures undo { IfOk result (IsUndoneBy self.now (setting row)) }
     {
         if let Some(fault) = self.unfit(row) {
             return Err(fault);
@@ -187,7 +184,7 @@ impl Tables {
     }
 
     fn no_class_of_two(&self, class: ClassRef, other: ClassRef) -> bool
-        ensures meaning { (h : Log) → StandsAt self.now h → result ≡ (spec.no_class h class || spec.no_class h other) }
+        ensures meaning { AtLog self.now (λ h. result ≡ (spec.no_class h class || spec.no_class h other)) }
         ensures class { result ≡ false → class.class < length self.now.supers }
         ensures other { result ≡ false → other.class < length self.now.supers }
     {
@@ -201,11 +198,11 @@ impl Tables {
         other: ClassRef,
         other_sel: Selector,
     ) -> Result<Edit<'c>, ChangeFault>
-        ensures meaning { (h : Log) → StandsAt self.now h → Judges h (Change.Exchange class sel other other_sel) result }
+        ensures meaning { IsJudged self.now (Exchange class sel other other_sel) result }
         ensures fits { IfOk result (Fits self.now) }
-        ensures places { IfOk result (WritesAt self.now (Change.Exchange class sel other other_sel)) }
-        ensures made { IfOk result (λ e. edit_made e ≡ made_by (Change.Exchange class sel other other_sel)) }
-        ensures undo { IfOk result (IsUndoneBy self.now (Change.Exchange class sel other other_sel)) }
+        ensures places { IfOk result (WritesAt self.now (Exchange class sel other other_sel)) }
+        ensures made { IfOk result (MakesTheSame (Exchange class sel other other_sel)) }
+        ensures undo { IfOk result (IsUndoneBy self.now (Exchange class sel other other_sel)) }
     {
         if self.no_class_of_two(class, other) {
             return Err(ChangeFault::NoClass);
@@ -237,35 +234,34 @@ impl Tables {
     }
 
     fn any_no_imp(&self, methods: &[(Selector, ImpRef)]) -> bool
-        ensures { result ≡ list_any (λ m. lacks_imp self.now.counts (imp_number m.1)) methods.now }
+        ensures { result ≡ any_lacks_imp self.now.counts methods.now }
     {
         methods.iter().any(|m| self.no_imp(m.1))
     }
 
     fn any_no_imp_of_two(&self, own: &[(Selector, ImpRef)], meta: &[(Selector, ImpRef)]) -> bool
-        ensures { result ≡ (list_any (λ m. lacks_imp self.now.counts (imp_number m.1)) own.now || list_any (λ m. lacks_imp self.now.counts (imp_number m.1)) meta.now) }
+        ensures { result ≡ (any_lacks_imp self.now.counts own.now || any_lacks_imp self.now.counts meta.now) }
     {
         self.any_no_imp(own) || self.any_no_imp(meta)
     }
 
     fn any_misfits(&self, methods: &[(Selector, ImpRef)]) -> bool
-        ensures { result ≡ list_any (λ m. misfits_in self.now.counts (selector_number m.0) (imp_number m.1)) methods.now }
+        ensures { result ≡ any_misfits self.now.counts methods.now }
     {
         methods.iter().any(|m| self.misfits(m.0, m.1))
     }
 
     fn any_misfits_of_two(&self, own: &[(Selector, ImpRef)], meta: &[(Selector, ImpRef)]) -> bool
-        ensures { result ≡ (list_any (λ m. misfits_in self.now.counts (selector_number m.0) (imp_number m.1)) own.now
-            || list_any (λ m. misfits_in self.now.counts (selector_number m.0) (imp_number m.1)) meta.now) }
+        ensures { result ≡ (any_misfits self.now.counts own.now || any_misfits self.now.counts meta.now) }
     {
         self.any_misfits(own) || self.any_misfits(meta)
     }
 
     // Why the methods could not be attached, whatever stands there.
     fn unfit_methods(&self, methods: &MethodList, class_methods: &MethodList) -> Option<ChangeFault>
-        ensures meaning { (h : Log) → StandsAt self.now h → result ≡ spec.least_change_fault (spec.unfit_methods h (methods.now ++ class_methods.now)) }
-        ensures methods { result ≡ None → are_listed (last_imp self.now.counts) methods.now ≡ true }
-        ensures class_methods { result ≡ None → are_listed (last_imp self.now.counts) class_methods.now ≡ true }
+        ensures meaning { AtLog self.now (λ h. result ≡ fault_of_methods h methods.now class_methods.now) }
+        ensures methods { result ≡ None → HaveListedImps self.now methods.now }
+        ensures class_methods { result ≡ None → HaveListedImps self.now class_methods.now }
     {
         let own = methods.as_slice();
         let meta = class_methods.as_slice();
@@ -284,11 +280,11 @@ impl Tables {
         methods: &'c MethodList,
         class_methods: &'c MethodList,
     ) -> Result<Edit<'c>, ChangeFault>
-        ensures meaning { (h : Log) → StandsAt self.now h → Judges h (Change.Attach class methods.now class_methods.now) result }
+        ensures meaning { IsJudged self.now (Attach class methods.now class_methods.now) result }
         ensures fits { IfOk result (Fits self.now) }
-        ensures places { IfOk result (WritesAt self.now (Change.Attach class methods.now class_methods.now)) }
-        ensures made { IfOk result (λ e. edit_made e ≡ made_by (Change.Attach class methods.now class_methods.now)) }
-        ensures undo { IfOk result (IsUndoneBy self.now (Change.Attach class methods.now class_methods.now)) }
+        ensures places { IfOk result (WritesAt self.now (Attach class methods.now class_methods.now)) }
+        ensures made { IfOk result (MakesTheSame (Attach class methods.now class_methods.now)) }
+        ensures undo { IfOk result (IsUndoneBy self.now (Attach class methods.now class_methods.now)) }
     {
         if self.no_class(ClassRef { class, meta: false }) {
             return Err(ChangeFault::NoClass);
@@ -309,11 +305,11 @@ impl Tables {
     }
 
     fn judge_make<'c>(&self, class: u32, superclass: Option<u32>) -> Result<Edit<'c>, ChangeFault>
-        ensures meaning { (h : Log) → StandsAt self.now h → Judges h (Change.AddClass class superclass) result }
+        ensures meaning { IsJudged self.now (AddClass class superclass) result }
         ensures fits { IfOk result (Fits self.now) }
-        ensures places { IfOk result (WritesAt self.now (Change.AddClass class superclass)) }
-        ensures made { IfOk result (λ e. edit_made e ≡ made_by (Change.AddClass class superclass)) }
-        ensures undo { IfOk result (IsUndoneBy self.now (Change.AddClass class superclass)) }
+        ensures places { IfOk result (WritesAt self.now (AddClass class superclass)) }
+        ensures made { IfOk result (MakesTheSame (AddClass class superclass)) }
+        ensures undo { IfOk result (IsUndoneBy self.now (AddClass class superclass)) }
     {
         if self.no_number(class) {
             return Err(ChangeFault::NoClass);
@@ -332,10 +328,10 @@ impl Tables {
 
     // What the change would write, or the least fault for which it is refused.
     pub(crate) fn judge<'c>(&self, change: &'c Change) -> Result<Edit<'c>, ChangeFault>
-        ensures meaning { (h : Log) → StandsAt self.now h → Judges h change.now result }
+        ensures meaning { IsJudged self.now change.now result }
         ensures fits { IfOk result (Fits self.now) }
         ensures places { IfOk result (WritesAt self.now change.now) }
-        ensures made { IfOk result (λ e. edit_made e ≡ made_by change.now) }
+        ensures made { IfOk result (MakesTheSame change.now) }
         ensures undo { IfOk result (IsUndoneBy self.now change.now) }
     {
         match change {

@@ -1,9 +1,8 @@
 //! The lists of rows, one for each class reference.
 
-ghost use Rattle.std.specs.Prelude.{◌≡◌, ◌<◌, ◌≤◌, ◌+◌, [], ◌∷◌, ◌++◌, length, reverse, OnOk, OnErr, option_map, slice_set, slice_index_or};
-ghost use Rattle.msg_names.specs.Number.{selector_number, imp_number};
-ghost use Rattle.msg_tables.specs.Methods.{method_numbers};
-ghost use Rattle.msg_tables.specs.RowList.{changed_at, rows_of, own_in, set_last, with_row, with_rows, without_last};
+ghost use Rattle.std.specs.Prelude.{◌≡◌, ◌<◌, ◌+◌, length, OnOk, OnErr};
+ghost use Rattle.msg_tables.specs.RowList.{Attaches, ChangesAt, IsOwnIn};
+ghost use Rattle.msg_tables.specs.RowList.{rows_of, with_imp, with_methods, with_row, without_last};
 
 use crate::rows::MethodRows;
 use msg_names::{ImpRef, Selector};
@@ -17,7 +16,7 @@ pub(crate) fn append_row(
     imp: ImpRef,
 ) -> Result<(), AllocError>
     requires { at < length lists.old.items }
-    ensures ok { OnOk result (rows_of lists.new.items ≡ changed_at (with_row sel imp) at (rows_of lists.old.items)) }
+    ensures ok { OnOk result (ChangesAt (with_row sel imp) at lists.old.items lists.new.items) }
     ensures err { OnErr result (rows_of lists.new.items ≡ rows_of lists.old.items) }
 {
     let rows = &mut lists[at];
@@ -34,8 +33,8 @@ pub(crate) fn rewrite_row(
     imp: ImpRef,
 ) -> Option<ImpRef>
     requires { at < length lists.old.items }
-    ensures rows { rows_of lists.new.items ≡ changed_at (set_last (selector_number sel) (imp_number imp)) at (rows_of lists.old.items) }
-    ensures was { option_map imp_number result ≡ own_in (selector_number sel) (slice_index_or (rows_of lists.old.items) at []) }
+    ensures rows { ChangesAt (with_imp sel imp) at lists.old.items lists.new.items }
+    ensures was { IsOwnIn lists.old.items at sel result }
 {
     let rows = &mut lists[at];
     rows.set(sel, imp)
@@ -44,7 +43,7 @@ pub(crate) fn rewrite_row(
 // So many rows fewer at the end of one of the lists.
 pub(crate) fn shorten_rows(lists: &mut Vec<MethodRows>, at: usize, count: usize)
     requires { at < length lists.old.items }
-    ensures { rows_of lists.new.items ≡ changed_at (without_last count) at (rows_of lists.old.items) }
+    ensures { ChangesAt (without_last count) at lists.old.items lists.new.items }
 {
     let rows = &mut lists[at];
     rows.shorten(count);
@@ -57,7 +56,7 @@ pub(crate) fn append_rows(
     methods: &[(Selector, ImpRef)],
 ) -> Result<(), AllocError>
     requires { at < length lists.old.items }
-    ensures ok { OnOk result (rows_of lists.new.items ≡ changed_at (with_rows (method_numbers methods.now)) at (rows_of lists.old.items)) }
+    ensures ok { OnOk result (ChangesAt (with_methods methods.now) at lists.old.items lists.new.items) }
     ensures err { OnErr result (rows_of lists.new.items ≡ rows_of lists.old.items) }
 {
     let rows = &mut lists[at];
@@ -74,9 +73,7 @@ pub(crate) fn attach_rows(
     class_methods: &[(Selector, ImpRef)],
 ) -> Result<(), AllocError>
     requires { at + 1 < length lists.old.items }
-    ensures ok { OnOk result (rows_of lists.new.items ≡ slice_set
-        (slice_set (rows_of lists.old.items) at (slice_index_or (rows_of lists.old.items) at [] ++ reverse (method_numbers methods.now)))
-        (at + 1) (slice_index_or (rows_of lists.old.items) (at + 1) [] ++ reverse (method_numbers class_methods.now))) }
+    ensures ok { OnOk result (Attaches at methods.now class_methods.now lists.old.items lists.new.items) }
     ensures err { OnErr result (rows_of lists.new.items ≡ rows_of lists.old.items) }
     ensures refused { OnErr result (0 < length methods.now + length class_methods.now) }
 {

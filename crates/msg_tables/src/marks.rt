@@ -1,14 +1,10 @@
 //! Marks on class references, and the descendants of one.
 
-ghost use Rattle.std.specs.Prelude.{◌≡◌, ◌==◌, ◌<◌, ◌≤◌, ◌+◌, ◌*◌, ◌||◌, ◌&&◌, IfOk, if◌then◌else◌, ℕ, length, count_by, replicate, false, true};
-ghost use Rattle.msg_names.specs.declared.value.ClassRef.{ClassRef};
+ghost use Rattle.std.specs.Prelude.{◌≡◌, ◌==◌, ◌<◌, ◌≤◌, ◌+◌, ◌*◌, IfOk, ℕ, length, count_by, replicate, false, true};
 ghost use Rattle.msg_names.specs.ClassRef.{slot_of};
 ghost use Rattle.msg_tables.specs.Below.{is_among};
-ghost use Rattle.msg_tables.specs.Chain.{is_member};
-ghost use Rattle.msg_tables.specs.Log.{Log, chain_at};
-ghost use Rattle.msg_tables.specs.Marking.{is_marked};
+ghost use Rattle.msg_tables.specs.Marking.{MarksDescendants, MarksThose, is_marked, is_of};
 ghost use Rattle.msg_tables.specs.Preorder.{is_in};
-ghost use Rattle.msg_tables.specs.Stands.{StandsAt};
 
 use crate::below::Below;
 use crate::tables::Tables;
@@ -64,7 +60,7 @@ impl Marks {
 // Marks a class, its metaclass or both.
 fn mark_class(marked: &mut [bool], class: u32, own: bool, meta: bool)
     requires { 2 * class + 1 < length marked.old }
-    ensures marks { (c : ClassRef) → is_marked marked.new c ≡ (is_marked marked.old c || ((if c.meta then meta else own) && (class == c.class))) }
+    ensures marks { MarksThose (is_of class own meta) marked.old marked.new }
     ensures length { length marked.new ≡ length marked.old }
 {
     let place = ClassRef { class, meta: false }.slot();
@@ -75,7 +71,7 @@ fn mark_class(marked: &mut [bool], class: u32, own: bool, meta: bool)
 // Marks a class and its metaclass.
 pub(crate) fn mark_made(marked: &mut [bool], class: u32)
     requires { 2 * class + 1 < length marked.old }
-    ensures marks { (c : ClassRef) → is_marked marked.new c ≡ (is_marked marked.old c || (c.class == class)) }
+    ensures marks { MarksThose (λ c. c.class == class) marked.old marked.new }
     ensures length { length marked.new ≡ length marked.old }
 {
     mark_class(marked, class, true, true);
@@ -84,7 +80,7 @@ pub(crate) fn mark_made(marked: &mut [bool], class: u32)
 // Marks class references beside those that are marked.
 fn mark_each(marked: &mut [bool], below: &Below)
     requires { (k : ℕ) → is_in k below.now.classes ≡ true → 2 * k + 1 < length marked.old }
-    ensures marks { (c : ClassRef) → is_marked marked.new c ≡ (is_marked marked.old c || is_among below.now c) }
+    ensures marks { MarksThose (is_among below.now) marked.old marked.new }
     ensures length { length marked.new ≡ length marked.old }
 {
     for class in below.classes() {
@@ -108,8 +104,7 @@ impl Tables {
         requires class { class.class < length self.now.supers }
         requires marks { length marked.old ≡ 2 * length self.now.supers }
         requires room { length self.now.supers ≤ below.old.room }
-        ensures marks { (h : Log) → StandsAt self.now h → (c : ClassRef) → c.class < length self.now.supers
-            → is_marked marked.new c ≡ (is_marked marked.old c || is_member class (chain_at h c)) }
+        ensures marks { MarksDescendants self.now class marked.old marked.new }
         ensures length { length marked.new ≡ length marked.old }
         ensures room { below.old.room ≤ below.new.room }
     {
@@ -123,8 +118,7 @@ impl Tables {
     pub fn descendants(&self, class: ClassRef, marks: &mut Marks)
         requires class { class.class < length self.now.supers }
         requires marks { length marks.old ≡ 2 * length self.now.supers }
-        ensures marks { (h : Log) → StandsAt self.now h → (c : ClassRef) → c.class < length self.now.supers
-            → is_marked marks.new c ≡ (is_marked marks.old c || is_member class (chain_at h c)) }
+        ensures marks { MarksDescendants self.now class marks.old marks.new }
         ensures room { length marks.new ≡ length marks.old }
     {
         self.mark_below(class, &mut marks.marked, &mut marks.below);

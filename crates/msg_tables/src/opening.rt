@@ -1,15 +1,17 @@
 //! Opening tables.
 
-ghost use Rattle.std.specs.Prelude.{◌≡◌, ◌<◌, ◌≤◌, ◌+◌, ◌*◌, [], Some, IfOk, OnOk, if◌then◌else◌, length, replicate, slice_get, sum_by, take, true};
+ghost use Rattle.std.specs.Prelude.{◌≡◌, ◌<◌, ◌≤◌, ◌+◌, ◌*◌, IfOk, OnOk, length};
+ghost use Rattle.std.specs.Option.{ForSome};
 ghost use Rattle.std.specs.Vec.{vec_capacity};
 ghost use Rattle.msg_tables.specs.After.{opened_supers, rows_at, list_rows};
 ghost use Rattle.msg_tables.specs.Log.{empty};
 ghost use Rattle.msg_tables.specs.Methods.{method_numbers};
-ghost use Rattle.msg_tables.specs.Opening.{Adds, IsBlank, IsFor, size_of_list};
+ghost use Rattle.msg_tables.specs.Attached.{list_in};
+ghost use Rattle.msg_tables.specs.Opening.{Adds, AddsList, HasClassesOf, IsBlank, IsFor, rows_before};
 ghost use Rattle.msg_tables.specs.Order.{IsOrder};
-ghost use Rattle.msg_tables.specs.Origin.{IsSound, are_listed, class_total, last_imp};
-ghost use Rattle.msg_tables.specs.Methods.{MethodsOf};
+ghost use Rattle.msg_tables.specs.Origin.{IsSound, class_total};
 ghost use Rattle.msg_tables.specs.Stands.{StandsAt};
+ghost use Rattle.msg_tables.specs.View.{HaveListedImps};
 
 use crate::counts::Counts;
 use crate::origin::{HasOrigin, Origin};
@@ -95,7 +97,7 @@ impl Tables {
         methods: &[(Selector, ImpRef)],
     ) -> Result<(), AllocError>
         requires class { class.class < length self.old.supers }
-        requires listed { are_listed (last_imp self.old.counts) (method_numbers methods.now) ≡ true }
+        requires listed { HaveListedImps self.old (method_numbers methods.now) }
         requires room { self.old.row_count + length methods.now ≤ self.old.limits.rows }
         ensures { OnOk result (Adds self.old self.new (rows_at class (method_numbers methods.now))) }
     {
@@ -109,8 +111,8 @@ impl Tables {
         requires tables { IsFor origin.now self.old }
         requires sound { IsSound origin.now }
         requires pair { 2 * pair < length origin.now.lists }
-        requires before { self.old.row_count ≡ sum_by size_of_list (take (2 * pair + (if meta then 1 else 0)) origin.now.lists) }
-        ensures { (list : MethodsOf) → slice_get origin.now.lists (2 * pair + (if meta then 1 else 0)) ≡ Some list → OnOk result (Adds self.old self.new (rows_at list.class list.methods)) }
+        requires before { self.old.row_count ≡ rows_before origin.now.lists pair meta }
+        ensures { ForSome (list_in origin.now.lists pair meta) (λ list. OnOk result (AddsList self.old self.new list)) }
     {
         let (class, methods) = origin.list(pair, meta);
         self.open_methods(class, methods.as_slice())
@@ -131,7 +133,7 @@ impl Tables {
     // The tables of an origin.
     fn of(alloc: Global, origin: &Origin) -> Result<Tables, AllocError>
         ensures stands { IfOk result (λ tables. StandsAt tables (empty origin.now)) }
-        ensures classes { IfOk result (λ tables. length tables.supers ≡ class_total origin.now) }
+        ensures classes { IfOk result (HasClassesOf origin.now) }
     {
         let mut tables = Tables::blank(alloc, origin)?;
         tables.open_lists(origin)?;
@@ -143,7 +145,7 @@ impl Tables {
     /// Each method is copied once.
     pub fn open<C: HasOrigin>(alloc: Global, classes: &C) -> Result<Tables, AllocError>
         ensures stands { IfOk result (λ tables. StandsAt tables (empty (C.given classes.now))) }
-        ensures classes { IfOk result (λ tables. length tables.supers ≡ class_total (C.given classes.now)) }
+        ensures classes { IfOk result (HasClassesOf (C.given classes.now)) }
     {
         Tables::of(alloc, classes.origin())
     }

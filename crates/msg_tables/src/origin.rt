@@ -1,7 +1,7 @@
 //! What tables are opened of.
 
-ghost use Rattle.std.specs.Prelude.{◌≡◌, ◌<◌, ◌+◌, ◌*◌, ◌++◌, Some, drop, if◌then◌else◌, length, map, slice_get};
-ghost use Rattle.msg_tables.specs.Attached.{ListsAt, categories_in, category_lists, listed_lists};
+ghost use Rattle.std.specs.Prelude.{◌≡◌, ◌<◌, ◌*◌, Some, drop, length, slice_get};
+ghost use Rattle.msg_tables.specs.Attached.{ListsAt, categories_in, list_in};
 ghost use Rattle.msg_tables.specs.Given.{origin_of};
 ghost use Rattle.msg_tables.specs.Origin.{IsSound, class_total};
 ghost use Rattle.msg_tables.specs.declared.origin.ListedClass.{ListedClass};
@@ -130,7 +130,7 @@ impl Origin {
     /// A method list, and whose it is: of a pair the class's, or the metaclass's.
     pub fn list(&self, pair: usize, meta: bool) -> (ClassRef, &MethodList)
         requires { 2 * pair < length self.now.lists }
-        ensures { slice_get self.now.lists (2 * pair + (if meta then 1 else 0)) ≡ Some (record { class = result.0; methods = result.1.now }) }
+        ensures { list_in self.now.lists pair meta ≡ Some (record { class = result.0; methods = result.1.now }) }
     {
         let (class, methods, class_methods) = self.pair(pair);
         let class = ClassRef { class, meta };

@@ -1,13 +1,13 @@
 //! The classes that are present, in an order in which those below a class come right after it.
 
-ghost use Rattle.std.specs.Prelude.{◌≡◌, ◌<◌, ◌≤◌, List, [], ◌∷◌, ◌++◌, ℕ, Option, IfOk, IfSome, None, Some, length, replicate, true};
+ghost use Rattle.std.specs.Prelude.{◌≡◌, ◌<◌, ◌≤◌, [], ◌∷◌, ◌++◌, length, replicate, true};
+ghost use Rattle.std.specs.Prelude.{IfOk, IfSome, None, Some};
 ghost use Rattle.std.specs.Vec.{vec_capacity};
 ghost use Rattle.msg_tables.specs.declared.limits.TheConstants.{MAX_CLASSES};
-ghost use Rattle.msg_tables.specs.After.{of_class};
-ghost use Rattle.msg_tables.specs.Chain.{descends, is_present, presence_of};
+ghost use Rattle.msg_tables.specs.Chain.{is_present, presence_of};
 ghost use Rattle.msg_tables.specs.Order.{IsOrder};
-ghost use Rattle.msg_tables.specs.Preorder.{HavePreorder, depth_at, next_at, depths_with, is_in, nexts_with};
-ghost use Rattle.msg_tables.specs.declared.presence.Presence.{Presence};
+ghost use Rattle.msg_tables.specs.Preorder.{AreAllBelow, CanBeGathered, CanBeSuperclass, HavePreorder};
+ghost use Rattle.msg_tables.specs.Preorder.{depths_with, nexts_with};
 
 use crate::presence::Presence;
 use std::alloc::{AllocError, Global};
@@ -35,7 +35,7 @@ impl Preorder {
     pub(crate) fn place(&mut self, class: u32, superclass: Option<u32>)
         requires depths { class < length self.old.depths.items }
         requires nexts { class < length self.old.nexts.items }
-        requires above { IfSome superclass (λ d. (d < length self.old.depths.items) × (d < length self.old.nexts.items) × (depth_at self.old.depths.items d < MAX_CLASSES)) }
+        requires above { IfSome superclass (CanBeSuperclass self.old) }
         ensures depths { self.new.depths.items ≡ depths_with self.old.depths.items class superclass }
         ensures nexts { self.new.nexts.items ≡ nexts_with self.old.nexts.items class superclass }
     {
@@ -67,10 +67,10 @@ impl Preorder {
 
     // Gathers a class and those below it, each after its superclass. It looks at just these, and at one more.
     pub(crate) fn gather(&self, class: u32, classes: &mut Vec<u32>)
-        requires preorder { (supers : List (Option Presence)) × HavePreorder supers self.now.depths.items self.now.nexts.items × (is_present supers class ≡ true) × (length supers ≤ vec_capacity classes.old) }
+        requires preorder { CanBeGathered self.now class (vec_capacity classes.old) }
         requires none { classes.old.items ≡ [] }
         ensures room { vec_capacity classes.old ≤ vec_capacity classes.new }
-        ensures below { (supers : List (Option Presence)) → HavePreorder supers self.now.depths.items self.now.nexts.items → is_present supers class ≡ true → (k : ℕ) → is_in k classes.new.items ≡ descends supers (of_class class) (of_class k) }
+        ensures below { AreAllBelow self.now class classes.new.items }
     {
         push_one(classes, class);
         let depth = self.depths[class as usize];

@@ -1,10 +1,10 @@
 //! What a change would reach.
 
-ghost use Rattle.std.specs.Prelude.{◌≡◌, ◌<◌, ◌≤◌, ◌*◌, OnOk, OnErr, IfErr, None, Some, length};
-ghost use Rattle.msg_names.specs.Number.{selector_number};
-ghost use Rattle.msg_tables.specs.Affected.{at_most_one, if_any};
-ghost use Rattle.msg_tables.specs.Log.{Log, holder};
-ghost use Rattle.msg_tables.specs.Marking.{MarksBelow, MarksAffected};
+ghost use Rattle.std.specs.Prelude.{◌≡◌, ◌<◌, ◌≤◌, ◌*◌, OnOk, OnErr, IfErr, None, length};
+ghost use Rattle.msg_tables.specs.Accepts.{Refuses};
+ghost use Rattle.msg_tables.specs.Log.{Log};
+ghost use Rattle.msg_tables.specs.Making.{AcceptsAndReaches, Reaches};
+ghost use Rattle.msg_tables.specs.Marking.{MarksAttached, MarksHolder};
 ghost use Rattle.msg_tables.specs.Refusal.{refusal};
 ghost use Rattle.msg_tables.specs.Stands.{StandsAt};
 
@@ -22,8 +22,7 @@ impl Tables {
         requires class { class.class < length self.now.supers }
         requires marks { length marked.old ≡ 2 * length self.now.supers }
         requires room { length self.now.supers ≤ below.old.room }
-        ensures marks { (h : Log) → StandsAt self.now h
-            → MarksBelow (length self.now.supers) h (at_most_one (holder h class (selector_number sel))) marked.old marked.new }
+        ensures marks { MarksHolder self.now class sel marked.old marked.new }
         ensures length { length marked.new ≡ length marked.old }
         ensures room { below.old.room ≤ below.new.room }
     {
@@ -43,8 +42,7 @@ impl Tables {
         requires class { class.class < length self.now.supers }
         requires marks { length marked.old ≡ 2 * length self.now.supers }
         requires room { length self.now.supers ≤ below.old.room }
-        ensures marks { (h : Log) → StandsAt self.now h
-            → MarksBelow (length self.now.supers) h (if_any methods.now class) marked.old marked.new }
+        ensures marks { MarksAttached self.now class methods.now marked.old marked.new }
         ensures length { length marked.new ≡ length marked.old }
         ensures room { below.old.room ≤ below.new.room }
     {
@@ -58,8 +56,7 @@ impl Tables {
         requires accepted { (h : Log) × StandsAt self.now h × (refusal h change.now ≡ None) }
         requires marks { length marked.old ≡ 2 * length self.now.supers }
         requires room { length self.now.supers ≤ below.old.room }
-        ensures marks { (h : Log) → StandsAt self.now h
-            → MarksAffected (length self.now.supers) h change.now marked.old marked.new }
+        ensures marks { Reaches change.now self.now marked.old marked.new }
         ensures length { length marked.new ≡ length marked.old }
         ensures room { below.old.room ≤ below.new.room }
     {
@@ -102,9 +99,9 @@ impl Tables {
     pub fn reach(&self, change: &Change, marks: &mut Marks) -> Result<(), ChangeFault>
         requires stands { (h : Log) × StandsAt self.now h }
         requires marks { length marks.old ≡ 2 * length self.now.supers }
-        ensures ok { OnOk result ((h : Log) → StandsAt self.now h → (refusal h change.now ≡ None) × MarksAffected (length self.now.supers) h change.now marks.old marks.new) }
+        ensures ok { OnOk result (AcceptsAndReaches change.now self.now marks.old marks.new) }
         ensures err { OnErr result (marks.new ≡ marks.old) }
-        ensures fault { IfErr result (λ f. (h : Log) → StandsAt self.now h → refusal h change.now ≡ Some f) }
+        ensures fault { IfErr result (Refuses self.now change.now) }
         ensures room { length marks.new ≡ length marks.old }
     {
         self.judge(change)?;

@@ -1,12 +1,12 @@
 //! What a list of changes would reach.
 
-ghost use Rattle.std.specs.Prelude.{◌≡◌, ◌≢◌, ◌<◌, ◌≤◌, ◌+◌, ◌*◌, [], IfErr, IfOk, IsErrOf, None, OnErr, OnOk, Some, length, take};
+ghost use Rattle.std.specs.Prelude.{◌≡◌, ◌≢◌, ◌<◌, ◌≤◌, ◌+◌, ◌*◌, [], IfErr, IsErrOf, OnErr, OnOk, length};
 ghost use Rattle.std.specs.Vec.{vec_capacity};
 ghost use Rattle.msg_tables.specs.Accepts.{Accepts, Makes, Refuses};
 ghost use Rattle.msg_tables.specs.declared.fault.ChangeFault.{ChangeFault};
 ghost use Rattle.msg_tables.specs.Log.{Log};
-ghost use Rattle.msg_tables.specs.Making.{AreMadeBefore, IsMade, IsPart, IsRefused, LacksMemory, Reaches, ReachesAll};
-ghost use Rattle.msg_tables.specs.Several.{refused_from};
+ghost use Rattle.msg_tables.specs.Making.{AreMadeBefore, AreMadeTo, IsMade, IsPart, IsRefusedUnlessMemory};
+ghost use Rattle.msg_tables.specs.Making.{LacksMemory, Reaches, ReachesAll, ReachesBefore, RefusesNone};
 ghost use Rattle.msg_tables.specs.Stands.{StandsAt};
 
 use crate::apply_all::Refused;
@@ -62,11 +62,11 @@ impl Tables {
         requires marks { length marked.old ≡ 2 * length self.old.supers }
         requires below { length self.old.supers ≤ below.old.room }
         ensures ok { OnOk result (IsMade changes.now journal.new.items self.old self.new) }
-        ensures err { IfErr result (λ r. (r.place < length changes.now) × IsMade (take r.place changes.now) journal.new.items self.old self.new) }
-        ensures fault { IfErr result (λ r. r.fault ≢ ChangeFault.Memory → IsRefused changes.now self.old r) }
+        ensures err { IfErr result (AreMadeTo changes.now journal.new.items self.old self.new) }
+        ensures fault { IfErr result (IsRefusedUnlessMemory changes.now self.old) }
         ensures memory { IfErr result (LacksMemory changes.now self.old) }
         ensures marks { OnOk result (ReachesAll changes.now self.old marked.old marked.new) }
-        ensures before { IfErr result (λ r. r.fault ≢ ChangeFault.Memory → ReachesAll (take r.place changes.now) self.old marked.old marked.new) }
+        ensures before { IfErr result (ReachesBefore changes.now self.old marked.old marked.new) }
         ensures length { length marked.new ≡ length marked.old }
         ensures below { below.old.room ≤ below.new.room }
     {
@@ -94,13 +94,13 @@ impl Tables {
         requires marks { length marked.old ≡ 2 * length self.old.supers }
         requires below { length self.old.supers ≤ below.old.room }
         ensures same { self.new ≡ self.old }
-        ensures ok { OnOk result ((h : Log) → StandsAt self.old h → refused_from 0 h changes.now ≡ None) }
+        ensures ok { OnOk result (RefusesNone changes.now self.old) }
         ensures marks { OnOk result (ReachesAll changes.now self.old marked.old marked.new) }
-        ensures fault { IfErr result (λ r. r.fault ≢ ChangeFault.Memory → IsRefused changes.now self.old r) }
+        ensures fault { IfErr result (IsRefusedUnlessMemory changes.now self.old) }
         ensures memory { IfErr result (LacksMemory changes.now self.old) }
         ensures before { IfErr result (AreMadeBefore changes.now self.old) }
         ensures within { IfErr result (λ r. r.place < length changes.now) }
-        ensures kept { IfErr result (λ r. r.fault ≢ ChangeFault.Memory → ReachesAll (take r.place changes.now) self.old marked.old marked.new) }
+        ensures kept { IfErr result (ReachesBefore changes.now self.old marked.old marked.new) }
         ensures length { length marked.new ≡ length marked.old }
         ensures below { below.old.room ≤ below.new.room }
     {

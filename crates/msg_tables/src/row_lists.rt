@@ -1,9 +1,8 @@
 //! The lists of rows of all class references.
 
-ghost use Rattle.std.specs.Prelude.{◌≡◌, ◌<◌, ◌≤◌, ◌+◌, ◌-◌, [], ◌∷◌, ◌++◌, ℕ, IfOk, OnErr, OnOk, length, option_map, replicate, reverse, slice_index_or, slice_set};
-ghost use Rattle.msg_names.specs.Number.{selector_number, imp_number};
-ghost use Rattle.msg_tables.specs.Methods.{method_numbers};
-ghost use Rattle.msg_tables.specs.RowList.{changed_at, rows_of, own_in, set_last, with_row, with_rows, without_last};
+ghost use Rattle.std.specs.Prelude.{◌≡◌, ◌<◌, ◌≤◌, ◌+◌, [], ℕ, IfOk, OnErr, OnOk, length, replicate};
+ghost use Rattle.msg_tables.specs.RowList.{Attaches, ChangesAt, GainsEmpty, IsOwnIn};
+ghost use Rattle.msg_tables.specs.RowList.{rows_of, with_imp, with_methods, with_row, without_last};
 
 use crate::lists::{append_row, append_rows, attach_rows, rewrite_row, shorten_rows};
 use crate::rows::MethodRows;
@@ -34,7 +33,7 @@ impl Model for RowLists {
 
 // Writes lists without rows, as far as one at a place.
 fn reach(alloc: Global, lists: &mut Vec<MethodRows>, at: usize) -> Result<(), AllocError>
-    ensures rows { rows_of lists.new.items ≡ rows_of lists.old.items ++ replicate (length lists.new.items - length lists.old.items) [] }
+    ensures rows { GainsEmpty lists.old.items lists.new.items }
     ensures more { length lists.old.items ≤ length lists.new.items }
     ensures few { (n : ℕ) → at < n → length lists.old.items ≤ n → length lists.new.items ≤ n }
     ensures reached { OnOk result (at < length lists.new.items) }
@@ -68,7 +67,7 @@ impl RowLists {
     // The implementation in the last row of a selector in one of the lists.
     #[inline(always)]
     pub(crate) fn find(&self, at: usize, sel: Selector) -> Option<ImpRef>
-        ensures { option_map imp_number result ≡ own_in (selector_number sel) (slice_index_or (rows_of self.now) at []) }
+        ensures { IsOwnIn self.now at sel result }
     {
         self.written.get(at)?.find(sel)
     }
@@ -81,7 +80,7 @@ impl RowLists {
         imp: ImpRef,
     ) -> Result<(), AllocError>
         requires { at < length self.old }
-        ensures ok { OnOk result (rows_of self.new ≡ changed_at (with_row sel imp) at (rows_of self.old)) }
+        ensures ok { OnOk result (ChangesAt (with_row sel imp) at self.old self.new) }
         ensures err { OnErr result (rows_of self.new ≡ rows_of self.old) }
     {
         reach(self.alloc, &mut self.written, at)?;
@@ -90,8 +89,8 @@ impl RowLists {
 
     // Another implementation in the last row of a selector in one of the lists, where it has one. Answers the one that stood there.
     pub(crate) fn rewrite_row(&mut self, at: usize, sel: Selector, imp: ImpRef) -> Option<ImpRef>
-        ensures rows { rows_of self.new ≡ changed_at (set_last (selector_number sel) (imp_number imp)) at (rows_of self.old) }
-        ensures was { option_map imp_number result ≡ own_in (selector_number sel) (slice_index_or (rows_of self.old) at []) }
+        ensures rows { ChangesAt (with_imp sel imp) at self.old self.new }
+        ensures was { IsOwnIn self.old at sel result }
     {
         if at < self.written.len() {
             rewrite_row(&mut self.written, at, sel, imp)
@@ -102,7 +101,7 @@ impl RowLists {
 
     // So many rows fewer at the end of one of the lists.
     pub(crate) fn shorten_rows(&mut self, at: usize, count: usize)
-        ensures { rows_of self.new ≡ changed_at (without_last count) at (rows_of self.old) }
+        ensures { ChangesAt (without_last count) at self.old self.new }
     {
         if at < self.written.len() {
             shorten_rows(&mut self.written, at, count);
@@ -116,7 +115,7 @@ impl RowLists {
         methods: &[(Selector, ImpRef)],
     ) -> Result<(), AllocError>
         requires { at < length self.old }
-        ensures ok { OnOk result (rows_of self.new ≡ changed_at (with_rows (method_numbers methods.now)) at (rows_of self.old)) }
+        ensures ok { OnOk result (ChangesAt (with_methods methods.now) at self.old self.new) }
         ensures err { OnErr result (rows_of self.new ≡ rows_of self.old) }
     {
         reach(self.alloc, &mut self.written, at)?;
@@ -131,9 +130,7 @@ impl RowLists {
         class_methods: &[(Selector, ImpRef)],
     ) -> Result<(), AllocError>
         requires { at + 1 < length self.old }
-        ensures ok { OnOk result (rows_of self.new ≡ slice_set
-            (slice_set (rows_of self.old) at (slice_index_or (rows_of self.old) at [] ++ reverse (method_numbers methods.now)))
-            (at + 1) (slice_index_or (rows_of self.old) (at + 1) [] ++ reverse (method_numbers class_methods.now))) }
+        ensures ok { OnOk result (Attaches at methods.now class_methods.now self.old self.new) }
         ensures err { OnErr result (rows_of self.new ≡ rows_of self.old) }
         ensures refused { OnErr result (0 < length methods.now + length class_methods.now) }
     {

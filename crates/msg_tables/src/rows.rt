@@ -1,9 +1,9 @@
 //! The rows of one class reference.
 
-ghost use Rattle.std.specs.Prelude.{◌≡◌, ◌+◌, ◌<◌, ◌≤◌, [], ◌∷◌, ◌++◌, IfOk, length, reverse, OnOk, OnErr, option_map};
+ghost use Rattle.std.specs.Prelude.{◌≡◌, ◌+◌, ◌<◌, ◌≤◌, [], ◌++◌, IfOk, length, reverse, OnOk, OnErr, option_map};
 ghost use Rattle.msg_tables.specs.Methods.{method_numbers};
 ghost use Rattle.msg_names.specs.Number.{selector_number, imp_number};
-ghost use Rattle.msg_tables.specs.RowList.{own_in, set_last, without_last};
+ghost use Rattle.msg_tables.specs.RowList.{own_in, with_imp, with_row, without_last};
 
 use crate::indexed_rows::IndexedRows;
 use msg_names::{ImpRef, Selector};
@@ -77,7 +77,7 @@ impl MethodRows {
 
     pub(crate) fn push(&mut self, sel: Selector, imp: ImpRef)
         requires { 0 < self.old.room }
-        ensures rows { self.new.rows ≡ self.old.rows ++ (selector_number sel, imp_number imp) ∷ [] }
+        ensures rows { self.new.rows ≡ with_row sel imp self.old.rows }
         ensures room { self.old.room ≤ self.new.room + 1 }
     {
         self.indexed.as_mut().unwrap().push(sel, imp);
@@ -85,7 +85,7 @@ impl MethodRows {
 
     // Writes another implementation into a selector's last row, where it has one, and answers the one that stood there.
     pub(crate) fn set(&mut self, sel: Selector, imp: ImpRef) -> Option<ImpRef>
-        ensures rows { self.new.rows ≡ set_last (selector_number sel) (imp_number imp) self.old.rows }
+        ensures rows { self.new.rows ≡ with_imp sel imp self.old.rows }
         ensures was { option_map imp_number result ≡ own_in (selector_number sel) self.old.rows }
     {
         match &mut self.indexed {

@@ -1,14 +1,12 @@
 //! The tables, and lookup.
 
-ghost use Rattle.std.specs.Prelude.{◌≡◌, ◌<◌, ◌≤◌, length, option_map, is_some, IfSome, Some, None, true};
+ghost use Rattle.std.specs.Prelude.{◌≡◌, ◌<◌, ◌≤◌, length, option_map, is_some, IfSome, Some};
 ghost use Rattle.msg_names.specs.Number.{selector_number, imp_number};
-ghost use Rattle.msg_names.specs.ClassRef.{above, slot_of};
-ghost use Rattle.msg_tables.specs.Chain.{super_of, chain_of, steps_of, is_present, only_present};
+ghost use Rattle.msg_tables.specs.Chain.{HasFewerSteps, super_of, chain_of, steps_of, only_present};
 ghost use Rattle.msg_tables.specs.Log.{Log, lookup, holder, superclass};
-ghost use Rattle.msg_tables.specs.RowList.{own_in};
 ghost use Rattle.msg_tables.specs.Stands.{StandsAt};
-ghost use Rattle.msg_tables.specs.View.{kept, kept_method};
-ghost use Rattle.msg_tables.specs.Origin.{last_imp, are_listed};
+ghost use Rattle.msg_tables.specs.View.{kept_method, own_of};
+ghost use Rattle.msg_tables.specs.Origin.{last_imp};
 
 use crate::counts::Counts;
 use crate::limits::Limits;
@@ -90,7 +88,7 @@ impl Tables {
         requires { class.class < length self.now.supers }
         ensures value { result ≡ super_of self.now.supers class }
         ensures listed { IfSome result (λ above. above.class < length self.now.supers) }
-        ensures fewer { IfSome result (λ above. steps_of self.now.order above < steps_of self.now.order class) }
+        ensures fewer { IfSome result (HasFewerSteps self.now.order class) }
     {
         let presence = self.supers[class.class as usize]?;
         class.above(presence.superclass)
@@ -100,7 +98,7 @@ impl Tables {
     #[inline(always)]
     pub(crate) fn own(&self, class: ClassRef, sel: Selector) -> Option<ImpRef>
         requires { class.class < length self.now.supers }
-        ensures own { option_map imp_number result ≡ own_in (selector_number sel) (kept self.now.lists class) }
+        ensures own { option_map imp_number result ≡ own_of self.now class sel }
         ensures listed { IfSome result (λ i. imp_number i ≤ last_imp self.now.counts) }
     {
         self.lists.find(class.slot(), sel)
@@ -114,7 +112,7 @@ impl Tables {
             ≡ kept_method self.now.lists (chain_of self.now.supers class) (selector_number sel) }
         ensures holder { IfSome result (λ m. m.holder.class < length self.now.supers) }
         ensures imp { IfSome result (λ m. imp_number m.imp ≤ last_imp self.now.counts) }
-        ensures own { IfSome result (λ m. own_in (selector_number sel) (kept self.now.lists m.holder) ≡ Some (imp_number m.imp)) }
+        ensures own { IfSome result (λ m. own_of self.now m.holder sel ≡ Some (imp_number m.imp)) }
     {
         let mut at = self.present(class);
         while let Some(here) = at {

@@ -1,7 +1,8 @@
 -- Texts as lists of bytes.
-use Rattle.std.specs.Prelude.{ℕ, List, Option, None, Vec, map, count_by, if◌then◌else◌, ◌==◌}
+use Rattle.std.specs.Prelude.{◌≡◌, ℕ, List, Option, None, Vec, length, map, count_by, if◌then◌else◌, ◌==◌}
 use Rattle.std.specs.Global.{Global}
-use Rattle.msg_names.specs.Numbering.{name_at}
+use Rattle.msg_names.specs.Numbering.{LacksName, name_at}
+use Rattle.msg_texts.specs.declared.texts.TheConstants.{MAX_TEXTS}
 
 -- the bytes of each text
 abbrev pub texts_of : List (Vec ℕ Global) → List (List ℕ)
@@ -14,3 +15,7 @@ text_at texts number = if number == 0 then None else name_at texts number
 -- how many colons a text has
 abbrev pub colons_of : List ℕ → ℕ
 colons_of text = count_by (λ byte. byte == 58) text
+
+-- the text is none of these, of which there are as many as fit
+abbrev pub LacksPlaceFor : List (List ℕ) → List ℕ → Type 0
+LacksPlaceFor texts text = (length texts ≡ MAX_TEXTS) × LacksName texts text

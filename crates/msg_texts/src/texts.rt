@@ -1,10 +1,8 @@
 //! The texts.
 
-ghost use Rattle.std.specs.Prelude.{◌≡◌, ◌<◌, ◌≤◌, ◌↔◌, ◌^◌, [], length, map, IfOk, IfSome, IsErrOf, OnErr, OnOk, false, option_map};
-ghost use Rattle.std.specs.List.{list_any};
-ghost use Rattle.std.specs.Str.{bytes_eq};
-ghost use Rattle.msg_names.specs.Numbering.{number_of, with_name};
-ghost use Rattle.msg_texts.specs.Texts.{texts_of, text_at, colons_of};
+ghost use Rattle.std.specs.Prelude.{◌≡◌, ◌≤◌, ◌↔◌, [], length, IfOk, IsErrOf, OnErr, OnOk, option_map};
+ghost use Rattle.msg_names.specs.Numbering.{LacksName, number_of, with_name};
+ghost use Rattle.msg_texts.specs.Texts.{LacksPlaceFor, texts_of, text_at, colons_of};
 ghost use Rattle.msg_texts.specs.declared.texts.TheConstants.{MAX_TEXTS};
 
 use indexmap::IndexSet;
@@ -87,8 +85,8 @@ impl Texts {
     pub fn intern(&mut self, text: &[u8]) -> Result<u32, TextFault>
         ensures ok { IfOk result (λ n. number_of self.new text.now ≡ Some n) }
         ensures texts { OnOk result (self.new ≡ with_name self.old text.now) }
-        ensures many { IsErrOf result TextFault.TooMany ↔ ((length self.old ≡ MAX_TEXTS) × (list_any (bytes_eq text.now) self.old ≡ false)) }
-        ensures memory { IsErrOf result TextFault.Memory → list_any (bytes_eq text.now) self.old ≡ false }
+        ensures many { IsErrOf result TextFault.TooMany ↔ LacksPlaceFor self.old text.now }
+        ensures memory { IsErrOf result TextFault.Memory → LacksName self.old text.now }
         ensures err { OnErr result (self.new ≡ self.old) }
     {
         intern_in(&mut self.set, text)
@@ -136,8 +134,8 @@ fn intern_in(set: &mut IndexSet<Vec<u8>>, text: &[u8]) -> Result<u32, TextFault>
     ensures texts { OnOk result (texts_of set.new.keys ≡ with_name (texts_of set.old.keys) text.now) }
     ensures few { length set.new.keys ≤ MAX_TEXTS }
     ensures many { IsErrOf result TextFault.TooMany
-        ↔ ((length set.old.keys ≡ MAX_TEXTS) × (list_any (bytes_eq text.now) (texts_of set.old.keys) ≡ false)) }
-    ensures memory { IsErrOf result TextFault.Memory → list_any (bytes_eq text.now) (texts_of set.old.keys) ≡ false }
+        ↔ ((length set.old.keys ≡ MAX_TEXTS) × LacksName (texts_of set.old.keys) text.now) }
+    ensures memory { IsErrOf result TextFault.Memory → LacksName (texts_of set.old.keys) text.now }
     ensures err { OnErr result (set.new.keys ≡ set.old.keys) }
 {
     if let Some(number) = find_in(set, text) {

@@ -4,7 +4,7 @@ ghost use Rattle.std.specs.Prelude.{◌≡◌, ◌≤◌, length, map, option_ma
 ghost use Rattle.msg_form.specs.Faults as spec;
 ghost use Rattle.msg_form.specs.FormNames.{AreNamesOf};
 ghost use Rattle.msg_form.specs.Text.{distinct, number_among};
-ghost use Rattle.msg_form.specs.Views.{class_view, classes_view, form_view};
+ghost use Rattle.msg_form.specs.Views.{classes_view, form_view, superclasses_among};
 ghost use Rattle.msg_order.specs.Superclasses.{AreListed};
 
 use crate::form::{Class, Form, makes_classes};
@@ -51,7 +51,7 @@ fn superclasses_among(
     names: &NameSet,
     classes: &[Class],
 ) -> Result<Vec<Option<u32>>, AllocError>
-    ensures { IfOk result (λ v. v.items ≡ map (λ c. option_map (number_among names.now) (class_view c).superclass) classes.now) }
+    ensures { IfOk result (λ v. v.items ≡ superclasses_among names.now classes.now) }
 {
     let mut supers = Vec::with_capacity(alloc, classes.len())?;
     for class in classes {

@@ -5,7 +5,8 @@ ghost use Rattle.msg_json.specs.View.{view};
 ghost use Rattle.msg_form.specs.Expression as plain;
 ghost use Rattle.msg_form.specs.ExprShape as spec;
 ghost use Rattle.msg_form.specs.ExprShape.{expression_of};
-ghost use Rattle.msg_form.specs.ExprView.{binary_view, choice_view, constant_view, expr_view, exprs_view, send_view};
+ghost use Rattle.msg_form.specs.ExprView.{binary_view, choice_view, constant_view, expr_view};
+ghost use Rattle.msg_form.specs.ExprView.{exprs_view, pair_of_exprs_view, send_view};
 ghost use Rattle.msg_form.specs.Gives.{Gives};
 ghost use Rattle.msg_form.specs.Json.{each};
 ghost use Rattle.msg_form.specs.Readings.{readings};
@@ -180,7 +181,7 @@ fn two<'v>(
     first: usize,
     second: usize,
 ) -> Result<(Expr<'v>, Expr<'v>), ReadFault>
-    ensures { Gives (λ es. (expr_view es.0, expr_view es.1)) result (spec.two_at first second (readings values.now)) }
+    ensures { Gives pair_of_exprs_view result (spec.two_at first second (readings values.now)) }
 {
     let left = expr_in(alloc, bump, values, first)?;
     let right = expr_in(alloc, bump, values, second)?;

@@ -1,12 +1,13 @@
 //! Reading the parts of a document.
 
-ghost use Rattle.std.specs.Prelude.{◌≡◌, ◌≤◌, [], codes, map, option_map, IfSome};
+ghost use Rattle.std.specs.Prelude.{◌≡◌, ◌≤◌, [], codes, option_map, IfSome};
 ghost use Rattle.msg_json.specs.View.{view};
+ghost use Rattle.msg_form.specs.Filling.{Fills, whole_form_of};
 ghost use Rattle.msg_form.specs.Form.{PairForm, ClassForm, CategoryForm, ObjectForm, ImpForm};
 ghost use Rattle.msg_form.specs.Gives.{Gives};
 ghost use Rattle.msg_form.specs.Json.{field_of, name_of, whole_of};
 ghost use Rattle.msg_form.specs.Shape as spec;
-ghost use Rattle.msg_form.specs.Text.{Text, texts_view};
+ghost use Rattle.msg_form.specs.Text.{Text};
 ghost use Rattle.std.specs.List.{list_any};
 ghost use Rattle.msg_form.specs.Views.{pair_view, class_view, category_view, object_view};
 ghost use Rattle.msg_form.specs.Views.{imp_view, item_view, form_view};
@@ -277,7 +278,7 @@ impl<'v> Form<'v> {
     // The lists stay where they are, so that none is dropped where another can't be read.
     fn fill(&mut self, alloc: Global, bump: &'v Bump, value: &Tree<'v, '_>) -> Result<(), ReadFault>
         requires { self.old.made.items ≡ [] }
-        ensures { Gives (λ _. form_view self.new) result (spec.form_by self.old.version (view value.now)) }
+        ensures { Fills self.new result (spec.form_by self.old.version (view value.now)) }
     {
         if is_third(self.version) {
             self.fill_third(alloc, bump, value)
@@ -297,7 +298,7 @@ impl<'v> Form<'v> {
         value: &Tree<'v, '_>,
     ) -> Result<(), ReadFault>
         requires { self.old.made.items ≡ [] }
-        ensures { Gives (λ _. form_view self.new) result (spec.first_form_of self.old.version (view value.now)) }
+        ensures { Fills self.new result (spec.first_form_of self.old.version (view value.now)) }
     {
         if !has_keys(value, 6) {
             return Err(ReadFault::Shape);
@@ -317,7 +318,7 @@ impl<'v> Form<'v> {
         bump: &'v Bump,
         value: &Tree<'v, '_>,
     ) -> Result<(), ReadFault>
-        ensures { Gives (λ _. form_view self.new) result (spec.second_form_of self.old.version (view value.now)) }
+        ensures { Fills self.new result (spec.second_form_of self.old.version (view value.now)) }
     {
         self.fill_third(alloc, bump, value)?;
         if has_all(&self.items) {
@@ -334,7 +335,7 @@ impl<'v> Form<'v> {
         bump: &'v Bump,
         value: &Tree<'v, '_>,
     ) -> Result<(), ReadFault>
-        ensures { Gives (λ _. form_view self.new) result (spec.third_form_of self.old.version (view value.now)) }
+        ensures { Fills self.new result (spec.third_form_of self.old.version (view value.now)) }
     {
         if !has_keys(value, 7) {
             return Err(ReadFault::Shape);
@@ -351,7 +352,7 @@ impl<'v> Form<'v> {
         bump: &'v Bump,
         value: &Tree<'v, '_>,
     ) -> Result<(), ReadFault>
-        ensures { Gives (λ _. form_view self.new) result (spec.parts_of self.old.version (texts_view self.old.made.items) (view value.now)) }
+        ensures { Fills self.new result (whole_form_of self.old (view value.now)) }
     {
         self.classes = list_at(alloc, bump, value, "classes")?;
         self.categories = list_at(alloc, bump, value, "categories")?;
