@@ -1,5 +1,7 @@
 -- What a list of changes wrote, from the first entry to the last, and how it is taken back.
-use Rattle.std.specs.Prelude.{◌≡◌, ◌<◌, ◌≤◌, ◌*◌, ◌-◌, ℕ, zero, suc, Bool, true, false, List, [], ◌∷◌, ◌++◌, Option, Some, None, option_map, length, slice_set, take}
+use Rattle.std.specs.Prelude.{◌≡◌, ◌<◌, ◌≤◌, ◌*◌, ◌-◌, ℕ, zero, suc, Bool, true, false, List, [], ◌∷◌, ◌++◌, Option, Some, None, option_map, length, slice_set, take, Vec}
+use Rattle.std.specs.Borrow.{Bor}
+use Rattle.std.specs.Global.{Global}
 use Rattle.std.specs.List.{list_all}
 use Rattle.msg_names.specs.declared.value.ClassRef.{ClassRef}
 use Rattle.msg_names.specs.declared.value.ImpRef.{ImpRef}
@@ -99,6 +101,18 @@ pub record IsJournalOf (journal : List Entry) (old new : TablesView) : Type 0 wh
   pub supers : before_all supers_before journal new.supers ≡ old.supers
   pub order : before_all order_before journal new.order ≡ old.order
 
+-- the entry of a row that was rewritten takes it back
+abbrev pub TellsRewritten : MethodRow → TablesView → TablesView → Type 0
+TellsRewritten r old new = (was : ImpRef) → IsImpOf old r was → IsJournalOf (rewrote r was ∷ []) old new
+
+-- the entries of two take them back
+abbrev pub TellBothRewritten : MethodRow → MethodRow → TablesView → TablesView → Type 0
+TellBothRewritten first second old new = (one two : ImpRef) → IsImpOf old first one → IsImpOf old second two → IsJournalOf (rewrote first one ∷ rewrote second two ∷ []) old new
+
+-- the entries of a category that was attached take it back
+abbrev pub TellAttached : ℕ → List (ℕ × ℕ) → List (ℕ × ℕ) → TablesView → TablesView → Type 0
+TellAttached k methods class_methods old new = IsJournalOf (Added (of_class k) (length methods) ∷ Added (of_meta k) (length class_methods) ∷ []) old new
+
 -- the class references at which an edit adds or rewrites rows
 abbrev pub edit_places : Edit → List ClassRef
 edit_places (Append r) = r.class ∷ []
@@ -128,6 +142,10 @@ undo_entry (Added c zero) = Some []
 undo_entry (Added c (suc n)) = None
 undo_entry (Rewrote c s i) = Some (Replace c s i ∷ [])
 undo_entry (Made k) = None
+
+-- what takes an entry back comes behind changes that stand there
+abbrev pub AddsUndo : Entry → List Change → List Change → Type 0
+AddsUndo e xs longer = and_before (undo_entry e) (Some xs) ≡ Some longer
 
 -- those that take a journal back, the last entry first
 abbrev pub undo_journal : List Entry → Option (List Change)
@@ -169,6 +187,14 @@ pub record Journals (e : Edit) (journal longer : List Entry) (old new : TablesVi
   pub undone : undo_journal entries ≡ edit_undo old e
   pub listed : AllNameListed (length old.supers) entries
 
+-- the same of the vector that holds the journal
+abbrev pub IsNoted : Edit → Vec Entry Global → Vec Entry Global → TablesView → TablesView → Type 0
+IsNoted e journal longer old new = Journals e journal.items longer.items old new
+
+-- of a category that is attached
+abbrev pub IsAttachNoted : ℕ → Bor (List (ℕ × ℕ)) → Bor (List (ℕ × ℕ)) → Vec Entry Global → Vec Entry Global → TablesView → TablesView → Type 0
+IsAttachNoted k methods class_methods journal longer old new = IsNoted (Attach k methods class_methods) journal longer old new
+
 -- what tables keep, as far as contracts see it
 pub record IsSoundView (t : TablesView) : Type 0 where
   pub order : IsOrder t.supers t.order
@@ -183,3 +209,7 @@ pub record GoesBack (journal : List Entry) (rows changes : ℕ) (old now : Table
   pub sound : IsSoundView old
   pub back : IsJournalOf journal old now
   pub rest : old ≡ record now { supers = old.supers; order = old.order; lists = old.lists; row_count = rows; change_count = changes }
+
+-- whatever was there before the journal is there again
+abbrev pub AreTakenBack : List Entry → ℕ → ℕ → TablesView → TablesView → Type 0
+AreTakenBack journal rows changes now new = (old : TablesView) → GoesBack journal rows changes old now → new ≡ old

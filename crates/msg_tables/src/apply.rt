@@ -1,16 +1,14 @@
 //! Making changes.
 
 ghost use Rattle.std.specs.Prelude.{◌≡◌, ◌≢◌, ◌<◌, ◌≤◌, Option, Some, None, OnOk, OnErr, IfErr, IsErrOf, length, ◌+◌, [], ◌∷◌};
-ghost use Rattle.msg_names.specs.declared.value.ImpRef.{ImpRef};
 ghost use Rattle.msg_tables.specs.Accepts.{AcceptsRows, Makes, Refuses};
-ghost use Rattle.msg_tables.specs.After.{of_class, of_meta};
 ghost use Rattle.msg_tables.specs.declared.entry.Entry.{Entry};
 ghost use Rattle.msg_tables.specs.declared.fault.ChangeFault.{ChangeFault};
 ghost use Rattle.msg_tables.specs.declared.edit.Edit.{Edit};
 ghost use Rattle.msg_tables.specs.declared.edit.MethodRow.{MethodRow};
 ghost use Rattle.msg_tables.specs.Edits.{Fits, IsOwn, Writes, added};
 ghost use Rattle.msg_tables.specs.Log.{Log};
-ghost use Rattle.msg_tables.specs.Journal.{IsImpOf, IsJournalOf, lists_rewritten, rewrote};
+ghost use Rattle.msg_tables.specs.Journal.{IsImpOf, IsJournalOf, TellAttached, TellBothRewritten, TellsRewritten, lists_rewritten};
 ghost use Rattle.msg_tables.specs.Refusal.{refusal};
 ghost use Rattle.msg_tables.specs.Stands.{StandsAt};
 
@@ -42,7 +40,7 @@ impl Tables {
         ensures own { (other : MethodRow) → IsOwn self.old other → IsOwn self.new other }
         ensures value { self.new ≡ record self.old { lists = lists_rewritten row self.old.lists } }
         ensures was { IsImpOf self.old row result }
-        ensures back { (was : ImpRef) → IsImpOf self.old row was → IsJournalOf (rewrote row was ∷ []) self.old self.new }
+        ensures back { TellsRewritten row self.old self.new }
     {
         let was = self.lists.rewrite_row(row.class.slot(), row.sel, row.imp);
         was.unwrap()
@@ -52,7 +50,7 @@ impl Tables {
         requires first { IsOwn self.old first }
         requires second { IsOwn self.old second }
         ensures writes { Writes self.old self.new (Edit.RewriteBoth first second) }
-        ensures back { (one two : ImpRef) → IsImpOf self.old first one → IsImpOf self.old second two → IsJournalOf (rewrote first one ∷ rewrote second two ∷ []) self.old self.new }
+        ensures back { TellBothRewritten first second self.old self.new }
     {
         let _second = self.rewrite(second);
         let _first = self.rewrite(first);
@@ -67,7 +65,7 @@ impl Tables {
         requires { Fits self.old (Edit.Attach class methods class_methods) }
         ensures ok { OnOk result (Writes self.old self.new (Edit.Attach class methods.entry class_methods.entry)) }
         ensures err { OnErr result ((self.new ≡ self.old) × (0 < length methods.now + length class_methods.now)) }
-        ensures back { OnOk result (IsJournalOf (Entry.Added (of_class class) (length methods.now) ∷ Entry.Added (of_meta class) (length class_methods.now) ∷ []) self.old self.new) }
+        ensures back { OnOk result (TellAttached class methods.now class_methods.now self.old self.new) }
     {
         let own = methods.as_slice();
         let meta = class_methods.as_slice();

@@ -5,7 +5,7 @@ ghost use Rattle.std.specs.Vec.{vec_capacity};
 ghost use Rattle.msg_tables.specs.declared.fault.ChangeFault.{ChangeFault};
 ghost use Rattle.msg_tables.specs.Accepts.{Accepts, Makes, Refuses};
 ghost use Rattle.msg_tables.specs.Journal.{NamesListed, classes_of};
-ghost use Rattle.msg_tables.specs.Making.{AreMadeBefore, HasPlaces, IsMade, IsPart, IsRefused, IsUndone, LacksMemory, StandAfter, TellsAll};
+ghost use Rattle.msg_tables.specs.Making.{AreMadeBefore, AreMadeTo, HasPlaces, IsMade, IsPart, IsRefused, IsRefusedUnlessMemory, IsUndone, LacksMemory, StandAfter, TellsAll};
 ghost use Rattle.msg_tables.specs.Several.{made_by_all};
 
 use crate::change::Change;
@@ -64,8 +64,8 @@ impl Tables {
         requires none { journal.old.items ≡ [] }
         requires room { 2 * length changes.now ≤ vec_capacity journal.old }
         ensures ok { OnOk result (IsMade changes.now journal.new.items self.old self.new) }
-        ensures err { IfErr result (λ r. (r.place < length changes.now) × IsMade (take r.place changes.now) journal.new.items self.old self.new) }
-        ensures fault { IfErr result (λ r. r.fault ≢ ChangeFault.Memory → IsRefused changes.now self.old r) }
+        ensures err { IfErr result (AreMadeTo changes.now journal.new.items self.old self.new) }
+        ensures fault { IfErr result (IsRefusedUnlessMemory changes.now self.old) }
         ensures memory { IfErr result (LacksMemory changes.now self.old) }
     {
         for (place, change) in changes.iter().enumerate() {
@@ -84,7 +84,7 @@ impl Tables {
     pub fn apply_all(&mut self, changes: &[Change], room: Written) -> Result<Written, Refused>
         ensures ok { OnOk result (StandAfter changes.now self.old self.new) }
         ensures err { OnErr result (self.new ≡ self.old) }
-        ensures fault { IfErr result (λ r. r.fault ≢ ChangeFault.Memory → IsRefused changes.now self.old r) }
+        ensures fault { IfErr result (IsRefusedUnlessMemory changes.now self.old) }
         ensures memory { IfErr result (LacksMemory changes.now self.old) }
         ensures before { IfErr result (AreMadeBefore changes.now self.old) }
         ensures within { IfErr result (λ r. r.place < length changes.now) }

@@ -1,9 +1,8 @@
 //! What a list of changes wrote.
 
-ghost use Rattle.std.specs.Prelude.{◌≡◌, ◌<◌, ◌≤◌, ℕ, [], IfOk, IfSome, None, OnErr, Some, false, option_map, true};
+ghost use Rattle.std.specs.Prelude.{◌≡◌, ◌<◌, ◌≤◌, ℕ, [], IfOk, IfSome, None, OnErr, false, option_map, true};
 ghost use Rattle.std.specs.Vec.{vec_capacity};
-ghost use Rattle.msg_tables.specs.Journal.{NamesListed, place_of, undo_entry, undo_journal};
-ghost use Rattle.msg_tables.specs.Undo.{and_before};
+ghost use Rattle.msg_tables.specs.Journal.{AddsUndo, NamesListed, place_of, undo_entry, undo_journal};
 
 use crate::change::Change;
 use msg_names::{ClassRef, ImpRef, Selector};
@@ -46,7 +45,7 @@ impl Entry {
 
     // What takes the entry back, behind other changes. Answers whether anything does.
     fn give_back(self, changes: &mut Vec<Change>) -> Result<bool, AllocError>
-        ensures back { IfOk result (λ has. has ≡ true → and_before (undo_entry self) (Some changes.old.items) ≡ Some changes.new.items) }
+        ensures back { IfOk result (λ has. has ≡ true → AddsUndo self changes.old.items changes.new.items) }
         ensures none { IfOk result (λ has. has ≡ false → undo_entry self ≡ None) }
     {
         match self {

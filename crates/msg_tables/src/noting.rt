@@ -2,11 +2,11 @@
 
 ghost use Rattle.std.specs.Prelude.{◌≡◌, ◌<◌, ◌≤◌, ◌+◌, [], ◌∷◌, ◌++◌, OnOk, OnErr, length};
 ghost use Rattle.std.specs.Vec.{vec_capacity};
-ghost use Rattle.msg_tables.specs.declared.edit.Edit.{Edit};
+ghost use Rattle.msg_tables.specs.declared.edit.Edit.TheVariants.{Append, Attach, Make, Rewrite, RewriteBoth};
 ghost use Rattle.msg_tables.specs.declared.edit.MethodRow.{MethodRow};
 ghost use Rattle.msg_tables.specs.declared.entry.Entry.{Entry};
 ghost use Rattle.msg_tables.specs.Edits.{Fits, IsOwn};
-ghost use Rattle.msg_tables.specs.Journal.{Journals};
+ghost use Rattle.msg_tables.specs.Journal.{IsAttachNoted, IsNoted};
 
 use crate::edit::{Edit, MethodRow};
 use crate::entry::Entry;
@@ -41,9 +41,9 @@ fn note_rewritten(journal: &mut Vec<Entry>, row: MethodRow, was: ImpRef)
 
 impl Tables {
     fn append_noted(&mut self, row: MethodRow, journal: &mut Vec<Entry>) -> Result<(), AllocError>
-        requires fits { Fits self.old (Edit.Append row) }
+        requires fits { Fits self.old (Append row) }
         requires room { length journal.old.items < vec_capacity journal.old }
-        ensures ok { OnOk result (Journals (Edit.Append row) journal.old.items journal.new.items self.old self.new) }
+        ensures ok { OnOk result (IsNoted (Append row) journal.old journal.new self.old self.new) }
         ensures err { OnErr result ((self.new ≡ self.old) × (journal.new.items ≡ journal.old.items)) }
         ensures room { vec_capacity journal.old ≤ vec_capacity journal.new }
     {
@@ -61,7 +61,7 @@ impl Tables {
     fn rewrite_noted(&mut self, row: MethodRow, journal: &mut Vec<Entry>)
         requires own { IsOwn self.old row }
         requires room { length journal.old.items < vec_capacity journal.old }
-        ensures journals { Journals (Edit.Rewrite row) journal.old.items journal.new.items self.old self.new }
+        ensures journals { IsNoted (Rewrite row) journal.old journal.new self.old self.new }
         ensures room { vec_capacity journal.old ≤ vec_capacity journal.new }
     {
         let was = self.rewrite(row);
@@ -72,7 +72,7 @@ impl Tables {
         requires first { IsOwn self.old first }
         requires second { IsOwn self.old second }
         requires room { length journal.old.items + 2 ≤ vec_capacity journal.old }
-        ensures journals { Journals (Edit.RewriteBoth first second) journal.old.items journal.new.items self.old self.new }
+        ensures journals { IsNoted (RewriteBoth first second) journal.old journal.new self.old self.new }
         ensures room { vec_capacity journal.old ≤ vec_capacity journal.new }
     {
         let one = self.own(first.class, first.sel).unwrap();
@@ -85,40 +85,38 @@ impl Tables {
     fn attach_noted(
         &mut self,
         class: u32,
-        methods: &MethodList,
-        class_methods: &MethodList,
+        own: &MethodList,
+        meta: &MethodList,
         journal: &mut Vec<Entry>,
     ) -> Result<(), AllocError>
-        requires fits { Fits self.old (Edit.Attach class methods class_methods) }
+        requires fits { Fits self.old (Attach class own meta) }
         requires room { length journal.old.items + 2 ≤ vec_capacity journal.old }
-        ensures ok { OnOk result (Journals (Edit.Attach class methods.entry class_methods.entry) journal.old.items journal.new.items self.old self.new) }
+        ensures ok { OnOk result (IsAttachNoted class own.entry meta.entry journal.old journal.new self.old self.new) }
         ensures err { OnErr result ((self.new ≡ self.old) × (journal.new.items ≡ journal.old.items)) }
         ensures room { vec_capacity journal.old ≤ vec_capacity journal.new }
     {
-        self.attach(class, methods, class_methods)?;
-        let own = ClassRef { class, meta: false };
-        let meta = ClassRef { class, meta: true };
+        self.attach(class, own, meta)?;
         note(
             journal,
             Entry::Added {
-                class: own,
-                count: methods.as_slice().len(),
+                class: ClassRef { class, meta: false },
+                count: own.as_slice().len(),
             },
         );
         note(
             journal,
             Entry::Added {
-                class: meta,
-                count: class_methods.as_slice().len(),
+                class: ClassRef { class, meta: true },
+                count: meta.as_slice().len(),
             },
         );
         Ok(())
     }
 
     fn make_noted(&mut self, class: u32, superclass: Option<u32>, journal: &mut Vec<Entry>)
-        requires fits { Fits self.old (Edit.Make class superclass) }
+        requires fits { Fits self.old (Make class superclass) }
         requires room { length journal.old.items < vec_capacity journal.old }
-        ensures journals { Journals (Edit.Make class superclass) journal.old.items journal.new.items self.old self.new }
+        ensures journals { IsNoted (Make class superclass) journal.old journal.new self.old self.new }
         ensures room { vec_capacity journal.old ≤ vec_capacity journal.new }
     {
         self.make(class, superclass);
@@ -134,7 +132,7 @@ impl Tables {
     ) -> Result<(), AllocError>
         requires fits { Fits self.old edit }
         requires room { length journal.old.items + 2 ≤ vec_capacity journal.old }
-        ensures ok { OnOk result (Journals edit.entry journal.old.items journal.new.items self.old self.new) }
+        ensures ok { OnOk result (IsNoted edit.entry journal.old journal.new self.old self.new) }
         ensures err { OnErr result ((self.new ≡ self.old) × (journal.new.items ≡ journal.old.items)) }
         ensures room { vec_capacity journal.old ≤ vec_capacity journal.new }
     {

@@ -2,7 +2,7 @@
 
 ghost use Rattle.std.specs.Prelude.{◌≡◌, ◌-◌, None, length, slice_set, take, true, false};
 ghost use Rattle.std.specs.Vec.{vec_capacity};
-ghost use Rattle.msg_tables.specs.Journal.{lists_before, supers_before, order_before, before_all, makes, GoesBack, IsSoundView};
+ghost use Rattle.msg_tables.specs.Journal.{lists_before, supers_before, order_before, before_all, makes, AreTakenBack, GoesBack, IsSoundView};
 ghost use Rattle.msg_tables.specs.RowList.{rows_of};
 ghost use Rattle.msg_tables.specs.View.{TablesView};
 
@@ -94,7 +94,7 @@ impl Tables {
     // Takes back all that a journal tells of. No memory is taken; where a class was made, all classes are gone over.
     pub(crate) fn take_back(&mut self, start: Start, journal: &mut Vec<Entry>)
         requires { (old : TablesView) × GoesBack journal.old.items start.rows start.changes old self.old }
-        ensures { (old : TablesView) → GoesBack journal.old.items start.rows start.changes old self.old → self.new ≡ old }
+        ensures { AreTakenBack journal.old.items start.rows start.changes self.old self.new }
     {
         let made = unwrite_all(journal, &mut self.supers, &mut self.order, &mut self.lists);
         self.row_count = start.rows;
