@@ -1,7 +1,7 @@
 //! Files of edits.
 
 use crate::{read, run_of};
-use msg_runner::RunFault;
+use msg_devices::RunFault;
 use std::alloc::Global;
 use std::io;
 use std::sync::Wait;

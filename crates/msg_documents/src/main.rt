@@ -7,7 +7,8 @@
 mod edits;
 
 use edits::Edits;
-use msg_runner::{FromReader, OpenGate, RunFault, ToWriter, run};
+use msg_devices::{FromReader, RunFault, ToWriter};
+use msg_runner::{OpenGate, run};
 use std::alloc::Global;
 use std::sync::Wait;
 use std::thread::{self, Threads};

@@ -1,8 +1,8 @@
 //! The words of the command line, and what is said of a fault.
 
 use crate::same::{same, same_at};
+use msg_devices::{Program, RunFault, ToWriter, arguments, complain};
 use msg_form::DocumentFault;
-use msg_runner::{Program, RunFault, ToWriter, arguments, complain};
 use std::alloc::Global;
 use std::io;
 use std::process::Abort;

@@ -4,7 +4,8 @@ ghost use Rattle.std.specs.Prelude.{◌≡◌, false};
 
 use crate::runs::Way;
 use crate::same::{same, same_at};
-use msg_runner::{Failed, FromReader, OpenGate, RunFault, Sink, Source, ToWriter, run, run_beside};
+use msg_devices::{Failed, FromReader, RunFault, Sink, Source, ToWriter};
+use msg_runner::{OpenGate, run, run_beside};
 use msg_samples::SMALL;
 use std::alloc::Global;
 use std::io::{self, ErrorKind, Read, Write};

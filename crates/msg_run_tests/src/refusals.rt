@@ -2,8 +2,9 @@
 
 use crate::runs::{Way, ran};
 use crate::same::same_at;
+use msg_devices::RunFault;
 use msg_form::DocumentFault;
-use msg_runner::{OpenGate, RunFault};
+use msg_runner::OpenGate;
 use msg_samples::SMALL;
 use std::alloc::Global;
 use std::process::Abort;

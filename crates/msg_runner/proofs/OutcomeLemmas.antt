@@ -8,8 +8,8 @@ use Rattle.msg_image.specs.Opened.{origin_of}
 use Rattle.msg_tables.specs.History.{empty}
 use Rattle.msg_runner.specs.Lines.{AreLines}
 use Rattle.msg_runner.specs.Outcome.{WroteBy, WroteFrontBy}
-use Rattle.msg_runner.specs.Text.{output_of}
-use Rattle.msg_runner.specs.Writing.{AppendsFront}
+use Rattle.msg_answers.specs.Text.{output_of}
+use Rattle.msg_devices.specs.Writing.{AppendsFront}
 use Rattle.msg_runner.specs.declared.changes.Changes.{Changes}
 use Rattle.msg_runner.specs.declared.changes.Changes.TheVariants.{Between, Beside}
 

@@ -1,12 +1,14 @@
 -- The lines that a run makes.
-use Rattle.std.specs.Prelude.{◌≡◌, ℕ, List, []}
+use Rattle.std.specs.Prelude.{◌≡◌, ℕ, List, [], map}
 use Rattle.msg_image.specs.Items.{DocumentParts, ItemParts}
 use Rattle.msg_image.specs.Opened.{origin_of}
 use Rattle.msg_image.specs.Parts.{ImageParts}
+use Rattle.msg_image.specs.Plain.{item_parts}
 use Rattle.msg_tables.specs.History.{History, empty}
-use Rattle.msg_runner.specs.Serial.{serial_from}
-use Rattle.msg_runner.specs.Serving.{AllSends, AreAnswered}
-use Rattle.msg_runner.specs.Text.{text_of}
+use Rattle.msg_answers.specs.Serial.{serial_from}
+use Rattle.msg_answers.specs.Serving.{AllSends, AreAnswered}
+use Rattle.msg_answers.specs.Text.{text_of}
+use Rattle.msg_answers.specs.declared.part.Part.{Part}
 use Rattle.msg_runner.specs.declared.changes.Changes.{Changes}
 use Rattle.msg_runner.specs.declared.changes.Changes.TheVariants.{Between, Beside}
 
@@ -14,6 +16,10 @@ use Rattle.msg_runner.specs.declared.changes.Changes.TheVariants.{Between, Besid
 abbrev pub AreLines : Changes → ImageParts → ℕ → ℕ → History → List ItemParts → List ℕ → Type 0
 AreLines Between image workers cut h items text = text ≡ text_of image (serial_from image h items)
 AreLines Beside image workers cut h items text = AreAnswered image workers cut h items [] text × (AllSends items → text ≡ text_of image (serial_from image h items))
+
+-- the same of a part
+abbrev pub AreLinesOfPart : Changes → Part → History → List ℕ → Type 0
+AreLinesOfPart changes p h text = AreLines changes p.image.now p.deal.workers p.deal.cut h (map item_parts p.items.now) text
 
 -- the same of a document, from its first item on
 abbrev pub AreLinesOf : Changes → ℕ → ℕ → DocumentParts → List ℕ → Type 0

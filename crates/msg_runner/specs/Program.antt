@@ -3,8 +3,8 @@ use Rattle.std.specs.Prelude.{ℕ, List, Option, Some, None}
 use Rattle.msg_runner.specs.Outcome.{WroteBy}
 use Rattle.msg_runner.specs.declared.changes.Changes.{Changes}
 use Rattle.msg_runner.specs.declared.changes.Changes.TheVariants.{Between, Beside}
-use Rattle.msg_runner.specs.declared.complaint.Program.{Program}
-use Rattle.msg_runner.specs.declared.complaint.Program.TheVariants.{Msgrun, Msgbeside}
+use Rattle.msg_devices.specs.declared.complaint.Program.{Program}
+use Rattle.msg_devices.specs.declared.complaint.Program.TheVariants.{Msgrun, Msgbeside}
 
 -- when a program makes the changes
 abbrev pub changes_of : Program → Changes

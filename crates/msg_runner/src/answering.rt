@@ -1,17 +1,14 @@
 //! What the programs do, from the words of the command line to the exit status.
 
 ghost use Rattle.std.specs.Prelude.{◌≡◌, List, ℕ, false, map, string_bytes, IfErr, IfSome, OnOk};
-ghost use Rattle.msg_runner.specs.CommandLine.{arguments_of};
-ghost use Rattle.msg_runner.specs.Complaint.{status_of};
+ghost use Rattle.msg_devices.specs.CommandLine.{arguments_of};
+ghost use Rattle.msg_devices.specs.Complaint.{status_of};
 ghost use Rattle.msg_runner.specs.Outcome.{WroteBy, Leaves};
 ghost use Rattle.msg_runner.specs.Program.{changes_of, WroteAsked};
 
-use crate::command_line::{arguments, words};
-use crate::complaint::{Program, complain};
-use crate::device::{Sink, Source};
-use crate::fault::RunFault;
 use crate::gate::OpenGate;
 use crate::running::{run, run_beside};
+use msg_devices::{Program, RunFault, Sink, Source, arguments, complain, words};
 use std::alloc::{Alloc, Global};
 use std::env::Env;
 use std::sync::Wait;
@@ -91,7 +88,7 @@ pub fn answer_words<R: Source, W: Sink, C: Sink, T: Threads + Wait + Sync>(
 
 /// What a program does: it answers a document as the words that it was started with ask, and gives the exit status.
 ///
-/// `whole` names no words, since no clause says what [`words`] gives.
+/// `whole` names no words, since no clause says what `words` gives.
 pub fn answer<R: Source, W: Sink, C: Sink, T: Env + Alloc<A = Global> + Threads + Wait + Sync>(
     rt: &T,
     program: Program,

@@ -1,22 +1,19 @@
 //! A batch: items whose sends are shared out among workers, while the changes among them are made.
 
 ghost use Rattle.std.specs.Prelude.{◌≡◌, ◌≤◌, ◌<◌, ◌+◌, ◌^◌, ◌⊎◌, [], true};
-ghost use Rattle.std.specs.Prelude.{count_by, length, map, vec_len, IfOk, OnOk};
+ghost use Rattle.std.specs.Prelude.{length, vec_len, IfOk, OnOk};
 ghost use Rattle.msg_image.specs.Opened.{origin_of};
-ghost use Rattle.msg_image.specs.Plain.{item_parts};
-ghost use Rattle.msg_runner.specs.Parts.{history_past, HasServed, IsAnsweredBeside, IsSoundPart};
-ghost use Rattle.msg_runner.specs.Parts.{PartChanges, PartPieces};
-ghost use Rattle.msg_runner.specs.Serving.{is_send};
+ghost use Rattle.msg_answers.specs.Parts.{history_past, IsAnsweredBeside, IsSoundPart};
+ghost use Rattle.msg_answers.specs.Parts.{PartChanges, PartPieces};
+ghost use Rattle.msg_runner.specs.Batch.{HasServed};
 
 use crate::beside::{Batch, answer_beside, answer_by};
 use crate::changes::make_changes;
 use crate::context::Run;
 use crate::crew::Crew;
 use crate::gate::Gate;
-use crate::gather::gather;
-use crate::part::{Counts, Part, Share};
+use msg_answers::{Counts, Part, Share, gather, sends_in};
 use msg_dispatch::ArenaName;
-use msg_image::Item;
 use std::alloc::AllocError;
 use std::sync::Wait;
 use std::thread::{Scope, Threads};
@@ -60,16 +57,6 @@ impl<'r, G: Gate, R: Wait> Run<'r, G, R> {
         taken?;
         Ok(())
     }
-}
-
-// How many of the items are sends.
-fn sends_in(items: &[Item]) -> usize
-    ensures { result ≡ count_by is_send (map item_parts items.now) }
-{
-    items
-        .iter()
-        .filter(|item| matches!(item, Item::Send { .. }))
-        .count()
 }
 
 // How many workers take part in so many pieces.

@@ -5,15 +5,15 @@ ghost use Rattle.msg_image.specs.Plain.{item_parts};
 ghost use Rattle.msg_tables.specs.History.{log};
 ghost use Rattle.msg_tables.specs.Refusal.{refusal};
 ghost use Rattle.msg_tables.specs.Several.{refused_from};
-ghost use Rattle.msg_runner.specs.Serial.{history_after, longer_by};
-ghost use Rattle.msg_runner.specs.Serial.{outcome_at, outcome_of, outcome_of_first};
-ghost use Rattle.msg_runner.specs.Serving as spec;
-ghost use Rattle.msg_runner.specs.Serving.{history_of, outcomes_of};
+ghost use Rattle.msg_answers.specs.Serial.{history_after, longer_by};
+ghost use Rattle.msg_answers.specs.Serial.{outcome_at, outcome_of, outcome_of_first};
+ghost use Rattle.msg_answers.specs.Serving.{history_of, outcomes_of};
 
 use crate::gate::Gate;
+use msg_answers::{Outcome, is_send};
 use msg_dispatch::{ArenaName, Changer};
 use msg_image::{Change, Item};
-use msg_tables::{ChangeFault, Refused};
+use msg_tables::ChangeFault;
 use std::alloc::{AllocError, Global};
 use std::sync::Wait;
 
@@ -24,15 +24,6 @@ pub(crate) enum Changes {
     Between,
     // In their order, beside the sends.
     Beside,
-}
-
-// What becomes of a change, or of several that are made as one.
-#[derive(Clone, Copy)]
-pub(crate) enum Outcome {
-    Made,
-    Refused(ChangeFault),
-    // The first of several that would be refused, and none was made.
-    RefusedAt(Refused),
 }
 
 // Makes a change.
@@ -72,13 +63,6 @@ fn change_as_one<'d, N: ArenaName, R: Wait>(
             _ => Ok(Outcome::RefusedAt(refused)),
         },
     }
-}
-
-// Whether an item is a send.
-pub(crate) fn is_send(item: &Item) -> bool
-    ensures { result ≡ spec.is_send (item_parts item.now) }
-{
-    matches!(item, Item::Send { .. })
 }
 
 // Makes an item's changes, and says what became of them.

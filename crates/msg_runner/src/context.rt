@@ -1,8 +1,8 @@
 //! What a run has at hand.
 
 use crate::changes::Changes;
-use crate::deal::Deal;
 use crate::gate::Gate;
+use msg_answers::Deal;
 use std::alloc::Global;
 use std::sync::Wait;
 

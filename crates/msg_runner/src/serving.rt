@@ -1,61 +1,31 @@
 //! The lines of a document: over an arena, by a dispatcher, with a scope for its threads, part by part.
 
-ghost use Rattle.std.specs.Prelude.{◌≡◌, ◌≤◌, ◌<◌, ◌⊎◌, false, true};
-ghost use Rattle.std.specs.Prelude.{length, map, take, vec_len, IfOk, OnOk};
+ghost use Rattle.std.specs.Prelude.{◌≡◌, ◌≤◌, ◌⊎◌};
+ghost use Rattle.std.specs.Prelude.{length, vec_len, IfOk, OnOk};
 ghost use Rattle.std.specs.Thread.{IsSync};
 ghost use Rattle.msg_image.specs.DocumentParts.{document_parts};
 ghost use Rattle.msg_image.specs.Opened.{origin_of};
-ghost use Rattle.msg_image.specs.Plain.{item_parts};
 ghost use Rattle.msg_tables.specs.History.{empty};
 ghost use Rattle.msg_runtime.specs.Parts.{IsKeeperOf, keeper_history};
-ghost use Rattle.msg_runner.specs.Lines.{AreLinesOf};
-ghost use Rattle.msg_runner.specs.Parts.{items_of, history_past, AreLinesOfPart, HasLines};
-ghost use Rattle.msg_runner.specs.Parts.{IsSoundDocument, IsSoundPart, PartChanges, PartPieces};
-ghost use Rattle.msg_runner.specs.Serving.{AllSends, IsOneChange};
+ghost use Rattle.msg_devices.specs.Reading.{IsSoundDocument};
+ghost use Rattle.msg_answers.specs.Parts.{items_of, history_past, HasLines, IsSoundPart};
+ghost use Rattle.msg_answers.specs.Parts.{PartChanges, PartPieces};
+ghost use Rattle.msg_answers.specs.Serving.{AllSends, IsOneChange};
+ghost use Rattle.msg_runner.specs.Lines.{AreLinesOf, AreLinesOfPart};
 
 use crate::arrays::arrays_for;
-use crate::changes::{Changes, is_send};
+use crate::changes::Changes;
 use crate::context::Run;
 use crate::crew::Crew;
 use crate::gate::Gate;
-use crate::part::{Counts, Part};
+use msg_answers::{Counts, Part, is_one_change, part_len};
 use msg_cache::{Arena, Config, Keeper};
 use msg_dispatch::{ArenaName, Dispatcher, Sender};
-use msg_image::{Document, Image, Item, MAX_ITEMS};
+use msg_image::{Document, Image, MAX_ITEMS};
 use std::alloc::{AllocError, Global};
 use std::sync::Wait;
 use std::thread;
 use std::thread::{Scope, Threads};
-
-// How many items are a part: the sends before the next item of changes, or one such item.
-fn part_len(items: &[Item]) -> usize
-    requires { 0 < length items.now }
-    ensures some { 0 < result }
-    ensures inside { result ≤ length items.now }
-    ensures part { AllSends (map item_parts (take result items.now))
-        ⊎ IsOneChange (map item_parts (take result items.now)) }
-{
-    let mut count = 0;
-    while count < items.len() {
-        if !is_send(&items[count]) {
-            return if count == 0 { 1 } else { count };
-        }
-        count += 1;
-    }
-    count
-}
-
-// Whether a part is an item of changes, and not sends.
-fn is_one_change(items: &[Item]) -> bool
-    requires { AllSends (map item_parts items.now) ⊎ IsOneChange (map item_parts items.now) }
-    ensures changes { result ≡ true → IsOneChange (map item_parts items.now) }
-    ensures sends { result ≡ false → AllSends (map item_parts items.now) }
-{
-    match items.first() {
-        Some(item) => !is_send(item),
-        None => false,
-    }
-}
 
 // Whether a part has something for a second worker: more than one piece of sends.
 fn is_shared(part: Part<'_>) -> bool {

@@ -4,12 +4,12 @@ ghost use Rattle.std.specs.Prelude.{◌≡◌, ◌<◌, ◌==◌, All, length, I
 ghost use Rattle.msg_image.specs.Opened.{origin_of};
 ghost use Rattle.msg_image.specs.Sound.{IsOf};
 ghost use Rattle.msg_eval.specs.Evaluation.{send_of};
-ghost use Rattle.msg_runner.specs.Parts.{part_worker, IsSoundPart, Serves};
-ghost use Rattle.msg_runner.specs.Serving.{Goes};
+ghost use Rattle.msg_answers.specs.Parts.{part_worker, IsSoundPart, Serves};
+ghost use Rattle.msg_answers.specs.Serving.{Goes};
 
 use crate::asking::Asking;
 use crate::gate::Gate;
-use crate::part::Share;
+use msg_answers::Share;
 use msg_dispatch::ArenaName;
 use msg_eval::{Args, Reply};
 use msg_image::Item;

@@ -1,7 +1,8 @@
 //! Reads a document from standard input, makes its changes beside its sends, and writes the answers to standard output: `msgbeside [workers [cut]]`.
 #![tactic(auto)]
 
-use msg_runner::{FromReader, Program, ToWriter, answer};
+use msg_devices::{FromReader, Program, ToWriter};
+use msg_runner::answer;
 use std::process::ExitCode;
 
 fn main(rt: HostRuntime) -> ExitCode {

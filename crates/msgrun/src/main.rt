@@ -1,7 +1,8 @@
 //! Reads a document from standard input and writes its answers to standard output: `msgrun [workers [cut]]`.
 #![tactic(auto)]
 
-use msg_runner::{FromReader, Program, ToWriter, answer};
+use msg_devices::{FromReader, Program, ToWriter};
+use msg_runner::answer;
 use std::process::ExitCode;
 
 fn main(rt: HostRuntime) -> ExitCode {

@@ -1,7 +1,8 @@
 //! `msgrun` once more, whose stored run has words that are refused (a crate has one): the cut is 0, so the status is 2 and nothing is written.
 #![tactic(auto)]
 
-use msg_runner::{FromReader, Program, ToWriter, answer};
+use msg_devices::{FromReader, Program, ToWriter};
+use msg_runner::answer;
 use std::process::ExitCode;
 
 fn main(rt: HostRuntime) -> ExitCode {

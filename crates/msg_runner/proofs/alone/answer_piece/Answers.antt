@@ -3,9 +3,9 @@ use Rattle.std.proofs.lemmas.List.{nil_from_length}
 use Rattle.msg_image.specs.Items.{SendItem}
 use Rattle.msg_image.specs.Plain.{item_parts}
 use Rattle.msg_image.specs.Sound.{IsSoundItem}
-use Rattle.msg_runner.specs.Serving.{sends_of}
-use Rattle.msg_runner.proofs.ServingLemmas.{all_head, not_a_send}
-use Rattle.msg_runner.proofs.WrittenLemmas.{writing_start, writing_here, writing_send, writing_changes, writing_end}
+use Rattle.msg_answers.specs.Serving.{sends_of}
+use Rattle.msg_answers.proofs.ServingLemmas.{all_head, not_a_send}
+use Rattle.msg_answers.proofs.WrittenLemmas.{writing_start, writing_here, writing_send, writing_changes, writing_end}
 use Rattle.msg_runner.proofs.alone.answer_piece.Goals as goal
 
 pub loop-item-init : goal.loop-item-init

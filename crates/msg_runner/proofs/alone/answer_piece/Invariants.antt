@@ -1,7 +1,7 @@
 use Rattle.std.proofs.Common.{length, map}
 use Rattle.msg_image.specs.Plain.{item_parts}
-use Rattle.msg_runner.specs.Serving.{sends_of}
-use Rattle.msg_runner.proofs.WrittenLemmas.{IsWriting}
+use Rattle.msg_answers.specs.Serving.{sends_of}
+use Rattle.msg_answers.proofs.WrittenLemmas.{IsWriting}
 use Rattle.msg_runner.proofs.alone.answer_piece.Given as goal
 
 abbrev pub invariant-loop-item : goal.invariant-loop-item

@@ -3,10 +3,10 @@ use Rattle.std.specs.Prelude.{All}
 use Rattle.msg_image.specs.Items.{ItemParts}
 use Rattle.msg_image.specs.Plain.{item_parts}
 use Rattle.msg_image.specs.Sound.{IsSoundItem}
-use Rattle.msg_runner.specs.Serving.{pieces_of, sends_of}
-use Rattle.msg_runner.proofs.PartLemmas.{all_left, split_named}
-use Rattle.msg_runner.proofs.PieceLemmas.{pieces_step}
-use Rattle.msg_runner.proofs.WrittenLemmas.{writing_part}
+use Rattle.msg_answers.specs.Serving.{pieces_of, sends_of}
+use Rattle.msg_answers.proofs.PartLemmas.{all_left, split_named}
+use Rattle.msg_answers.proofs.PieceLemmas.{pieces_step}
+use Rattle.msg_answers.proofs.WrittenLemmas.{writing_part}
 use Rattle.msg_runner.proofs.alone.answer_pieces.Goals as goal
 
 pub answer_piece-requires-clause-sound : goal.answer_piece-requires-clause-sound

@@ -4,8 +4,8 @@ use Rattle.std.proofs.lemmas.List.{length-map}
 use Rattle.msg_image.specs.Plain.{item_parts}
 use Rattle.msg_tables.specs.History.{History, BeginsWith}
 use Rattle.msg_eval.specs.declared.reply.Reply.{Reply}
-use Rattle.msg_runner.specs.Serving.{Served, share_of, worker_of, sends_of, at_worker}
-use Rattle.msg_runner.proofs.ServingLemmas.{push_worker, map_snoc, share_taken}
+use Rattle.msg_answers.specs.Serving.{Served, share_of, worker_of, sends_of, at_worker}
+use Rattle.msg_answers.proofs.ServingLemmas.{push_worker, map_snoc, share_taken}
 use Rattle.msg_runner.proofs.beside.+answer_beside.Goals as goal
 
 pub returns-clause-each : goal.returns-clause-each

@@ -5,7 +5,8 @@ use Rattle.std.proofs.Crossing.{crosses}
 use Rattle.msg_dispatch.specs.contracts.sender.Sender as Sender
 use Rattle.msg_dispatch.proofs.CrossingLemmas.{Sender-send}
 use Rattle.msg_runner.specs.contracts.crew.Done as Done
-use Rattle.msg_runner.proofs.CrossingLemmas.{Done-send, Share-send}
+use Rattle.msg_answers.proofs.CrossingLemmas.{Share-send}
+use Rattle.msg_runner.proofs.CrossingLemmas.{Done-send}
 use Rattle.msg_runner.proofs.beside.start.Goals as goal
 
 pub spawn_with-requires-send-F : goal.spawn_with-requires-send-F

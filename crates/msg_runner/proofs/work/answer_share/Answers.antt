@@ -3,8 +3,8 @@ use Rattle.std.proofs.lemmas.List.{nil_from_length}
 use Rattle.msg_image.specs.Plain.{item_parts}
 use Rattle.msg_image.specs.Items.{SendItem}
 use Rattle.msg_image.specs.Sound.{IsSoundItem}
-use Rattle.msg_runner.specs.Serving.{share_of, worker_of, sends_of}
-use Rattle.msg_runner.proofs.ServingLemmas.{serving_start, serving_here, serving_send, serving_changes, serving_end, all_head, not_a_send}
+use Rattle.msg_answers.specs.Serving.{share_of, worker_of, sends_of}
+use Rattle.msg_answers.proofs.ServingLemmas.{serving_start, serving_here, serving_send, serving_changes, serving_end, all_head, not_a_send}
 use Rattle.msg_runner.proofs.work.answer_share.Goals as goal
 
 pub loop-item-init : goal.loop-item-init

@@ -1,7 +1,7 @@
 use Rattle.std.proofs.Common.{◌+◌, ◌≤◌, length, map}
 use Rattle.msg_image.specs.Plain.{item_parts}
-use Rattle.msg_runner.specs.Serving.{share_of, worker_of, sends_of}
-use Rattle.msg_runner.proofs.ServingLemmas.{IsServing}
+use Rattle.msg_answers.specs.Serving.{share_of, worker_of, sends_of}
+use Rattle.msg_answers.proofs.ServingLemmas.{IsServing}
 use Rattle.msg_runner.proofs.work.answer_share.Given as goal
 
 abbrev pub invariant-loop-item : goal.invariant-loop-item

@@ -1,4 +1,4 @@
-use Rattle.msg_runner.proofs.ServingLemmas.{rise_from}
+use Rattle.msg_answers.proofs.ServingLemmas.{rise_from}
 use Rattle.std.proofs.Common.{subst, sym}
 use Rattle.msg_eval.specs.Points.{last_of}
 use Rattle.msg_tables.specs.History.{BeginsWith}

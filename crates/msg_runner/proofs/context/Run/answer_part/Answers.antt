@@ -3,10 +3,10 @@ use Rattle.std.specs.Prelude.{count_by}
 use Rattle.std.proofs.lemmas.Grind.{common_steps}
 use Rattle.std.proofs.lemmas.List.{length-map}
 use Rattle.msg_image.specs.Plain.{item_parts}
-use Rattle.msg_runner.specs.Serving.{AllSends, is_send, pieces_of}
-use Rattle.msg_runner.proofs.AnsweredLemmas.{sends_stay}
-use Rattle.msg_runner.proofs.PartLemmas.{answered_serial, where_ok}
-use Rattle.msg_runner.proofs.PieceLemmas.{all_count}
+use Rattle.msg_answers.specs.Serving.{AllSends, is_send, pieces_of}
+use Rattle.msg_answers.proofs.AnsweredLemmas.{sends_stay}
+use Rattle.msg_answers.proofs.PartLemmas.{answered_serial, where_ok}
+use Rattle.msg_answers.proofs.PieceLemmas.{all_count}
 use Rattle.msg_runner.proofs.context.Run.answer_part.Goals as goal
 
 pub returns-then-is_shared-clause-text : goal.returns-then-is_shared-clause-text

@@ -1,9 +1,9 @@
 use Rattle.std.proofs.Common.{rules, map, subst, sym, ◌∙◌}
 use Rattle.msg_image.specs.Plain.{item_parts}
 use Rattle.msg_tables.specs.History.{BeginsWith}
-use Rattle.msg_runner.specs.Serving.{sends_of}
-use Rattle.msg_runner.specs.Written.{AreWritten}
-use Rattle.msg_runner.proofs.WrittenLemmas.{written_begins, written_serial}
+use Rattle.msg_answers.specs.Serving.{sends_of}
+use Rattle.msg_answers.specs.Written.{AreWritten}
+use Rattle.msg_answers.proofs.WrittenLemmas.{written_begins, written_serial}
 use Rattle.msg_runner.proofs.context.Run.answer_sends.Goals as goal
 
 pub returns-clause-text : goal.returns-clause-text

@@ -1,0 +1,5 @@
+pub mod Parts
+pub mod Serial
+pub mod Serving
+pub mod Text
+pub mod Written
