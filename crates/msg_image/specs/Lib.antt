@@ -3,10 +3,12 @@ pub mod Contents
 pub mod Document
 pub mod Inside
 pub mod Items
+pub mod Laws
 pub mod Numbers
 pub mod Opened
 pub mod Parts
 pub mod Plain
+pub mod Resolved
 pub mod Sizes
 pub mod Sound
 pub mod Answer

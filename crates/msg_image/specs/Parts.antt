@@ -1,5 +1,5 @@
 -- The parts of an image, with no pointers.
-use Rattle.std.specs.Prelude.{ℕ, ◌+◌, ◌++◌, length, map, List, [], ◌∷◌, Option, Some, None, slice_get, if◌then◌else◌}
+use Rattle.std.specs.Prelude.{ℕ, suc, ◌+◌, ◌++◌, length, map, List, [], ◌∷◌, Option, Some, None, slice_get, if◌then◌else◌}
 use Rattle.std.specs.Option.{option_map_or}
 use Rattle.msg_order.specs.Superclasses.{depth_of}
 use Rattle.msg_names.specs.ClassRef.{above}
@@ -7,6 +7,7 @@ use Rattle.msg_names.specs.declared.value.Selector.{Selector}
 use Rattle.msg_names.specs.Number.{selector_of}
 use Rattle.msg_names.specs.declared.value.Value.{Value}
 use Rattle.msg_names.specs.declared.value.ClassRef.{ClassRef}
+use Rattle.msg_names.specs.declared.value.ObjectRef.{ObjectRef}
 use Rattle.msg_tables.specs.declared.origin.Category.{Category}
 
 -- the operations on two values
@@ -91,6 +92,14 @@ superclasses image = map (λ (c : ClassParts). c.superclass) image.classes
 -- how many superclasses stand above a listed class
 abbrev pub depth_in : ImageParts → ℕ → ℕ
 depth_in image k = depth_of (superclasses image) k
+
+-- one more than so many stand above a superclass, and none where there is no superclass
+abbrev pub one_deeper : ImageParts → Option ℕ → ℕ
+one_deeper image superclass = option_map_or (λ d. suc (depth_in image d)) superclass 0
+
+-- the object of a number, where there is one
+abbrev pub object_at : ImageParts → ObjectRef → Option ObjectParts
+object_at image o = slice_get image.objects o.object
 
 -- the listed methods of a class reference, whose class has these parts
 abbrev pub methods_of : ClassRef → ClassParts → List (ℕ × ℕ)

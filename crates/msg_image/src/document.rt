@@ -1,16 +1,15 @@
 //! Documents.
 
-ghost use Rattle.std.specs.Prelude.{◌≡◌, ◌≢◌, ◌≤◌, ℕ, List, length, map, All, Result, Some, None, Ok, Err, IfOk, IfErr};
+ghost use Rattle.std.specs.Prelude.{◌≡◌, ◌≢◌, ◌≤◌, length, map, All, Some, None, Ok, Err, IfOk, IfErr};
 ghost use Rattle.msg_json.specs.View.{view};
 ghost use Rattle.msg_form.specs.Faults.{fault_of};
-ghost use Rattle.msg_form.specs.Form.{Form};
 ghost use Rattle.msg_form.specs.FormNames.{AreNamesOf};
 ghost use Rattle.msg_form.specs.Views.{form_view};
 ghost use Rattle.msg_form.specs.declared.faults.DocumentFault.{DocumentFault};
-ghost use Rattle.msg_image.specs.Answer.{IsAnswer, IsJson, IsJudged, Spells, judged};
+ghost use Rattle.msg_image.specs.Answer.{BytesHaveOneAnswer, IsAnswer, IsFaultOf, IsJson, IsJudged};
+ghost use Rattle.msg_image.specs.Answer.{SaysNotJson, Spells, judged};
 ghost use Rattle.msg_image.specs.Document.{document_of};
 ghost use Rattle.msg_image.specs.DocumentParts.{document_parts};
-ghost use Rattle.msg_image.specs.Items.{DocumentParts};
 ghost use Rattle.msg_image.specs.Plain.{item_parts};
 ghost use Rattle.msg_image.specs.Sound.{IsSoundItem};
 
@@ -41,7 +40,7 @@ fn parsed<'t, 'b>(
     scratch: &'t mut Scratch,
 ) -> Result<Tree<'t, 'b>, DocumentFault>
     ensures ok { IfOk result (λ v. IsJson bytes.now (Some (view v))) }
-    ensures err { IfErr result (λ e. e ≢ DocumentFault.Memory → (e ≡ DocumentFault.NotJson) × IsJson bytes.now None) }
+    ensures err { IfErr result (SaysNotJson bytes.now) }
 {
     match msg_json::read(alloc, bump, bytes, scratch) {
         Ok(value) => Ok(value),
@@ -67,7 +66,7 @@ fn numbered(alloc: Global, form: &Form, names: &FormNames) -> Result<Document, A
 fn by_names(alloc: Global, form: &Form, names: &FormNames) -> Result<Document, DocumentFault>
     requires { AreNamesOf names.now (form_view form.now) }
     ensures ok { IfOk result (λ d. judged (Some (form_view form.now)) ≡ Ok (document_parts d)) }
-    ensures err { IfErr result (λ e. e ≢ DocumentFault.Memory → judged (Some (form_view form.now)) ≡ Err e) }
+    ensures err { IfErr result (IsFaultOf (form_view form.now)) }
     ensures sound { IfOk result (λ d. All (IsSoundItem d.image) (map item_parts d.items.items)) }
     ensures few { IfOk result (λ d. length d.items.items ≤ MAX_ITEMS) }
 {
@@ -82,7 +81,7 @@ fn by_names(alloc: Global, form: &Form, names: &FormNames) -> Result<Document, D
 /// Takes time and memory in the order of the form. `Memory` may be answered wherever a growth is refused; every other fault says of the form what its name says.
 pub fn judge_form(alloc: Global, form: &Form) -> Result<Document, DocumentFault>
     ensures ok { IfOk result (λ d. judged (Some (form_view form.now)) ≡ Ok (document_parts d)) }
-    ensures err { IfErr result (λ e. e ≢ DocumentFault.Memory → judged (Some (form_view form.now)) ≡ Err e) }
+    ensures err { IfErr result (IsFaultOf (form_view form.now)) }
     ensures sound { IfOk result (λ d. All (IsSoundItem d.image) (map item_parts d.items.items)) }
     ensures few { IfOk result (λ d. length d.items.items ≤ MAX_ITEMS) }
 {
@@ -137,5 +136,5 @@ pub fn read_document(alloc: Global, bytes: &[u8]) -> Result<Document, DocumentFa
 /// Bytes have one answer.
 #[tactic(auto, using(crate::proofs::AnswerLemmas::one))]
 pub fn one_answer()
-    ensures { (bytes : List ℕ) (r s : Result DocumentParts DocumentFault) → IsAnswer bytes r → IsAnswer bytes s → r ≡ s }
+    ensures { BytesHaveOneAnswer }
 {}

@@ -1,17 +1,17 @@
 //! The image.
 
-ghost use Rattle.std.specs.Prelude.{◌≡◌, ◌<◌, ◌≤◌, ◌-◌, false, length, map, suc, slice_get, slice_index_or, string_bytes, All, None, Some, IfSome, IfOk, option_map};
-ghost use Rattle.std.specs.Option.{option_map_or};
-ghost use Rattle.msg_order.specs.Superclasses.{AreListed as AreClasses, depth_of, has_cycle};
+ghost use Rattle.std.specs.Prelude.{◌≡◌, ◌<◌, ◌≤◌, ◌-◌, false, length, map, option_map, slice_get};
+ghost use Rattle.std.specs.Prelude.{All, IfOk, IfSome, None, Some};
+ghost use Rattle.msg_order.specs.Superclasses.{AreListed as AreClasses, depth_of, has_cycle, super_of};
 ghost use Rattle.msg_form.specs.Faults.{fault_of};
 ghost use Rattle.msg_form.specs.FormNames.{AreNamesOf};
 ghost use Rattle.msg_form.specs.Text.{texts_view};
-ghost use Rattle.msg_form.specs.Views.{category_view, class_view, form_view, imp_view, object_view};
-ghost use Rattle.msg_image.specs.Document as spec;
+ghost use Rattle.msg_form.specs.Views.{form_view, names_view};
 ghost use Rattle.msg_image.specs.Document.{image_of};
-ghost use Rattle.msg_image.specs.Numbers.{numbers_by};
 ghost use Rattle.msg_image.specs.Plain.{imp_parts, object_parts};
-ghost use Rattle.msg_names.specs.Number.{selector_number, imp_number};
+ghost use Rattle.msg_image.specs.Resolved.{categories_by, imps_by, listed_by, objects_by};
+ghost use Rattle.msg_names.specs.Number.{imp_number};
+ghost use Rattle.msg_names.specs.Numbering.{name_of, texts_of};
 
 use crate::expr::Expr;
 use crate::numbers::{forwarding_selector, selector_names};
@@ -107,9 +107,9 @@ struct Classes {
 }
 
 fn classes_of(alloc: Global, form: &Form, names: &FormNames) -> Result<Classes, AllocError>
-    ensures names { IfOk result (λ c. map string_bytes c.names.items ≡ map (λ c. (class_view c).name) form.now.classes.items) }
-    ensures listed { IfOk result (λ c. c.listed.items ≡ map (λ c. spec.listed (numbers_by names.now) (class_view c)) form.now.classes.items) }
-    ensures made { IfOk result (λ c. map string_bytes c.made.items ≡ texts_view form.now.made.items) }
+    ensures names { IfOk result (λ c. texts_of c.names.items ≡ names_view form.now.classes.items) }
+    ensures listed { IfOk result (λ c. c.listed.items ≡ listed_by names.now form.now) }
+    ensures made { IfOk result (λ c. texts_of c.made.items ≡ texts_view form.now.made.items) }
 {
     let texts = each(alloc, names, &form.classes);
     let listed = each(alloc, names, &form.classes);
@@ -130,9 +130,9 @@ struct Members {
 }
 
 fn members_of(alloc: Global, form: &Form, names: &FormNames) -> Result<Members, AllocError>
-    ensures categories { IfOk result (λ m. m.categories.items ≡ map (λ c. spec.category (numbers_by names.now) (category_view c)) form.now.categories.items) }
-    ensures objects { IfOk result (λ m. map object_parts m.objects.items ≡ map (λ o. spec.object (numbers_by names.now) (object_view o)) form.now.objects.items) }
-    ensures imps { IfOk result (λ m. map imp_parts m.imps.items ≡ map (λ i. spec.imp (numbers_by names.now) (imp_view i)) form.now.imps.items) }
+    ensures categories { IfOk result (λ m. m.categories.items ≡ categories_by names.now form.now) }
+    ensures objects { IfOk result (λ m. map object_parts m.objects.items ≡ objects_by names.now form.now) }
+    ensures imps { IfOk result (λ m. map imp_parts m.imps.items ≡ imps_by names.now form.now) }
 {
     let categories = each(alloc, names, &form.categories);
     let objects = each(alloc, names, &form.objects);
@@ -170,8 +170,8 @@ impl Image {
     }
 
     ghost use Rattle.msg_tables.specs.Methods.{method_numbers};
-    ghost use Rattle.msg_image.specs.Parts.{ObjectParts, class_total, class_names, forwarding_selector, superclass_in, superclasses, depth_in, methods_in};
-    ghost use Rattle.msg_names.specs.Numbering.{name_at};
+    ghost use Rattle.msg_image.specs.Parts.{class_total, class_names, depth_in, forwarding_selector, methods_in};
+    ghost use Rattle.msg_image.specs.Parts.{object_at, one_deeper, superclass_in, superclasses};
     ghost use Rattle.msg_form.specs.Walk.{forwarding_text};
     ghost use Rattle.msg_image.specs.Plain.{plain, imp_parts};
     ghost use Rattle.msg_image.specs.Sound.{IsSound, IsSoundCategory, IsSoundImp, AreListed};
@@ -179,7 +179,7 @@ impl Image {
     /// The selectors' names. The first is `forwardingTargetForSelector:`.
     pub fn names(&self) -> &Names
         ensures names { result.now ≡ self.now.names }
-        ensures forwarding { name_at self.now.names (selector_number forwarding_selector) ≡ Some forwarding_text }
+        ensures forwarding { name_of self.now.names forwarding_selector ≡ Some forwarding_text }
     {
         &self.names
     }
@@ -239,7 +239,7 @@ impl Image {
     pub fn depth(&self, class: u32) -> u32
         requires { class < length self.now.classes }
         ensures depth { result ≡ depth_in self.now class }
-        ensures above { result ≡ option_map_or (λ d. suc (depth_in self.now d)) (slice_index_or (superclasses self.now) class None) 0 }
+        ensures above { result ≡ one_deeper self.now (super_of (superclasses self.now) class) }
     {
         superclass_count(&self.origin, class)
     }
@@ -266,14 +266,14 @@ impl Image {
 
     pub fn object_name(&self, object: ObjectRef) -> &str
         requires { object.object < length self.now.objects }
-        ensures { option_map (λ o. o.name) (slice_get self.now.objects object.object) ≡ Some result.now }
+        ensures { option_map (λ o. o.name) (object_at self.now object) ≡ Some result.now }
     {
         self.objects[object.object as usize].name.as_str()
     }
 
     pub fn object_class(&self, object: ObjectRef) -> u32
         requires { object.object < length self.now.objects }
-        ensures class { option_map (λ o. o.class) (slice_get self.now.objects object.object) ≡ Some result }
+        ensures class { option_map (λ o. o.class) (object_at self.now object) ≡ Some result }
         ensures listed { result < class_total self.now }
     {
         self.objects[object.object as usize].class

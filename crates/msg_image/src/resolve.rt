@@ -1,8 +1,7 @@
 //! The document that a form spells: numbers for names. Each place of a name is hashed once.
 
 ghost use Rattle.std.specs.Prelude.{◌≡◌, ℕ, List, Ok, IfOk, map, take, option_map, string_bytes};
-ghost use Rattle.msg_form.specs.Expression as form;
-ghost use Rattle.msg_form.specs.ExprView.{constant_view, expr_view};
+ghost use Rattle.msg_form.specs.ExprView.{constant_view};
 ghost use Rattle.msg_form.specs.Views.{pairs_view, class_view, category_view, object_view, imp_view, method_view, change_view, item_view};
 ghost use Rattle.msg_image.specs.Document as spec;
 ghost use Rattle.msg_image.specs.Numbers as named;
@@ -10,6 +9,7 @@ ghost use Rattle.msg_image.specs.Numbers.{Numbers, numbers_by};
 ghost use Rattle.msg_image.specs.Items.{ItemParts};
 ghost use Rattle.msg_image.specs.Parts.{Two, ObjectParts, ImpParts};
 ghost use Rattle.msg_image.specs.Plain.{plain, plain_all, object_parts, imp_parts, item_parts};
+ghost use Rattle.msg_image.specs.Resolved.{expression_by, expressions_by};
 ghost use Rattle.msg_tables.specs.declared.change.Change.{Change};
 ghost use Rattle.msg_tables.specs.declared.origin.Category.{Category};
 ghost use Rattle.msg_tables.specs.declared.origin.ListedClass.{ListedClass};
@@ -94,7 +94,7 @@ fn binary(operator: Operator, left: Box<Expr>, right: Box<Expr>) -> Expr
 
 #[cycle(expr)]
 fn expr(alloc: Global, names: &FormNames, form: &form::Expr) -> Result<Expr, AllocError>
-    ensures { IfOk result (λ e. plain e ≡ spec.expression (numbers_by names.now) (expr_view form.now)) }
+    ensures { IfOk result (λ e. plain e ≡ expression_by names.now form.now) }
 {
     match form {
         form::Expr::Const(constant) => Ok(Expr::Const(value(names, constant))),
@@ -127,7 +127,7 @@ fn expr(alloc: Global, names: &FormNames, form: &form::Expr) -> Result<Expr, All
 
 #[cycle(expr)]
 fn exprs(alloc: Global, names: &FormNames, forms: &[form::Expr]) -> Result<Vec<Expr>, AllocError>
-    ensures { IfOk result (λ found. plain_all found.items ≡ spec.expressions (numbers_by names.now) (form.expressions (map expr_view forms.now))) }
+    ensures { IfOk result (λ found. plain_all found.items ≡ expressions_by names.now forms.now) }
 {
     let mut found = Vec::with_capacity(alloc, forms.len())?;
     for form in forms {
