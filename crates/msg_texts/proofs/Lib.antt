@@ -1,2 +1,3 @@
 pub mod CrossingLemmas
+pub mod NumberedLemmas
 pub mod TextLemmas

@@ -1,7 +1,7 @@
 //! The texts.
 
-ghost use Rattle.std.specs.Prelude.{◌≡◌, ◌≤◌, ◌↔◌, [], length, IfOk, IsErrOf, OnErr, OnOk, option_map};
-ghost use Rattle.msg_names.specs.Numbering.{LacksName, number_of, with_name};
+ghost use Rattle.std.specs.Prelude.{◌≡◌, ◌≤◌, ◌↔◌, [], length, IfOk, IfSome, IsErrOf, OnErr, OnOk, Some, option_map};
+ghost use Rattle.msg_names.specs.Numbering.{AreNumbered, LacksName, number_of, with_name};
 ghost use Rattle.msg_texts.specs.Texts.{LacksPlaceFor, texts_of, text_at, colons_of};
 ghost use Rattle.msg_texts.specs.declared.texts.TheConstants.{MAX_TEXTS};
 
@@ -66,7 +66,8 @@ impl Texts {
 
     /// The text of a number, where there is one.
     pub fn text(&self, number: u32) -> Option<&[u8]>
-        ensures { option_map (λ t. t.now) result ≡ text_at self.now number }
+        ensures text { option_map (λ t. t.now) result ≡ text_at self.now number }
+        ensures numbered { IfSome result (λ t. number_of self.now t.now ≡ Some number) }
     {
         text_in(&self.set, number)
     }
@@ -102,7 +103,9 @@ fn find_in(set: &IndexSet<Vec<u8>>, text: &[u8]) -> Option<u32>
 }
 
 fn text_in(set: &IndexSet<Vec<u8>>, number: u32) -> Option<&[u8]>
-    ensures { option_map (λ t. t.now) result ≡ text_at (texts_of set.now.keys) number }
+    requires { AreNumbered (texts_of set.now.keys) }
+    ensures text { option_map (λ t. t.now) result ≡ text_at (texts_of set.now.keys) number }
+    ensures numbered { IfSome result (λ t. number_of (texts_of set.now.keys) t.now ≡ Some number) }
 {
     if number == 0 {
         return None;
@@ -130,9 +133,11 @@ fn copied(alloc: Global, text: &[u8]) -> Result<Vec<u8>, TextFault>
 
 fn intern_in(set: &mut IndexSet<Vec<u8>>, text: &[u8]) -> Result<u32, TextFault>
     requires few { length set.old.keys ≤ MAX_TEXTS }
+    requires numbered { AreNumbered (texts_of set.old.keys) }
     ensures ok { IfOk result (λ n. number_of (texts_of set.new.keys) text.now ≡ Some n) }
     ensures texts { OnOk result (texts_of set.new.keys ≡ with_name (texts_of set.old.keys) text.now) }
     ensures few { length set.new.keys ≤ MAX_TEXTS }
+    ensures numbered { AreNumbered (texts_of set.new.keys) }
     ensures many { IsErrOf result TextFault.TooMany
         ↔ ((length set.old.keys ≡ MAX_TEXTS) × LacksName (texts_of set.old.keys) text.now) }
     ensures memory { IsErrOf result TextFault.Memory → LacksName (texts_of set.old.keys) text.now }

@@ -1,11 +1,12 @@
-use Rattle.std.proofs.Common.{◌≡◌, ◌∙◌, sym, ap, Some, None, true, false, arith, rules, bytes_eq, ℕ}
+use Rattle.std.proofs.Common.{◌≡◌, ◌∙◌, sym, subst, ap, Some, None, true, false, arith, rules, bytes_eq, ℕ}
 use Rattle.std.specs.Prelude.{is_some, Vec}
 use Rattle.std.specs.Global.{Global}
 use Rattle.std.specs.List.{list_any}
-use Rattle.msg_names.specs.Numbering.{number_of}
+use Rattle.msg_names.specs.Numbering.{AreNumbered, number_of}
 use Rattle.msg_names.proofs.NumberLemmas.{is_some-number_of, with_name-present, next_number}
 use Rattle.std.proofs.lemmas.List.{length-map}
 use Rattle.msg_texts.specs.Texts.{texts_of}
+use Rattle.msg_texts.proofs.NumberedLemmas.{numbered-with}
 use Rattle.msg_texts.proofs.TextLemmas.{texts-inserted}
 use Rattle.msg_texts.proofs.texts.intern_in.Goals as goal
 
@@ -36,3 +37,8 @@ returns-clause-ok c =
     let texts = texts-inserted c.args.set.now.keys c.insert.new.self.keys c.in_ok-copy.copy c.args.text.now c.in_ok-copy.ensures.ok c.in-Ok.ensures.keys in
     let new : number_of (texts_of c.args.set.now.keys) c.args.text.now ≡ None = sym c.in_default.ensures in
     rw (texts, next_number (texts_of c.args.set.now.keys) c.args.text.now new) (ap Some (omega (arith, length-map c.args.set.now.keys (λ (k : Vec ℕ Global). k.items))))
+
+pub returns-clause-numbered : goal.returns-clause-numbered
+returns-clause-numbered c =
+    let texts = texts-inserted c.args.set.now.keys c.insert.new.self.keys c.in_ok-copy.copy c.args.text.now c.in_ok-copy.ensures.ok c.in-Ok.ensures.keys in
+    subst AreNumbered (sym texts) (numbered-with (texts_of c.args.set.now.keys) c.args.text.now (sym c.in_default.ensures) c.requires.numbered)
