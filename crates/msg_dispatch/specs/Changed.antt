@@ -1,12 +1,10 @@
--- What becomes of a change, and what a list of changes would reach.
-use Rattle.std.specs.Prelude.{[], ◌∷◌, ◌≡◌, ◌≢◌, ℕ, Bool, List, None, Some, length, take}
-use Rattle.msg_tables.specs.History.{History, and_then, log}
+-- Where a turn stands, and what a list of changes would reach.
+use Rattle.std.specs.Prelude.{◌≡◌, ◌≢◌, ℕ, Bool, List, length, take}
+use Rattle.msg_tables.specs.History.{History, log}
 use Rattle.msg_tables.specs.Marking.{MarksAffectedByAll}
 use Rattle.msg_tables.specs.Origin.{class_total}
-use Rattle.msg_tables.specs.Refusal.{refusal}
 use Rattle.msg_tables.specs.declared.apply_all.Refused.{Refused}
 use Rattle.msg_tables.specs.declared.change.Change.{Change}
-use Rattle.msg_tables.specs.declared.fault.ChangeFault.{ChangeFault}
 use Rattle.msg_tables.specs.declared.fault.ChangeFault.TheVariants.{Memory}
 use Rattle.msg_cache.specs.Views.{ArenaView, TurnView, classes}
 
@@ -14,25 +12,13 @@ use Rattle.msg_cache.specs.Views.{ArenaView, TurnView, classes}
 abbrev pub IsTurnAfter : ArenaView → TurnView → ℕ → Type 0
 IsTurnAfter a t count = (t.table ≡ a.table) × (t.history.origin ≡ a.key.origin) × (count ≡ length t.history.changes)
 
--- nothing speaks against the change
-abbrev pub Accepts : History → Change → Type 0
-Accepts h x = refusal (log h) x ≡ None
-
--- the change was accepted, the history is longer by it, and so many times changes were then
-abbrev pub IsMadeAt : History → Change → History → ℕ → Type 0
-IsMadeAt old x new count = Accepts old x × (new ≡ and_then old (x ∷ [])) × (count ≡ length new.changes)
-
--- the fault is what speaks against the change, where it isn't want of memory
-abbrev pub IsRefusedAt : History → Change → ChangeFault → Type 0
-IsRefusedAt h x f = f ≢ Memory → refusal (log h) x ≡ Some f
-
 -- beside those that were marked, the class references are marked whose lookups the changes may alter
-abbrev pub MarksReached : History → List Change → List Bool → List Bool → Type 0
-MarksReached h xs old new = MarksAffectedByAll (class_total h.origin) (log h) xs old new
+abbrev pub MarksAllReached : History → List Change → List Bool → List Bool → Type 0
+MarksAllReached h xs old new = MarksAffectedByAll (class_total h.origin) (log h) xs old new
 
 -- those that the changes may alter which stand before the one that would be refused, where that isn't for want of memory
 abbrev pub MarksBefore : History → List Change → List Bool → List Bool → Refused → Type 0
-MarksBefore h xs old new r = r.fault ≢ Memory → MarksReached h (take r.place xs) old new
+MarksBefore h xs old new r = r.fault ≢ Memory → MarksAllReached h (take r.place xs) old new
 
 -- the same of all classes of an arena, at the history of a turn
 abbrev pub MarksAll : ArenaView → TurnView → List Change → List Bool → List Bool → Type 0

@@ -6,8 +6,8 @@ ghost use Rattle.msg_tables.specs.Made.{AreMade, AreRefused, TellsWayBack};
 ghost use Rattle.msg_tables.specs.Origin.{class_total};
 ghost use Rattle.msg_tables.specs.Several.{refused_from};
 ghost use Rattle.msg_tables.specs.declared.fault.ChangeFault.{ChangeFault};
-ghost use Rattle.msg_dispatch.specs.Changed.{Accepts, IsMadeAt, IsRefusedAt};
-ghost use Rattle.msg_dispatch.specs.Changed.{MarksBefore, MarksReached};
+ghost use Rattle.msg_runtime.specs.Changed.{IsAccepted, IsMadeAt, IsRefusedAt};
+ghost use Rattle.msg_dispatch.specs.Changed.{MarksAllReached, MarksBefore};
 
 use crate::dispatcher::Dispatcher;
 use crate::name::ArenaName;
@@ -55,7 +55,7 @@ impl<'d, N: ArenaName> Changer<'d, N> {
         ensures ok { IfOk result (λ r. IsMadeAt self.old change.now self.new r.count) }
         ensures err { OnErr result (self.new ≡ self.old) }
         ensures fault { IfErr result (IsRefusedAt self.old change.now) }
-        ensures memory { IsErrOf result ChangeFault.Memory → Accepts self.old change.now }
+        ensures memory { IsErrOf result ChangeFault.Memory → IsAccepted self.old change.now }
     {
         let dispatcher = self.dispatcher;
         let count = dispatcher
@@ -101,7 +101,7 @@ impl<'d, N: ArenaName> Changer<'d, N> {
         requires { length marked.old ≡ 2 * class_total self.old.origin }
         ensures same { self.new ≡ self.old }
         ensures ok { OnOk result (refused_from 0 (log self.old) changes.now ≡ None) }
-        ensures marks { OnOk result (MarksReached self.old changes.now marked.old marked.new) }
+        ensures marks { OnOk result (MarksAllReached self.old changes.now marked.old marked.new) }
         ensures refused { IfErr result (AreRefused changes.now self.old) }
         ensures before { IfErr result (MarksBefore self.old changes.now marked.old marked.new) }
         ensures length { length marked.new ≡ length marked.old }

@@ -13,7 +13,8 @@ ghost use Rattle.msg_cache.specs.Plays.{taken_in};
 ghost use Rattle.msg_cache.specs.Views.{classes, IsFoundAt, IsSenderOf};
 ghost use Rattle.msg_reader.specs.Notes.{AreNotesOf};
 ghost use Rattle.msg_runtime.specs.Parts.{AreOut, IsNew};
-ghost use Rattle.msg_dispatch.specs.Changed.{Accepts, IsMadeAt, IsRefusedAt, MarksAll, MarksTo};
+ghost use Rattle.msg_runtime.specs.Changed.{IsAccepted, IsMadeAt, IsRefusedAt};
+ghost use Rattle.msg_dispatch.specs.Changed.{MarksAll, MarksTo};
 
 use crate::name::ArenaName;
 use msg_cache::{Arena, Report, Turn};
@@ -102,7 +103,7 @@ impl<N: ArenaName> Desk<N> {
         ensures ok { IfOk result (IsMadeAt turn.old.history change.now turn.new.history) }
         ensures err { OnErr result (turn.new.history ≡ turn.old.history) }
         ensures fault { IfErr result (IsRefusedAt turn.old.history change.now) }
-        ensures memory { IsErrOf result ChangeFault.Memory → Accepts turn.old.history change.now }
+        ensures memory { IsErrOf result ChangeFault.Memory → IsAccepted turn.old.history change.now }
     {
         self.runtime.change(arena, turn, change)
     }

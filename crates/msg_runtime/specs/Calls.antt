@@ -1,20 +1,18 @@
 -- What the calls of a runtime do.
-use Rattle.std.specs.Prelude.{◌≡◌, ◌≢◌, ◌∷◌, [], ℕ, List, Bool, Some, None, cond, length}
+use Rattle.std.specs.Prelude.{◌≡◌, List, Bool, cond}
 use Rattle.msg_names.specs.Number.{selector_number, imp_number}
 use Rattle.msg_names.specs.declared.value.ClassRef.{ClassRef}
 use Rattle.msg_names.specs.declared.value.ImpRef.{ImpRef}
 use Rattle.msg_names.specs.declared.value.Selector.{Selector}
-use Rattle.msg_tables.specs.History.{and_then, log}
+use Rattle.msg_tables.specs.History.{log}
 use Rattle.msg_tables.specs.Marking.{MarksAffected, MarksAffectedByAll}
-use Rattle.msg_tables.specs.Refusal.{refusal}
 use Rattle.msg_tables.specs.declared.change.Change.{Change}
-use Rattle.msg_tables.specs.declared.fault.ChangeFault.{ChangeFault}
-use Rattle.msg_tables.specs.declared.fault.ChangeFault.TheVariants.{Memory}
 use Rattle.msg_cache.specs.Counts.{after_refusal}
 use Rattle.msg_cache.specs.Plays.{lent}
 use Rattle.msg_cache.specs.Views.{classes, layout}
 use Rattle.msg_cache.specs.declared.keeper.Keeper.{Keeper}
 use Rattle.msg_cache.specs.declared.view.SenderView.{SenderView}
+use Rattle.msg_runtime.specs.Changed.{IsAccepted}
 use Rattle.msg_runtime.specs.Parts.{AnswersMiss, AreOut, keeper_report, keeper_remembered, keeper_view}
 use Rattle.msg_runtime.specs.View.{RuntimeView}
 
@@ -26,29 +24,13 @@ HasKeeper k r = (r.keeper ≡ keeper_view k) × (r.remembered ≡ keeper_remembe
 abbrev pub CachesAnswer : ClassRef → Selector → ImpRef → SenderView → RuntimeView → RuntimeView → Type 0
 CachesAnswer c s i v r r' = AnswersMiss (layout r.arena) r.remembered c (selector_number s) (imp_number i) v r.keeper r'.keeper r.report r'.report
 
--- the change would be accepted
-abbrev pub Accepts : RuntimeView → Change → Type 0
-Accepts r x = refusal (log r.keeper.history) x ≡ None
-
--- it would be refused for this fault
-abbrev pub RefusesFor : RuntimeView → Change → ChangeFault → Type 0
-RefusesFor r x fault = refusal (log r.keeper.history) x ≡ Some fault
-
--- so it is, where the fault isn't memory
-abbrev pub RefusesUnlessMemory : RuntimeView → Change → ChangeFault → Type 0
-RefusesUnlessMemory r x fault = fault ≢ Memory → RefusesFor r x fault
-
 -- the change would be accepted, and beside those that were marked the class references are that it affects
 abbrev pub MarksReached : RuntimeView → Change → List Bool → List Bool → Type 0
-MarksReached r x old new = Accepts r x × MarksAffected (classes r.arena) (log r.keeper.history) x old new
+MarksReached r x old new = IsAccepted r.keeper.history x × MarksAffected (classes r.arena) (log r.keeper.history) x old new
 
 -- beside those that were marked the class references are that some of these changes affect
 abbrev pub MarksAllReached : RuntimeView → List Change → List Bool → List Bool → Type 0
 MarksAllReached r xs old new = MarksAffectedByAll (classes r.arena) (log r.keeper.history) xs old new
-
--- the change was accepted, the history is longer by it, and n is how many times changes were made
-abbrev pub IsMade : RuntimeView → Change → RuntimeView → ℕ → Type 0
-IsMade r x r' n = Accepts r x × (r'.keeper.history ≡ and_then r.keeper.history (x ∷ [])) × (n ≡ length r'.keeper.history.changes)
 
 -- what the keeper knows and remembers is the same, but that the turn is lent
 abbrev pub KeepsCaches : RuntimeView → RuntimeView → Type 0

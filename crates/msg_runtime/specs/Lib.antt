@@ -1,4 +1,5 @@
 pub mod Calls
+pub mod Changed
 pub mod Flushed
 pub mod Inside
 pub mod Parts

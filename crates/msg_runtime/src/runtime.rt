@@ -11,7 +11,8 @@ ghost use Rattle.msg_cache.specs.Counts.{AreCounts};
 ghost use Rattle.msg_cache.specs.Plays.{given_again, taken_in, lent, is_lent};
 ghost use Rattle.msg_cache.specs.Views.{IsFoundAt, IsSenderOf, classes};
 ghost use Rattle.msg_reader.specs.Notes.{AreNotesOf, IsNoted};
-ghost use Rattle.msg_runtime.specs.Calls.{Accepts, AllAreOut, CachesAnswer, CountsRefusalUnless, HasKeeper, IsMade, KeepsCaches, LendsTurnIf, MarksAllReached, MarksReached, RefusesFor, RefusesUnlessMemory};
+ghost use Rattle.msg_runtime.specs.Calls.{AllAreOut, CachesAnswer, CountsRefusalUnless, HasKeeper, KeepsCaches, LendsTurnIf, MarksAllReached, MarksReached};
+ghost use Rattle.msg_runtime.specs.Changed.{IsAccepted, IsMadeAt, IsRefusedAt, IsRefusedFor};
 ghost use Rattle.msg_runtime.specs.Parts.{IsKeeperOf, IsNew, keeper_history};
 
 use crate::caching::cache_found;
@@ -220,7 +221,7 @@ impl Runtime {
         requires { length marks.old ≡ 2 * classes self.now.arena }
         ensures ok { OnOk result (MarksReached self.now change.now marks.old marks.new) }
         ensures err { OnErr result (marks.new ≡ marks.old) }
-        ensures fault { IfErr result (RefusesFor self.now change.now) }
+        ensures fault { IfErr result (IsRefusedFor self.now.keeper.history change.now) }
         ensures room { length marks.new ≡ length marks.old }
     {
         tables_are_of_their_origin();
@@ -274,12 +275,12 @@ impl Runtime {
         ensures turn { turn.new.table ≡ self.old.arena.table }
         ensures was { turn.old.history ≡ self.old.keeper.history }
         ensures is { turn.new.history ≡ self.new.keeper.history }
-        ensures ok { IfOk result (IsMade self.old change.now self.new) }
+        ensures ok { IfOk result (IsMadeAt self.old.keeper.history change.now self.new.keeper.history) }
         ensures err { OnErr result (self.new.keeper.history ≡ self.old.keeper.history) }
         ensures caches { OnErr result (KeepsCaches self.old self.new) }
         ensures report { OnErr result (self.new.report ≡ self.old.report) }
-        ensures fault { IfErr result (RefusesUnlessMemory self.old change.now) }
-        ensures memory { IsErrOf result ChangeFault.Memory → Accepts self.old change.now }
+        ensures fault { IfErr result (IsRefusedAt self.old.keeper.history change.now) }
+        ensures memory { IsErrOf result ChangeFault.Memory → IsAccepted self.old.keeper.history change.now }
     {
         tables_are_of_their_origin();
         an_accepted_change_is_within_the_limit();
