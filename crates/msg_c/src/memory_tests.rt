@@ -3,10 +3,11 @@
 use crate::answer::{CLOSED, DONE, NO_MEMORY};
 use crate::asking::{msg_change_count, msg_lookup};
 use crate::changing::{msg_attach, msg_make_class, msg_make_root_class};
+use crate::listing::msg_change_all;
 use crate::opening::{msg_close, msg_open_words};
 use crate::runtime_handle::RuntimeHandle;
 use crate::same::{answers, same};
-use msg_host::MethodRow;
+use msg_host::{ChangeRow, MethodRow};
 use std::alloc::Global;
 use std::process::Abort;
 use std::test::Fail;
@@ -58,6 +59,34 @@ fn attaches<R: Abort>(rt: &R, alloc: Global, runtime: &mut RuntimeHandle) {
     }
 }
 
+// Rewrites the method of class 0.
+fn replaces(imp: u32) -> ChangeRow {
+    ChangeRow {
+        kind: 2,
+        class: 0,
+        meta: 0,
+        sel: 1,
+        imp,
+        other: 0,
+        other_meta: 0,
+        other_sel: 0,
+    }
+}
+
+// A list is made in the room of the one before, which is as long: it wants no memory.
+fn lists<R: Abort>(rt: &R, alloc: Global, runtime: &mut RuntimeHandle) {
+    let mut place = 0;
+    let first = [replaces(8), replaces(9)];
+    if msg_change_all(alloc, runtime, &first, &mut place) == CHANGE_MEMORY {
+        counts(rt, alloc, runtime, 3);
+        answers(rt, msg_change_all(alloc, runtime, &first, &mut place), DONE);
+    }
+    counts(rt, alloc, runtime, 4);
+    let second = [replaces(10), replaces(11)];
+    answers(rt, msg_change_all(alloc, runtime, &second, &mut place), DONE);
+    counts(rt, alloc, runtime, 5);
+}
+
 #[test]
 fn what_wants_memory_is_done_once_there_is_some(rt: HostRuntime) -> Result<(), Fail> {
     let alloc = rt.alloc();
@@ -65,5 +94,6 @@ fn what_wants_memory_is_done_once_there_is_some(rt: HostRuntime) -> Result<(), F
     opens(&rt, alloc, &mut runtime);
     makes(&rt, alloc, &mut runtime);
     attaches(&rt, alloc, &mut runtime);
+    lists(&rt, alloc, &mut runtime);
     Ok(())
 }
