@@ -3,7 +3,7 @@
 #include "seat.h"
 #include <stdlib.h>
 
-enum { SENDERS = 1024, CLASS_NUMBERS = 16384, PLACES = 65536 };
+enum { SENDERS = 1024, CLASS_NUMBERS = 16384, PLACES = 16384 };
 
 _Alignas(LINE) _Atomic(IMP) shim_functions[MOST_IMPS + 1];
 msg_runtime *shim_runtime;
@@ -49,7 +49,7 @@ void shim_give(char *unused)
 uint32_t shim_number(IMP imp)
 {
     static uint32_t first[PLACES], next[MOST_IMPS + 1], count;
-    uint32_t *place = &first[(uintptr_t)imp * 0x9e3779b97f4a7c15 >> 48];
+    uint32_t *place = &first[(uintptr_t)imp * 0x9e3779b97f4a7c15 >> 50];
     for (uint32_t at = *place; at; at = next[at])
         if (atomic_load_explicit(&shim_functions[at], memory_order_relaxed) == imp) return at;
     if (count == MOST_IMPS) return 0;
