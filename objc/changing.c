@@ -8,44 +8,33 @@
 #include <stdlib.h>
 #include <string.h>
 
-/* The count is read first: so many rows any array has that is there then. */
+/* The count is read first: so many rows any array has that is there then. The last of a name counts. */
 static struct row *row_of(struct record *record, uint32_t sel)
 {
     size_t count = record->count;
-    struct row *row = count ? record->rows->at : NULL;
-    for (struct row *end = row + count; row < end; row++)
-        if (row->sel == sel) return row;
+    struct row *rows = count ? record->rows->at : NULL;
+    while (count--)
+        if (rows[count].sel == sel) return &rows[count];
     return NULL;
 }
 
-static void make_room(struct record *record)
+static void make_room(struct record *record, uint32_t more)
 {
-    uint32_t room = record->room * 2 + 8;
-    struct rows *before = record->rows, *rows = shim_memory(sizeof *rows + room * sizeof *rows->at);
+    uint32_t count = record->count;
+    if (count + more <= record->room) return;
+    record->room = count + count / 2 + more;
+    struct rows *before = record->rows, *rows = shim_memory(sizeof *rows + record->room * sizeof *rows->at);
     rows->before = before;
-    if (before) memcpy(rows->at, before->at, record->count * sizeof *rows->at);
+    if (before) memcpy(rows->at, before->at, count * sizeof *rows->at);
     record->rows = rows;
-    record->room = room;
 }
 
-static void put_row(struct record *record, Method method)
+/* `more`: how many come now, this one counted. */
+static void stand(struct record *record, Method method, uint32_t more)
 {
-    uint32_t sel = shim_sel(method->name.sel);
-    struct row *row = row_of(record, sel);
-    if (row) {
-        __atomic_store_n(&row->method, method, __ATOMIC_RELEASE);
-        return;
-    }
-    if (record->count == record->room) make_room(record);
-    record->rows->at[record->count] = (struct row){sel, method};
+    make_room(record, more);
+    record->rows->at[record->count] = (struct row){shim_sel(method->name.sel), method};
     record->count++;
-}
-
-static void stand(struct record *record, Method method)
-{
-    record->methods = shim_more(record->methods, record->method_count, &record->method_room, sizeof method);
-    record->methods[record->method_count++] = method;
-    put_row(record, method);
 }
 
 /* Goes through a class in construction, which has no place in the tables, to its superclass. */
@@ -53,7 +42,7 @@ Method shim_standing(Class class_, uint32_t sel)
 {
     for (; class_; class_ = class_->superclass.class_) {
         struct row *row = row_of(class_->record, sel);
-        if (row) return __atomic_load_n(&row->method, __ATOMIC_ACQUIRE);
+        if (row) return row->method;
     }
     return NULL;
 }
@@ -84,7 +73,7 @@ static void add(struct record *record, Method method, uint32_t imp)
 {
     uint32_t sel = shim_sel(method->name.sel);
     put(record, sel, imp);
-    stand(record, method);
+    stand(record, method, 1);
     cache(record, sel);
 }
 
@@ -220,68 +209,71 @@ Method *class_copyMethodList(Class class_, unsigned int *count)
 {
     LOCKED;
     struct record *record = class_ ? class_->record : NULL;
-    unsigned int many = record && record->number ? record->method_count : 0;
+    unsigned int many = record && record->number ? record->count : 0;
     if (count) *count = many;
     if (!many) return NULL;
     Method *list = shim_memory((many + 1) * sizeof *list);
-    for (unsigned int i = 0; i < many; i++) list[i] = record->methods[many - 1 - i];
+    for (unsigned int i = 0; i < many; i++) list[i] = record->rows->at[many - 1 - i].method;
     return list;
 }
 
 /* ---- several at once: one change of the tables ---- */
 
-/* A part of it, and the method that it changes: one that is to be put, or is there; and what was found before. */
-struct swap { msg_change part; struct record *record; Method method; bool is_new; IMP before; };
-
-/* What a module or a class pair brings, until it is made. */
-static struct swap *coming;
-static uint32_t coming_count, coming_room;
-
-/* 0 where the tables have made all that was planned; else there is the place of what they refuse, as where memory is wanting. */
-static uint32_t change_all(const struct swap *swaps, size_t count, size_t *place)
+/* 0 where all that was planned is all, and the tables have made it; else `place` is that of what isn't planned, or of what they refuse, as where memory is wanting. */
+static uint32_t change_all(msg_change *parts, size_t planned, size_t count, size_t *place)
 {
-    if (*place < count) return MSG_BAD_CHANGE;
-    if (!count) return MSG_DONE;
-    msg_change *parts = shim_memory(count * sizeof *parts);
-    for (size_t i = 0; i < count; i++) parts[i] = swaps[i].part;
-    *place = 0;
-    uint32_t fault = msg_change_all(shim_runtime, parts, count, place);
+    *place = planned;
+    uint32_t fault = planned < count ? MSG_BAD_CHANGE : MSG_DONE;
+    if (!fault && count) fault = msg_change_all(shim_runtime, parts, count, place);
     free(parts);
-    if (!fault) *place = count;
     return fault;
 }
 
-static void bring(struct swap swap)
-{
-    coming = shim_more(coming, coming_count, &coming_room, sizeof *coming);
-    coming[coming_count++] = swap;
-}
+static msg_change replacing(struct record *record, uint32_t sel, uint32_t imp) { return (msg_change){MSG_REPLACES, record->number, record->meta, sel, imp, 0, 0, 0}; }
+
+/* What a module or a class pair brings, until it is made: a class where `method` is NULL; else a method of it, which is to be put, or is there. */
+static struct coming { struct record *record; Method method; bool is_new; } *coming;
+static uint32_t coming_count, coming_room;
 
 void shim_bring_method(struct record *record, Method method, bool is_new)
 {
-    uint32_t sel = shim_sel(method->name.sel), imp = shim_number(method->imp);
-    bring((struct swap){{MSG_REPLACES, record->number, record->meta, sel, imp, 0, 0, 0}, record, method, is_new, NULL});
+    coming = shim_more(coming, coming_count, &coming_room, sizeof *coming);
+    coming[coming_count++] = (struct coming){record, method, is_new};
 }
 
 void shim_bring_class(Class class_)
 {
     struct record *both[2] = {class_->record, class_->isa->record};
-    Class above = class_->superclass.class_;
-    uint32_t kind = above ? MSG_MAKES_CLASS : MSG_MAKES_ROOT_CLASS, other = above ? above->record->number : 0;
-    bring((struct swap){.part = {kind, both[0]->number, 0, 0, 0, other, 0, 0}});
+    shim_bring_method(both[0], NULL, false);
     for (int j = 0; j < 2; j++)
-        for (uint32_t i = 0; i < both[j]->method_count; i++) shim_bring_method(both[j], both[j]->methods[i], false);
+        for (uint32_t i = 0; i < both[j]->count; i++) shim_bring_method(both[j], both[j]->rows->at[i].method, false);
+}
+
+static msg_change part_of(struct coming *it)
+{
+    struct record *record = it->record;
+    if (it->method) return replacing(record, shim_sel(it->method->name.sel), shim_number(it->method->imp));
+    Class above = shim_classes[record->number]->superclass.class_;
+    return (msg_change){above ? MSG_MAKES_CLASS : MSG_MAKES_ROOT_CLASS, record->number, 0, 0, 0, above ? above->record->number : 0, 0, 0};
 }
 
 void shim_make(const char *what)
 {
-    size_t place = coming_count;
-    shim_must(change_all(coming, coming_count, &place), what);
-    for (uint32_t i = 0; i < coming_count; i++)
-        if (coming[i].is_new) stand(coming[i].record, coming[i].method);
+    size_t place;
+    msg_change *parts = shim_memory(coming_count * sizeof *parts);
+    for (uint32_t i = 0; i < coming_count; i++) parts[i] = part_of(&coming[i]);
+    shim_must(change_all(parts, coming_count, coming_count, &place), what);
+    for (uint32_t i = 0, end = 0; i < coming_count; i++) {
+        if (!coming[i].is_new) continue;
+        while (end <= i || (end < coming_count && coming[end].record == coming[i].record)) end++;
+        stand(coming[i].record, coming[i].method, end - i);
+    }
     coming_count = 0;
     shim_publish();
 }
+
+/* The method that a part of a list changes: one that is to be put, or is there; and what was found before. */
+struct swap { struct record *record; Method method; bool is_new; uint32_t sel; IMP before; };
 
 static bool is_named_before(const struct objc_method_swap *rows, size_t at)
 {
@@ -290,7 +282,7 @@ static bool is_named_before(const struct objc_method_swap *rows, size_t at)
     return false;
 }
 
-static bool plan(const struct objc_method_swap *rows, size_t at, struct swap *swap)
+static bool plan(const struct objc_method_swap *rows, size_t at, struct swap *swap, msg_change *part)
 {
     const struct objc_method_swap *it = &rows[at];
     if (!it->class_ || !it->class_->record || !it->class_->record->number || !it->sel || !it->imp || is_named_before(rows, at)) return false;
@@ -301,14 +293,15 @@ static bool plan(const struct objc_method_swap *rows, size_t at, struct swap *sw
     const char *types = it->types || !known ? it->types : known->types;
     if (!number || (!row && !types)) return false;
     Method method = row ? row->method : new_method(it->sel, it->imp, types);
-    *swap = (struct swap){{MSG_REPLACES, record->number, record->meta, sel, number, 0, 0, 0}, record, method, !row, known ? known->imp : NULL};
+    *part = replacing(record, sel, number);
+    *swap = (struct swap){record, method, !row, sel, known ? known->imp : NULL};
     return true;
 }
 
 /* In the rows, after the tables: what was before comes into `imp`. */
 static void settle(struct swap *swap, struct objc_method_swap *it)
 {
-    if (swap->is_new) stand(swap->record, swap->method);
+    if (swap->is_new) stand(swap->record, swap->method, 1);
     else shim_set_imp(swap->method, it->imp);
     it->imp = swap->before;
 }
@@ -324,40 +317,39 @@ size_t objc_replace_methods(struct objc_method_swap *rows, size_t count)
 {
     CHANGING;
     struct swap *swaps = shim_memory(count * sizeof *swaps);
-    size_t planned = 0;
-    while (planned < count && plan(rows, planned, &swaps[planned])) planned++;
-    size_t place = planned;
-    bool made = !change_all(swaps, count, &place);
+    msg_change *parts = shim_memory(count * sizeof *parts);
+    size_t planned = 0, place;
+    while (planned < count && plan(rows, planned, &swaps[planned], &parts[planned])) planned++;
+    bool made = !change_all(parts, planned, count, &place);
     for (size_t i = 0; i < planned; i++) {
         if (made) settle(&swaps[i], &rows[i]);
         else forget(&swaps[i]);
     }
-    for (size_t i = 0; made && i < count; i++) cache(swaps[i].record, swaps[i].part.sel);
+    for (size_t i = 0; made && i < count; i++) cache(swaps[i].record, swaps[i].sel);
     free(swaps);
     return place;
 }
 
-static bool plan_exchange(const struct objc_method_pair *pair, struct swap *swap)
+static bool plan_exchange(const struct objc_method_pair *pair, msg_change *part)
 {
     struct record *here, *there;
     struct row *row = pair->one ? home_of(pair->one, &here) : NULL, *other = row && pair->other ? home_of(pair->other, &there) : NULL;
     if (!other) return false;
-    swap->part = (msg_change){MSG_EXCHANGES, here->number, here->meta, row->sel, 0, there->number, there->meta, other->sel};
+    *part = (msg_change){MSG_EXCHANGES, here->number, here->meta, row->sel, 0, there->number, there->meta, other->sel};
     return true;
 }
 
 size_t objc_exchange_methods(const struct objc_method_pair *pairs, size_t count)
 {
     CHANGING;
-    struct swap *swaps = shim_memory(count * sizeof *swaps);
-    size_t place = 0;
-    while (place < count && plan_exchange(&pairs[place], &swaps[place])) place++;
-    bool made = !change_all(swaps, count, &place);
+    msg_change *parts = shim_memory(count * sizeof *parts);
+    size_t planned = 0, place;
+    while (planned < count && plan_exchange(&pairs[planned], &parts[planned])) planned++;
+    bool made = !change_all(parts, planned, count, &place);
     for (size_t i = 0; made && i < count; i++) {
         IMP imp = pairs[i].one->imp;
         shim_set_imp(pairs[i].one, pairs[i].other->imp);
         shim_set_imp(pairs[i].other, imp);
     }
-    free(swaps);
     return place;
 }

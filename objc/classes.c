@@ -4,7 +4,7 @@
 #include <stdlib.h>
 #include <string.h>
 
-enum { PLACES = 16384, GUESSES = 1024 };
+enum { PLACES = 4096, GUESSES = 1024 };
 
 Class shim_classes[MOST_CLASSES + 1];
 uint32_t shim_class_count, shim_class_room;
@@ -14,17 +14,12 @@ static _Atomic(Class) by_name[PLACES]; /* the last that came of each place, and 
 static _Atomic(Class) guesses[GUESSES]; /* what was found of a name that lay at such an address: its text says whether it is meant */
 static objc_get_unknown_class_handler unknown_class;
 
-static uint32_t place_of(const char *name)
-{
-    uint32_t mixed = 5381;
-    while (*name) mixed = mixed * 33 + (unsigned char)*name++;
-    return mixed % PLACES;
-}
+static _Atomic(Class) *place_of(const char *name) { return &by_name[shim_mixed(name) % PLACES]; }
 
 /* No class leaves the table, so it is read without the lock. */
 static Class named(const char *name, uint32_t last)
 {
-    Class class_ = atomic_load_explicit(&by_name[place_of(name)], memory_order_acquire);
+    Class class_ = atomic_load_explicit(place_of(name), memory_order_acquire);
     while (class_ && (class_->record->number > last || strcmp(class_->name, name))) class_ = class_->record->next;
     return class_;
 }
@@ -56,7 +51,7 @@ bool shim_has_class_number(void) { return shim_class_count + in_construction < s
 /* The class and its metaclass have records. */
 void shim_number_class(Class class_)
 {
-    _Atomic(Class) *place = &by_name[place_of(class_->name)];
+    _Atomic(Class) *place = place_of(class_->name);
     shim_classes[++shim_class_count] = class_;
     class_->record->number = shim_class_count;
     class_->isa->record->number = shim_class_count;
@@ -176,7 +171,6 @@ static void free_methods(struct record *record)
         before = rows->before;
         free(rows);
     }
-    free(record->methods);
     free(record);
 }
 

@@ -7,7 +7,8 @@
 
 void (*_objc_load_callback)(Class, struct objc_category *);
 
-static struct waiting { void **rows; uint32_t count, room; } classes, categories, constants;
+/* The first `tried` wait for more than there was when `tried_at` was so. */
+static struct waiting { void **rows; uint32_t count, room, tried, tried_at; } classes, categories, constants;
 
 /* What is to be done without the lock, in order: a +load that is sent, or, without an implementation, the callback of a class or category. */
 struct load { Class class_; struct objc_category *category; IMP imp; SEL sel; };
@@ -67,9 +68,10 @@ static bool has_number(Class class_)
 static bool try_class(void *row)
 {
     Class class_ = row;
-    if (shim_class_coming(class_->name)) return true;
     Class above = class_->superclass.text ? shim_class_coming(class_->superclass.text) : NULL;
-    if ((class_->superclass.text && !above) || !has_number(class_)) return false;
+    if (class_->superclass.text && !above) return false;
+    if (shim_class_coming(class_->name)) return true;
+    if (!has_number(class_)) return false;
     take_class(class_, above);
     return true;
 }
@@ -108,13 +110,14 @@ static bool try_constants(void *row)
     return true;
 }
 
-/* Those that no longer wait leave; the others keep their order. */
+/* Those that no longer wait leave; the others keep their order. Nothing is tried again before there are more classes, or a number for one. */
 static bool try_all(struct waiting *all, bool (*try_one)(void *))
 {
-    uint32_t left = 0, count = all->count;
-    for (uint32_t i = 0; i < count; i++)
+    uint32_t now = 2 * shim_class_count + shim_has_class_number(), count = all->count, left = now == all->tried_at ? all->tried : 0;
+    for (uint32_t i = left; i < count; i++)
         if (!try_one(all->rows[i])) all->rows[left++] = all->rows[i];
-    all->count = left;
+    all->count = all->tried = left;
+    all->tried_at = now;
     return left < count;
 }
 

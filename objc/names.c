@@ -5,10 +5,10 @@
 #include <stdlib.h>
 #include <string.h>
 
-enum { PLACES = 65536 };
+enum { PLACES = 16384, KEPT = 16384 };
 
-/* The selectors of one name that differ in their types. */
-struct typed { SEL sel; struct typed *next; };
+/* The selectors of one name that differ in their types; `own` has the selector where that is no module's. */
+struct typed { SEL sel; struct typed *next; struct objc_selector own[]; };
 
 #define OWN(list) \
     list(INITIALIZE, "initialize") list(RESOLVE_INSTANCE, "resolveInstanceMethod:") \
@@ -55,12 +55,14 @@ void *shim_more(void *rows, uint32_t count, uint32_t *room, size_t size)
 
 void shim_unlock(pthread_mutex_t **lock) { pthread_mutex_unlock(*lock); }
 
-static uint32_t place_of(const char *name)
+uint32_t shim_mixed(const char *name)
 {
     uint32_t mixed = 5381;
     while (*name) mixed = mixed * 33 + (unsigned char)*name++;
-    return mixed % PLACES;
+    return mixed;
 }
+
+static uint32_t *place_of(const char *name) { return &first[shim_mixed(name) % PLACES]; }
 
 static uint32_t list(const char *name, uint32_t *place)
 {
@@ -72,17 +74,18 @@ static uint32_t list(const char *name, uint32_t *place)
 /* The name's number, or 0; and where it would be listed. */
 static uint32_t number_of(const char *name, uint32_t **place)
 {
-    while (name_count < FIRST_FREE - 1) list(own_names[name_count + 1], &first[place_of(own_names[name_count + 1])]);
-    *place = &first[place_of(name)];
+    while (name_count < FIRST_FREE - 1) list(own_names[name_count + 1], place_of(own_names[name_count + 1]));
+    *place = place_of(name);
     uint32_t number = **place;
     while (number && strcmp(names[number].text, name)) number = names[number].next;
     return number;
 }
 
-uint32_t shim_selector(const char *name)
+/* A text that lasts isn't copied: a module's, which is never unloaded. */
+static uint32_t selector(const char *name, bool lasts)
 {
     uint32_t *place, number = number_of(name, &place);
-    return number || name_count == MOST_SELECTORS ? number : list(shim_copy(name), place);
+    return number || name_count == MOST_SELECTORS ? number : list(lasts ? name : shim_copy(name), place);
 }
 
 static struct typed *typed_of(const char *name)
@@ -112,28 +115,36 @@ static SEL selector_of(uint32_t number, const char *types)
     return NULL;
 }
 
-static void note_selector(SEL sel)
+/* For as long as the program lasts. */
+static struct typed *new_node(size_t size)
 {
-    struct typed *node = shim_memory(sizeof *node), **last = &names[shim_sel(sel)].typed;
-    *node = (struct typed){sel, *last};
-    *last = node;
+    static char *at, *end;
+    if ((size_t)(end - at) < size) end = (at = shim_memory(KEPT)) + KEPT;
+    return (void *)((at += size) - size);
 }
 
-SEL shim_typed_selector(const char *name, const char *types)
+static SEL note_selector(uint32_t number, struct typed *node, SEL sel)
 {
-    uint32_t number = shim_selector(name);
-    SEL known = selector_of(number, types);
-    if (known || !number) return known;
-    struct objc_selector *sel = shim_memory(sizeof *sel);
-    sel->name.key = msg_key(0, number);
-    sel->types = types ? shim_copy(types) : NULL;
-    note_selector(sel);
+    *node = (struct typed){sel, names[number].typed};
+    names[number].typed = node;
     return sel;
 }
 
+static SEL typed_selector(const char *name, const char *types, bool lasts)
+{
+    uint32_t number = selector(name, lasts);
+    SEL known = selector_of(number, types);
+    if (known || !number) return known;
+    struct typed *node = new_node(sizeof *node + sizeof *node->own);
+    *node->own = (struct objc_selector){{.key = msg_key(0, number)}, types && !lasts ? shim_copy(types) : types};
+    return note_selector(number, node, node->own);
+}
+
+SEL shim_typed_selector(const char *name, const char *types) { return typed_selector(name, types, false); }
+
 SEL shim_needed_selector(const char *name, const char *types)
 {
-    SEL sel = shim_typed_selector(name, types);
+    SEL sel = typed_selector(name, types, true);
     if (!sel) shim_stop("too many selectors", name);
     return sel;
 }
@@ -142,10 +153,10 @@ SEL shim_needed_selector(const char *name, const char *types)
 void shim_take_selector(struct objc_selector *sel)
 {
     const char *name = sel->name.text;
-    uint32_t number = shim_selector(name);
+    uint32_t number = selector(name, true);
     if (!number) shim_stop("too many selectors", name);
     sel->name.key = msg_key(0, number);
-    if (!selector_of(number, sel->types)) note_selector(sel);
+    if (!selector_of(number, sel->types)) note_selector(number, new_node(sizeof(struct typed)), sel);
 }
 
 SEL sel_registerTypedName(const char *name, const char *types)

@@ -3,7 +3,9 @@
 #include "seat.h"
 #include <stdlib.h>
 
-enum { SENDERS = 1024, CLASS_NUMBERS = 16384, PLACES = 65536 };
+/* Arrays are a third of the default, since all are written at the start; GNUstep's programs take less than a fifth of these. */
+enum { SENDERS = 1024, CLASS_NUMBERS = 16384, PLACES = 16384 };
+#define ARRAYS {1024, 512, 256, 128, 64, 32, 8, 4, 2}
 
 _Alignas(LINE) _Atomic(IMP) shim_functions[MOST_IMPS + 1];
 msg_runtime *shim_runtime;
@@ -22,7 +24,7 @@ static void start(void)
     uint32_t classes = !number ? CLASS_NUMBERS : number > MOST_CLASSES ? MOST_CLASSES + 1 : (uint32_t)number;
     if (msg_version() != MSG_VERSION_NUMBER || msg_sender_size() != sizeof(msg_sender)) shim_stop("the library is of another header", "msg_version");
     shim_class_room = classes - 1;
-    uint32_t fault = msg_process_start(&(msg_config){.classes = classes, .senders = SENDERS});
+    uint32_t fault = msg_process_start(&(msg_config){classes, SENDERS, ARRAYS});
     if (fault == MSG_ALREADY_OPEN) return;
     shim_must(fault, "runtime");
     shim_care_for_forks();
@@ -49,7 +51,7 @@ void shim_give(char *unused)
 uint32_t shim_number(IMP imp)
 {
     static uint32_t first[PLACES], next[MOST_IMPS + 1], count;
-    uint32_t *place = &first[(uintptr_t)imp * 0x9e3779b97f4a7c15 >> 48];
+    uint32_t *place = &first[(uintptr_t)imp * 0x9e3779b97f4a7c15 >> 50];
     for (uint32_t at = *place; at; at = next[at])
         if (atomic_load_explicit(&shim_functions[at], memory_order_relaxed) == imp) return at;
     if (count == MOST_IMPS) return 0;

@@ -20,7 +20,7 @@ _Static_assert(sizeof(void *) == 8 && __BYTE_ORDER__ == __ORDER_LITTLE_ENDIAN__,
 /* Of class numbers the tables reserve as many as runtime.c says; the others are address space until they are used. */
 enum { MOST_SELECTORS = (1 << 20) - 1, MOST_CLASSES = (1 << 20) - 1, MOST_IMPS = (1 << 20) - 1, LINE = 64 };
 
-/* A method that stands in a class: what the proved tables hold, kept beside them, since they know numbers alone. */
+/* A method of a class: what the proved tables hold, kept beside them, since they know numbers alone. The last of a name counts. */
 struct row { uint32_t sel; Method method; };
 
 /* Handlers of signals read rows without the lock: what a larger array took the place of stays, behind it. */
@@ -30,18 +30,16 @@ enum { NOT_YET, RUNNING, DONE };
 
 /* `number` is 0 for a class in construction, which the tables don't hold. `plain`: of a metaclass's record, its
  * class's; else itself. `next`: the class that is found after it by its name.
- * `methods`: all, in the order in which they came; a row has the last of a name. */
+ * `rows`: of all its methods, in the order in which they came. */
 struct record {
     bool meta;
-    uint32_t number;
-    Class next;
-    atomic_int initialized;
-    uint64_t unresolved; /* the last count of changes after which a note said that it has no resolver; 0 is none's */
-    struct record *plain;
-    _Atomic(struct rows *) rows;
+    uint32_t number, room;
     _Atomic(uint32_t) count;
-    uint32_t room, method_count, method_room;
-    Method *methods;
+    _Atomic(struct rows *) rows;
+    struct record *plain;
+    Class next;
+    uint64_t unresolved; /* the last count of changes after which a note said that it has no resolver; 0 is none's */
+    atomic_int initialized;
 };
 
 extern Class shim_classes[MOST_CLASSES + 1]; /* by number, from 1; class 0 of the tables is never made */
@@ -51,6 +49,7 @@ extern uint32_t shim_class_count, shim_class_room;
 _Noreturn void shim_stop(const char *why, const char *what);
 void *shim_memory(size_t size);
 char *shim_copy(const char *text);
+uint32_t shim_mixed(const char *name);
 /* The same rows, with room for one more. */
 void *shim_more(void *rows, uint32_t count, uint32_t *room, size_t size);
 void shim_unlock(pthread_mutex_t **lock);
@@ -69,10 +68,9 @@ extern const struct objc_selector shim_own[FIRST_FREE];
 
 static inline uint32_t shim_sel(SEL sel) { return MSG_SEL_OF(sel->name.key); }
 
-/* names.c: number 0, or NULL, where no name is to be had any more. */
-uint32_t shim_selector(const char *name);
+/* names.c: NULL where no name is to be had any more. */
 SEL shim_typed_selector(const char *name, const char *types);
-SEL shim_needed_selector(const char *name, const char *types); /* or the program ends: of a module's */
+SEL shim_needed_selector(const char *name, const char *types); /* or the program ends: of a module's, whose texts last */
 void shim_take_selector(struct objc_selector *sel);
 
 /* classes.c */

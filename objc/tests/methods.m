@@ -21,6 +21,19 @@
 @implementation Torch
 @end
 
+@interface Bulb : Object
+- (int)watts;
+@end
+@implementation Bulb
+- (int)watts { return 20; }
+@end
+@interface Bulb (Brighter)
+- (int)watts;
+@end
+@implementation Bulb (Brighter)
+- (int)watts { return 60; }
+@end
+
 static int ten(id self, SEL sel) { return 10; }
 static int eleven(id self, SEL sel) { return 11; }
 
@@ -32,6 +45,17 @@ static void show(Method method)
     printf("described alike: %d\n", method_getDescription(method)->types == method_getTypeEncoding(method));
     free(result);
     free(last);
+}
+
+static void show_both(void)
+{
+    unsigned int count;
+    Class bulb = objc_getClass("Bulb");
+    Bulb *object = (Bulb *)class_createInstance(bulb, 0);
+    Method watts = class_getInstanceMethod(bulb, @selector(watts));
+    free(class_copyMethodList(bulb, &count));
+    printf("%u of a name: found %d, sent %d\n", count, ((int (*)(id, SEL))method_getImplementation(watts))((id)object, @selector(watts)), [object watts]);
+    object_dispose(object);
 }
 
 int main(void)
@@ -60,5 +84,6 @@ int main(void)
     printf("answers %d, %d, %d\n", class_respondsToSelector(torch, @selector(two)), class_respondsToSelector(torch, @selector(lamps)), class_getMethodImplementation(torch, @selector(two)) == method_getImplementation(class_getInstanceMethod(torch, @selector(two))));
     printf("of nothing: %d %d %d\n", class_getInstanceMethod(NULL, @selector(one)) == NULL, method_getName(NULL) == NULL, class_addMethod(torch, NULL, (IMP)ten, "i16@0:8"));
     object_dispose(object);
+    show_both();
     return 0;
 }
