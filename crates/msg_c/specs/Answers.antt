@@ -1,10 +1,11 @@
 -- What calls answer.
 use Rattle.std.specs.Prelude.{◌≡◌, ◌==◌, ◌||◌, if◌then◌else◌, ℕ, Bool, List, Option, Some, None, not, option_map}
 use Rattle.msg_names.specs.declared.value.ClassRef.{ClassRef}
-use Rattle.msg_tables.specs.History.{History, BeginsWith}
+use Rattle.msg_tables.specs.History.{History, BeginsWith, holder, superclass}
 use Rattle.msg_cache.specs.Views.{ArenaView, classes}
 use Rattle.msg_host.specs.Asking.{ask_fault, ask_fault_number}
 use Rattle.msg_host.specs.Config.{are_known, config_of, is_beyond}
+use Rattle.msg_host.specs.Named.{ref_of}
 use Rattle.msg_host.specs.View.{RuntimeView, SenderView}
 use Rattle.msg_host.specs.declared.fault.AskFault.{AskFault}
 use Rattle.msg_c.specs.declared.answer.TheConstants.{NONE}
@@ -39,6 +40,14 @@ TellsFault a class sel n = (f : AskFault) → ask_fault (classes a) class sel �
 -- a question that is asked finds nothing, and so it is answered
 abbrev pub TellsNone : ArenaView → ℕ → ℕ → Option ClassRef → ℕ → Type 0
 TellsNone a class sel found n = IsAsked a class sel → found ≡ None → n ≡ NONE
+
+-- a question for the superclass of a class reference finds none
+abbrev pub TellsNoSuperclass : RuntimeView → ℕ → Bool → ℕ → Type 0
+TellsNoSuperclass v class meta n = TellsNone v.arena class 1 (superclass v.history (ref_of class meta)) n
+
+-- a question for where a method stands finds none
+abbrev pub TellsNoHolder : RuntimeView → ℕ → Bool → ℕ → ℕ → Type 0
+TellsNoHolder v class meta sel n = TellsNone v.arena class sel (holder v.history (ref_of class meta) sel) n
 
 -- a class reference is written out
 abbrev pub Shows : MsgClass → ClassRef → Type 0

@@ -1,19 +1,37 @@
 -- What handles hold, where they are open, and what calls make of it.
-use Rattle.std.specs.Prelude.{◌≡◌, ℕ, Bool, List, Some, None}
+use Rattle.std.specs.Prelude.{◌≡◌, ◌<◌, ℕ, Bool, List, Some, None, IfSome, is_some, true}
 use Rattle.msg_names.specs.declared.value.ClassRef.{ClassRef}
 use Rattle.msg_tables.specs.declared.change.Change.{Change}
 use Rattle.msg_tables.specs.History.{History}
 use Rattle.msg_cache.specs.Views.{ArenaView, classes}
 use Rattle.msg_host.specs.Asking.{ChangesBy}
 use Rattle.msg_host.specs.Listing.{AreRefusedRows, MakesRows, ReachesRows}
-use Rattle.msg_host.specs.Named.{noted_at}
+use Rattle.msg_host.specs.Named.{exchange, noted_at, ref_of}
+use Rattle.msg_host.specs.Opening.{OpensAs}
 use Rattle.msg_host.specs.View.{RuntimeView}
+use Rattle.msg_host.specs.declared.config.HostConfig.{HostConfig}
 use Rattle.msg_host.specs.declared.listing.ChangeRow.{ChangeRow}
-use Rattle.msg_c.specs.Answers.{runtime_history, sender_arena, sender_front}
+use Rattle.msg_c.specs.Answers.{SeesOn, runtime_history, sender_arena, sender_front}
 use Rattle.msg_c.specs.Interned.{TextsView}
 use Rattle.msg_c.specs.declared.runtime_handle.RuntimeHandle.{RuntimeHandle}
 use Rattle.msg_c.specs.declared.sender_handle.SenderHandle.{SenderHandle}
 use Rattle.msg_c.specs.declared.texts_handle.TextsHandle.{TextsHandle}
+
+-- a handle of a runtime is open
+abbrev pub HasRuntime : RuntimeHandle → Type 0
+HasRuntime r = is_some r.held.state ≡ true
+
+-- one of a sender
+abbrev pub HasSender : SenderHandle → Type 0
+HasSender s = is_some s.held.state ≡ true
+
+-- one of texts
+abbrev pub HasTexts : TextsHandle → Type 0
+HasTexts t = is_some t.held.state ≡ true
+
+-- what a handle holds, if it holds a runtime, opens as a config says
+abbrev pub OpensIn : HostConfig → RuntimeHandle → Type 0
+OpensIn config r = IfSome r.held.state (λ v. OpensAs config v)
 
 -- so it is with the runtime in a handle that is open
 abbrev pub IfOpen : RuntimeHandle → (RuntimeView → Type 0) → Type 0
@@ -26,6 +44,11 @@ IfAt r is_so = (h : History) → runtime_history r.held.state ≡ Some h → is_
 -- a change took what a handle holds from was to is, with the answer n
 abbrev pub Changes : RuntimeHandle → RuntimeHandle → Change → ℕ → Type 0
 Changes was is x n = (v w : RuntimeView) → was.held.state ≡ Some v → is.held.state ≡ Some w → ChangesBy v w x n
+
+-- an exchange of two selectors' methods did, where neither selector's number is 0
+abbrev pub Exchanges : RuntimeHandle → RuntimeHandle → ℕ → Bool → ℕ → ℕ → Bool → ℕ → ℕ → Type 0
+Exchanges was is class meta sel other other_meta other_sel n =
+    0 < sel → 0 < other_sel → Changes was is (exchange (ref_of class meta) sel (ref_of other other_meta) other_sel) n
 
 -- the changes that rows mean took what a handle holds from was to is, as one
 abbrev pub MakesRowsIn : List ChangeRow → RuntimeHandle → RuntimeHandle → Type 0
@@ -42,6 +65,14 @@ ReachesRowsIn r rows old new = IfOpen r (λ v. ReachesRows rows v.history (class
 -- so it is with the history that the sender in an open handle has seen
 abbrev pub IfSeen : SenderHandle → (History → Type 0) → Type 0
 IfSeen s is_so = (h : History) → sender_front s.held.state ≡ Some h → is_so h
+
+-- what the sender in a handle sees afterwards begins with what it saw
+abbrev pub SeesMore : SenderHandle → SenderHandle → Type 0
+SeesMore was is = SeesOn (sender_front was.held.state) (sender_front is.held.state)
+
+-- it has seen all changes of the runtime
+abbrev pub HasSeenAll : SenderHandle → RuntimeHandle → Type 0
+HasSeenAll s r = sender_front s.held.state ≡ runtime_history r.held.state
 
 -- so it is with that sender's arena
 abbrev pub IfOfArena : SenderHandle → (ArenaView → Type 0) → Type 0

@@ -1,7 +1,7 @@
 -- What a handle of texts holds, and what is written of it.
-use Rattle.std.specs.Prelude.{◌≡◌, ℕ, Bool, false, List, Option, None, Some, [], ◌++◌, bytes_eq, length, take, drop}
+use Rattle.std.specs.Prelude.{◌≡◌, ℕ, Bool, List, Option, None, Some, [], ◌++◌, bytes_eq, length, take, drop}
 use Rattle.std.specs.List.{list_any}
-use Rattle.msg_texts.specs.declared.texts.TheConstants.{MAX_TEXTS}
+use Rattle.msg_names.specs.Numbering.{number_of}
 
 -- what contracts see of texts: the bytes of each, in the order of their numbers
 abbrev pub TextsView : Type 0
@@ -20,6 +20,6 @@ with_text text bytes = take (length bytes) text ++ drop (length text) bytes
 abbrev pub is_among : List ℕ → TextsView → Bool
 is_among text v = list_any (bytes_eq text) v
 
--- no text that isn't there gets a number
-abbrev pub IsFull : TextsView → List ℕ → Type 0
-IsFull v text = (length v ≡ MAX_TEXTS) × (is_among text v ≡ false)
+-- where the text has a number, that is answered
+abbrev pub AnswersNumber : TextsView → List ℕ → ℕ → ℕ → Type 0
+AnswersNumber v text answer number = (n : ℕ) → number_of v text ≡ Some n → (answer ≡ 0) × (number ≡ n)

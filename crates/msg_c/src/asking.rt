@@ -5,7 +5,7 @@ ghost use Rattle.msg_names.specs.declared.value.ClassRef.{ClassRef};
 ghost use Rattle.msg_tables.specs.Origin.{last_imp};
 ghost use Rattle.msg_tables.specs.History.{holder, lookup, superclass};
 ghost use Rattle.msg_cache.specs.Views.{classes};
-ghost use Rattle.msg_c.specs.Answers.{IsAsked, Shows, TellsFault, TellsNone, fault_in};
+ghost use Rattle.msg_c.specs.Answers.{IsAsked, Shows, TellsFault, TellsNoHolder, TellsNoSuperclass, fault_in};
 ghost use Rattle.msg_host.specs.Named.{ref_of};
 ghost use Rattle.msg_c.specs.Handles.{IfOpen};
 
@@ -124,7 +124,7 @@ pub extern "C" fn msg_superclass(
     ensures closed { runtime.old.held.state ≡ None → result ≡ CLOSED }
     ensures left { result ≢ 0 → above.new ≡ above.old }
     ensures fault { IfOpen runtime.old (λ v. TellsFault v.arena class 1 result) }
-    ensures none { IfOpen runtime.old (λ v. TellsNone v.arena class 1 (superclass v.history (ref_of class meta)) result) }
+    ensures none { IfOpen runtime.old (λ v. TellsNoSuperclass v class meta result) }
     ensures done { IfOpen runtime.old (λ v. IsAsked v.arena class 1 → (c : ClassRef)
         → superclass v.history (ref_of class meta) ≡ Some c → (result ≡ 0) × Shows above.new c) }
 {
@@ -153,7 +153,7 @@ pub extern "C" fn msg_holder(
     ensures closed { runtime.old.held.state ≡ None → result ≡ CLOSED }
     ensures left { result ≢ 0 → at.new ≡ at.old }
     ensures fault { IfOpen runtime.old (λ v. TellsFault v.arena class sel result) }
-    ensures none { IfOpen runtime.old (λ v. TellsNone v.arena class sel (holder v.history (ref_of class meta) sel) result) }
+    ensures none { IfOpen runtime.old (λ v. TellsNoHolder v class meta sel result) }
     ensures done { IfOpen runtime.old (λ v. IsAsked v.arena class sel → (c : ClassRef)
         → holder v.history (ref_of class meta) sel ≡ Some c → (result ≡ 0) × Shows at.new c) }
 {

@@ -1,11 +1,11 @@
 //! Changes.
 
-ghost use Rattle.std.specs.Prelude.{◌≡◌, ◌≢◌, ◌<◌, ◌⊎◌, None, Some, is_some, true};
+ghost use Rattle.std.specs.Prelude.{◌≡◌, ◌≢◌, ◌<◌, None, Some};
 ghost use Rattle.msg_tables.specs.declared.change.Change.{Change};
-ghost use Rattle.msg_host.specs.Asking.{ChangesBy, IsListFault, want_of_selector};
-ghost use Rattle.msg_host.specs.Named.{addition, attachment, exchange, ref_of, replacement, setting};
+ghost use Rattle.msg_host.specs.Asking.{want_of_selector};
+ghost use Rattle.msg_host.specs.Named.{IsAttachFault, addition, attachment, replacement, setting};
 ghost use Rattle.msg_c.specs.Answers.{runtime_arena};
-ghost use Rattle.msg_c.specs.Handles.{Changes, IfOpen};
+ghost use Rattle.msg_c.specs.Handles.{Changes, Exchanges, HasRuntime, IfOpen};
 
 use crate::answer::CLOSED;
 use crate::runtime_handle::RuntimeHandle;
@@ -26,7 +26,7 @@ pub extern "C" fn msg_add(
     ensures arena { runtime_arena runtime.new.held.state ≡ runtime_arena runtime.old.held.state }
     ensures closed { runtime.old.held.state ≡ None → result ≡ CLOSED }
     ensures left { result ≢ 0 → runtime.new.held.state ≡ runtime.old.held.state }
-    ensures no_selector { sel ≡ 0 → is_some runtime.old.held.state ≡ true → result ≡ want_of_selector }
+    ensures no_selector { sel ≡ 0 → HasRuntime runtime.old → result ≡ want_of_selector }
     ensures change { 0 < sel → Changes runtime.old runtime.new (addition class meta sel imp) result }
 {
     let Some(mut held) = runtime.take(alloc) else {
@@ -50,7 +50,7 @@ pub extern "C" fn msg_replace(
     ensures arena { runtime_arena runtime.new.held.state ≡ runtime_arena runtime.old.held.state }
     ensures closed { runtime.old.held.state ≡ None → result ≡ CLOSED }
     ensures left { result ≢ 0 → runtime.new.held.state ≡ runtime.old.held.state }
-    ensures no_selector { sel ≡ 0 → is_some runtime.old.held.state ≡ true → result ≡ want_of_selector }
+    ensures no_selector { sel ≡ 0 → HasRuntime runtime.old → result ≡ want_of_selector }
     ensures change { 0 < sel → Changes runtime.old runtime.new (replacement class meta sel imp) result }
 {
     let Some(mut held) = runtime.take(alloc) else {
@@ -74,7 +74,7 @@ pub extern "C" fn msg_set_imp(
     ensures arena { runtime_arena runtime.new.held.state ≡ runtime_arena runtime.old.held.state }
     ensures closed { runtime.old.held.state ≡ None → result ≡ CLOSED }
     ensures left { result ≢ 0 → runtime.new.held.state ≡ runtime.old.held.state }
-    ensures no_selector { sel ≡ 0 → is_some runtime.old.held.state ≡ true → result ≡ want_of_selector }
+    ensures no_selector { sel ≡ 0 → HasRuntime runtime.old → result ≡ want_of_selector }
     ensures change { 0 < sel → Changes runtime.old runtime.new (setting class meta sel imp) result }
 {
     let Some(mut held) = runtime.take(alloc) else {
@@ -100,10 +100,9 @@ pub extern "C" fn msg_exchange(
     ensures arena { runtime_arena runtime.new.held.state ≡ runtime_arena runtime.old.held.state }
     ensures closed { runtime.old.held.state ≡ None → result ≡ CLOSED }
     ensures left { result ≢ 0 → runtime.new.held.state ≡ runtime.old.held.state }
-    ensures no_selector { sel ≡ 0 → is_some runtime.old.held.state ≡ true → result ≡ want_of_selector }
-    ensures no_other { other_sel ≡ 0 → is_some runtime.old.held.state ≡ true → result ≡ want_of_selector }
-    ensures change { 0 < sel → 0 < other_sel
-        → Changes runtime.old runtime.new (exchange (ref_of class meta) sel (ref_of other other_meta) other_sel) result }
+    ensures no_selector { sel ≡ 0 → HasRuntime runtime.old → result ≡ want_of_selector }
+    ensures no_other { other_sel ≡ 0 → HasRuntime runtime.old → result ≡ want_of_selector }
+    ensures change { Exchanges runtime.old runtime.new class meta sel other other_meta other_sel result }
 {
     let Some(mut held) = runtime.take(alloc) else {
         return CLOSED;
@@ -131,8 +130,7 @@ pub extern "C" fn msg_attach(
     ensures closed { runtime.old.held.state ≡ None → result ≡ CLOSED }
     ensures left { result ≢ 0 → runtime.new.held.state ≡ runtime.old.held.state }
     ensures made { result ≡ 0 → Changes runtime.old runtime.new (attachment class methods.now class_methods.now) 0 }
-    ensures fault { result ≢ 0 → IfOpen runtime.old (λ v. IsListFault methods.now result
-        ⊎ IsListFault class_methods.now result ⊎ ChangesBy v v (attachment class methods.now class_methods.now) result) }
+    ensures fault { result ≢ 0 → IfOpen runtime.old (λ v. IsAttachFault v class methods.now class_methods.now result) }
 {
     let Some(mut held) = runtime.take(alloc) else {
         return CLOSED;

@@ -1,10 +1,10 @@
 //! Opening and closing a runtime.
 
-ghost use Rattle.std.specs.Prelude.{◌≡◌, ◌≢◌, ◌⊎◌, Some, None, IfOk, IfSome, IsErrOf, OnOk, is_some, true, false};
+ghost use Rattle.std.specs.Prelude.{◌≡◌, ◌≢◌, ◌⊎◌, None, IfOk, IsErrOf, OnOk, true, false};
 ghost use Rattle.msg_host.specs.Config.{config_of, is_beyond};
-ghost use Rattle.msg_host.specs.Opening.{OpensAs};
 ghost use Rattle.msg_host.specs.declared.fault.OpenFault.{OpenFault};
 ghost use Rattle.msg_c.specs.Answers.{are_refused};
+ghost use Rattle.msg_c.specs.Handles.{HasRuntime, OpensIn};
 
 use crate::answer::{ALREADY_OPEN, BAD_CONFIG, CLOSED, DONE, NO_MEMORY};
 use crate::runtime_handle::RuntimeHandle;
@@ -13,8 +13,8 @@ use std::alloc::Global;
 
 // An open handle of a new runtime.
 fn opened(alloc: Global, config: HostConfig) -> Result<RuntimeHandle, OpenFault>
-    ensures open { IfOk result (λ handle. is_some handle.held.state ≡ true) }
-    ensures ok { IfOk result (λ handle. IfSome handle.held.state (λ v. OpensAs config v)) }
+    ensures open { IfOk result HasRuntime }
+    ensures ok { IfOk result (OpensIn config) }
     ensures allowed { OnOk result (is_beyond config ≡ false) }
     ensures refused { IsErrOf result OpenFault.BadConfig → is_beyond config ≡ true }
     ensures memory { IsErrOf result OpenFault.Memory → is_beyond config ≡ false }
@@ -28,8 +28,8 @@ fn opened(alloc: Global, config: HostConfig) -> Result<RuntimeHandle, OpenFault>
 
 // As of words.
 fn opened_of(alloc: Global, words: &[u32]) -> Result<RuntimeHandle, OpenFault>
-    ensures open { IfOk result (λ handle. is_some handle.held.state ≡ true) }
-    ensures ok { IfOk result (λ handle. IfSome handle.held.state (λ v. OpensAs (config_of words.now) v)) }
+    ensures open { IfOk result HasRuntime }
+    ensures ok { IfOk result (OpensIn (config_of words.now)) }
     ensures allowed { OnOk result (are_refused words.now ≡ false) }
     ensures refused { IsErrOf result OpenFault.BadConfig → are_refused words.now ≡ true }
     ensures memory { IsErrOf result OpenFault.Memory → are_refused words.now ≡ false }
@@ -45,10 +45,10 @@ fn opened_of(alloc: Global, words: &[u32]) -> Result<RuntimeHandle, OpenFault>
 /// 73 says that a field is beyond its most, or that there are more fields than are known and one of those isn't 0. 69, want of memory, may come wherever a growth is refused.
 #[unsafe(no_mangle)]
 pub extern "C" fn msg_open_words(alloc: Global, runtime: &mut RuntimeHandle, config: &[u32]) -> u32
-    ensures already { is_some runtime.old.held.state ≡ true → result ≡ ALREADY_OPEN }
+    ensures already { HasRuntime runtime.old → result ≡ ALREADY_OPEN }
     ensures left { result ≢ 0 → runtime.new.held.state ≡ runtime.old.held.state }
-    ensures open { result ≡ 0 → is_some runtime.new.held.state ≡ true }
-    ensures done { result ≡ 0 → IfSome runtime.new.held.state (λ v. OpensAs (config_of config.now) v) }
+    ensures open { result ≡ 0 → HasRuntime runtime.new }
+    ensures done { result ≡ 0 → OpensIn (config_of config.now) runtime.new }
     ensures refused { runtime.old.held.state ≡ None → are_refused config.now ≡ true → result ≡ BAD_CONFIG }
     ensures allowed { runtime.old.held.state ≡ None → are_refused config.now ≡ false
         → (result ≡ DONE) ⊎ (result ≡ NO_MEMORY) }
@@ -71,7 +71,7 @@ pub extern "C" fn msg_open_words(alloc: Global, runtime: &mut RuntimeHandle, con
 pub extern "C" fn msg_close(alloc: Global, runtime: &mut RuntimeHandle) -> u32
     ensures closed { runtime.new.held.state ≡ None }
     ensures was_closed { runtime.old.held.state ≡ None → result ≡ CLOSED }
-    ensures was_open { is_some runtime.old.held.state ≡ true → result ≡ 0 }
+    ensures was_open { HasRuntime runtime.old → result ≡ 0 }
 {
     match runtime.take(alloc) {
         Some(held) => {

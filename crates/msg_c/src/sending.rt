@@ -1,13 +1,14 @@
 //! Senders.
 
-ghost use Rattle.std.specs.Prelude.{◌≡◌, ◌≢◌, ◌≤◌, ◌%◌, ◌⊎◌, length, Some, None, is_some, true};
+ghost use Rattle.std.specs.Prelude.{◌≡◌, ◌≢◌, ◌≤◌, ◌%◌, ◌⊎◌, length, None};
 ghost use Rattle.msg_tables.specs.Origin.{last_imp};
 ghost use Rattle.msg_tables.specs.History.{lookup};
 ghost use Rattle.msg_reader.specs.Notes.{IsRecalled, recalled};
-ghost use Rattle.msg_c.specs.Answers.{AreOfOneArena, IsAsked, SeesOn};
-ghost use Rattle.msg_c.specs.Answers.{fault_in, number_of_recalled, runtime_arena, runtime_history, sender_arena, sender_front};
+ghost use Rattle.msg_c.specs.Answers.{AreOfOneArena, IsAsked};
+ghost use Rattle.msg_c.specs.Answers.{fault_in, number_of_recalled, runtime_arena, sender_arena};
 ghost use Rattle.msg_host.specs.Named.{HaveNoted, ref_of};
-ghost use Rattle.msg_c.specs.Handles.{HasLacked, IfAt, IfOfArena, IfOpen, IfSeen};
+ghost use Rattle.msg_c.specs.Handles.{HasLacked, HasRuntime, HasSeenAll, HasSender};
+ghost use Rattle.msg_c.specs.Handles.{IfAt, IfOfArena, IfOpen, IfSeen, SeesMore};
 
 use crate::answer::{
     ALREADY_OPEN, CLOSED, DONE, MISSED, NO_MEMORY, NO_SENDER, NOT_NOTED, NOTED_NONE,
@@ -41,13 +42,13 @@ pub extern "C" fn msg_sender_open(
 ) -> u32
     ensures kept { runtime.new.held.state ≡ runtime.old.held.state }
     ensures closed { runtime.old.held.state ≡ None → sender.old.held.state ≡ None → result ≡ CLOSED }
-    ensures refused { is_some runtime.old.held.state ≡ true → sender.old.held.state ≡ None → result ≢ 0
+    ensures refused { HasRuntime runtime.old → sender.old.held.state ≡ None → result ≢ 0
         → (result ≡ NO_SENDER) ⊎ (result ≡ NO_MEMORY) }
-    ensures already { is_some sender.old.held.state ≡ true → result ≡ ALREADY_OPEN }
+    ensures already { HasSender sender.old → result ≡ ALREADY_OPEN }
     ensures left { result ≢ 0 → sender.new.held.state ≡ sender.old.held.state }
-    ensures open { result ≡ 0 → is_some sender.new.held.state ≡ true }
+    ensures open { result ≡ 0 → HasSender sender.new }
     ensures of { result ≡ 0 → sender_arena sender.new.held.state ≡ runtime_arena runtime.old.held.state }
-    ensures front { result ≡ 0 → sender_front sender.new.held.state ≡ runtime_history runtime.old.held.state }
+    ensures front { result ≡ 0 → HasSeenAll sender.new runtime.old }
 {
     if sender.is_open() {
         return ALREADY_OPEN;
@@ -84,7 +85,7 @@ pub extern "C" fn msg_sender_close(
     ensures kept { runtime.new.held.state ≡ runtime.old.held.state }
     ensures closed { sender.new.held.state ≡ None }
     ensures was_closed { sender.old.held.state ≡ None → result ≡ CLOSED }
-    ensures was_open { is_some sender.old.held.state ≡ true → result ≡ 0 }
+    ensures was_open { HasSender sender.old → result ≡ 0 }
 {
     let Some(taken) = sender.close(alloc) else {
         return CLOSED;
@@ -114,7 +115,7 @@ pub extern "C" fn msg_probe(
     ensures closed { sender.old.held.state ≡ None → result ≡ CLOSED }
     ensures left { result ≢ 0 → imp.new ≡ imp.old }
     ensures still { result ≢ 0 → result ≢ MISSED → sender.new.held.state ≡ sender.old.held.state }
-    ensures begins { SeesOn (sender_front sender.old.held.state) (sender_front sender.new.held.state) }
+    ensures begins { SeesMore sender.old sender.new }
     ensures hit { result ≡ 0 → IfSeen sender.new (λ h. imp.new ≡ lookup h (ref_of class meta) sel) }
     ensures listed { result ≡ 0 → IfOfArena sender.old (λ a. imp.new ≤ last_imp a.key.origin.counts) }
     ensures fault { IfOfArena sender.old (λ a. result ≢ 0 → result ≢ MISSED → result ≡ fault_in a class sel) }
@@ -182,10 +183,10 @@ pub extern "C" fn msg_fill(
     ensures left { result ≢ 0 → (imp.new ≡ imp.old) × (sender.new.held.state ≡ sender.old.held.state) }
     ensures done { result ≡ 0 → IfAt runtime.old (λ h. imp.new ≡ lookup h (ref_of class meta) sel) }
     ensures listed { result ≡ 0 → IfAt runtime.old (λ h. imp.new ≤ last_imp h.origin.counts) }
-    ensures front { result ≡ 0 → sender_front sender.new.held.state ≡ runtime_history runtime.old.held.state }
-    ensures begins { result ≡ 0 → SeesOn (sender_front sender.old.held.state) (sender_front sender.new.held.state) }
+    ensures front { result ≡ 0 → HasSeenAll sender.new runtime.old }
+    ensures begins { result ≡ 0 → SeesMore sender.old sender.new }
     ensures noted { result ≡ 0 → IfAt runtime.old (λ h. HaveNoted sender.new.notes h (ref_of class meta) sel imp.new) }
-    ensures fault { is_some sender.old.held.state ≡ true → IfOpen runtime.old (λ v. result ≡ fault_in v.arena class sel) }
+    ensures fault { HasSender sender.old → IfOpen runtime.old (λ v. result ≡ fault_in v.arena class sel) }
 {
     let Some(mut held) = runtime.take(alloc) else {
         return CLOSED;
@@ -220,8 +221,8 @@ pub extern "C" fn msg_meet(
     ensures closed { runtime.old.held.state ≡ None → result ≡ CLOSED }
     ensures no_sender { sender.old.held.state ≡ None → result ≡ CLOSED }
     ensures left { result ≢ 0 → sender.new.held.state ≡ sender.old.held.state }
-    ensures was_open { is_some runtime.old.held.state ≡ true → is_some sender.old.held.state ≡ true → result ≡ 0 }
-    ensures front { result ≡ 0 → sender_front sender.new.held.state ≡ runtime_history runtime.old.held.state }
+    ensures was_open { HasRuntime runtime.old → HasSender sender.old → result ≡ 0 }
+    ensures front { result ≡ 0 → HasSeenAll sender.new runtime.old }
 {
     let Some(mut held) = runtime.take(alloc) else {
         return CLOSED;
@@ -243,9 +244,9 @@ pub extern "C" fn msg_meet(
 pub extern "C" fn msg_refresh(alloc: Global, sender: &mut SenderHandle, count: &mut u64) -> u32
     ensures arena { sender_arena sender.new.held.state ≡ sender_arena sender.old.held.state }
     ensures closed { sender.old.held.state ≡ None → result ≡ CLOSED }
-    ensures was_open { is_some sender.old.held.state ≡ true → result ≡ 0 }
+    ensures was_open { HasSender sender.old → result ≡ 0 }
     ensures left { result ≢ 0 → count.new ≡ count.old }
-    ensures begins { SeesOn (sender_front sender.old.held.state) (sender_front sender.new.held.state) }
+    ensures begins { SeesMore sender.old sender.new }
     ensures done { IfSeen sender.new (λ h. count.new ≡ length h.changes) }
 {
     if !sender.is_open() {

@@ -1,10 +1,10 @@
 //! Interned texts.
 
-ghost use Rattle.std.specs.Prelude.{◌≡◌, ◌≢◌, ◌⊎◌, ◌↔◌, ℕ, List, [], Some, None, option_map, is_some, true, length};
+ghost use Rattle.std.specs.Prelude.{◌≡◌, ◌≢◌, ◌⊎◌, ◌↔◌, ℕ, List, [], Some, None, option_map, true, length};
 ghost use Rattle.msg_names.specs.Numbering.{number_of, with_name};
-ghost use Rattle.msg_texts.specs.Texts.{colons_of, text_at};
-ghost use Rattle.msg_c.specs.Interned.{IsFull, is_among, with_text};
-ghost use Rattle.msg_c.specs.Handles.{IfInterned};
+ghost use Rattle.msg_texts.specs.Texts.{LacksPlaceFor, colons_of, text_at};
+ghost use Rattle.msg_c.specs.Interned.{AnswersNumber, is_among, with_text};
+ghost use Rattle.msg_c.specs.Handles.{HasTexts, IfInterned};
 
 use crate::answer::{ALREADY_OPEN, CLOSED, DONE, LIMIT, NO_MEMORY, NONE};
 use crate::texts_handle::TextsHandle;
@@ -14,7 +14,7 @@ use std::alloc::Global;
 /// No texts yet.
 #[unsafe(no_mangle)]
 pub extern "C" fn msg_texts_open(alloc: Global, texts: &mut TextsHandle) -> u32
-    ensures already { is_some texts.old.held.state ≡ true → result ≡ ALREADY_OPEN }
+    ensures already { HasTexts texts.old → result ≡ ALREADY_OPEN }
     ensures left { result ≢ 0 → texts.new.held.state ≡ texts.old.held.state }
     ensures done { result ≡ 0 → texts.new.held.state ≡ Some [] }
     ensures allowed { texts.old.held.state ≡ None → (result ≡ DONE) ⊎ (result ≡ NO_MEMORY) }
@@ -36,7 +36,7 @@ pub extern "C" fn msg_texts_open(alloc: Global, texts: &mut TextsHandle) -> u32
 pub extern "C" fn msg_texts_close(alloc: Global, texts: &mut TextsHandle) -> u32
     ensures closed { texts.new.held.state ≡ None }
     ensures was_closed { texts.old.held.state ≡ None → result ≡ CLOSED }
-    ensures was_open { is_some texts.old.held.state ≡ true → result ≡ 0 }
+    ensures was_open { HasTexts texts.old → result ≡ 0 }
 {
     match texts.take(alloc) {
         Some(held) => {
@@ -60,8 +60,8 @@ pub extern "C" fn msg_texts_intern(
     ensures texts { result ≡ 0 → texts.new.held.state ≡ option_map (λ v. with_name v text.now) texts.old.held.state }
     ensures number { result ≡ 0 → IfInterned texts.new (λ v. number_of v text.now ≡ Some number.new) }
     ensures there { IfInterned texts.old (λ v. is_among text.now v ≡ true → result ≡ 0) }
-    ensures many { IfInterned texts.old (λ v. result ≡ LIMIT ↔ IsFull v text.now) }
-    ensures answers { is_some texts.old.held.state ≡ true → (result ≡ DONE) ⊎ ((result ≡ LIMIT) ⊎ (result ≡ NO_MEMORY)) }
+    ensures many { IfInterned texts.old (λ v. result ≡ LIMIT ↔ LacksPlaceFor v text.now) }
+    ensures answers { HasTexts texts.old → (result ≡ DONE) ⊎ ((result ≡ LIMIT) ⊎ (result ≡ NO_MEMORY)) }
 {
     let Some(mut held) = texts.take(alloc) else {
         return CLOSED;
@@ -90,7 +90,7 @@ pub extern "C" fn msg_texts_find(
     ensures closed { texts.old.held.state ≡ None → result ≡ CLOSED }
     ensures left { result ≢ 0 → number.new ≡ number.old }
     ensures none { IfInterned texts.old (λ v. number_of v text.now ≡ None → result ≡ NONE) }
-    ensures done { IfInterned texts.old (λ v. (n : ℕ) → number_of v text.now ≡ Some n → (result ≡ 0) × (number.new ≡ n)) }
+    ensures done { IfInterned texts.old (λ v. AnswersNumber v text.now result number.new) }
 {
     let Some(held) = texts.take(alloc) else {
         return CLOSED;

@@ -4,6 +4,7 @@ use Rattle.msg_form.specs.Expression.{Constant, whole, nil, object_named, class_
 use Rattle.msg_form.specs.Faults.{is_miscounted_send}
 use Rattle.msg_form.specs.Text.{Text, is_unknown}
 use Rattle.msg_form.specs.declared.judge.bodies.BodyFaults.{BodyFaults}
+use Rattle.msg_form.specs.declared.judge.body_walk.BodyWalk.{BodyWalk}
 use Rattle.msg_form.specs.declared.judge.body_walk.Found.{Found}
 
 -- the expression and those inside it, each with how many levels there may be from it on
@@ -56,3 +57,13 @@ with_own above classes objects args f (super_send s es) =
 -- an expression with so many levels from it on
 abbrev pub with_part : Bool → List Text → List Text → ℕ → Found → ℕ × Expression → Found
 with_part above classes objects args f p = record { faults = with_own above classes objects args (entered p.0 f).faults p.1; room = f.room - 1 }
+
+-- ---- by what a body may use
+
+-- what is wrong with an expression, but for those inside it
+abbrev pub with_own_by : BodyWalk → BodyFaults → Expression → BodyFaults
+with_own_by w = with_own w.above w.classes.now w.objects.now w.args
+
+-- with one that has so many levels from it on
+abbrev pub with_part_by : BodyWalk → Found → ℕ × Expression → Found
+with_part_by w = with_part w.above w.classes.now w.objects.now w.args

@@ -59,9 +59,13 @@ abbrev pub has_late_superclass : List Text → List ClassForm → Bool
 has_late_superclass names [] = false
 has_late_superclass names (c ∷ cs) = is_outside names c.superclass || has_late_superclass (names ++ c.name ∷ []) cs
 
+-- the `super` of one of the classes isn't the name of one of them
+abbrev pub has_unlisted_superclass : List ClassForm → Bool
+has_unlisted_superclass cs = list_any (λ c. is_outside (map (λ (d : ClassForm). d.name) cs) c.superclass) cs
+
 -- a class's `super` isn't the name of a listed class, or in version 1 of one that is listed before it
 unfoldable pub has_other_superclass : Form → Bool
-has_other_superclass f = if makes_classes f.version then list_any (λ c. is_outside (listed_names f) c.superclass) f.classes else has_late_superclass [] f.classes
+has_other_superclass f = if makes_classes f.version then has_unlisted_superclass f.classes else has_late_superclass [] f.classes
 
 -- an implementation whose home class is one of the roots, and not a metaclass, has a super send
 abbrev pub sends_above : List Text → ImpForm → Bool

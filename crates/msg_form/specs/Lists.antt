@@ -15,9 +15,13 @@ listed_names f = map (λ c. c.name) f.classes
 abbrev pub class_names : Form → List Text
 class_names f = listed_names f ++ f.made
 
--- the names of the classes whose `super` is null
+-- the names of the classes among these whose `super` is null
+abbrev pub root_names_in : List ClassForm → List Text
+root_names_in classes = map (λ c. c.name) (filter (λ c. is_none c.superclass) classes)
+
+-- and among those that are listed
 abbrev pub root_names : Form → List Text
-root_names f = map (λ c. c.name) (filter (λ c. is_none c.superclass) f.classes)
+root_names f = root_names_in f.classes
 
 abbrev pub object_names : Form → List Text
 object_names f = map (λ o. o.name) f.objects

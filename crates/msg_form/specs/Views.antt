@@ -1,5 +1,5 @@
 -- The form that the program's parts stand for.
-use Rattle.std.specs.Prelude.{ℕ, List, Option, map, option_map}
+use Rattle.std.specs.Prelude.{ℕ, List, Option, [], ◌∷◌, map, option_map}
 use Rattle.std.specs.Borrow.{Bor}
 use Rattle.msg_form.specs.ExprView.{constant_view, expr_view}
 use Rattle.msg_form.specs.Form as plain
@@ -26,6 +26,10 @@ pairs_view ps = map pair_view ps
 
 abbrev pub lists_view : List (Bor (List Pair)) → List (List PairForm)
 lists_view ls = map (λ l. pairs_view l.now) ls
+
+-- the method lists of a class, or of a category
+abbrev pub both_view : List Pair → List Pair → List (List PairForm)
+both_view methods class_methods = pairs_view methods ∷ pairs_view class_methods ∷ []
 
 -- a class without its pointers
 abbrev pub class_view : Class → ClassForm

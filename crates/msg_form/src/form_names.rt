@@ -1,9 +1,9 @@
 //! The names of a form, looked at once: the form is judged by them, and then they are numbers.
 
-ghost use Rattle.std.specs.Prelude.{◌≡◌, fold, filter, is_none, map, IfOk, OnOk};
+ghost use Rattle.std.specs.Prelude.{◌≡◌, fold, map, IfOk, OnOk};
 ghost use Rattle.msg_names.specs.Numbering.{with_name};
 ghost use Rattle.msg_form.specs.FormNames.{AreAddedWhileFew, AreClassesAdded, AreMembersAdded, AreNamesOf, HasNone};
-ghost use Rattle.msg_form.specs.Lists.{class_names};
+ghost use Rattle.msg_form.specs.Lists.{class_names, root_names_in};
 ghost use Rattle.msg_form.specs.Text.{Text, has_duplicate, repeats, texts_view};
 ghost use Rattle.msg_form.specs.Views.{classes_view, form_view};
 ghost use Rattle.msg_form.specs.Walk.{selector_texts};
@@ -166,7 +166,7 @@ fn add_class_names<'v>(names: &mut NameSet<'v>, form: &Form<'v>) -> Result<bool,
 /// Adds the names of the classes that have no superclass.
 fn add_roots<'v>(roots: &mut NameSet<'v>, classes: &[Class<'v>]) -> Result<(), AllocError>
     ensures { OnOk result
-        (roots.new ≡ fold with_name roots.old (map (λ c. c.name) (filter (λ c. is_none c.superclass) (classes_view classes.now)))) }
+        (roots.new ≡ fold with_name roots.old (root_names_in (classes_view classes.now))) }
 {
     for class in classes {
         if class.superclass.is_none() {

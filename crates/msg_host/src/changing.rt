@@ -1,9 +1,9 @@
 //! Changes in numbers.
 
-ghost use Rattle.std.specs.Prelude.{◌≡◌, ◌≢◌, ◌<◌, ◌⊎◌, IfOk, IfErr};
+ghost use Rattle.std.specs.Prelude.{◌≡◌, ◌≢◌, ◌<◌, IfOk, IfErr};
 ghost use Rattle.msg_tables.specs.declared.change.Change.{Change};
 ghost use Rattle.msg_host.specs.Asking.{ChangesBy, IsListFault, LacksSelector, pairs_of};
-ghost use Rattle.msg_host.specs.Named.{addition, attachment, exchange, replacement, setting};
+ghost use Rattle.msg_host.specs.Named.{ExchangesBy, IsAttachFault, addition, attachment, replacement, setting};
 
 use crate::fault::{AskFault, selector};
 use crate::runtime::HostedRuntime;
@@ -98,7 +98,7 @@ impl HostedRuntime {
     pub fn exchange(&mut self, class: ClassRef, sel: u32, other: ClassRef, other_sel: u32) -> u32
         ensures no_selector { LacksSelector self.old self.new sel result }
         ensures no_other { LacksSelector self.old self.new other_sel result }
-        ensures change { 0 < sel → 0 < other_sel → ChangesBy self.old self.new (exchange class sel other other_sel) result }
+        ensures change { ExchangesBy self.old self.new class sel other other_sel result }
     {
         match (selector(sel), selector(other_sel)) {
             (Ok(sel), Ok(other_sel)) => self.make(&Change::Exchange {
@@ -122,8 +122,7 @@ impl HostedRuntime {
         ensures arena { self.new.arena ≡ self.old.arena }
         ensures made { result ≡ 0 → ChangesBy self.old self.new (attachment class methods.now class_methods.now) 0 }
         ensures left { result ≢ 0 → self.new ≡ self.old }
-        ensures fault { result ≢ 0 → IsListFault methods.now result ⊎ IsListFault class_methods.now result
-            ⊎ ChangesBy self.old self.old (attachment class methods.now class_methods.now) result }
+        ensures fault { result ≢ 0 → IsAttachFault self.old class methods.now class_methods.now result }
     {
         let methods = match method_list(alloc, methods) {
             Ok(methods) => methods,

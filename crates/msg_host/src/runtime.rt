@@ -13,7 +13,7 @@ ghost use Rattle.msg_cache.specs.Views.{classes};
 ghost use Rattle.msg_reader.specs.Notes.{AreNotesOf};
 ghost use Rattle.msg_host.specs.Calls.{Accepts, IsMade, MarksAllReached, MarksReached, RefusesUnlessMemory};
 ghost use Rattle.msg_host.specs.Config.{is_beyond};
-ghost use Rattle.msg_host.specs.Named.{HaveNoted};
+ghost use Rattle.msg_host.specs.Named.{HaveNotedFor};
 ghost use Rattle.msg_host.specs.Opening.{OpensAs};
 ghost use Rattle.msg_host.specs.declared.fault.OpenFault.{OpenFault};
 
@@ -208,7 +208,7 @@ impl HostedRuntime {
         ensures found { imp_number result ≡ lookup self.old.history class (selector_number sel) }
         ensures listed { imp_number result ≤ last_imp self.old.history.origin.counts }
         ensures notes { AreNotesOf self.old.history notes.new }
-        ensures noted { HaveNoted notes.new self.old.history class (selector_number sel) (imp_number result) }
+        ensures noted { HaveNotedFor notes.new self.old.history class sel result }
     {
         a_slot_of_few_classes_is_short();
         self.runtime

@@ -1,12 +1,12 @@
 //! Senders.
 
 ghost use Rattle.std.specs.Prelude.{◌≡◌, ◌<◌, ◌≤◌, length, IfSome, IfNone};
-ghost use Rattle.msg_names.specs.Number.{selector_number, imp_number};
+ghost use Rattle.msg_names.specs.Number.{imp_number};
 ghost use Rattle.msg_tables.specs.Origin.{last_imp};
 ghost use Rattle.msg_tables.specs.History.{BeginsWith};
 ghost use Rattle.msg_cache.specs.Views.{IsFoundAt, classes};
 ghost use Rattle.msg_reader.specs.Notes.{AreNotesOf};
-ghost use Rattle.msg_host.specs.Named.{HaveLacked, HaveNoted};
+ghost use Rattle.msg_host.specs.Named.{HaveLackedFor, HaveNotedFor};
 
 use msg_cache::Arena;
 use msg_names::{ClassRef, ImpRef, Selector};
@@ -73,8 +73,8 @@ impl HostedSender {
         ensures some { IfSome result (IsFoundAt self.new.seen.front class sel) }
         ensures listed { IfSome result (λ i. imp_number i ≤ last_imp self.old.arena.key.origin.counts) }
         ensures notes { AreNotesOf self.new.seen.front notes.new }
-        ensures noted { IfSome result (λ i. HaveNoted notes.new self.new.seen.front class (selector_number sel) (imp_number i)) }
-        ensures recalled { IfNone result (HaveLacked notes.old self.old.seen.front self.new.seen.front class (selector_number sel)) }
+        ensures noted { IfSome result (HaveNotedFor notes.new self.new.seen.front class sel) }
+        ensures recalled { IfNone result (HaveLackedFor notes.old self.old self.new class sel) }
     {
         a_slot_of_few_classes_is_short();
         self.reader.find(&self.arena, notes, class, sel)

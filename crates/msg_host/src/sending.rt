@@ -1,12 +1,12 @@
 //! Sends in numbers.
 
-ghost use Rattle.std.specs.Prelude.{◌≡◌, ◌≤◌, None, Some, IfOk, IfErr, OnOk, IfSome, IfNone, OnErr};
+ghost use Rattle.std.specs.Prelude.{◌≡◌, ◌≤◌, None, Some, IfOk, IfErr, OnOk, IfNone, OnErr};
 ghost use Rattle.msg_tables.specs.Origin.{last_imp};
 ghost use Rattle.msg_tables.specs.History.{BeginsWith, lookup};
 ghost use Rattle.msg_cache.specs.Views.{classes};
 ghost use Rattle.msg_host.specs.Asking.{ask_fault};
 ghost use Rattle.msg_reader.specs.Notes.{AreNotesOf};
-ghost use Rattle.msg_host.specs.Named.{HaveLacked, HaveNoted, ref_of};
+ghost use Rattle.msg_host.specs.Named.{HaveLacked, HaveNoted, IfFound, ref_of};
 
 use crate::fault::{AskFault, asked};
 use crate::runtime::HostedRuntime;
@@ -27,13 +27,13 @@ impl HostedSender {
         requires notes { AreNotesOf self.old.seen.front notes.old }
         ensures arena { self.new.arena ≡ self.old.arena }
         ensures begins { BeginsWith self.new.seen.front self.old.seen.front }
-        ensures found { IfOk result (λ found. IfSome found (λ i. i ≡ lookup self.new.seen.front (ref_of class meta) sel)) }
-        ensures listed { IfOk result (λ found. IfSome found (λ i. i ≤ last_imp self.old.arena.key.origin.counts)) }
+        ensures found { IfFound result (λ i. i ≡ lookup self.new.seen.front (ref_of class meta) sel) }
+        ensures listed { IfFound result (λ i. i ≤ last_imp self.old.arena.key.origin.counts) }
         ensures ok { OnOk result (ask_fault (classes self.old.arena) class sel ≡ None) }
         ensures err { IfErr result (λ f. ask_fault (classes self.old.arena) class sel ≡ Some f) }
         ensures left { OnErr result ((self.new ≡ self.old) × (notes.new ≡ notes.old)) }
         ensures notes { AreNotesOf self.new.seen.front notes.new }
-        ensures noted { IfOk result (λ found. IfSome found (λ i. HaveNoted notes.new self.new.seen.front (ref_of class meta) sel i)) }
+        ensures noted { IfFound result (HaveNoted notes.new self.new.seen.front (ref_of class meta) sel) }
         ensures recalled { IfOk result (λ found.
             IfNone found (HaveLacked notes.old self.old.seen.front self.new.seen.front (ref_of class meta) sel)) }
     {
@@ -67,7 +67,7 @@ impl HostedRuntime {
         ensures err { IfErr result (λ f. ask_fault (classes self.old.arena) class sel ≡ Some f) }
         ensures left { OnErr result ((sender.new ≡ sender.old) × (notes.new ≡ notes.old)) }
         ensures notes { AreNotesOf sender.new.seen.front notes.new }
-        ensures noted { IfOk result (λ i. HaveNoted notes.new self.old.history (ref_of class meta) sel i) }
+        ensures noted { IfOk result (HaveNoted notes.new self.old.history (ref_of class meta) sel) }
     {
         let (class, sel) = asked(self.class_count(), class, meta, sel)?;
         Ok(self.answer(sender, notes, class, sel).number())

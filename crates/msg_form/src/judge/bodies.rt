@@ -4,11 +4,11 @@
 
 ghost use Rattle.std.specs.Prelude.{◌≡◌, ◌&&◌, ◌||◌, not};
 ghost use Rattle.std.specs.List.{list_any};
-ghost use Rattle.msg_form.specs.BodyFaults.{AreBodyFaults};
+ghost use Rattle.msg_form.specs.BodyFaults.{AreBodyFaults, has_miscounted_send};
+ghost use Rattle.msg_form.specs.BodyFaults.{names_unknown_class, names_unknown_object};
 ghost use Rattle.msg_form.specs.Faults as spec;
 ghost use Rattle.msg_form.specs.FormNames.{AreNamesOf};
-ghost use Rattle.msg_form.specs.Parts.{classes_in, objects_in, sends_in};
-ghost use Rattle.msg_form.specs.Text.{is_among, is_unknown};
+ghost use Rattle.msg_form.specs.Text.{is_among};
 ghost use Rattle.msg_form.specs.Views.{imp_view, imps_view, form_view};
 
 use super::body_walk::{BodyWalk, Found};
@@ -56,11 +56,11 @@ impl Known<'_, '_> {
         ensures sends_above { result.sends_above
             ≡ list_any (spec.sends_above self.now.roots.now) (imps_view imps.now) }
         ensures unknown_class { result.unknown_class
-            ≡ list_any (λ i. list_any (is_unknown self.now.classes.now) (classes_in i.body)) (imps_view imps.now) }
+            ≡ list_any (names_unknown_class self.now.classes.now) (imps_view imps.now) }
         ensures unknown_object { result.unknown_object
-            ≡ list_any (λ i. list_any (is_unknown self.now.objects.now) (objects_in i.body)) (imps_view imps.now) }
+            ≡ list_any (names_unknown_object self.now.objects.now) (imps_view imps.now) }
         ensures argument_count { result.argument_count
-            ≡ list_any (λ i. list_any spec.is_miscounted_send (sends_in i.body)) (imps_view imps.now) }
+            ≡ list_any has_miscounted_send (imps_view imps.now) }
         ensures argument_index { result.argument_index
             ≡ list_any spec.reads_beyond (imps_view imps.now) }
         ensures too_deep { result.too_deep
@@ -84,11 +84,11 @@ impl Known<'_, '_> {
         ensures sends_above { result.sends_above
             ≡ (faults.sends_above || spec.sends_above self.now.roots.now (imp_view imp.now)) }
         ensures unknown_class { result.unknown_class
-            ≡ (faults.unknown_class || list_any (is_unknown self.now.classes.now) (classes_in (imp_view imp.now).body)) }
+            ≡ (faults.unknown_class || names_unknown_class self.now.classes.now (imp_view imp.now)) }
         ensures unknown_object { result.unknown_object
-            ≡ (faults.unknown_object || list_any (is_unknown self.now.objects.now) (objects_in (imp_view imp.now).body)) }
+            ≡ (faults.unknown_object || names_unknown_object self.now.objects.now (imp_view imp.now)) }
         ensures argument_count { result.argument_count
-            ≡ (faults.argument_count || list_any spec.is_miscounted_send (sends_in (imp_view imp.now).body)) }
+            ≡ (faults.argument_count || has_miscounted_send (imp_view imp.now)) }
         ensures argument_index { result.argument_index
             ≡ (faults.argument_index || spec.reads_beyond (imp_view imp.now)) }
         ensures too_deep { result.too_deep

@@ -43,7 +43,7 @@ impl BodyWalk<'_, '_> {
     #[cycle(visit)]
     pub(super) fn visit(&self, expr: &Expr, levels: u32, found: &mut Found)
         ensures { found.new
-            ≡ fold (spec.with_part self.now.above self.now.classes.now self.now.objects.now self.now.args) found.old (spec.parts_at levels (expr_view expr.now)) }
+            ≡ fold (spec.with_part_by self.now) found.old (spec.parts_at levels (expr_view expr.now)) }
     {
         self.look(expr, levels, found);
         let inner = levels.saturating_sub(1);
@@ -69,7 +69,7 @@ impl BodyWalk<'_, '_> {
     #[cycle(visit)]
     fn visit_all(&self, exprs: &[Expr], levels: u32, found: &mut Found)
         ensures { found.new
-            ≡ fold (spec.with_part self.now.above self.now.classes.now self.now.objects.now self.now.args) found.old (spec.all_parts_at levels (exprs_view exprs.now)) }
+            ≡ fold (spec.with_part_by self.now) found.old (spec.all_parts_at levels (exprs_view exprs.now)) }
     {
         for expr in exprs {
             self.visit(expr, levels, found);
@@ -79,7 +79,7 @@ impl BodyWalk<'_, '_> {
     /// Looks at an expression, and not at those inside it.
     fn look(&self, expr: &Expr, levels: u32, found: &mut Found)
         ensures { found.new
-            ≡ spec.with_part self.now.above self.now.classes.now self.now.objects.now self.now.args found.old (levels, expr_view expr.now) }
+            ≡ spec.with_part_by self.now found.old (levels, expr_view expr.now) }
     {
         found.enter(levels);
         self.note(expr, &mut found.faults);
@@ -87,7 +87,7 @@ impl BodyWalk<'_, '_> {
 
     fn note(&self, expr: &Expr, faults: &mut BodyFaults)
         ensures { faults.new
-            ≡ spec.with_own self.now.above self.now.classes.now self.now.objects.now self.now.args faults.old (expr_view expr.now) }
+            ≡ spec.with_own_by self.now faults.old (expr_view expr.now) }
     {
         match expr {
             Expr::Const(Constant::Class(name)) => {

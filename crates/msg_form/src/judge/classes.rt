@@ -1,7 +1,6 @@
 //! What is wrong with superclasses.
 
 ghost use Rattle.std.specs.Prelude.{◌≡◌, [], map, option_map, IfOk};
-ghost use Rattle.std.specs.List.{list_any};
 ghost use Rattle.msg_form.specs.BodyFaults.{AreBodyFaults};
 ghost use Rattle.msg_form.specs.Faults as spec;
 ghost use Rattle.msg_form.specs.FormNames.{AreNamesOf};
@@ -44,8 +43,7 @@ fn has_other_superclass(alloc: Global, form: &Form, names: &FormNames) -> Result
 
 fn has_unlisted_superclass(listed: &NameSet, classes: &[Class]) -> bool
     requires { listed.now ≡ distinct (map (λ c. c.name) (classes_view classes.now)) }
-    ensures { result
-        ≡ list_any (λ c. spec.is_outside (map (λ c. c.name) (classes_view classes.now)) c.superclass) (classes_view classes.now) }
+    ensures { result ≡ spec.has_unlisted_superclass (classes_view classes.now) }
 {
     any(&ClassOutside { classes: listed }, classes)
 }

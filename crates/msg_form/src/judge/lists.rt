@@ -1,10 +1,10 @@
 //! The lists of pairs in a document.
 
-ghost use Rattle.std.specs.Prelude.{◌≡◌, ◌++◌, ◌∷◌, [], List, IfOk, OnOk};
+ghost use Rattle.std.specs.Prelude.{◌≡◌, ◌++◌, List, IfOk, OnOk};
 ghost use Rattle.std.specs.List.{flat_map};
 ghost use Rattle.msg_form.specs.Form.{PairForm};
 ghost use Rattle.msg_form.specs.Lists as spec;
-ghost use Rattle.msg_form.specs.Views.{lists_view, pairs_view, class_view, category_view};
+ghost use Rattle.msg_form.specs.Views.{both_view, lists_view, class_view, category_view};
 ghost use Rattle.msg_form.specs.Views.{change_view, item_view, form_view};
 
 use crate::form::{Category, Change, Class, Form, Item, Pair};
@@ -63,7 +63,7 @@ fn push_both<'f, 'v>(
     all: &mut Vec<&'f [Pair<'v>]>,
 ) -> Result<(), AllocError>
     ensures { OnOk result
-        (lists_view all.new.items ≡ lists_view all.old.items ++ pairs_view methods.now ∷ pairs_view class_methods.now ∷ []) }
+        (lists_view all.new.items ≡ lists_view all.old.items ++ both_view methods.now class_methods.now) }
 {
     all.push(methods)?;
     all.push(class_methods)?;
