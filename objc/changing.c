@@ -69,30 +69,6 @@ static inline void cache(struct record *of, uint32_t sel)
     if (of->number) msg_process_cache(msg_key(2 * of->number + of->meta, sel));
 }
 
-static void add(struct record *record, Method method, uint32_t imp)
-{
-    uint32_t sel = shim_sel(method->name.sel);
-    put(record, sel, imp);
-    stand(record, method, 1);
-    cache(record, sel);
-}
-
-static inline void replace(struct record *record, struct row *row, uint32_t imp)
-{
-    put(record, row->sel, imp);
-    shim_set_imp(row->method, shim_function(imp));
-    cache(record, row->sel);
-}
-
-static void exchange(struct record *one, struct row *row, struct record *other, struct row *other_row)
-{
-    IMP imp = row->method->imp;
-    uint32_t number = other->number, sel = other_row->sel;
-    shim_must(msg_exchange(shim_runtime, one->number, one->meta, row->sel, number, other->meta, sel), "exchange");
-    shim_set_imp(row->method, other_row->method->imp);
-    shim_set_imp(other_row->method, imp);
-}
-
 /* ---- as programs ask for them ---- */
 
 static Method new_method(SEL sel, IMP imp, const char *types)
@@ -106,18 +82,24 @@ static Method new_method(SEL sel, IMP imp, const char *types)
 
 static bool put_new(struct record *record, SEL sel, IMP imp, const char *types)
 {
-    uint32_t number = shim_number(imp);
+    uint32_t at = shim_sel(sel), number = shim_number(imp);
     if (!number) return false;
-    add(record, new_method(sel, imp, types), number);
+    Method method = new_method(sel, imp, types);
+    put(record, at, number);
+    stand(record, method, 1);
+    cache(record, at);
     return true;
 }
 
-static inline IMP set(struct record *record, struct row *row, IMP imp)
+/* Also of a method that stands nowhere, which has no row. */
+static inline IMP set(struct record *record, struct row *row, Method method, IMP imp)
 {
-    IMP before = row->method->imp;
+    IMP before = method->imp;
     uint32_t number = shim_number(imp);
     if (!number) return NULL;
-    replace(record, row, number);
+    if (row) put(record, row->sel, number);
+    shim_set_imp(method, imp);
+    if (row) cache(record, row->sel);
     return before;
 }
 
@@ -133,7 +115,7 @@ IMP class_replaceMethod(Class class_, SEL sel, IMP imp, const char *types)
     if (!class_ || !sel || !imp || !types || !class_->record) return NULL;
     CHANGING;
     struct row *row = row_of(class_->record, shim_sel(sel));
-    if (row) return set(class_->record, row, imp);
+    if (row) return set(class_->record, row, row->method, imp);
     put_new(class_->record, sel, imp, types);
     return NULL;
 }
@@ -151,23 +133,13 @@ static struct row *home_of(Method method, struct record **record)
     return NULL;
 }
 
-/* Also of a method that stands nowhere, or in a class in construction. */
-static IMP set_any(struct record *record, struct row *row, Method method, IMP imp)
-{
-    if (row) return set(record, row, imp);
-    IMP before = method->imp;
-    if (!shim_number(imp)) return NULL;
-    shim_set_imp(method, imp);
-    return before;
-}
-
 IMP method_setImplementation(Method method, IMP imp)
 {
     if (!method || !imp) return NULL;
     struct record *record;
     CHANGING;
     struct row *row = home_of(method, &record);
-    return set_any(record, row, method, imp);
+    return set(record, row, method, imp);
 }
 
 void method_exchangeImplementations(Method one, Method other)
@@ -176,12 +148,12 @@ void method_exchangeImplementations(Method one, Method other)
     struct record *here, *there;
     CHANGING;
     struct row *row = home_of(one, &here), *other_row = home_of(other, &there);
+    IMP imp = one->imp;
     if (row && other_row) {
-        exchange(here, row, there, other_row);
-        return;
-    }
-    IMP imp = set_any(here, row, one, other->imp);
-    if (imp) set_any(there, other_row, other, imp);
+        shim_must(msg_exchange(shim_runtime, here->number, here->meta, row->sel, there->number, there->meta, other_row->sel), "exchange");
+        shim_set_imp(one, other->imp);
+        shim_set_imp(other, imp);
+    } else if (set(here, row, one, other->imp)) set(there, other_row, other, imp);
 }
 
 static Method instance_method(Class class_, uint32_t sel)
