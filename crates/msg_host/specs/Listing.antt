@@ -91,12 +91,16 @@ IsRefusedRow rows h place n = (xs : List Change) × AreMeant rows xs × (f : Cha
 abbrev pub AreRefusedRows : List ChangeRow → History → ℕ → ℕ → Type 0
 AreRefusedRows rows h place n = IsBadRow rows place n ⊎ IsRefusedRow rows h place n
 
+-- so it is, where the fault isn't want of memory
+abbrev pub AreRowsRefusedAt : List ChangeRow → History → ℕ → ℕ → Type 0
+AreRowsRefusedAt rows h place n = n ≢ want_of_memory → AreRefusedRows rows h place n
+
 -- Why the changes of rows aren't made at a history: the number of a fault at the place of a row. But for want of memory, that row means no change, or its change is the first that would be refused.
 pub record IsRowFault (rows : List ChangeRow) (h : History) (r : RowFault) : Type 0 where
   pub some : r.number ≢ 0
   pub room : r.number ≢ want_of_room
   pub place : r.place < length rows
-  pub fault : r.number ≢ want_of_memory → AreRefusedRows rows h r.place r.number
+  pub fault : AreRowsRefusedAt rows h r.place r.number
 
 -- what was written tells the way back from the changes that the rows mean, directly after they are made at a history
 abbrev pub TellsRowsBack : List ChangeRow → History → List Entry → Type 0

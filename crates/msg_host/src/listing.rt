@@ -4,7 +4,7 @@ ghost use Rattle.std.specs.Prelude.{◌≡◌, ◌≢◌, ◌<◌, ◌⊎◌, If
 ghost use Rattle.msg_tables.specs.declared.change.Change.{Change};
 ghost use Rattle.msg_tables.specs.FaultNumber.{change_fault_number};
 ghost use Rattle.msg_host.specs.Asking.{want_of_memory, want_of_room};
-ghost use Rattle.msg_host.specs.Listing.{AreMeant, AreRefusedRows, IsBadRow, IsRowFault, MakesRows, TellsRowsBack, change_in, exchange_in, method_in, ref_in};
+ghost use Rattle.msg_host.specs.Listing.{AreMeant, AreRowsRefusedAt, IsBadRow, IsRowFault, MakesRows, TellsRowsBack, change_in, exchange_in, method_in, ref_in};
 ghost use Rattle.msg_host.specs.declared.fault.AskFault.{AskFault};
 
 use crate::fault::{AskFault, selector};
@@ -212,7 +212,7 @@ impl HostedRuntime {
         ensures left { result ≢ 0 → self.new ≡ self.old }
         ensures place { result ≢ 0 → place.new < length rows.now }
         ensures kept { result ≡ 0 → place.new ≡ place.old }
-        ensures fault { result ≢ 0 → result ≢ want_of_memory → AreRefusedRows rows.now self.old.history place.new result }
+        ensures fault { result ≢ 0 → AreRowsRefusedAt rows.now self.old.history place.new result }
     {
         match self.change_rows(alloc, rows) {
             Ok(made) => {

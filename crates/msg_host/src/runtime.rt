@@ -1,17 +1,17 @@
 //! The runtime.
 
-ghost use Rattle.std.specs.Prelude.{◌≡◌, ◌≢◌, ◌<◌, ◌≤◌, ◌*◌, length, take, replicate, None, Some, IfOk, IfErr, IsErrOf, OnErr, OnOk, false, true};
+ghost use Rattle.std.specs.Prelude.{◌≡◌, ◌≢◌, ◌<◌, ◌≤◌, ◌*◌, length, take, replicate, None, IfOk, IfErr, IsErrOf, OnErr, OnOk, false, true};
 ghost use Rattle.msg_names.specs.Number.{selector_number, imp_number};
 ghost use Rattle.msg_tables.specs.Origin.{last_imp};
 ghost use Rattle.msg_tables.specs.History.{BeginsWith, lookup, log};
 ghost use Rattle.msg_tables.specs.Made.{AreMade, AreRefused, TellsWayBack};
-ghost use Rattle.msg_tables.specs.Refusal.{refusal};
 ghost use Rattle.msg_tables.specs.Several.{refused_from};
 ghost use Rattle.msg_tables.specs.declared.fault.ChangeFault.{ChangeFault};
 ghost use Rattle.msg_cache.specs.Counts.{AreCounts};
 ghost use Rattle.msg_cache.specs.Views.{classes};
 ghost use Rattle.msg_reader.specs.Notes.{AreNotesOf};
-ghost use Rattle.msg_host.specs.Calls.{Accepts, IsMade, MarksAllReached, MarksReached, RefusesUnlessMemory};
+ghost use Rattle.msg_runtime.specs.Changed.{IsAccepted, IsMadeAt, IsRefusedAt, IsRefusedFor};
+ghost use Rattle.msg_host.specs.Calls.{MarksAllReached, MarksReached};
 ghost use Rattle.msg_host.specs.Config.{is_beyond};
 ghost use Rattle.msg_host.specs.Named.{HaveNotedFor};
 ghost use Rattle.msg_host.specs.Opening.{OpensAs};
@@ -107,7 +107,7 @@ impl HostedRuntime {
         requires { length marks.old ≡ 2 * classes self.now.arena }
         ensures ok { OnOk result (MarksReached self.now change.now marks.old marks.new) }
         ensures err { OnErr result (marks.new ≡ marks.old) }
-        ensures fault { IfErr result (λ f. refusal (log self.now.history) change.now ≡ Some f) }
+        ensures fault { IfErr result (IsRefusedFor self.now.history change.now) }
         ensures room { length marks.new ≡ length marks.old }
     {
         self.runtime.reach(change, marks)
@@ -137,10 +137,10 @@ impl HostedRuntime {
     /// Makes a change, flushes the caches that it reaches, and answers how many times changes were made. After an error nothing was changed or flushed.
     pub fn change(&mut self, change: &Change) -> Result<u64, ChangeFault>
         ensures arena { self.new.arena ≡ self.old.arena }
-        ensures ok { IfOk result (IsMade self.old change.now self.new) }
+        ensures ok { IfOk result (IsMadeAt self.old.history change.now self.new.history) }
         ensures err { OnErr result (self.new ≡ self.old) }
-        ensures fault { IfErr result (RefusesUnlessMemory self.old change.now) }
-        ensures memory { IsErrOf result ChangeFault.Memory → Accepts self.old change.now }
+        ensures fault { IfErr result (IsRefusedAt self.old.history change.now) }
+        ensures memory { IsErrOf result ChangeFault.Memory → IsAccepted self.old.history change.now }
     {
         self.runtime.change(&self.arena, &mut self.turn, change)
     }
