@@ -17,8 +17,8 @@ abbrev pub with_text : List ℕ → List ℕ → List ℕ
 with_text text bytes = take (length bytes) text ++ drop (length text) bytes
 
 -- the text is one of these
-abbrev pub is_among : List ℕ → TextsView → Bool
-is_among text v = list_any (bytes_eq text) v
+abbrev pub is_interned : List ℕ → TextsView → Bool
+is_interned text v = list_any (bytes_eq text) v
 
 -- where the text has a number, that is answered
 abbrev pub AnswersNumber : TextsView → List ℕ → ℕ → ℕ → Type 0

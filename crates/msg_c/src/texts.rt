@@ -3,7 +3,7 @@
 ghost use Rattle.std.specs.Prelude.{◌≡◌, ◌≢◌, ◌⊎◌, ◌↔◌, ℕ, List, [], Some, None, option_map, true, length};
 ghost use Rattle.msg_names.specs.Numbering.{number_of, with_name};
 ghost use Rattle.msg_texts.specs.Texts.{LacksPlaceFor, colons_of, text_at};
-ghost use Rattle.msg_c.specs.Interned.{AnswersNumber, is_among, with_text};
+ghost use Rattle.msg_c.specs.Interned.{AnswersNumber, is_interned, with_text};
 ghost use Rattle.msg_c.specs.Handles.{HasTexts, IfInterned};
 
 use crate::answer::{ALREADY_OPEN, CLOSED, DONE, LIMIT, NO_MEMORY, NONE};
@@ -59,7 +59,7 @@ pub extern "C" fn msg_texts_intern(
     ensures left { result ≢ 0 → (number.new ≡ number.old) × (texts.new.held.state ≡ texts.old.held.state) }
     ensures texts { result ≡ 0 → texts.new.held.state ≡ option_map (λ v. with_name v text.now) texts.old.held.state }
     ensures number { result ≡ 0 → IfInterned texts.new (λ v. number_of v text.now ≡ Some number.new) }
-    ensures there { IfInterned texts.old (λ v. is_among text.now v ≡ true → result ≡ 0) }
+    ensures there { IfInterned texts.old (λ v. is_interned text.now v ≡ true → result ≡ 0) }
     ensures many { IfInterned texts.old (λ v. result ≡ LIMIT ↔ LacksPlaceFor v text.now) }
     ensures answers { HasTexts texts.old → (result ≡ DONE) ⊎ ((result ≡ LIMIT) ⊎ (result ≡ NO_MEMORY)) }
 {
