@@ -3,9 +3,9 @@
 #include "seat.h"
 #include <stdlib.h>
 
-/* Arrays are a third of the default, since all are written at the start; GNUstep's programs take less than a fifth of these. */
-enum { SENDERS = 1024, CLASS_NUMBERS = 16384, PLACES = 16384 };
-#define ARRAYS {1024, 512, 256, 128, 64, 32, 8, 4, 2}
+/* All arrays are written at the start: they are two fifths of the default, and five times what any of GNUstep's test programs takes. */
+enum { SENDERS = 1024, CLASS_NUMBERS = 8192, PLACES = 16384 };
+#define ARRAYS {1024, 768, 320, 160, 64, 32, 8, 4, 2}
 
 _Alignas(LINE) _Atomic(IMP) shim_functions[MOST_IMPS + 1];
 msg_runtime *shim_runtime;
