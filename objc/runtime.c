@@ -4,7 +4,7 @@
 #include <stdlib.h>
 
 /* All arrays are written at the start: they are two fifths of the default, and five times what any of GNUstep's test programs takes. */
-enum { SENDERS = 1024, CLASS_NUMBERS = 8192, PLACES = 16384 };
+enum { SENDERS = 1024, CLASS_NUMBERS = 16384, PLACES = 16384 };
 #define ARRAYS {1024, 768, 320, 160, 64, 32, 8, 4, 2}
 
 _Alignas(LINE) _Atomic(IMP) shim_functions[MOST_IMPS + 1];
