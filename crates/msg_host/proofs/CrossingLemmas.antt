@@ -13,6 +13,8 @@ use Rattle.msg_tables.specs.contracts.tables.Tables as Tables
 use Rattle.msg_tables.specs.contracts.indexed_rows.IndexedRows as Indexed
 use Rattle.msg_tables.specs.contracts.rows.MethodRows as Rows
 use Rattle.msg_tables.specs.contracts.below.Below as Below
+use Rattle.msg_tables.specs.contracts.change.Change as Change
+use Rattle.msg_tables.specs.contracts.methods.MethodList as Methods
 use Rattle.msg_runtime.specs.contracts.runtime.Runtime as Runtime
 use Rattle.msg_host.specs.contracts.runtime.HostedRuntime as HostedRuntime
 use Rattle.msg_host.specs.contracts.sender.HostedSender as HostedSender
@@ -35,6 +37,12 @@ Snap-send = search (sendable, crosses) depth 30
 Runtime-send : IsSend Runtime.the_row
 Runtime-send = let k = Keeper-send in let t = Tables-send in let b = Below-send in let a = Snap-send in search (sendable, crosses) depth 30
 
+Methods-send : IsSend Methods.the_row
+Methods-send = search (sendable, crosses, maps.crosses) depth 30
+
+Change-send : IsSend Change.the_row
+Change-send = search (Methods-send, sendable, crosses) depth 30
+
 Turn-send : IsSend Turn.the_row
 Turn-send = turn.the_send
 
@@ -45,4 +53,4 @@ pub HostedSender-send : IsSend HostedSender.the_row
 HostedSender-send = sender.the_send
 
 pub HostedRuntime-send : IsSend HostedRuntime.the_row
-HostedRuntime-send = search (Runtime-send, Turn-send, Arena-send, Arena-sync, sendable, crosses) depth 30
+HostedRuntime-send = search (Runtime-send, Change-send, Turn-send, Arena-send, Arena-sync, sendable, crosses) depth 30

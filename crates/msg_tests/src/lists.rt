@@ -109,7 +109,13 @@ fn a_refused_list_leaves_all_as_it_was(rt: HostRuntime) {
     let before = [(GRAND, value, 1), (CHILD, value, 1), (SIDE, tag, 13)];
     are_found(&rt, &image, &tables, &before);
     let _last = changes.pop();
-    same(&rt, tables.apply_all(&changes, Written::none(rt.alloc())).is_ok(), true);
+    same(
+        &rt,
+        tables
+            .apply_all(&changes, Written::none(rt.alloc()))
+            .is_ok(),
+        true,
+    );
 }
 
 // A method that is set where it stands, and one that is exchanged with it.
@@ -145,7 +151,11 @@ fn a_list_is_undone(rt: HostRuntime) {
     are_found(&rt, &image, &tables, &after);
     let undo = written.undo(rt.alloc()).expect(&rt, "memory");
     let back = undo.expect(&rt, "no row was added");
-    same(&rt, tables.apply_all(&back, Written::none(rt.alloc())).is_ok(), true);
+    same(
+        &rt,
+        tables.apply_all(&back, Written::none(rt.alloc())).is_ok(),
+        true,
+    );
     let before = [(ROOT, value, 1), (GRAND, name, 11), (SIDE, name, 2)];
     are_found(&rt, &image, &tables, &before);
 }
