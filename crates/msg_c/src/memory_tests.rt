@@ -83,7 +83,11 @@ fn lists<R: Abort>(rt: &R, alloc: Global, runtime: &mut RuntimeHandle) {
     }
     counts(rt, alloc, runtime, 4);
     let second = [replaces(10), replaces(11)];
-    answers(rt, msg_change_all(alloc, runtime, &second, &mut place), DONE);
+    answers(
+        rt,
+        msg_change_all(alloc, runtime, &second, &mut place),
+        DONE,
+    );
     counts(rt, alloc, runtime, 5);
 }
 
