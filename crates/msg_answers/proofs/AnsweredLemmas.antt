@@ -1,5 +1,5 @@
 -- From what workers served to the answers of one thread.
-use Rattle.std.proofs.Common.{◌≡◌, ◌<◌, ◌≤◌, ◌+◌, ◌⊎◌, ℕ, suc, List, [], ◌∷◌, ◌++◌, map, length, refl, sym, ap, ap₂, ◌∙◌, subst, append_assoc, arith, length-append, inl, inr}
+use Rattle.std.proofs.Common.{◌≡◌, ◌<◌, ◌≤◌, ◌+◌, ◌⊎◌, ℕ, suc, List, [], ◌∷◌, ◌++◌, map, length, refl, sym, ap, ap₂, ◌∙◌, subst, append_assoc, arith, inl, inr}
 use Rattle.std.proofs.lemmas.List.{length-map}
 use Rattle.msg_image.specs.Items.{ItemParts, SendItem}
 use Rattle.msg_image.specs.Parts.{ImageParts}
@@ -9,6 +9,7 @@ use Rattle.msg_eval.specs.Evaluation.{send_of}
 use Rattle.msg_eval.specs.Meaning.{Meaning}
 use Rattle.msg_eval.specs.Points.{Rise, last_of, AllAre, plain_reply}
 use Rattle.msg_eval.proofs.PointLemmas.{all_one, plain_only}
+use Rattle.msg_tables.proofs.BeginsLemmas.{begins_length}
 use Rattle.msg_answers.specs.Serial.{Answer, Replied, answer_at, history_after, serial_from}
 use Rattle.msg_answers.specs.Serving.{sends_of, history_of, outcomes_of, woven, Served, share_of, count_of, at_worker, IsGathered, IsServed, IsAnswered, AllSends, IsOneChange}
 use Rattle.msg_answers.specs.Text.{text_of, answer_line}
@@ -16,12 +17,6 @@ use Rattle.msg_answers.specs.declared.outcome.Outcome.{Outcome}
 use Rattle.msg_answers.proofs.GatherLemmas.{shares_same, share_count, share_map}
 
 -- ---- points that rise no further
-
-begins_length : (p h : History) → BeginsWith p h → length h.changes ≤ length p.changes
-begins_length p h b =
-    let n : length p.changes ≡ length (h.changes ++ b.rest.0) = ap length b.rest.1 in
-    let k : length (h.changes ++ b.rest.0) ≡ length h.changes + length b.rest.0 = length-append h.changes b.rest.0 in
-    omega (arith, n, k)
 
 rise_length : (h : History) (points : List History) → Rise h points → length h.changes ≤ length (last_of h points).changes
 rise_length h [] rise = omega arith

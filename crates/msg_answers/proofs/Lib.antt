@@ -1,4 +1,3 @@
-pub mod PastLemmas
 pub mod CrossingLemmas
 pub mod SerialLemmas
 pub mod ServingLemmas

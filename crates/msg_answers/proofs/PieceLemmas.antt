@@ -9,7 +9,7 @@ use Rattle.msg_image.specs.Items.{ItemParts, SendItem}
 use Rattle.msg_image.specs.Parts.{ImageParts}
 use Rattle.msg_tables.specs.History.{History, BeginsWith}
 use Rattle.msg_tables.specs.declared.change.Change.{Change}
-use Rattle.msg_answers.proofs.PastLemmas.{begins_refl, begins_next, begins_trans}
+use Rattle.msg_tables.proofs.BeginsLemmas.{begins_refl, begins_next, begins_trans}
 use Rattle.msg_answers.specs.Serial.{changes_in, history_after, longer_by, outcome_at}
 use Rattle.msg_answers.specs.Serving.{AllSends, IsAnswered, AreAnswered, Served, history_of, is_send, pieces_of, sends_of, share_of, worker_of}
 use Rattle.msg_answers.specs.declared.outcome.Outcome.{Outcome}

@@ -15,7 +15,7 @@ use Rattle.msg_image.specs.Items.{ItemParts, SendItem}
 use Rattle.msg_image.specs.Opened.{origin_of}
 use Rattle.msg_image.specs.Parts.{ImageParts}
 use Rattle.msg_tables.specs.History.{History, BeginsWith}
-use Rattle.msg_answers.proofs.PastLemmas.{begins_refl, begins_trans}
+use Rattle.msg_tables.proofs.BeginsLemmas.{begins_refl, begins_trans}
 use Rattle.msg_eval.specs.declared.reply.Reply.{Reply}
 use Rattle.msg_eval.specs.Meaning.{Meaning}
 use Rattle.msg_eval.specs.Points.{Rise, last_of}

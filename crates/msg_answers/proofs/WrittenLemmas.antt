@@ -22,7 +22,7 @@ use Rattle.msg_answers.specs.Written.{AreWritten}
 use Rattle.msg_answers.proofs.AnsweredLemmas.{served_plain, text_split}
 use Rattle.msg_answers.proofs.PartLemmas.{all_right}
 use Rattle.msg_answers.proofs.ServingLemmas.{all_tail, served_from}
-use Rattle.msg_answers.proofs.PastLemmas.{begins_refl, begins_trans}
+use Rattle.msg_tables.proofs.BeginsLemmas.{begins_refl, begins_trans}
 
 -- whatever is written of the rest, the whole is written
 abbrev pub GoesOn : ImageParts → History → List Meaning → List ℕ → History → List Meaning → List ℕ → Type 0

@@ -1,3 +1,4 @@
+mod HeldLemmas
 pub mod RuntimeAsBox
 pub mod NoteLemmas
 pub mod SenderAsBox

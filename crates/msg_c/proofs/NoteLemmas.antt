@@ -1,5 +1,5 @@
 -- What is noted in a handle whose sender has seen more.
-use Rattle.std.proofs.Common.{◌≡◌, Option, Some, None, sym, ap, subst, ◌∙◌}
+use Rattle.std.proofs.Common.{◌≡◌, Option, Some, sym, ap, subst, ◌∙◌}
 use Rattle.std.proofs.lemmas.Option.{same_Some}
 use Rattle.msg_tables.specs.History.{History, BeginsWith}
 use Rattle.msg_reader.specs.Notes.{AreNotesOf}

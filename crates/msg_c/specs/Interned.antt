@@ -1,16 +1,11 @@
 -- What a handle of texts holds, and what is written of it.
-use Rattle.std.specs.Prelude.{◌≡◌, ℕ, Bool, List, Option, None, Some, [], ◌++◌, bytes_eq, length, take, drop}
+use Rattle.std.specs.Prelude.{◌≡◌, ℕ, Bool, List, Some, ◌++◌, bytes_eq, length, take, drop}
 use Rattle.std.specs.List.{list_any}
 use Rattle.msg_names.specs.Numbering.{number_of}
 
 -- what contracts see of texts: the bytes of each, in the order of their numbers
 abbrev pub TextsView : Type 0
 TextsView = List (List ℕ)
-
--- the texts in an open handle, and something where it holds nothing
-abbrev pub texts_in : Option TextsView → TextsView
-texts_in None = []
-texts_in (Some v) = v
 
 -- bytes after a text was written there: as much of it as there is room for, and then what was there
 abbrev pub with_text : List ℕ → List ℕ → List ℕ

@@ -2,7 +2,6 @@ pub mod Answers
 pub mod Handles
 pub mod Interned
 pub mod Notes
-pub mod Nothing
 pub mod RuntimeOwned
 pub mod SenderOwned
 pub mod Shown

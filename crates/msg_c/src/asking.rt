@@ -5,9 +5,9 @@ ghost use Rattle.msg_names.specs.declared.value.ClassRef.{ClassRef};
 ghost use Rattle.msg_tables.specs.Origin.{last_imp};
 ghost use Rattle.msg_tables.specs.History.{holder, lookup, superclass};
 ghost use Rattle.msg_cache.specs.Views.{classes};
-ghost use Rattle.msg_c.specs.Answers.{IsAsked, Shows, TellsFault, TellsNoHolder, TellsNoSuperclass, fault_in};
+ghost use Rattle.msg_c.specs.Answers.{IsAsked, Shows, TellsFault, TellsNoHolder, TellsNoSuperclass};
 ghost use Rattle.msg_host.specs.Named.{ref_of};
-ghost use Rattle.msg_c.specs.Handles.{IfOpen};
+ghost use Rattle.msg_c.specs.Handles.{AnswersAsked, IfAt, IfOpen};
 
 use crate::answer::{CLOSED, DONE, NONE};
 use crate::runtime_handle::RuntimeHandle;
@@ -76,9 +76,9 @@ pub extern "C" fn msg_lookup(
     ensures kept { runtime.new.held.state ≡ runtime.old.held.state }
     ensures closed { runtime.old.held.state ≡ None → result ≡ CLOSED }
     ensures left { result ≢ 0 → imp.new ≡ imp.old }
-    ensures fault { IfOpen runtime.old (λ v. result ≡ fault_in v.arena class sel) }
-    ensures done { IfOpen runtime.old (λ v. result ≡ 0 → imp.new ≡ lookup v.history (ref_of class meta) sel) }
-    ensures listed { IfOpen runtime.old (λ v. result ≡ 0 → imp.new ≤ last_imp v.history.origin.counts) }
+    ensures fault { AnswersAsked runtime.old class sel result }
+    ensures done { result ≡ 0 → IfAt runtime.old (λ h. imp.new ≡ lookup h (ref_of class meta) sel) }
+    ensures listed { result ≡ 0 → IfAt runtime.old (λ h. imp.new ≤ last_imp h.origin.counts) }
 {
     let Some(held) = runtime.take(alloc) else {
         return CLOSED;

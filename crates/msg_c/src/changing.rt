@@ -1,11 +1,11 @@
 //! Changes.
 
-ghost use Rattle.std.specs.Prelude.{◌≡◌, ◌≢◌, ◌<◌, None, Some};
-ghost use Rattle.msg_tables.specs.declared.change.Change.{Change};
+ghost use Rattle.std.specs.Prelude.{◌≡◌, ◌≢◌, None, Some};
 ghost use Rattle.msg_host.specs.Asking.{want_of_selector};
-ghost use Rattle.msg_host.specs.Named.{IsAttachFault, addition, attachment, replacement, setting};
+ghost use Rattle.msg_host.specs.Named.{addition, replacement, setting};
 ghost use Rattle.msg_c.specs.Answers.{runtime_arena};
-ghost use Rattle.msg_c.specs.Handles.{Changes, Exchanges, HasRuntime, IfOpen};
+ghost use Rattle.msg_c.specs.Handles.{AttachesIn, ChangesIf, Exchanges, HasRuntime};
+ghost use Rattle.msg_c.specs.Handles.{MakesClass, RefusesAttachmentIn};
 
 use crate::answer::CLOSED;
 use crate::runtime_handle::RuntimeHandle;
@@ -27,7 +27,7 @@ pub extern "C" fn msg_add(
     ensures closed { runtime.old.held.state ≡ None → result ≡ CLOSED }
     ensures left { result ≢ 0 → runtime.new.held.state ≡ runtime.old.held.state }
     ensures no_selector { sel ≡ 0 → HasRuntime runtime.old → result ≡ want_of_selector }
-    ensures change { 0 < sel → Changes runtime.old runtime.new (addition class meta sel imp) result }
+    ensures change { ChangesIf sel runtime.old runtime.new (addition class meta sel imp) result }
 {
     let Some(mut held) = runtime.take(alloc) else {
         return CLOSED;
@@ -51,7 +51,7 @@ pub extern "C" fn msg_replace(
     ensures closed { runtime.old.held.state ≡ None → result ≡ CLOSED }
     ensures left { result ≢ 0 → runtime.new.held.state ≡ runtime.old.held.state }
     ensures no_selector { sel ≡ 0 → HasRuntime runtime.old → result ≡ want_of_selector }
-    ensures change { 0 < sel → Changes runtime.old runtime.new (replacement class meta sel imp) result }
+    ensures change { ChangesIf sel runtime.old runtime.new (replacement class meta sel imp) result }
 {
     let Some(mut held) = runtime.take(alloc) else {
         return CLOSED;
@@ -75,7 +75,7 @@ pub extern "C" fn msg_set_imp(
     ensures closed { runtime.old.held.state ≡ None → result ≡ CLOSED }
     ensures left { result ≢ 0 → runtime.new.held.state ≡ runtime.old.held.state }
     ensures no_selector { sel ≡ 0 → HasRuntime runtime.old → result ≡ want_of_selector }
-    ensures change { 0 < sel → Changes runtime.old runtime.new (setting class meta sel imp) result }
+    ensures change { ChangesIf sel runtime.old runtime.new (setting class meta sel imp) result }
 {
     let Some(mut held) = runtime.take(alloc) else {
         return CLOSED;
@@ -129,8 +129,8 @@ pub extern "C" fn msg_attach(
     ensures arena { runtime_arena runtime.new.held.state ≡ runtime_arena runtime.old.held.state }
     ensures closed { runtime.old.held.state ≡ None → result ≡ CLOSED }
     ensures left { result ≢ 0 → runtime.new.held.state ≡ runtime.old.held.state }
-    ensures made { result ≡ 0 → Changes runtime.old runtime.new (attachment class methods.now class_methods.now) 0 }
-    ensures fault { result ≢ 0 → IfOpen runtime.old (λ v. IsAttachFault v class methods.now class_methods.now result) }
+    ensures made { AttachesIn runtime.old runtime.new class methods.now class_methods.now result }
+    ensures fault { RefusesAttachmentIn runtime.old class methods.now class_methods.now result }
 {
     let Some(mut held) = runtime.take(alloc) else {
         return CLOSED;
@@ -151,7 +151,7 @@ pub extern "C" fn msg_make_class(
     ensures arena { runtime_arena runtime.new.held.state ≡ runtime_arena runtime.old.held.state }
     ensures closed { runtime.old.held.state ≡ None → result ≡ CLOSED }
     ensures left { result ≢ 0 → runtime.new.held.state ≡ runtime.old.held.state }
-    ensures change { Changes runtime.old runtime.new (Change.AddClass class (Some superclass)) result }
+    ensures change { MakesClass runtime.old runtime.new class (Some superclass) result }
 {
     let Some(mut held) = runtime.take(alloc) else {
         return CLOSED;
@@ -167,7 +167,7 @@ pub extern "C" fn msg_make_root_class(alloc: Global, runtime: &mut RuntimeHandle
     ensures arena { runtime_arena runtime.new.held.state ≡ runtime_arena runtime.old.held.state }
     ensures closed { runtime.old.held.state ≡ None → result ≡ CLOSED }
     ensures left { result ≢ 0 → runtime.new.held.state ≡ runtime.old.held.state }
-    ensures change { Changes runtime.old runtime.new (Change.AddClass class None) result }
+    ensures change { MakesClass runtime.old runtime.new class None result }
 {
     let Some(mut held) = runtime.take(alloc) else {
         return CLOSED;

@@ -1,9 +1,8 @@
 //! What C holds of a runtime.
 
-ghost use Rattle.std.specs.Prelude.{◌≡◌, Option, Some, None, option_map, is_some};
+ghost use Rattle.std.specs.Prelude.{◌≡◌, Option, Some, None, option_map, is_some, true};
 ghost use Rattle.msg_host.specs.View.{RuntimeView};
 ghost use Rattle.msg_c.specs.RuntimeOwned.{held_owns, state_coded};
-ghost use Rattle.msg_c.specs.Nothing.{runtime_in};
 
 use crate::parts::Parts;
 use msg_host::HostedRuntime;
@@ -39,9 +38,8 @@ impl HeldRuntime {
     }
 
     fn into_parts(self) -> Parts<HostedRuntime, Global>
-        ghost value: { RuntimeView }
-        requires { self.state ≡ Some value }
-        ensures { result.value ≡ value }
+        requires { is_some self.state ≡ true }
+        ensures { self.state ≡ Some result.value }
     {
         let HeldRuntime { at, alloc } = self;
         Parts {
@@ -61,9 +59,8 @@ impl HeldRuntime {
 
     #[inline(always)]
     fn into_box(self) -> Box<HostedRuntime>
-        ghost value: { RuntimeView }
-        requires { self.state ≡ Some value }
-        ensures { result.value ≡ value }
+        requires { is_some self.state ≡ true }
+        ensures { self.state ≡ Some result.value }
     {
         self.into_parts().into_box()
     }

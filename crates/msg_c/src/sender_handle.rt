@@ -4,7 +4,6 @@ ghost use Rattle.std.specs.Prelude.{◌≡◌, Option, Some, None, option_map, i
 ghost use Rattle.msg_host.specs.View.{SenderView};
 ghost use Rattle.msg_c.specs.Notes.{AreNotesIn};
 ghost use Rattle.msg_c.specs.SenderOwned.{held_owns, state_coded};
-ghost use Rattle.msg_c.specs.Nothing.{sender_in};
 
 use crate::parts::Parts;
 use msg_host::HostedSender;
@@ -42,9 +41,8 @@ impl HeldSender {
     }
 
     fn into_parts(self) -> Parts<HostedSender, Global>
-        ghost value: { SenderView }
-        requires { self.state ≡ Some value }
-        ensures { result.value ≡ value }
+        requires { is_some self.state ≡ true }
+        ensures { self.state ≡ Some result.value }
     {
         let HeldSender { at, alloc } = self;
         Parts {
@@ -64,9 +62,8 @@ impl HeldSender {
 
     #[inline(always)]
     fn into_box(self) -> Box<HostedSender>
-        ghost value: { SenderView }
-        requires { self.state ≡ Some value }
-        ensures { result.value ≡ value }
+        requires { is_some self.state ≡ true }
+        ensures { self.state ≡ Some result.value }
     {
         self.into_parts().into_box()
     }

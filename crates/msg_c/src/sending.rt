@@ -1,14 +1,15 @@
 //! Senders.
 
-ghost use Rattle.std.specs.Prelude.{◌≡◌, ◌≢◌, ◌≤◌, ◌%◌, ◌⊎◌, length, None};
+ghost use Rattle.std.specs.Prelude.{◌≡◌, ◌≢◌, ◌≤◌, ◌⊎◌, length, None};
 ghost use Rattle.msg_tables.specs.Origin.{last_imp};
 ghost use Rattle.msg_tables.specs.History.{lookup};
-ghost use Rattle.msg_reader.specs.Notes.{IsRecalled, recalled};
+ghost use Rattle.msg_reader.specs.Notes.{recalled};
 ghost use Rattle.msg_c.specs.Answers.{AreOfOneArena, IsAsked};
-ghost use Rattle.msg_c.specs.Answers.{fault_in, number_of_recalled, runtime_arena, sender_arena};
-ghost use Rattle.msg_host.specs.Named.{HaveNoted, ref_of};
-ghost use Rattle.msg_c.specs.Handles.{HasLacked, HasRuntime, HasSeenAll, HasSender};
-ghost use Rattle.msg_c.specs.Handles.{IfAt, IfOfArena, IfOpen, IfSeen, SeesMore};
+ghost use Rattle.msg_c.specs.Answers.{number_of_recalled, sender_arena};
+ghost use Rattle.msg_host.specs.Named.{ref_of};
+ghost use Rattle.msg_c.specs.Handles.{AnswersAsked, HasLacked, HasNotedAt, HasNotedSeen};
+ghost use Rattle.msg_c.specs.Handles.{HasRuntime, HasSeenAll, HasSender, IfAt, IfOfArena, IfSeen};
+ghost use Rattle.msg_c.specs.Handles.{IsListedIn, IsOfRuntime, Recalls, SeesMore, TellsFaultIn};
 
 use crate::answer::{
     ALREADY_OPEN, CLOSED, DONE, MISSED, NO_MEMORY, NO_SENDER, NOT_NOTED, NOTED_NONE,
@@ -47,7 +48,7 @@ pub extern "C" fn msg_sender_open(
     ensures already { HasSender sender.old → result ≡ ALREADY_OPEN }
     ensures left { result ≢ 0 → sender.new.held.state ≡ sender.old.held.state }
     ensures open { result ≡ 0 → HasSender sender.new }
-    ensures of { result ≡ 0 → sender_arena sender.new.held.state ≡ runtime_arena runtime.old.held.state }
+    ensures of { result ≡ 0 → IsOfRuntime sender.new runtime.old }
     ensures front { result ≡ 0 → HasSeenAll sender.new runtime.old }
 {
     if sender.is_open() {
@@ -117,9 +118,9 @@ pub extern "C" fn msg_probe(
     ensures still { result ≢ 0 → result ≢ MISSED → sender.new.held.state ≡ sender.old.held.state }
     ensures begins { SeesMore sender.old sender.new }
     ensures hit { result ≡ 0 → IfSeen sender.new (λ h. imp.new ≡ lookup h (ref_of class meta) sel) }
-    ensures listed { result ≡ 0 → IfOfArena sender.old (λ a. imp.new ≤ last_imp a.key.origin.counts) }
-    ensures fault { IfOfArena sender.old (λ a. result ≢ 0 → result ≢ MISSED → result ≡ fault_in a class sel) }
-    ensures noted { result ≡ 0 → IfSeen sender.new (λ h. HaveNoted sender.new.notes h (ref_of class meta) sel imp.new) }
+    ensures listed { result ≡ 0 → IsListedIn sender.old imp.new }
+    ensures fault { TellsFaultIn sender.old class sel result }
+    ensures noted { result ≡ 0 → HasNotedSeen sender.new (ref_of class meta) sel imp.new }
     ensures miss { IfOfArena sender.old (λ a. result ≡ MISSED → IsAsked a class sel) }
     ensures recalled { result ≡ MISSED → HasLacked sender.old sender.new (ref_of class meta) sel }
 {
@@ -145,7 +146,7 @@ pub extern "C" fn msg_probe(
 /// It takes no lock, loads no word that threads share, and writes nothing: a few loads from the handle.
 #[unsafe(no_mangle)]
 pub extern "C" fn msg_recall(sender: &SenderHandle, slot: usize, sel: u32, count: u64) -> usize
-    ensures found { result ≢ NOT_NOTED → IfSeen sender.now (λ h. IsRecalled h count slot sel (result % NOTED_NONE)) }
+    ensures found { Recalls sender.now count slot sel result }
     ensures closed { sender.now.held.state ≡ None → result ≡ NOT_NOTED }
     ensures answer { result ≡ number_of_recalled (recalled sender.now.notes count slot sel) }
 {
@@ -180,13 +181,14 @@ pub extern "C" fn msg_fill(
     ensures arena { sender_arena sender.new.held.state ≡ sender_arena sender.old.held.state }
     ensures closed { runtime.old.held.state ≡ None → result ≡ CLOSED }
     ensures no_sender { sender.old.held.state ≡ None → result ≡ CLOSED }
-    ensures left { result ≢ 0 → (imp.new ≡ imp.old) × (sender.new.held.state ≡ sender.old.held.state) }
+    ensures left { result ≢ 0 → imp.new ≡ imp.old }
+    ensures still { result ≢ 0 → sender.new.held.state ≡ sender.old.held.state }
     ensures done { result ≡ 0 → IfAt runtime.old (λ h. imp.new ≡ lookup h (ref_of class meta) sel) }
     ensures listed { result ≡ 0 → IfAt runtime.old (λ h. imp.new ≤ last_imp h.origin.counts) }
     ensures front { result ≡ 0 → HasSeenAll sender.new runtime.old }
     ensures begins { result ≡ 0 → SeesMore sender.old sender.new }
-    ensures noted { result ≡ 0 → IfAt runtime.old (λ h. HaveNoted sender.new.notes h (ref_of class meta) sel imp.new) }
-    ensures fault { HasSender sender.old → IfOpen runtime.old (λ v. result ≡ fault_in v.arena class sel) }
+    ensures noted { result ≡ 0 → HasNotedAt sender.new runtime.old (ref_of class meta) sel imp.new }
+    ensures fault { HasSender sender.old → AnswersAsked runtime.old class sel result }
 {
     let Some(mut held) = runtime.take(alloc) else {
         return CLOSED;

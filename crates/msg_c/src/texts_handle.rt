@@ -1,7 +1,7 @@
 //! What C holds of texts.
 
-ghost use Rattle.std.specs.Prelude.{◌≡◌, Option, Some, None, option_map, is_some};
-ghost use Rattle.msg_c.specs.Interned.{TextsView, texts_in};
+ghost use Rattle.std.specs.Prelude.{◌≡◌, Option, Some, None, option_map, is_some, true};
+ghost use Rattle.msg_c.specs.Interned.{TextsView};
 ghost use Rattle.msg_c.specs.TextsOwned.{held_owns, state_coded};
 
 use crate::parts::Parts;
@@ -38,9 +38,8 @@ impl HeldTexts {
     }
 
     fn into_parts(self) -> Parts<Texts, Global>
-        ghost value: { TextsView }
-        requires { self.state ≡ Some value }
-        ensures { result.value ≡ value }
+        requires { is_some self.state ≡ true }
+        ensures { self.state ≡ Some result.value }
     {
         let HeldTexts { at, alloc } = self;
         Parts {
@@ -60,9 +59,8 @@ impl HeldTexts {
 
     #[inline(always)]
     fn into_box(self) -> Box<Texts>
-        ghost value: { TextsView }
-        requires { self.state ≡ Some value }
-        ensures { result.value ≡ value }
+        requires { is_some self.state ≡ true }
+        ensures { self.state ≡ Some result.value }
     {
         self.into_parts().into_box()
     }

@@ -32,7 +32,8 @@ use Rattle.msg_cache.specs.Rule.{HasNoEntry, named, live_in, word_in, in_word, s
 use Rattle.msg_cache.specs.Plays.{stored, retire, flushed, installed, committed, looked}
 use Rattle.msg_cache.proofs.LayoutLemmas.{inside, header_inside}
 use Rattle.msg_core.proofs.LegalSteps.{may_fill, may_install, may_flush, may_look, may_clear}
-use Rattle.msg_cache.proofs.PastLemmas.{begins_refl, begins_trans, begins_next, accepted_next}
+use Rattle.msg_tables.proofs.BeginsLemmas.{begins_refl, begins_trans, begins_next}
+use Rattle.msg_cache.proofs.PastLemmas.{accepted_next}
 use Rattle.msg_cache.proofs.SeatLemmas.{keeper_goes}
 use Rattle.msg_cache.proofs.ShownLemmas.{live_is, word_is, live_set, word_set, word_header, live_bucket, live_version, word_version, set_as_at, standings_looked}
 

@@ -18,7 +18,8 @@ use Rattle.msg_cache.specs.declared.view.View.TheVariants.{Keeper}
 use Rattle.msg_cache.specs.Layout.{SettingView, layout_of, total, header_at, base, probes, probe_at, word_count}
 use Rattle.msg_cache.specs.Rule.{named, live_in, word_in, shown, RuledBy, TidyBy, shown_by, first_keeper, Fits}
 use Rattle.msg_cache.proofs.AllowedKeeper.{tidy_of}
-use Rattle.msg_cache.proofs.PastLemmas.{begins_refl, accepted_empty}
+use Rattle.msg_tables.proofs.BeginsLemmas.{begins_refl}
+use Rattle.msg_cache.proofs.PastLemmas.{accepted_empty}
 
 same_everywhere : {A : Type 0} (n i : ℕ) (x : A) → slice_index_or (replicate n x) i x ≡ x
 same_everywhere zero i x = refl

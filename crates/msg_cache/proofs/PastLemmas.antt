@@ -1,7 +1,7 @@
 -- Histories with which others begin.
 use Rattle.std.proofs.lemmas.List.Elements.{All-head, All-tail, All-nil, All-cons}
-use Rattle.std.proofs.Common.{◌≡◌, ℕ, List, All, ◌<◌, ◌+◌, ◌-◌, ◌≤◌, [], ◌∷◌, ◌++◌, length, take, drop, None, false, subst, refl, sym, ap, ◌∙◌, arith, length-append, append_assoc}
-use Rattle.std.proofs.lemmas.List.{append-nil, take-append-drop}
+use Rattle.std.proofs.Common.{◌≡◌, ℕ, List, All, ◌<◌, ◌+◌, ◌-◌, ◌≤◌, [], ◌∷◌, ◌++◌, length, take, drop, None, false, subst, refl, sym, ap, ◌∙◌, arith}
+use Rattle.std.proofs.lemmas.List.{take-append-drop}
 use Rattle.std.proofs.Math.Seq.{take-append-add}
 use Rattle.msg_tables.specs.declared.change.Change.{Change}
 use Rattle.msg_tables.specs.Origin.{OriginView}
@@ -17,21 +17,6 @@ use Rattle.msg_tables.proofs.LogLemmas.{log-empty}
 use Rattle.msg_tables.proofs.HistoryLemmas.{is-longer, is-before, few-lists, log-all}
 use Rattle.msg_core.specs.State.{size, first}
 use Rattle.msg_cache.specs.Rule.{IsAccepted}
-
-pub begins_refl : (h : History) → BeginsWith h h
-begins_refl h = record { same = refl; rest = ([], sym (append-nil h.changes)) }
-
-pub begins_trans : (h g f : History) → BeginsWith h g → BeginsWith g f → BeginsWith h f
-begins_trans h g f p q = record {
-  same = p.same ∙ q.same;
-  rest = (q.rest.0 ++ p.rest.0, p.rest.1 ∙ ap (λ xs. xs ++ p.rest.0) q.rest.1 ∙ append_assoc f.changes q.rest.0 p.rest.0);
-}
-
-pub begins_size : (h g : History) → BeginsWith h g → size g ≤ size h
-begins_size h g p = omega (arith, ap length p.rest.1, length-append g.changes p.rest.0)
-
-pub begins_next : (h : History) (x : List Change) → BeginsWith (and_then h x) h
-begins_next h x = record { same = refl; rest = (x ∷ [], refl) }
 
 pub first_begins : (r : ℕ) (h : History) → BeginsWith h (first r h)
 first_begins r h = record { same = refl; rest = (drop r h.changes, sym (take-append-drop r h.changes)) }

@@ -14,7 +14,7 @@ use Rattle.msg_cache.specs.Layout.{base}
 use Rattle.msg_cache.specs.Plays.{Sat, seated, sender_of, headed, read_on, SawHeader, SawWord}
 use Rattle.msg_cache.specs.Rule.{named}
 use Rattle.msg_cache.specs.Record.{InPlaces, earlier, Hits, Probes, HitsOrMisses, HitsOnce}
-use Rattle.msg_cache.proofs.PastLemmas.{begins_trans}
+use Rattle.msg_tables.proofs.BeginsLemmas.{begins_trans}
 
 in_places_more : (z : Layout) (a s k : ℕ) (reads : List (ℕ × ℕ)) (read : ℕ × ℕ) → InPlaces z a s k reads → read.0 ≡ base z a + probe_place s (capacity z a) (k + length reads) → InPlaces z a s k (reads ++ read ∷ [])
 in_places_more z a s k [] read p e = (e ∙ ap (λ (m : ℕ). base z a + probe_place s (capacity z a) m) (omega arith), tt)

@@ -20,7 +20,7 @@ use Rattle.msg_cache.specs.declared.view.View.{View}
 use Rattle.msg_cache.specs.declared.view.View.TheVariants.{Sender, Keeper, Turn, Spent}
 use Rattle.msg_cache.specs.Rule.{shown, FitsSender, Fits, IsCopied, IsKept, Ruled, shown_by}
 use Rattle.msg_cache.proofs.LayoutLemmas.{awaits_length}
-use Rattle.msg_cache.proofs.PastLemmas.{begins_trans, begins_size}
+use Rattle.msg_tables.proofs.BeginsLemmas.{begins_trans, begins_length}
 
 -- what holds of each view after one was changed
 pub views_set : (F G : ℕ → View → Type 0) (views : List View) (id : ℕ) (w : View) → ((j : ℕ) (u : View) → get_elem? views j ≡ some u → F j u)
@@ -159,6 +159,6 @@ module _ (look : History → ClassRef → ℕ → ℕ) (z : Layout) (origin : Or
         begins = begins_trans k'.history r.keeper.history u.front grows f.begins;
         behind = λ c a m aw e gone. ⊎_elim
             (λ (t : (old : List Bool) × (standing_at r.keeper.standings a ≡ Retired c m old)). f.behind c a m t.0 e t.1)
-            (λ (t : size r.keeper.history ≤ m). let s = begins_size r.keeper.history u.front f.begins in omega arith)
+            (λ (t : size r.keeper.history ≤ m). let s = begins_length r.keeper.history u.front f.begins in omega arith)
             (behind c a m aw gone);
       }

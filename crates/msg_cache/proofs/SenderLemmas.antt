@@ -26,7 +26,8 @@ use Rattle.msg_cache.specs.Rule.{named, word_in, in_word, shown, FitsSender, IsC
 use Rattle.msg_cache.specs.Plays.{headed, read_on, gone_to}
 use Rattle.msg_cache.proofs.LayoutLemmas.{inside, header_inside}
 use Rattle.msg_core.proofs.LegalSteps.{may_enter, may_load, may_read, may_leave}
-use Rattle.msg_cache.proofs.PastLemmas.{begins_refl, first_begins, begins_first}
+use Rattle.msg_tables.proofs.BeginsLemmas.{begins_refl}
+use Rattle.msg_cache.proofs.PastLemmas.{first_begins, begins_first}
 use Rattle.msg_cache.proofs.SeatLemmas.{number_below, sender_goes}
 use Rattle.msg_cache.proofs.ShownLemmas.{live_is, word_is}
 

@@ -20,7 +20,7 @@ use Rattle.msg_cache.specs.declared.view.View.TheVariants.{Sender, Keeper, Turn,
 use Rattle.msg_cache.specs.Rule.{FitsSender, Fits, Ruled, Stays}
 use Rattle.msg_cache.specs.Plays.{given_out, taken_in, newcomer, at_home, lent}
 use Rattle.msg_cache.proofs.LayoutLemmas.{awaits_length}
-use Rattle.msg_cache.proofs.PastLemmas.{begins_refl}
+use Rattle.msg_tables.proofs.BeginsLemmas.{begins_refl}
 use Rattle.msg_cache.proofs.SeatLemmas.{views_set, at_last_or, at_below, views_apart, not_keeper, not_turn, not_sender}
 
 module _ (look : History → ClassRef → ℕ → ℕ) (z : Layout) (origin : OriginView) (words : List ℕ) (views : List View) (r : Ruled look z origin words views) (id : ℕ) (at_id : get_elem? views id ≡ some (Keeper r.keeper)) where

@@ -48,9 +48,9 @@ FoundHeader key c s n old new = SawHeader (length key.capacities) c s n (sender_
 abbrev pub WentTo : Whereabouts → Seat ℕ View → Seat ℕ View → Type 0
 WentTo p old new = new.me ≡ seated (gone_to (sender_at old) (sender_at old).front p)
 
--- what the keeper knows changed so
-abbrev pub ChangesBy : (KeeperView → KeeperView) → Seat ℕ View → Seat ℕ View → Type 0
-ChangesBy f old new = new.me ≡ kept (f (keeper_at old))
+-- the keeper knows now what this makes of what it knew
+abbrev pub KnowsNow : (KeeperView → KeeperView) → Seat ℕ View → Seat ℕ View → Type 0
+KnowsNow f old new = new.me ≡ kept (f (keeper_at old))
 
 -- ---- what fields beside a seat say
 

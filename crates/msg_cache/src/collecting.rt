@@ -7,7 +7,7 @@ ghost use Rattle.msg_core.specs.State.{awaits};
 ghost use Rattle.msg_cache.specs.Keeping.{standing_of, looks, cleared, emptied, Collects};
 ghost use Rattle.msg_cache.specs.Layout.{IsPlace, layout_of};
 ghost use Rattle.msg_cache.specs.Rule.{NoneIsGivenFrom, TidyBy};
-ghost use Rattle.msg_cache.specs.Seats.{CanReach, ChangesBy, IsInOrder, IsKeeper, IsSameSeat, keeper_at, uses_at};
+ghost use Rattle.msg_cache.specs.Seats.{CanReach, IsInOrder, IsKeeper, IsSameSeat, KnowsNow, keeper_at, uses_at};
 ghost use Rattle.msg_cache.specs.Views.{layout};
 
 use crate::arena::Arena;
@@ -57,7 +57,7 @@ fn look_at_first(arena: &Arena, seat: &mut Seat, were: &mut Vec<bool>, known: u3
     requires were { length were.old.items ≡ arena.now.key.senders }
     requires known { known ≤ arena.now.key.senders }
     ensures seat { IsSameSeat seat.old seat.new }
-    ensures told { ChangesBy (looks known were.new.items) seat.old seat.new }
+    ensures told { KnowsNow (looks known were.new.items) seat.old seat.new }
     ensures were { length were.new.items ≡ length were.old.items }
     ensures others { (n : ℕ) → known ≤ n → awaits were.new.items n ≡ awaits were.old.items n }
     ensures tidy { TidyBy lookup arena.now.key (keeper_at seat.new) }
@@ -77,7 +77,7 @@ fn look_at_senders(arena: &Arena, seat: &mut Seat, outs: &mut Outs)
     requires outs { length outs.old.were.items ≡ arena.now.key.senders }
     requires nobody { NoneIsGivenFrom outs.old.known (keeper_at seat.old).given }
     ensures seat { IsSameSeat seat.old seat.new }
-    ensures told { ChangesBy (looks arena.now.key.senders outs.new.were.items) seat.old seat.new }
+    ensures told { KnowsNow (looks arena.now.key.senders outs.new.were.items) seat.old seat.new }
     ensures outs { length outs.new.were.items ≡ length outs.old.were.items }
     ensures known { outs.new.known ≡ outs.old.known }
     ensures tidy { TidyBy lookup arena.now.key (keeper_at seat.new) }
@@ -105,7 +105,7 @@ fn clear_place(
     requires place { IsPlace shared.now.key array base place }
     requires free { standing_of (keeper_at seat.old) array ≡ Free }
     ensures seat { IsSameSeat seat.old seat.new }
-    ensures told { ChangesBy (cleared (base + place)) seat.old seat.new }
+    ensures told { KnowsNow (cleared (base + place)) seat.old seat.new }
     ensures tidy { TidyBy lookup shared.now.key (keeper_at seat.new) }
     ensures words { words.new.items ≡ (keeper_at seat.new).words }
 {
@@ -125,7 +125,7 @@ fn clear_array(arena: &Arena, seat: &mut Seat, words: &mut Vec<u64>, array: usiz
     requires array { array < length arena.now.key.capacities }
     requires free { standing_of (keeper_at seat.old) array ≡ Free }
     ensures seat { IsSameSeat seat.old seat.new }
-    ensures told { ChangesBy (emptied (layout_of arena.now.key) array) seat.old seat.new }
+    ensures told { KnowsNow (emptied (layout_of arena.now.key) array) seat.old seat.new }
     ensures tidy { TidyBy lookup arena.now.key (keeper_at seat.new) }
     ensures words { words.new.items ≡ (keeper_at seat.new).words }
 {

@@ -30,7 +30,7 @@ use crate::view::View;
 use atomic_table::Badge;
 use msg_buckets::{first_place, pack};
 use msg_names::{ClassRef, ImpRef, Selector};
-use msg_tables::{Change, MOST_SENDERS};
+use msg_tables::{Change, ChangeList, MOST_SENDERS};
 use std::alloc::{AllocError, Global};
 use std::marker::{Brand, Model};
 use std::mem::replace;
@@ -425,21 +425,21 @@ impl Keeper {
         ensures turn_is { turn.new.history ≡ (view self.new).history }
         ensures count { result ≡ size (view self.new).history }
     {
-        self.commit_all(arena, turn, from_ref(change))
+        self.commit_all(arena, turn, &from_ref(change))
     }
 
     /// Adds changes to the history that are made as one, and answers how many times changes were made. The count is stored once: no sender sees some of them alone.
-    pub fn commit_all(&mut self, arena: &Arena, turn: &mut Turn, changes: &[Change]) -> u64
+    pub fn commit_all<L: ChangeList>(&mut self, arena: &Arena, turn: &mut Turn, changes: &L) -> u64
         requires arena { IsOf arena.now self.old }
         requires turn { turn.old.table ≡ arena.now.table }
-        requires some { 0 < length changes.now }
-        requires accepted { refusal_of_all (log (view self.old).history) changes.now ≡ None }
-        requires flushed { AllAffectedAreFlushed arena.now changes.now self.old }
+        requires some { 0 < length (L.changes changes.now) }
+        requires accepted { refusal_of_all (log (view self.old).history) (L.changes changes.now) ≡ None }
+        requires flushed { AllAffectedAreFlushed arena.now (L.changes changes.now) self.old }
         ensures arena { IsOf arena.now self.new }
         ensures remembered { self.new.remembered.items ≡ self.old.remembered.items }
         ensures report { self.new.report ≡ self.old.report }
         ensures turn { turn.new.table ≡ turn.old.table }
-        ensures committed { view self.new ≡ lent (committed changes.now (view self.old)) }
+        ensures committed { view self.new ≡ lent (committed (L.changes changes.now) (view self.old)) }
         ensures turn_was { turn.old.history ≡ (view self.old).history }
         ensures turn_is { turn.new.history ≡ (view self.new).history }
         ensures count { result ≡ size (view self.new).history }
@@ -448,7 +448,7 @@ impl Keeper {
         let badge = replace(&mut turn.badge, Badge::blank());
         join_turn(shared, &mut self.seat, badge.into_seat());
         let count = self.count + 1;
-        store_count::<Brand>(shared, &mut self.seat, count, changes);
+        store_count::<Brand, L>(shared, &mut self.seat, count, changes);
         self.words[0] = count;
         self.count = count;
         turn.badge = split_turn(shared, &mut self.seat).into_badge();

@@ -7,7 +7,7 @@ ghost use Rattle.msg_core.specs.declared.state.Whereabouts.TheVariants.{In, Out}
 ghost use Rattle.msg_cache.specs.Plays.{seated, given_again, taken_in, renewed};
 ghost use Rattle.msg_cache.specs.Record.{MadeNoProbe, Misses};
 ghost use Rattle.msg_cache.specs.Rule.{IsAccepted, TidyBy};
-ghost use Rattle.msg_cache.specs.Seats.{CanReach, ChangesBy, IsKeeper, IsSameSeat, IsSender, keeper_at, prober_at, sender_at};
+ghost use Rattle.msg_cache.specs.Seats.{CanReach, IsKeeper, IsSameSeat, IsSender, KnowsNow, keeper_at, prober_at, sender_at};
 ghost use Rattle.msg_cache.specs.Views.{HitsAndIsFound, IsSenderOf, ProbesFor, classes, layout};
 
 use crate::arena::Arena;
@@ -141,7 +141,7 @@ impl Prober {
         ensures own { self.new.table ≡ self.old.table }
         ensures table { keeper.new.table_id ≡ keeper.old.table_id }
         ensures place { self.new.place ≡ self.old.place }
-        ensures keeper { ChangesBy (given_again self.old.sender) keeper.old keeper.new }
+        ensures keeper { KnowsNow (given_again self.old.sender) keeper.old keeper.new }
         ensures tidy { TidyBy lookup words.now.key (taken_in self.old.sender (keeper_at keeper.old)) }
         ensures sender { self.new.sender ≡ renewed self.old.sender (keeper_at keeper.old).history }
         ensures begins { BeginsWith (keeper_at keeper.old).history self.old.sender.front }

@@ -14,7 +14,7 @@ ghost use Rattle.msg_cache.specs.declared.view.TurnAt.TheVariants.{Away, Home};
 ghost use Rattle.msg_cache.specs.Layout.{IsPlace, IsProbeWord, layout_of, header_at, probe_at};
 ghost use Rattle.msg_cache.specs.Plays.{SawVersion, SawWord, IsTold, seated, turn_of, stored, flushed, installed, committed, looked, rest_looked, given_out, taken_in, newcomer, lent, at_home, turn_view};
 ghost use Rattle.msg_cache.specs.Rule.{HasNoEntry, LiveWordsAgreeAfter, NoneIsGivenFrom, TidyBy};
-ghost use Rattle.msg_cache.specs.Seats.{CanReach, ChangesBy, FoundHeader, IsKeeper, IsSameSeat, IsSender, WentTo, keeper_at, sender_at};
+ghost use Rattle.msg_cache.specs.Seats.{CanReach, FoundHeader, IsKeeper, IsSameSeat, IsSender, KnowsNow, WentTo, keeper_at, sender_at};
 ghost use Rattle.msg_cache.specs.Views.{IsEntryFor};
 
 use crate::plays::{
@@ -26,7 +26,7 @@ use crate::setting::Setting;
 use crate::view::View;
 use atomic_table::Shared;
 use msg_names::{ClassRef, Selector};
-use msg_tables::Change;
+use msg_tables::ChangeList;
 
 pub(crate) type Words = Shared<u8, View, Setting, Rule>;
 
@@ -134,7 +134,7 @@ pub(crate) fn store_entry<Q: About>(
     requires clear { slice_index (keeper_at seat.old).words (base + place) ≡ 0 }
     requires agrees { IsEntryFor (keeper_at seat.old).history _class word }
     ensures seat { IsSameSeat seat.old seat.new }
-    ensures told { ChangesBy (stored (base + place) word) seat.old seat.new }
+    ensures told { KnowsNow (stored (base + place) word) seat.old seat.new }
     ensures tidy { TidyBy lookup words.now.key (keeper_at seat.new) }
 {
     words.store::<Tidied<Store, Q>>(seat, base + place, word);
@@ -155,7 +155,7 @@ pub(crate) fn clear_word<Q: About>(
     requires place { IsPlace words.now.key array base place }
     requires free { standing_at (keeper_at seat.old).standings array ≡ Free }
     ensures seat { IsSameSeat seat.old seat.new }
-    ensures told { ChangesBy (stored (base + place) 0) seat.old seat.new }
+    ensures told { KnowsNow (stored (base + place) 0) seat.old seat.new }
     ensures tidy { TidyBy lookup words.now.key (keeper_at seat.new) }
 {
     words.store::<Tidied<Store, Q>>(seat, base + place, 0);
@@ -169,7 +169,7 @@ pub(crate) fn store_none<Q: About>(words: &Words, seat: &mut Seat, class: ClassR
     requires class { class.class < class_total words.now.key.origin }
     requires live { slice_index (keeper_at seat.old).words (header_at class) ≡ suc _array }
     ensures seat { IsSameSeat seat.old seat.new }
-    ensures told { ChangesBy (flushed class) seat.old seat.new }
+    ensures told { KnowsNow (flushed class) seat.old seat.new }
     ensures tidy { TidyBy lookup words.now.key (keeper_at seat.new) }
 {
     words.store::<Tidied<Flush, Q>>(seat, header_at(class), 0);
@@ -185,24 +185,29 @@ pub(crate) fn store_array<Q: About>(words: &Words, seat: &mut Seat, class: Class
     requires free { standing_at (keeper_at seat.old).standings array ≡ Free }
     requires clear { HasNoEntry (layout_of words.now.key) (keeper_at seat.old) array }
     ensures seat { IsSameSeat seat.old seat.new }
-    ensures told { ChangesBy (installed class array) seat.old seat.new }
+    ensures told { KnowsNow (installed class array) seat.old seat.new }
     ensures tidy { TidyBy lookup words.now.key (keeper_at seat.new) }
 {
     words.store::<Tidied<Install, Q>>(seat, header_at(class), array as u64 + 1);
 }
 
 // Commit: the count of changes is stored, while the turn is joined.
-pub(crate) fn store_count<Q: About>(words: &Words, seat: &mut Seat, count: u64, changes: &[Change])
+pub(crate) fn store_count<Q: About, L: ChangeList>(
+    words: &Words,
+    seat: &mut Seat,
+    count: u64,
+    changes: &L,
+)
     requires table { CanReach words.now.table_id seat.old 0 }
-    requires about { (Q.key ≡ words.now.key) × (Q.changes ≡ changes.now) }
+    requires about { (Q.key ≡ words.now.key) × (Q.changes ≡ L.changes changes.now) }
     requires keeper { IsKeeper seat.old }
     requires turn { (g : History) × ((keeper_at seat.old).turn ≡ Home g) }
     requires count { count ≡ size (keeper_at seat.old).history + 1 }
-    requires some { 0 < length changes.now }
-    requires accepted { refusal_of_all (log (keeper_at seat.old).history) changes.now ≡ None }
-    requires agrees { LiveWordsAgreeAfter lookup words.now.key (keeper_at seat.old) changes.now }
+    requires some { 0 < length (L.changes changes.now) }
+    requires accepted { refusal_of_all (log (keeper_at seat.old).history) (L.changes changes.now) ≡ None }
+    requires agrees { LiveWordsAgreeAfter lookup words.now.key (keeper_at seat.old) (L.changes changes.now) }
     ensures seat { IsSameSeat seat.old seat.new }
-    ensures told { ChangesBy (committed changes.now) seat.old seat.new }
+    ensures told { KnowsNow (committed (L.changes changes.now)) seat.old seat.new }
     ensures witness { IsTold (keeper_at seat.old) }
     ensures tidy { TidyBy lookup words.now.key (keeper_at seat.new) }
 {
@@ -216,7 +221,7 @@ pub(crate) fn load_probe<Q: About>(words: &Words, seat: &mut Seat, word: usize, 
     requires keeper { IsKeeper seat.old }
     requires word { IsProbeWord words.now.key number word }
     ensures seat { IsSameSeat seat.old seat.new }
-    ensures told { ChangesBy (looked number result) seat.old seat.new }
+    ensures told { KnowsNow (looked number result) seat.old seat.new }
     ensures tidy { TidyBy lookup words.now.key (keeper_at seat.new) }
 {
     words.load::<Tidied<Look<Q>, Q>>(seat, word) == 0
@@ -230,7 +235,7 @@ pub(crate) fn look_at_rest<Q: About>(words: &Words, seat: &mut Seat, _number: u3
     requires number { _number ≤ words.now.key.senders }
     requires nobody { NoneIsGivenFrom _number (keeper_at seat.old).given }
     ensures seat { IsSameSeat seat.old seat.new }
-    ensures told { ChangesBy (rest_looked _number (words.now.key.senders - _number)) seat.old seat.new }
+    ensures told { KnowsNow (rest_looked _number (words.now.key.senders - _number)) seat.old seat.new }
     ensures tidy { TidyBy lookup words.now.key (keeper_at seat.new) }
 {
     words.load::<Tidied<LookAtRest<Q>, Q>>(seat, 0);
@@ -256,7 +261,7 @@ pub(crate) fn split_sender<Q: About>(words: &Words, seat: &mut Seat, number: u32
     requires number { number < words.now.key.senders }
     requires free { awaits (keeper_at seat.old).given number ≡ false }
     ensures seat { IsSameSeat seat.old seat.new }
-    ensures told { ChangesBy (given_out number) seat.old seat.new }
+    ensures told { KnowsNow (given_out number) seat.old seat.new }
     ensures table { result.table_id ≡ seat.old.table_id }
     ensures sender { result.me ≡ seated (newcomer number (keeper_at seat.old).history) }
 {
@@ -271,7 +276,7 @@ pub(crate) fn join_sender(words: &Words, seat: &mut Seat, other: Seat)
     requires sender { IsSender other }
     requires out { (sender_at other).whereabouts ≡ Out }
     ensures seat { IsSameSeat seat.old seat.new }
-    ensures told { ChangesBy (taken_in (sender_at other)) seat.old seat.new }
+    ensures told { KnowsNow (taken_in (sender_at other)) seat.old seat.new }
 {
     words.join_seat::<Gather>(seat, other);
 }
@@ -282,7 +287,7 @@ pub(crate) fn split_turn(words: &Words, seat: &mut Seat) -> Seat
     requires keeper { IsKeeper seat.old }
     requires home { (keeper_at seat.old).turn ≢ Away }
     ensures seat { IsSameSeat seat.old seat.new }
-    ensures told { ChangesBy lent seat.old seat.new }
+    ensures told { KnowsNow lent seat.old seat.new }
     ensures table { result.table_id ≡ seat.old.table_id }
     ensures turn { result.me ≡ (turn_view (keeper_at seat.old).history, []) }
 {
@@ -296,7 +301,7 @@ pub(crate) fn join_turn(words: &Words, seat: &mut Seat, other: Seat)
     requires keeper { IsKeeper seat.old }
     requires turn { other.me ≡ (turn_view (turn_of other.me.0), []) }
     ensures seat { IsSameSeat seat.old seat.new }
-    ensures told { ChangesBy (at_home (turn_of other.me.0)) seat.old seat.new }
+    ensures told { KnowsNow (at_home (turn_of other.me.0)) seat.old seat.new }
 {
     words.join_seat::<Gather>(seat, other);
 }

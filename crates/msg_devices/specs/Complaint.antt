@@ -53,7 +53,7 @@ complaint_line p fault = (program_name p ++ codes ": ") ++ said_line p fault
 abbrev pub SaysReason : {S : Type 0} → (S → Option (List ℕ)) → S → S → Program → Option (Bor RunFault) → Type 0
 SaysReason contents old new p fault = Writes contents old new (said_line p (option_copied fault))
 
--- a front of it alone was
+-- the start of it alone was
 abbrev pub StartsReason : {S : Type 0} → (S → Option (List ℕ)) → S → S → Program → Option (Bor RunFault) → Type 0
 StartsReason contents old new p fault = Starts contents old new (said_line p (option_copied fault))
 
@@ -61,7 +61,7 @@ StartsReason contents old new p fault = Starts contents old new (said_line p (op
 abbrev pub Says : {S : Type 0} → (S → Option (List ℕ)) → S → S → Program → Option (Bor RunFault) → Type 0
 Says contents old new p fault = Writes contents old new (complaint_line p (option_copied fault))
 
--- a front of it alone was
+-- the start of it alone was
 abbrev pub StartsSaying : {S : Type 0} → (S → Option (List ℕ)) → S → S → Program → Option (Bor RunFault) → Type 0
 StartsSaying contents old new p fault = Starts contents old new (complaint_line p (option_copied fault))
 

@@ -1,3 +1,4 @@
+pub mod Admission
 pub mod CommandLine
 pub mod Complaint
 pub mod Decimal

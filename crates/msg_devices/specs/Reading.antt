@@ -19,9 +19,9 @@ FitsLimit bytes = length bytes ≤ most_bytes
 abbrev pub IsTooLong : List ℕ → Type 0
 IsTooLong bytes = most_bytes < length bytes
 
--- a source gave a front of its known bytes, past the limit by at most one read
-abbrev pub GivesFront : Option (List ℕ) → Option (List ℕ) → Type 0
-GivesFront old new = (front : List ℕ) × (length front ≤ most_bytes + buffer_bytes) × Consumes old new front
+-- a source gave the start of its known bytes, past the limit by at most one read
+abbrev pub GivesStart : Option (List ℕ) → Option (List ℕ) → Type 0
+GivesStart old new = (start : List ℕ) × (length start ≤ most_bytes + buffer_bytes) × Consumes old new start
 
 -- a failed read sets the mark, and nothing else changes it
 abbrev pub MarksRead : {A : Type 0} → Bool → Bool → Result A ReadFault → Type 0

@@ -7,14 +7,14 @@ use Rattle.std.specs.Io.KnownBytes.{Appends}
 abbrev pub Gains : Vec ℕ Global → Vec ℕ Global → List ℕ → Type 0
 Gains old new bytes = new.items ≡ old.items ++ bytes
 
--- known bytes grew by a front of these, and not by all of them
-abbrev pub AppendsFront : Option (List ℕ) → Option (List ℕ) → List ℕ → Type 0
-AppendsFront old new bytes = (count : ℕ) × (count < length bytes) × Appends old new (take count bytes)
+-- known bytes grew by the start of these, and not by all of them
+abbrev pub AppendsStart : Option (List ℕ) → Option (List ℕ) → List ℕ → Type 0
+AppendsStart old new bytes = (count : ℕ) × (count < length bytes) × Appends old new (take count bytes)
 
 -- what a sink holds, where it is known, grew by these bytes
 abbrev pub Writes : {S : Type 0} → (S → Option (List ℕ)) → S → S → List ℕ → Type 0
 Writes contents old new bytes = Appends (contents old) (contents new) bytes
 
--- and by a front of them alone, where a write failed
+-- and by the start of them alone, where a write failed
 abbrev pub Starts : {S : Type 0} → (S → Option (List ℕ)) → S → S → List ℕ → Type 0
-Starts contents old new bytes = AppendsFront (contents old) (contents new) bytes
+Starts contents old new bytes = AppendsStart (contents old) (contents new) bytes

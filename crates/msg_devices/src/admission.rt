@@ -1,11 +1,10 @@
 //! Whether there can be a run, and of which document; and the text that it writes.
 
-ghost use Rattle.std.specs.Prelude.{◌≡◌, ◌≢◌, ◌<◌, ◌≤◌, ◌↔◌, ◌⊎◌, length, true, false};
-ghost use Rattle.std.specs.Prelude.{Ok, Err, IfOk, IfErr, IfSome, OnErr, OnOk};
-ghost use Rattle.msg_form.specs.declared.faults.DocumentFault.{DocumentFault};
+ghost use Rattle.std.specs.Prelude.{◌≡◌, ◌≢◌, ◌≤◌, ◌↔◌, ◌⊎◌, length, true, false};
+ghost use Rattle.std.specs.Prelude.{Err, IfOk, IfErr, OnErr, OnOk};
 ghost use Rattle.msg_form.specs.declared.faults.DocumentFault.TheVariants as documents;
-ghost use Rattle.msg_image.specs.Answer.{IsAnswer};
 ghost use Rattle.msg_image.specs.DocumentParts.{document_parts};
+ghost use Rattle.msg_devices.specs.Admission.{AreNoWorkers, IsNoCut, IsDocumentOf, TellsFaultOf};
 ghost use Rattle.msg_devices.specs.Reading.{IsSoundDocument};
 ghost use Rattle.msg_devices.specs.Writing.{Writes, Starts};
 
@@ -22,16 +21,15 @@ pub const MAX_WORKERS: u32 = 64;
 // The document that a source gives. The bytes and the JSON value are dropped when it is there.
 fn document<R: Source>(alloc: Global, source: &mut R) -> Result<Document, RunFault>
     requires { R.mark source.old ≡ false }
-    ensures ok { IfOk result (λ d. IfSome (R.remaining source.old)
-        (λ bytes. IsAnswer bytes (Ok (document_parts d)))) }
+    ensures ok { IfOk result (λ d. IsDocumentOf (R.remaining source.old) (document_parts d)) }
     ensures sound { IfOk result (λ d. IsSoundDocument (document_parts d)) }
     ensures few { IfOk result (λ d. length d.items.items ≤ MAX_ITEMS) }
-    ensures fault { (f : DocumentFault) → result ≡ Err (RunFault.Document f)
-        → IfSome (R.remaining source.old) (λ bytes. IsAnswer bytes (Err f)) }
+    ensures fault { TellsFaultOf (R.remaining source.old) result }
     ensures memory { result ≢ Err (RunFault.Document documents.Memory) }
     ensures read { (result ≡ Err RunFault.Read) ↔ (R.mark source.new ≡ true) }
-    ensures others { (result ≢ Err RunFault.Write) × (result ≢ Err RunFault.Workers)
-        × (result ≢ Err RunFault.Cut) }
+    ensures write { result ≢ Err RunFault.Write }
+    ensures workers { result ≢ Err RunFault.Workers }
+    ensures cut { result ≢ Err RunFault.Cut }
 {
     let bytes = read_whole(alloc, source)?;
     Ok(read_document(alloc, &bytes)?)
@@ -41,10 +39,8 @@ fn document<R: Source>(alloc: Global, source: &mut R) -> Result<Document, RunFau
 fn judge(workers: u32, cut: u32) -> Result<(), RunFault>
     ensures some_workers { OnOk result (1 ≤ workers) }
     ensures some_places { OnOk result (1 ≤ cut) }
-    ensures workers { (result ≡ Err RunFault.Workers)
-        ↔ ((workers ≡ 0) ⊎ (MAX_WORKERS < workers)) }
-    ensures cut { (result ≡ Err RunFault.Cut)
-        ↔ ((cut ≡ 0) × (0 < workers) × (workers ≤ MAX_WORKERS)) }
+    ensures workers { (result ≡ Err RunFault.Workers) ↔ AreNoWorkers workers }
+    ensures cut { (result ≡ Err RunFault.Cut) ↔ IsNoCut workers cut }
     ensures others { IfErr result (λ f. (f ≡ RunFault.Workers) ⊎ (f ≡ RunFault.Cut)) }
 {
     if workers == 0 || workers > MAX_WORKERS {
@@ -66,16 +62,12 @@ pub fn admit<R: Source>(
     requires { R.mark source.old ≡ false }
     ensures some_workers { OnOk result (1 ≤ workers) }
     ensures some_places { OnOk result (1 ≤ cut) }
-    ensures ok { IfOk result (λ d. IfSome (R.remaining source.old)
-        (λ bytes. IsAnswer bytes (Ok (document_parts d)))) }
+    ensures ok { IfOk result (λ d. IsDocumentOf (R.remaining source.old) (document_parts d)) }
     ensures sound { IfOk result (λ d. IsSoundDocument (document_parts d)) }
     ensures few { IfOk result (λ d. length d.items.items ≤ MAX_ITEMS) }
-    ensures workers { (result ≡ Err RunFault.Workers)
-        ↔ ((workers ≡ 0) ⊎ (MAX_WORKERS < workers)) }
-    ensures cut { (result ≡ Err RunFault.Cut)
-        ↔ ((cut ≡ 0) × (0 < workers) × (workers ≤ MAX_WORKERS)) }
-    ensures fault { (f : DocumentFault) → result ≡ Err (RunFault.Document f)
-        → IfSome (R.remaining source.old) (λ bytes. IsAnswer bytes (Err f)) }
+    ensures workers { (result ≡ Err RunFault.Workers) ↔ AreNoWorkers workers }
+    ensures cut { (result ≡ Err RunFault.Cut) ↔ IsNoCut workers cut }
+    ensures fault { TellsFaultOf (R.remaining source.old) result }
     ensures memory { result ≢ Err (RunFault.Document documents.Memory) }
     ensures read { (result ≡ Err RunFault.Read) ↔ (R.mark source.new ≡ true) }
     ensures write { result ≢ Err RunFault.Write }
@@ -88,7 +80,7 @@ pub fn admit<R: Source>(
 pub fn write_text<W: Sink>(sink: &mut W, text: &[u8]) -> Result<(), RunFault>
     requires { W.mark sink.old ≡ false }
     ensures whole { OnOk result (Writes W.contents sink.old sink.new text.now) }
-    ensures front { OnErr result (Starts W.contents sink.old sink.new text.now) }
+    ensures start { OnErr result (Starts W.contents sink.old sink.new text.now) }
     ensures fault { IfErr result (λ f. f ≡ RunFault.Write) }
     ensures mark { (result ≡ Err RunFault.Write) ↔ (W.mark sink.new ≡ true) }
 {

@@ -53,7 +53,7 @@ fn wants_memory(fault: DocumentFault) -> bool
 // Writes what is said of a document's fault: its number and its text.
 fn say_fault<W: Sink>(sink: &mut W, fault: DocumentFault) -> Result<(), Failed>
     ensures whole { OnOk result (Writes W.contents sink.old sink.new (fault_line fault)) }
-    ensures front { OnErr result (Starts W.contents sink.old sink.new (fault_line fault)) }
+    ensures start { OnErr result (Starts W.contents sink.old sink.new (fault_line fault)) }
     ensures marks { Marks (W.mark sink.old) (W.mark sink.new) result }
 {
     write_numbered(sink, b"document fault ", fault.number())?;
@@ -63,7 +63,7 @@ fn say_fault<W: Sink>(sink: &mut W, fault: DocumentFault) -> Result<(), Failed>
 
 fn say_document<W: Sink>(sink: &mut W, fault: DocumentFault) -> Result<(), Failed>
     ensures whole { OnOk result (Writes W.contents sink.old sink.new (document_line fault)) }
-    ensures front { OnErr result (Starts W.contents sink.old sink.new (document_line fault)) }
+    ensures start { OnErr result (Starts W.contents sink.old sink.new (document_line fault)) }
     ensures marks { Marks (W.mark sink.old) (W.mark sink.new) result }
 {
     if wants_memory(fault) {
@@ -74,7 +74,7 @@ fn say_document<W: Sink>(sink: &mut W, fault: DocumentFault) -> Result<(), Faile
 
 fn say_run_fault<W: Sink>(sink: &mut W, fault: &RunFault) -> Result<(), Failed>
     ensures whole { OnOk result (Writes W.contents sink.old sink.new (run_fault_line fault.now)) }
-    ensures front { OnErr result (Starts W.contents sink.old sink.new (run_fault_line fault.now)) }
+    ensures start { OnErr result (Starts W.contents sink.old sink.new (run_fault_line fault.now)) }
     ensures marks { Marks (W.mark sink.old) (W.mark sink.new) result }
 {
     match fault {
@@ -89,7 +89,7 @@ fn say_run_fault<W: Sink>(sink: &mut W, fault: &RunFault) -> Result<(), Failed>
 
 fn say<W: Sink>(sink: &mut W, program: Program, fault: Option<&RunFault>) -> Result<(), Failed>
     ensures whole { OnOk result (SaysReason W.contents sink.old sink.new program fault.entry) }
-    ensures front { OnErr result (StartsReason W.contents sink.old sink.new program fault.entry) }
+    ensures start { OnErr result (StartsReason W.contents sink.old sink.new program fault.entry) }
     ensures marks { Marks (W.mark sink.old) (W.mark sink.new) result }
 {
     match fault {
@@ -100,7 +100,7 @@ fn say<W: Sink>(sink: &mut W, program: Program, fault: Option<&RunFault>) -> Res
 
 fn say_line<W: Sink>(sink: &mut W, program: Program, fault: Option<&RunFault>) -> Result<(), Failed>
     ensures whole { OnOk result (Says W.contents sink.old sink.new program fault.entry) }
-    ensures front { OnErr result (StartsSaying W.contents sink.old sink.new program fault.entry) }
+    ensures start { OnErr result (StartsSaying W.contents sink.old sink.new program fault.entry) }
     ensures marks { Marks (W.mark sink.old) (W.mark sink.new) result }
 {
     write_whole(sink, program.prefix().as_bytes())?;
@@ -123,7 +123,7 @@ fn status(fault: Option<&RunFault>) -> u8
 pub fn complain<W: Sink>(sink: &mut W, program: Program, fault: Option<&RunFault>) -> u8
     ensures status { result ≡ spec.status_of (option_copied fault.entry) }
     ensures line { W.mark sink.new ≡ false → Says W.contents sink.old sink.new program fault.entry }
-    ensures front { Says W.contents sink.old sink.new program fault.entry
+    ensures start { Says W.contents sink.old sink.new program fault.entry
         ⊎ StartsSaying W.contents sink.old sink.new program fault.entry }
 {
     match say_line(sink, program, fault) {

@@ -31,7 +31,7 @@ pub fn push_digits(text: &mut Vec<u8>, number: usize) -> Result<(), AllocError>
 /// Writes these bytes, and then a number in decimal.
 pub(crate) fn write_numbered<S: Sink>(sink: &mut S, these: &[u8], number: u32) -> Result<(), Failed>
     ensures whole { OnOk result (Writes S.contents sink.old sink.new (numbered these.now number)) }
-    ensures front { OnErr result (Starts S.contents sink.old sink.new (numbered these.now number)) }
+    ensures start { OnErr result (Starts S.contents sink.old sink.new (numbered these.now number)) }
     ensures marks { Marks (S.mark sink.old) (S.mark sink.new) result }
 {
     let mut buffer = Buffer::new();

@@ -24,7 +24,7 @@ pub trait Source {
     // Whether a read has failed.
     ghost mark: { Self → Bool };
 
-    /// Reads bytes into the front of `buf`, and answers how many: none only at the end, or where
+    /// Reads bytes into the start of `buf`, and answers how many: none only at the end, or where
     /// `buf` is empty.
     fn read(&mut self, buf: &mut [u8]) -> Result<usize, Failed>
         ensures bound { ReadsAtMost result buf.new }
@@ -40,7 +40,7 @@ pub trait Sink {
     // Whether a write has failed.
     ghost mark: { Self → Bool };
 
-    /// Writes bytes from the front of `buf`, and answers how many: none only where `buf` is empty.
+    /// Writes bytes from the start of `buf`, and answers how many: none only where `buf` is empty.
     fn write(&mut self, buf: &[u8]) -> Result<usize, Failed>
         ensures bound { WritesAtMost result buf.now }
         ensures some { TakesSome result buf.now }

@@ -22,7 +22,7 @@ pub enum RunFault {
     /// A growth was refused.
     #[error("out of memory")]
     Memory,
-    /// A write failed. A front of the text was written.
+    /// A write failed. The start of the text was written.
     #[error("write failed")]
     Write,
     /// There are to be no workers, or more than 64.

@@ -6,7 +6,7 @@
 
 ghost use Rattle.std.specs.Prelude.{◌≡◌, IfOk, IfSome, IsErrOf, OnOk};
 ghost use Rattle.std.specs.Io.KnownBytes.{IsAtEnd};
-ghost use Rattle.msg_devices.specs.Reading.{FitsLimit, IsTooLong, GivesFront, MarksRead};
+ghost use Rattle.msg_devices.specs.Reading.{FitsLimit, IsTooLong, GivesStart, MarksRead};
 ghost use Rattle.msg_devices.specs.declared.reading.ReadFault.TheVariants.{Read, Memory};
 
 use crate::device::{Failed, Source};
@@ -54,7 +54,7 @@ pub fn read_whole<S: Source>(alloc: Global, source: &mut S) -> Result<Vec<u8>, R
     ensures end { OnOk result (IsAtEnd (S.remaining source.new)) }
     ensures long { IsErrOf result ReadFault.TooLong → IfSome (S.remaining source.old) IsTooLong }
     ensures marks { MarksRead (S.mark source.old) (S.mark source.new) result }
-    ensures front { GivesFront (S.remaining source.old) (S.remaining source.new) }
+    ensures start { GivesStart (S.remaining source.old) (S.remaining source.new) }
 {
     let mut bytes = Vec::new(alloc);
     let mut buffer = [0; BUFFER_BYTES];

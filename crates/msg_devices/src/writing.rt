@@ -10,7 +10,7 @@ use crate::device::{Failed, Sink};
 /// takes no memory.
 pub fn write_whole<S: Sink>(sink: &mut S, bytes: &[u8]) -> Result<(), Failed>
     ensures whole { OnOk result (Writes S.contents sink.old sink.new bytes.now) }
-    ensures front { OnErr result (Starts S.contents sink.old sink.new bytes.now) }
+    ensures start { OnErr result (Starts S.contents sink.old sink.new bytes.now) }
     ensures marks { Marks (S.mark sink.old) (S.mark sink.new) result }
 {
     let mut written = 0;
@@ -24,7 +24,7 @@ pub fn write_whole<S: Sink>(sink: &mut S, bytes: &[u8]) -> Result<(), Failed>
 // Writes these bytes and then those. The first write that fails ends it.
 pub(crate) fn write_both<S: Sink>(sink: &mut S, these: &[u8], those: &[u8]) -> Result<(), Failed>
     ensures whole { OnOk result (Writes S.contents sink.old sink.new (these.now ++ those.now)) }
-    ensures front { OnErr result (Starts S.contents sink.old sink.new (these.now ++ those.now)) }
+    ensures start { OnErr result (Starts S.contents sink.old sink.new (these.now ++ those.now)) }
     ensures marks { Marks (S.mark sink.old) (S.mark sink.new) result }
 {
     write_whole(sink, these)?;

@@ -124,7 +124,7 @@ impl<N: ArenaName> Desk<N> {
         ensures err { OnErr result (turn.new.history ≡ turn.old.history) }
         ensures refused { IfErr result (AreRefused changes.now turn.old.history) }
     {
-        self.runtime.change_all(alloc, arena, turn, changes)
+        self.runtime.change_all(alloc, arena, turn, &changes)
     }
 
     pub(crate) fn reach_all(
@@ -146,7 +146,7 @@ impl<N: ArenaName> Desk<N> {
         ensures before { IfErr result (MarksTo N.arena turn.old changes.now marked.old marked.new) }
         ensures length { length marked.new ≡ length marked.old }
     {
-        self.runtime.reach_all(alloc, arena, turn, changes, marked)
+        self.runtime.reach_all(alloc, arena, turn, &changes, marked)
     }
 
     // The reader has then seen the turn's history, which begins with what it had seen.

@@ -4,6 +4,7 @@ use Rattle.msg_names.specs.declared.value.ClassRef.{ClassRef}
 use Rattle.msg_tables.specs.Log as logs
 use Rattle.msg_tables.specs.Log.{Log}
 use Rattle.msg_tables.specs.History.{History, lookup, log, BeginsWith}
+use Rattle.msg_tables.proofs.BeginsLemmas.{begins_length, begins_same}
 use Rattle.msg_tables.proofs.HistoryLemmas.{log-begins}
 use Rattle.msg_tables.specs.declared.change.Change.{Change}
 use Rattle.msg_tables.specs.Origin.{OriginView}
@@ -42,33 +43,18 @@ one_reply h m = record { exists = plain_exists h m; only = plain_only h m }
 
 -- ---- points that rise no further
 
--- no change of the longer one is more
-no_more : (p h : History) (more : List (List Change)) → p.origin ≡ h.origin → p.changes ≡ h.changes ++ more → length p.changes ≤ length h.changes → p ≡ h
-no_more p h [] same rest le =
-    let is : p.changes ≡ h.changes = rest ∙ append-nil h.changes in
-    ap (λ (i : OriginView). (let x : History = record { origin = i; changes = p.changes } in x)) same ∙ ap (λ (xs : List (List Change)). (let x : History = record { origin = h.origin; changes = xs } in x)) is
-no_more p h (x ∷ more) same rest le =
-    let n : length p.changes ≡ length (h.changes ++ x ∷ more) = ap length rest in
-    let k : length (h.changes ++ x ∷ more) ≡ length h.changes + suc (length more) = length-append h.changes (x ∷ more) in
-    absurd (omega (arith, n, k, le))
-
-no_shorter : (p h : History) → BeginsWith p h → length h.changes ≤ length p.changes
-no_shorter p h b =
-    let n : length p.changes ≡ length (h.changes ++ b.rest.0) = ap length b.rest.1 in
-    let k : length (h.changes ++ b.rest.0) ≡ length h.changes + length b.rest.0 = length-append h.changes b.rest.0 in
-    omega (arith, n, k)
-
 last_no_shorter : (h : History) (points : List History) → Rise h points → length h.changes ≤ length (last_of h points).changes
 last_no_shorter h [] rise = omega arith
-last_no_shorter h (p ∷ ps) rise = let a = no_shorter p h rise.0 in let b = last_no_shorter p ps rise.1 in omega (arith, a, b)
+last_no_shorter h (p ∷ ps) rise = let a = begins_length p h rise.0 in let b = last_no_shorter p ps rise.1 in omega (arith, a, b)
 
 -- where the last point is no longer than the first history, each point is that history
 pub all_one : (h : History) (points : List History) → Rise h points → length (last_of h points).changes ≤ length h.changes → AllAre h points
 all_one h [] rise le = tt
 all_one h (p ∷ ps) rise le =
     let up = last_no_shorter p ps rise.1 in
-    let is : p ≡ h = no_more p h rise.0.rest.0 rise.0.same rise.0.rest.1 (omega (arith, up, le)) in
-    (is, subst (λ q. AllAre q ps) is (all_one p ps rise.1 (let n = no_shorter p h rise.0 in omega (arith, n, le))))
+    let n = begins_length p h rise.0 in
+    let is : p ≡ h = begins_same p h rise.0 (omega (arith, up, le, n)) in
+    (is, subst (λ q. AllAre q ps) is (all_one p ps rise.1 (omega (arith, n, le))))
 
 -- ---- points at which tables stand that stay
 

@@ -97,8 +97,10 @@ fn eval_expr<F: Finder>(
 
 // Evaluates both operands, and operates on them.
 //
-// A leaf, as every second expression of a body is, is looked at before a call that might wait: after each of those the compiled code has a test more.
+// A leaf, as every second expression of a body is, is looked at before a call that might wait: after each of those the compiled code has a test more. And a
+// result that goes from one function to the next is copied in other pieces than it was written in, for which the processor waits: so this is inlined.
 #[cycle(eval)]
+#[inline(always)]
 fn eval_two<F: Finder>(
     finder: &mut F,
     frame: &Frame<'_>,

@@ -1,6 +1,8 @@
 -- The texts that a walk over a body pushes, step by step.
 use Rattle.std.proofs.Common.{◌≡◌, ℕ, suc, ◌+◌, ◌<◌, ◌≤◌, List, [], ◌∷◌, ◌++◌, length, map, drop, get_or, Bor, ◌⊎◌, inl, inr, sym, ap, ◌∙◌, append_assoc, append-nil, drop-cons, add-one, rules}
+use Rattle.std.specs.Prelude.{ℤ}
 use Rattle.std.proofs.lemmas.List.{drop_all}
+use Rattle.msg_form.specs.Expression as plain
 use Rattle.msg_form.specs.Expression.{constant, me, arg, binary, choice, send, super_send, expressions}
 use Rattle.msg_form.specs.ExprView.{constant_view, expr_view}
 use Rattle.msg_form.specs.Parts.{own_selector}
@@ -8,15 +10,18 @@ use Rattle.msg_form.specs.Text.{Text}
 use Rattle.msg_form.specs.Walk.{texts_in, all_texts_in}
 use Rattle.msg_form.specs.declared.form.BinaryExpr.{BinaryExpr, out-BinaryExpr}
 use Rattle.msg_form.specs.declared.form.Constant.{Constant}
-use Rattle.msg_form.specs.declared.form.Expr.{Expr, Const, Me, Arg, Binary, If, Send, Super, the_lemmas}
+use Rattle.msg_form.specs.declared.form.Expr.{Expr, Whole, Const, Me, Arg, Binary, If, Send, Super, the_lemmas}
 use Rattle.msg_form.specs.declared.form.IfExpr.{IfExpr, out-IfExpr}
 use Rattle.msg_form.specs.declared.form.SendExpr.{SendExpr, out-SendExpr}
 use Rattle.msg_form.specs.declared.form.SuperExpr.{SuperExpr, out-SuperExpr}
 
 -- ---- the texts of an expression of the program
 
-pub texts-Const : (x : Expr) (c : Constant) → x ≡ Const c → texts_in (expr_view x) ≡ own_selector (constant_view c)
-texts-Const x c at = let seen : expr_view x ≡ constant (constant_view c) = ap expr_view at ∙ search (rules, the_lemmas) in ap texts_in seen
+pub texts-Const : (x : Expr) (c : Bor Constant) → x ≡ Const c → texts_in (expr_view x) ≡ own_selector (constant_view c.now)
+texts-Const x c at = let seen : expr_view x ≡ constant (constant_view c.now) = ap expr_view at ∙ search (rules, the_lemmas) in ap texts_in seen
+
+pub texts-Whole : (x : Expr) {z : ℤ} → x ≡ Whole z → texts_in (expr_view x) ≡ []
+texts-Whole x {z} at = let seen : expr_view x ≡ constant (plain.whole z) = ap expr_view at ∙ search (rules, the_lemmas) in ap texts_in seen
 
 texts-leaf : (x : Expr) → (x ≡ Me) ⊎ ((k : ℕ) × (x ≡ Arg k)) → texts_in (expr_view x) ≡ []
 texts-leaf x (inl at) = let seen : expr_view x ≡ me = ap expr_view at ∙ search (rules, the_lemmas) in ap texts_in seen
@@ -52,6 +57,9 @@ texts-Super x b at =
 
 pub leaf_pushed : (x : Expr) (old : List Text) → (x ≡ Me) ⊎ ((k : ℕ) × (x ≡ Arg k)) → old ≡ old ++ texts_in (expr_view x)
 leaf_pushed x old is = sym (ap (λ ts. old ++ ts) (texts-leaf x is) ∙ append-nil old)
+
+pub none_pushed : (old all : List Text) → all ≡ [] → old ≡ old ++ all
+none_pushed old all is = sym (ap (λ ts. old ++ ts) is ∙ append-nil old)
 
 pub one_pushed : (old new all a : List Text) → all ≡ a → new ≡ old ++ a → new ≡ old ++ all
 one_pushed old new all a is e = e ∙ ap (λ ts. old ++ ts) (sym is)

@@ -17,7 +17,7 @@ use Rattle.msg_form.specs.ExprView.{expr_view}
 use Rattle.msg_form.specs.declared.faults.ReadFault.{ReadFault}
 use Rattle.msg_form.specs.declared.faults.ReadFault.TheVariants as faults
 use Rattle.msg_form.specs.declared.form.Expr.{Expr}
-use Rattle.msg_form.proofs.JsonLemmas.{values_of-items_view, value_there, with_front, starts}
+use Rattle.msg_form.proofs.JsonLemmas.{values_of-items_view, value_there, with_first, starts}
 
 pub constant_of-array : (v : Tree) (values : Bor (List Tree)) → v ≡ Array values → constant_of (view v) ≡ listed_constant_of (map view values.now)
 unfolding constant_of
@@ -105,7 +105,7 @@ all_from-map : (i : ℕ) (vs : List Tree) → all_from i (map expression_of (map
 all_from-map i vs = ap (each (λ o. o)) (drop-map expression_of i (map view vs) ∙ ap (map expression_of) (drop-map view i vs)) ∙ each-map expression_of (map view (drop i vs))
 
 -- a loop over the values from a place on begins
-pub exprs_start : (exprs : List Expr) (vs : List Tree) (i : ℕ) → exprs ≡ [] → i ≤ length vs → with_front (map expr_view exprs) (each expression_of (map view (take (length vs - i) (drop i vs)))) ≡ all_from i (map expression_of (map view vs))
+pub exprs_start : (exprs : List Expr) (vs : List Tree) (i : ℕ) → exprs ≡ [] → i ≤ length vs → with_first (map expr_view exprs) (each expression_of (map view (take (length vs - i) (drop i vs)))) ≡ all_from i (map expression_of (map view vs))
 exprs_start exprs vs i none le =
     let rest : take (length vs - i) (drop i vs) ≡ drop i vs = take_all (length vs - i) (drop i vs) (omega (arith, length-drop i vs)) in
     rw (none, rest) (starts (each expression_of (map view (drop i vs))) ∙ sym (all_from-map i vs))

@@ -9,7 +9,7 @@ use Rattle.msg_form.specs.BodyWalk.{parts_at, all_parts_at, entered, with_own, w
 use Rattle.msg_form.specs.Expression.{whole, nil, object_named, class_named, selector_named, Expression, Expressions, constant, me, arg, binary, choice, send, super_send, no_more, more, expressions, count_of}
 use Rattle.msg_form.specs.ExprView.{expr_view}
 use Rattle.msg_form.specs.Faults.{is_miscounted_send, is_too_deep}
-use Rattle.msg_form.specs.Parts.{parts, all_parts, depth, greatest_depth, own_constants, own_indices, own_sends, own_class, own_object, is_super_send, classes_in, objects_in, sends_in, indices_in}
+use Rattle.msg_form.specs.Parts.{parts, all_parts, depth, greatest_depth, own_constants, own_indices, own_sends, own_class, own_object, is_super_send, names_text, has_texts, classes_in, objects_in, sends_in, indices_in}
 use Rattle.msg_form.specs.Text.{Text, is_unknown}
 use Rattle.msg_form.specs.declared.limits.TheConstants.{MAX_DEPTH, MAX_EXPRESSIONS}
 use Rattle.msg_form.specs.declared.judge.bodies.BodyFaults.{BodyFaults}
@@ -112,6 +112,10 @@ module _ (above : Bool) (classes objects : List Text) (args : ℕ) where
       → fault (fold (with_part above classes objects args) f (parts_at l e)).faults ≡ (fault f.faults || list_any test (parts e))
   by_parts fault test own l f e =
       found_by fault test own f (parts_at l e) ∙ ap (λ b. fault f.faults || b) (sym (list_any-map test (λ p. p.1) (parts_at l e)) ∙ ap (list_any test) (parts_at-parts l e))
+
+  selects_by : (f : Found) (ps : List (ℕ × Expression)) → (fold (with_part above classes objects args) f ps).selects ≡ (f.selects || list_any (λ p. names_text p.1) ps)
+  selects_by f [] = sym (or-false f.selects)
+  selects_by f (p ∷ ps) = selects_by (with_part above classes objects args f p) ps ∙ or-assoc f.selects (names_text p.1) (list_any (λ q. names_text q.1) ps)
 
   still : (b : Bool) → b ≡ (b || false)
   still b = sym (or-false b)
@@ -250,6 +254,9 @@ module _ (above : Bool) (classes objects : List Text) (args : ℕ) where
         by_parts (λ b. b.unknown_object) (λ e. list_any (λ c. list_any (is_unknown objects) (own_object c)) (own_constants e)) own_unknown_object l f body
         ∙ ap (λ b. f.faults.unknown_object || b) (sym (list_any-flat_map (is_unknown objects) own_object (flat_map own_constants (parts body)) ∙ list_any-flat_map (λ c. list_any (is_unknown objects) (own_object c)) own_constants (parts body)))
 
+    pub found-selects : (fold (with_part above classes objects args) f (parts_at l body)).selects ≡ (f.selects || has_texts body)
+    found-selects = selects_by f (parts_at l body) ∙ ap (λ b. f.selects || b) (sym (list_any-map names_text (λ p. p.1) (parts_at l body)) ∙ ap (list_any names_text) (parts_at-parts l body))
+
     pub found-count : (fold (with_part above classes objects args) f (parts_at l body)).faults.argument_count ≡ (f.faults.argument_count || list_any is_miscounted_send (sends_in body))
     found-count =
         by_parts (λ b. b.argument_count) (λ e. list_any is_miscounted_send (own_sends e)) own_argument_count l f body
@@ -291,3 +298,8 @@ above_root r m a s is = ap (λ b. b && s) is ∙ at_test m a
     at_test : (x y : Bool) → ((x && y) && s) ≡ (x && y && s)
     at_test true y = refl
     at_test false y = refl
+
+-- a body that names nothing has no name that is unknown
+pub none_named : (p : Text → Bool) (names : List Text) → list_any (is_unknown []) names ≡ false → list_any p names ≡ false
+none_named p [] h = refl
+none_named p (name ∷ names) h = cc

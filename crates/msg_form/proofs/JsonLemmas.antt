@@ -20,33 +20,33 @@ value_there (w ∷ vs) zero v lt at = ap (λ x. Some (view x)) (sym at)
 value_there (w ∷ vs) (suc i) v lt at = value_there vs i v (omega arith) at
 
 -- what has been read, before what is still to be read
-abbrev pub with_front : {B : Type 0} → List B → Option (List B) → Option (List B)
-with_front front rest = option_map (λ xs. front ++ xs) rest
+abbrev pub with_first : {B : Type 0} → List B → Option (List B) → Option (List B)
+with_first first rest = option_map (λ xs. first ++ xs) rest
 
-pub starts : {B : Type 0} (rest : Option (List B)) → with_front [] rest ≡ rest
+pub starts : {B : Type 0} (rest : Option (List B)) → with_first [] rest ≡ rest
 starts None = refl
 starts (Some xs) = refl
 
-regroup : {B : Type 0} (front : List B) (x : B) (rest : Option (List B)) → with_front front (option_map (λ xs. x ∷ xs) rest) ≡ with_front (front ++ x ∷ []) rest
-regroup front x None = refl
-regroup front x (Some xs) = ap Some (sym (append_assoc front (x ∷ []) xs))
+regroup : {B : Type 0} (first : List B) (x : B) (rest : Option (List B)) → with_first first (option_map (λ xs. x ∷ xs) rest) ≡ with_first (first ++ x ∷ []) rest
+regroup first x None = refl
+regroup first x (Some xs) = ap Some (sym (append_assoc first (x ∷ []) xs))
 
 -- a turn of a loop that reads each value by f, and pushes what it read
 pub each_on : {A B : Type 0} (g : A → B) (f : Data → Option B) (vs : List Tree) (i : ℕ) (v : Tree) (old new : List A) (x : A) (whole : Option (List B)) → i < length vs → v ≡ get_or vs i v → f (view v) ≡ Some (g x) → new ≡ old ++ x ∷ []
-    → with_front (map g old) (each f (map view (drop i vs))) ≡ whole → with_front (map g new) (each f (map view (drop (i + 1) vs))) ≡ whole
+    → with_first (map g old) (each f (map view (drop i vs))) ≡ whole → with_first (map g new) (each f (map view (drop (i + 1) vs))) ≡ whole
 each_on g f vs i v old new x whole lt at read pushed so_far =
     let left : drop i vs ≡ v ∷ drop (i + 1) vs = rw add-one (drop-cons vs i v lt ∙ ap (λ y. y ∷ drop (suc i) vs) (sym at)) in
-    let here : with_front (map g old) (each f (map view (drop i vs))) ≡ with_front (map g old ++ g x ∷ []) (each f (map view (drop (i + 1) vs))) = rw (left, read) (regroup (map g old) (g x) (each f (map view (drop (i + 1) vs)))) in
+    let here : with_first (map g old) (each f (map view (drop i vs))) ≡ with_first (map g old ++ g x ∷ []) (each f (map view (drop (i + 1) vs))) = rw (left, read) (regroup (map g old) (g x) (each f (map view (drop (i + 1) vs)))) in
     let grown : map g new ≡ map g old ++ g x ∷ [] = rw pushed (map_push g old x) in
     rw grown (sym here ∙ so_far)
 
 -- after the loop all values are read
-pub each_done : {A B : Type 0} (g : A → B) (f : Data → Option B) (vs : List Tree) (i : ℕ) (read : List A) (whole : Option (List B)) → length vs ≤ i → with_front (map g read) (each f (map view (drop i vs))) ≡ whole → whole ≡ Some (map g read)
-each_done g f vs i read whole past so_far = sym so_far ∙ ap (λ ds. with_front (map g read) (each f (map view ds))) (drop_all i vs past) ∙ ap Some (append-nil (map g read))
+pub each_done : {A B : Type 0} (g : A → B) (f : Data → Option B) (vs : List Tree) (i : ℕ) (read : List A) (whole : Option (List B)) → length vs ≤ i → with_first (map g read) (each f (map view (drop i vs))) ≡ whole → whole ≡ Some (map g read)
+each_done g f vs i read whole past so_far = sym so_far ∙ ap (λ ds. with_first (map g read) (each f (map view ds))) (drop_all i vs past) ∙ ap Some (append-nil (map g read))
 
 -- where one of the values is not read, they spell nothing
 pub each_fails : {A B : Type 0} (g : A → B) (f : Data → Option B) (vs : List Tree) (i : ℕ) (v : Tree) (read : List A) (whole : Option (List B)) (e : ReadFault) → i < length vs → v ≡ get_or vs i v → Fails e (f (view v))
-    → with_front (map g read) (each f (map view (drop i vs))) ≡ whole → Fails e whole
+    → with_first (map g read) (each f (map view (drop i vs))) ≡ whole → Fails e whole
 each_fails g f vs i v read whole faults.Memory lt at fails so_far = tt
 each_fails g f vs i v read whole faults.Shape lt at none so_far =
     let left : drop i vs ≡ v ∷ drop (suc i) vs = drop-cons vs i v lt ∙ ap (λ y. y ∷ drop (suc i) vs) (sym at) in

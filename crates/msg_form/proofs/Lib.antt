@@ -6,6 +6,7 @@ pub mod NameSetLemmas
 pub mod TextLemmas
 pub mod WalkLemmas
 pub mod BodyWalkLemmas
+pub mod SilentLemmas
 pub mod ListsLemmas
 pub mod AnyLemmas
 pub mod ChangesLemmas

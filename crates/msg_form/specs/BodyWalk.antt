@@ -1,11 +1,13 @@
 -- One walk over a body.
-use Rattle.std.specs.Prelude.{ℕ, ◌-◌, ◌==◌, ◌||◌, List, [], ◌∷◌, ◌++◌, Bool, nat_le}
+use Rattle.std.specs.Prelude.{ℕ, ◌-◌, ◌==◌, ◌||◌, List, [], ◌∷◌, ◌++◌, Bool, false, nat_le}
 use Rattle.msg_form.specs.Expression.{Constant, whole, nil, object_named, class_named, selector_named, Expression, Expressions, constant, me, arg, binary, choice, send, super_send, no_more, more, count_of}
 use Rattle.msg_form.specs.Faults.{is_miscounted_send}
+use Rattle.msg_form.specs.Parts.{names_text}
 use Rattle.msg_form.specs.Text.{Text, is_unknown}
 use Rattle.msg_form.specs.declared.judge.bodies.BodyFaults.{BodyFaults}
 use Rattle.msg_form.specs.declared.judge.body_walk.BodyWalk.{BodyWalk}
 use Rattle.msg_form.specs.declared.judge.body_walk.Found.{Found}
+use Rattle.msg_form.specs.declared.limits.TheConstants.{MAX_EXPRESSIONS}
 
 -- the expression and those inside it, each with how many levels there may be from it on
 abbrev mutual
@@ -28,6 +30,7 @@ abbrev mutual
 abbrev pub entered : ℕ → Found → Found
 entered l f = record {
   faults = record { sends_above = f.faults.sends_above; unknown_class = f.faults.unknown_class; unknown_object = f.faults.unknown_object; argument_count = f.faults.argument_count; argument_index = f.faults.argument_index; too_deep = f.faults.too_deep || ((l == 0) || (f.room == 0)) };
+  selects = f.selects;
   room = f.room - 1;
 }
 
@@ -56,7 +59,11 @@ with_own above classes objects args f (super_send s es) =
 
 -- an expression with so many levels from it on
 abbrev pub with_part : Bool → List Text → List Text → ℕ → Found → ℕ × Expression → Found
-with_part above classes objects args f p = record { faults = with_own above classes objects args (entered p.0 f).faults p.1; room = f.room - 1 }
+with_part above classes objects args f p = record { faults = with_own above classes objects args (entered p.0 f).faults p.1; selects = f.selects || names_text p.1; room = f.room - 1 }
+
+-- nothing but the faults that were found before
+abbrev pub with_faults : BodyFaults → Found
+with_faults faults = record { faults = faults; selects = false; room = MAX_EXPRESSIONS }
 
 -- ---- by what a body may use
 

@@ -20,7 +20,8 @@ constant_view (Selector s) = plain.selector_named s.now
 -- ---- one level, with each expression inside already seen
 
 abbrev pub expr_step : Expr-F Expression Expression Expression Expression Expression → Expression
-expr_step (Expr-F.Const c) = plain.constant (constant_view c)
+expr_step (Expr-F.Whole z) = plain.constant (plain.whole z)
+expr_step (Expr-F.Const c) = plain.constant (constant_view c.now)
 expr_step Expr-F.Me = plain.me
 expr_step (Expr-F.Arg k) = plain.arg k
 expr_step (Expr-F.Binary b) = b.now

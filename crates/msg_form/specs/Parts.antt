@@ -1,6 +1,6 @@
 -- What stands in an expression.
 use Rattle.std.specs.Prelude.{ℕ, suc, max, List, [], ◌∷◌, ◌++◌, Bool, true, false}
-use Rattle.std.specs.List.{flat_map}
+use Rattle.std.specs.List.{flat_map, list_any}
 use Rattle.msg_form.specs.Expression.{Constant, whole, nil, object_named, class_named, selector_named, Expression, Expressions, constant, me, arg, binary, choice, send, super_send, no_more, more, count_of}
 use Rattle.msg_form.specs.Text.{Text}
 
@@ -76,6 +76,20 @@ is_super_send (choice a b c) = false
 is_super_send (send r s es) = false
 is_super_send (super_send s es) = true
 
+-- it has a text at a place of a selector
+abbrev pub names_text : Expression → Bool
+names_text (constant (whole z)) = false
+names_text (constant nil) = false
+names_text (constant (object_named n)) = false
+names_text (constant (class_named n)) = false
+names_text (constant (selector_named s)) = true
+names_text me = false
+names_text (arg k) = false
+names_text (binary o a b) = false
+names_text (choice a b c) = false
+names_text (send r s es) = true
+names_text (super_send s es) = true
+
 -- ---- what is anywhere in it
 
 abbrev pub constants_in : Expression → List Constant
@@ -86,6 +100,10 @@ indices_in e = flat_map own_indices (parts e)
 
 abbrev pub sends_in : Expression → List (Text × ℕ)
 sends_in e = flat_map own_sends (parts e)
+
+-- there is a text at a place of a selector
+abbrev pub has_texts : Expression → Bool
+has_texts e = list_any names_text (parts e)
 
 -- ---- names in constants
 

@@ -2,7 +2,12 @@
 //! expressions lie in an arena.
 
 ghost use Rattle.std.specs.Prelude.{◌≡◌, ◌≤◌};
+ghost use Rattle.msg_form.specs.BodyFaults.{AreWorst};
+ghost use Rattle.msg_form.specs.ExprView.{expr_view};
+ghost use Rattle.msg_form.specs.Parts.{has_texts};
 ghost use Rattle.msg_form.specs.Version as spec;
+
+use crate::judge::BodyFaults;
 
 /// A document of version 1, 2 or 3, when `version` is that number.
 #[derive(Drop)]
@@ -74,7 +79,13 @@ pub struct Imp<'v> {
     pub meta: bool,
     pub args: u8,
     pub body: Expr<'v>,
+    /// The faults that the body has at its worst.
+    pub(crate) worst: BodyFaults,
+    /// Whether the body has texts at places of selectors.
+    pub(crate) selects: bool,
     pub ghost few_args: { args ≤ 4 },
+    ghost worst_of: { AreWorst worst args (expr_view body) },
+    ghost selects_of: { selects ≡ has_texts (expr_view body) },
 }
 
 #[derive(Drop)]
@@ -144,11 +155,13 @@ pub enum Operator {
     Lt,
 }
 
-/// An expression. What is large stands in an arena, so that an `Expr` has 32 bytes, and is copied.
+/// An expression. What is large stands in an arena, so that an `Expr` has 16 bytes, and is copied.
 #[cycle(expr)]
 #[derive(Clone, Copy)]
 pub enum Expr<'v> {
-    Const(Constant<'v>),
+    Whole(i64),
+    /// A constant that is no number.
+    Const(&'v Constant<'v>),
     /// The receiver, `self`.
     Me,
     /// The argument of a number, from 0.

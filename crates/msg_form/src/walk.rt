@@ -103,6 +103,9 @@ impl<'v> HasSelectors<'v> for Imp<'v> {
     ghost selectors = { λ i. spec.imp_texts (imp_view i) };
 
     fn push_selectors(&self, texts: &mut Vec<&'v str>) -> Result<(), AllocError> {
+        if !self.selects {
+            return Ok(());
+        }
         push_expr(&self.body, texts)
     }
 }
@@ -170,6 +173,7 @@ fn push_expr<'v>(expr: &Expr<'v>, texts: &mut Vec<&'v str>) -> Result<(), AllocE
 {
     match expr {
         Expr::Const(constant) => constant.push_selectors(texts),
+        Expr::Whole(_) => Ok(()),
         Expr::Me | Expr::Arg(_) => Ok(()),
         Expr::Binary(binary) => {
             push_expr(&binary.left, texts)?;

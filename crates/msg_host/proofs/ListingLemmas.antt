@@ -1,6 +1,8 @@
--- Rows that take changes back.
+-- Rows that mean changes, and rows that take them back.
 use Rattle.std.proofs.Common.{◌≡◌, ◌≢◌, ◌<◌, ◌+◌, ℕ, zero, suc, List, [], ◌∷◌, ◌++◌, Bool, true, false, Some, None, Option, Ok, length, map, take, refl, sym, ap, ap₂, ◌∙◌, arith}
-use Rattle.std.specs.Prelude.{◌==◌, if◌then◌else◌, slice_set}
+use Rattle.std.specs.Prelude.{◌==◌, if◌then◌else◌, slice_set, Result, Err}
+use Rattle.std.specs.Result.{is_ok}
+use Rattle.std.proofs.lemmas.Bool.{and_parts}
 use Rattle.std.proofs.lemmas.Bool.Decides.{nat_tests}
 use Rattle.std.proofs.lemmas.List.{map-append, take_more_set}
 use Rattle.msg_names.specs.declared.value.ClassRef.{ClassRef}
@@ -13,7 +15,8 @@ use Rattle.msg_tables.specs.FaultNumber.{change_fault_number}
 use Rattle.msg_tables.specs.declared.fault.ChangeFault.{ChangeFault}
 use Rattle.msg_tables.specs.declared.fault.ChangeFault.TheVariants as faults
 use Rattle.msg_host.specs.Asking.{want_of_room}
-use Rattle.msg_host.specs.Listing.{AreMeant, change_in, ref_in, replacing, selector_in}
+use Rattle.msg_host.specs.Listing.{AreMeant, are_meant, change_in, change_or_other, changes_in, ref_in, replacing, selector_in}
+use Rattle.msg_host.specs.declared.fault.AskFault.{AskFault}
 use Rattle.msg_host.specs.declared.listing.ChangeRow.{ChangeRow}
 
 -- no change is refused for want of room
@@ -26,6 +29,20 @@ no_want_of_room faults.NoMethod e = absurd (omega (arith, e))
 no_want_of_room faults.Limit e = absurd (omega (arith, e))
 no_want_of_room faults.Memory e = absurd (omega (arith, e))
 no_want_of_room faults.DuplicateClass e = absurd (omega (arith, e))
+
+-- ---- rows of which each means a change
+
+ok-itself : (a : Result Change AskFault) → is_ok a ≡ true → a ≡ Ok (change_or_other a)
+ok-itself (Ok x) e = refl
+ok-itself (Err f) e = cc
+
+pub meant-changes : (rows : List ChangeRow) → are_meant rows ≡ true → AreMeant rows (changes_in rows)
+meant-changes [] e = refl
+meant-changes (r ∷ rows) e =
+    let (first, rest) = and_parts (is_ok (change_in r)) (are_meant rows) e in
+    ap₂ (λ a b. a ∷ b) (ok-itself (change_in r) first) (meant-changes rows rest)
+
+-- ---- rows that take changes back
 
 selector-in : (n : ℕ) (s : Selector) → 0 < n → selector_of n ≡ s → selector_in n ≡ Ok s
 selector-in n s lt e =

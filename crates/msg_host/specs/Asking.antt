@@ -40,7 +40,7 @@ abbrev pub LacksSelector : RuntimeView → RuntimeView → ℕ → ℕ → Type 
 LacksSelector v w sel n = sel ≡ 0 → (n ≡ want_of_selector) × (w ≡ v)
 
 -- A change took a runtime from v to w with the answer n: 0 where it was made, and else its fault's number, and nothing has changed.
-pub record ChangesBy (v w : RuntimeView) (x : Change) (n : ℕ) : Type 0 where
+pub record AnswersChange (v w : RuntimeView) (x : Change) (n : ℕ) : Type 0 where
   pub arena : w.arena ≡ v.arena
   pub made : n ≡ 0 → (refusal (log v.history) x ≡ None) × (w.history ≡ and_then v.history (x ∷ []))
   pub left : n ≢ 0 → w ≡ v

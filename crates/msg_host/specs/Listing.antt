@@ -1,10 +1,13 @@
 -- Lists of changes in numbers.
-use Rattle.std.specs.Prelude.{◌≡◌, ◌≢◌, ◌<◌, ◌⊎◌, ℕ, ◌==◌, if◌then◌else◌, Bool, List, map, take, length, slice_get, Option, Some, None, Result, Ok, Err}
+use Rattle.std.specs.Prelude.{◌≡◌, ◌≢◌, ◌<◌, ◌⊎◌, ℕ, ◌==◌, if◌then◌else◌, Bool, true, false, List, map, take, length, slice_get, Option, Some, None, Result, Ok, Err}
+use Rattle.std.specs.List.{list_all}
+use Rattle.std.specs.Result.{is_ok}
 use Rattle.msg_names.specs.declared.value.ClassRef.{ClassRef}
 use Rattle.msg_names.specs.declared.value.ImpRef.{ImpRef}
 use Rattle.msg_names.specs.declared.value.Selector.{Selector}
 use Rattle.msg_names.specs.Number.{imp_number, imp_ref_of, selector_number, selector_of}
-use Rattle.msg_tables.specs.After.{of_class, of_meta}
+use Rattle.msg_tables.specs.ChangeList as by_ref
+use Rattle.msg_tables.specs.declared.change.ChangeRef.{ChangeRef}
 use Rattle.msg_tables.specs.declared.change.Change.{Change}
 use Rattle.msg_tables.specs.declared.change.Change.TheVariants.{Add, Replace, SetImp, Exchange, AddClass}
 use Rattle.msg_tables.specs.declared.entry.Entry.{Entry}
@@ -20,6 +23,7 @@ use Rattle.msg_tables.specs.Undo.{and_before, undo_all}
 use Rattle.msg_cache.specs.Views.{classes}
 use Rattle.msg_host.specs.View.{RuntimeView}
 use Rattle.msg_host.specs.Asking.{ask_fault_number, want_of_memory, want_of_room}
+use Rattle.msg_host.specs.Named.{ref_of}
 use Rattle.msg_host.specs.declared.fault.AskFault.{AskFault}
 use Rattle.msg_host.specs.declared.fault.AskFault.TheVariants.{NoSelector, BadRow}
 use Rattle.msg_host.specs.declared.listing.ChangeRow.{ChangeRow}
@@ -27,7 +31,7 @@ use Rattle.msg_host.specs.declared.listing.RowFault.{RowFault}
 
 -- the class reference of a number: 0 beside it is for the class, 1 for its metaclass
 abbrev pub ref_in : ℕ → ℕ → Result ClassRef AskFault
-ref_in k meta = if meta == 0 then Ok (of_class k) else (if meta == 1 then Ok (of_meta k) else Err BadRow)
+ref_in k meta = if meta == 0 then Ok (ref_of k false) else (if meta == 1 then Ok (ref_of k true) else Err BadRow)
 
 -- the selector of a number
 abbrev pub selector_in : ℕ → Result Selector AskFault
@@ -69,6 +73,24 @@ change_in r =
     else (if r.kind == 4 then exchange_in r
     else (if r.kind == 5 then Ok (AddClass r.class (Some r.other))
     else (if r.kind == 6 then Ok (AddClass r.class None) else Err BadRow)))))
+
+-- a change that was read, or the fault
+abbrev pub read : Result ChangeRef AskFault → Result Change AskFault
+read (Ok r) = Ok (by_ref.change_of r)
+read (Err f) = Err f
+
+-- each row means a change
+abbrev pub are_meant : List ChangeRow → Bool
+are_meant rows = list_all (λ r. is_ok (change_in r)) rows
+
+-- the change, where there is one; else some other
+abbrev pub change_or_other : Result Change AskFault → Change
+change_or_other (Ok x) = x
+change_or_other (Err f) = AddClass 0 None
+
+-- the changes of rows of which each means one
+abbrev pub changes_in : List ChangeRow → List Change
+changes_in rows = map (λ r. change_or_other (change_in r)) rows
 
 -- the rows mean these changes
 abbrev pub AreMeant : List ChangeRow → List Change → Type 0

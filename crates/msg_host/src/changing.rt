@@ -1,9 +1,10 @@
 //! Changes in numbers.
 
-ghost use Rattle.std.specs.Prelude.{◌≡◌, ◌≢◌, ◌<◌, IfOk, IfErr};
+ghost use Rattle.std.specs.Prelude.{◌≡◌, ◌≢◌, IfOk, IfErr};
 ghost use Rattle.msg_tables.specs.declared.change.Change.{Change};
-ghost use Rattle.msg_host.specs.Asking.{ChangesBy, IsListFault, LacksSelector, pairs_of};
-ghost use Rattle.msg_host.specs.Named.{ExchangesBy, IsAttachFault, addition, attachment, replacement, setting};
+ghost use Rattle.msg_host.specs.Asking.{AnswersChange, IsListFault, LacksSelector, pairs_of};
+ghost use Rattle.msg_host.specs.Named.{AnswersExchange, AnswersFor, TellsAttachFault, TellsAttached};
+ghost use Rattle.msg_host.specs.Named.{addition, replacement, setting};
 
 use crate::fault::{AskFault, selector};
 use crate::runtime::HostedRuntime;
@@ -41,7 +42,7 @@ impl HostedRuntime {
     // Makes a change. 0, or the number of the fault.
     #[tactic(auto, using(crate::proofs::ChangingLemmas::memory_of_number))]
     fn make(&mut self, change: &Change) -> u32
-        ensures { ChangesBy self.old self.new change.now result }
+        ensures { AnswersChange self.old self.new change.now result }
     {
         match self.change(change) {
             Ok(_count) => 0,
@@ -52,7 +53,7 @@ impl HostedRuntime {
     /// `class_addMethod`. 0, or the number of the fault, after which nothing has changed.
     pub fn add(&mut self, class: u32, meta: bool, sel: u32, imp: u32) -> u32
         ensures no_selector { LacksSelector self.old self.new sel result }
-        ensures change { 0 < sel → ChangesBy self.old self.new (addition class meta sel imp) result }
+        ensures change { AnswersFor sel self.old self.new (addition class meta sel imp) result }
     {
         match selector(sel) {
             Ok(sel) => self.make(&Change::Add {
@@ -67,7 +68,7 @@ impl HostedRuntime {
     /// `class_replaceMethod`, alike.
     pub fn replace(&mut self, class: u32, meta: bool, sel: u32, imp: u32) -> u32
         ensures no_selector { LacksSelector self.old self.new sel result }
-        ensures change { 0 < sel → ChangesBy self.old self.new (replacement class meta sel imp) result }
+        ensures change { AnswersFor sel self.old self.new (replacement class meta sel imp) result }
     {
         match selector(sel) {
             Ok(sel) => self.make(&Change::Replace {
@@ -82,7 +83,7 @@ impl HostedRuntime {
     /// `method_setImplementation` of the method that `class_getInstanceMethod` finds, alike.
     pub fn set(&mut self, class: u32, meta: bool, sel: u32, imp: u32) -> u32
         ensures no_selector { LacksSelector self.old self.new sel result }
-        ensures change { 0 < sel → ChangesBy self.old self.new (setting class meta sel imp) result }
+        ensures change { AnswersFor sel self.old self.new (setting class meta sel imp) result }
     {
         match selector(sel) {
             Ok(sel) => self.make(&Change::SetImp {
@@ -98,7 +99,7 @@ impl HostedRuntime {
     pub fn exchange(&mut self, class: ClassRef, sel: u32, other: ClassRef, other_sel: u32) -> u32
         ensures no_selector { LacksSelector self.old self.new sel result }
         ensures no_other { LacksSelector self.old self.new other_sel result }
-        ensures change { ExchangesBy self.old self.new class sel other other_sel result }
+        ensures change { AnswersExchange self.old self.new class sel other other_sel result }
     {
         match (selector(sel), selector(other_sel)) {
             (Ok(sel), Ok(other_sel)) => self.make(&Change::Exchange {
@@ -120,9 +121,9 @@ impl HostedRuntime {
         class_methods: &[MethodRow],
     ) -> u32
         ensures arena { self.new.arena ≡ self.old.arena }
-        ensures made { result ≡ 0 → ChangesBy self.old self.new (attachment class methods.now class_methods.now) 0 }
+        ensures made { TellsAttached self.old self.new class methods.now class_methods.now result }
         ensures left { result ≢ 0 → self.new ≡ self.old }
-        ensures fault { result ≢ 0 → IsAttachFault self.old class methods.now class_methods.now result }
+        ensures fault { TellsAttachFault self.old class methods.now class_methods.now result }
     {
         let methods = match method_list(alloc, methods) {
             Ok(methods) => methods,
@@ -141,7 +142,7 @@ impl HostedRuntime {
 
     /// `objc_allocateClassPair` with `objc_registerClassPair`, alike: makes a class, without methods, under a superclass or as a root class.
     pub fn make_class(&mut self, class: u32, superclass: Option<u32>) -> u32
-        ensures { ChangesBy self.old self.new (Change.AddClass class superclass) result }
+        ensures { AnswersChange self.old self.new (Change.AddClass class superclass) result }
     {
         self.make(&Change::AddClass { class, superclass })
     }

@@ -1,22 +1,18 @@
 //! Lists of changes in numbers.
 
-ghost use Rattle.std.specs.Prelude.{◌≡◌, ◌≢◌, ◌<◌, ◌⊎◌, IfOk, IfErr, OnErr, OnOk, length};
-ghost use Rattle.msg_tables.specs.declared.change.Change.{Change};
+ghost use Rattle.std.specs.Prelude.{◌≡◌, ◌≢◌, ◌<◌, ◌⊎◌, true, IfOk, IfErr, OnErr, OnOk, length};
 ghost use Rattle.msg_tables.specs.FaultNumber.{change_fault_number};
 ghost use Rattle.msg_host.specs.Asking.{want_of_memory, want_of_room};
-ghost use Rattle.msg_host.specs.Listing.{AreMeant, AreRowsRefusedAt, IsBadRow, IsRowFault, MakesRows, TellsRowsBack, change_in, exchange_in, method_in, ref_in};
+ghost use Rattle.msg_host.specs.Listing.{AreMeant, AreRowsRefusedAt, IsBadRow, IsRowFault, MakesRows, TellsRowsBack};
+ghost use Rattle.msg_host.specs.Listing.{are_meant, change_in, changes_in, exchange_in, method_in, read, ref_in};
 ghost use Rattle.msg_host.specs.declared.fault.AskFault.{AskFault};
 
 use crate::fault::{AskFault, selector};
 use crate::runtime::HostedRuntime;
 use msg_names::{ClassRef, ImpRef, Selector};
 use msg_runtime::Made;
-use msg_tables::{Change, ChangeFault, Refused};
+use msg_tables::{ChangeFault, ChangeList, ChangeRef, Refused};
 use std::alloc::Global;
-use std::mem::replace;
-
-// The room of so many changes is kept from one list to the next.
-const KEPT_CHANGES: usize = 32;
 
 /// A change in numbers. Its kind says which call makes it alone, and it reads the fields that this call takes: 1 `add`, 2 `replace`, 3 `set`, 4 `exchange`, 5 `make_class` with the
 /// superclass in `other`, 6 `make_class` without one. A class number with 0 beside it is the class, with 1 its metaclass.
@@ -93,12 +89,12 @@ impl ChangeRow {
     }
 
     // The exchange of the two methods that it names.
-    fn exchange(self) -> Result<Change, AskFault>
-        ensures { result ≡ exchange_in self }
+    fn exchange<'c>(self) -> Result<ChangeRef<'c>, AskFault>
+        ensures { read result ≡ exchange_in self }
     {
         let (class, sel) = self.method()?;
         let (other, other_sel) = method_of_row(self.other, self.other_meta, self.other_sel)?;
-        Ok(Change::Exchange {
+        Ok(ChangeRef::Exchange {
             class,
             sel,
             other,
@@ -107,31 +103,33 @@ impl ChangeRow {
     }
 
     // What becomes of the method that it names.
-    fn with_imp(self) -> Result<Change, AskFault>
+    #[inline(always)]
+    fn with_imp<'c>(self) -> Result<ChangeRef<'c>, AskFault>
         requires { (self.kind ≡ 1) ⊎ (self.kind ≡ 2) ⊎ (self.kind ≡ 3) }
-        ensures { result ≡ change_in self }
+        ensures { read result ≡ change_in self }
     {
         let (class, sel) = self.method()?;
         let imp = ImpRef::of(self.imp);
         Ok(match self.kind {
-            1 => Change::Add { class, sel, imp },
-            2 => Change::Replace { class, sel, imp },
-            _ => Change::SetImp { class, sel, imp },
+            1 => ChangeRef::Add { class, sel, imp },
+            2 => ChangeRef::Replace { class, sel, imp },
+            _ => ChangeRef::SetImp { class, sel, imp },
         })
     }
 
     // The change that the row means.
-    fn change(self) -> Result<Change, AskFault>
-        ensures { result ≡ change_in self }
+    #[inline(always)]
+    fn change<'c>(self) -> Result<ChangeRef<'c>, AskFault>
+        ensures { read result ≡ change_in self }
     {
         match self.kind {
             1 | 2 | 3 => self.with_imp(),
             4 => self.exchange(),
-            5 => Ok(Change::AddClass {
+            5 => Ok(ChangeRef::AddClass {
                 class: self.class,
                 superclass: Some(self.other),
             }),
-            6 => Ok(Change::AddClass {
+            6 => Ok(ChangeRef::AddClass {
                 class: self.class,
                 superclass: None,
             }),
@@ -140,36 +138,43 @@ impl ChangeRow {
     }
 }
 
-// The changes that rows mean, in the room of others.
-pub(crate) fn changes_of(
-    rows: &[ChangeRow],
-    mut changes: Vec<Change>,
-) -> Result<Vec<Change>, RowFault>
-    ensures ok { IfOk result (λ changes. AreMeant rows.now changes.items) }
-    ensures err { IfErr result (λ r. r.number ≢ want_of_memory → IsBadRow rows.now r.place r.number) }
+// Rows of which each means a change.
+#[derive(Clone, Copy)]
+pub(crate) struct MeantRows<'r> {
+    rows: &'r [ChangeRow],
+    ghost meant: { are_meant rows.now ≡ true },
+}
+
+impl ChangeList for MeantRows<'_> {
+    ghost changes = { λ list. changes_in list.rows.now };
+
+    #[inline(always)]
+    fn len(&self) -> usize {
+        self.rows.len()
+    }
+
+    #[inline(always)]
+    fn get(&self, place: usize) -> ChangeRef<'_> {
+        let change: Result<_, _> = self.rows[place].change();
+        change.unwrap()
+    }
+}
+
+// The rows, where each means a change; or the first that means none.
+pub(crate) fn meant(rows: &[ChangeRow]) -> Result<MeantRows<'_>, RowFault>
+    ensures rows { IfOk result (λ list. list.rows.now ≡ rows.now) }
+    ensures ok { IfOk result (λ list. AreMeant rows.now (changes_in rows.now)) }
+    ensures err { IfErr result (λ r. IsBadRow rows.now r.place r.number) }
     ensures fault { IfErr result (λ r. (r.number ≢ 0) × (r.number ≢ want_of_room)) }
     ensures place { IfErr result (λ r. r.place < length rows.now) }
 {
-    changes.clear();
-    if changes.reserve(rows.len()).is_err() {
-        return Err(RowFault {
-            place: 0,
-            number: ChangeFault::Memory.number(),
-        });
-    }
     for (place, row) in rows.iter().enumerate() {
-        match row.change() {
-            Ok(change) => {
-                let pushed: Result<_, _> = changes.push(change);
-                pushed.unwrap();
-            }
-            Err(fault) => {
-                let number = fault.number();
-                return Err(RowFault { place, number });
-            }
+        if let Err(fault) = row.change() {
+            let number = fault.number();
+            return Err(RowFault { place, number });
         }
     }
-    Ok(changes)
+    Ok(MeantRows { rows })
 }
 
 impl HostedRuntime {
@@ -185,22 +190,10 @@ impl HostedRuntime {
         ensures left { OnErr result (self.new ≡ self.old) }
         ensures fault { IfErr result (IsRowFault rows.now self.old.history) }
     {
-        let room = replace(&mut self.changes, Vec::new(alloc));
-        let changes = changes_of(rows, room)?;
-        let outcome = self.change_all(alloc, &changes);
-        self.keep_changes(changes);
-        match outcome {
+        let changes = meant(rows)?;
+        match self.change_all(alloc, &changes) {
             Ok(made) => Ok(made),
             Err(refused) => Err(RowFault::of(refused)),
-        }
-    }
-
-    // Keeps the room of changes that were made for the next, if it isn't large.
-    pub(crate) fn keep_changes(&mut self, changes: Vec<Change>)
-        ensures { self.new ≡ self.old }
-    {
-        if changes.len() <= KEPT_CHANGES {
-            self.changes = changes;
         }
     }
 

@@ -6,10 +6,9 @@ ghost use Rattle.msg_host.specs.Asking.{IsRefusal, want_of_room};
 ghost use Rattle.msg_host.specs.Listing.{AreRefusedRows, IsRowFault, ReachesRowsOf};
 
 use crate::fault::NO_ROOM;
-use crate::listing::{ChangeRow, RowFault, changes_of};
+use crate::listing::{ChangeRow, RowFault, meant};
 use crate::runtime::HostedRuntime;
 use std::alloc::Global;
-use std::mem::replace;
 
 impl HostedRuntime {
     // Marks what the changes of rows may alter if they are made as one, or says why they would be refused.
@@ -24,11 +23,8 @@ impl HostedRuntime {
         ensures reached { OnOk result (ReachesRowsOf self.old rows.now reached.old reached.new) }
         ensures fault { IfErr result (IsRowFault rows.now self.old.history) }
     {
-        let room = replace(&mut self.changes, Vec::new(alloc));
-        let changes = changes_of(rows, room)?;
-        let outcome = self.reach_all(alloc, &changes, reached);
-        self.keep_changes(changes);
-        match outcome {
+        let changes = meant(rows)?;
+        match self.reach_all(alloc, &changes, reached) {
             Ok(()) => Ok(()),
             Err(refused) => Err(RowFault::of(refused)),
         }

@@ -9,11 +9,10 @@ ghost use Rattle.msg_tables.specs.Several.{refused_from};
 ghost use Rattle.msg_tables.specs.declared.fault.ChangeFault.{ChangeFault};
 ghost use Rattle.msg_cache.specs.Counts.{AreCounts};
 ghost use Rattle.msg_cache.specs.Views.{classes};
-ghost use Rattle.msg_reader.specs.Notes.{AreNotesOf};
+ghost use Rattle.msg_reader.specs.Notes.{AreNotesOf, HaveNotedFor};
 ghost use Rattle.msg_runtime.specs.Changed.{IsAccepted, IsMadeAt, IsRefusedAt, IsRefusedFor};
 ghost use Rattle.msg_host.specs.Calls.{MarksAllReached, MarksReached};
 ghost use Rattle.msg_host.specs.Config.{is_beyond};
-ghost use Rattle.msg_host.specs.Named.{HaveNotedFor};
 ghost use Rattle.msg_host.specs.Opening.{OpensAs};
 ghost use Rattle.msg_host.specs.declared.fault.OpenFault.{OpenFault};
 
@@ -26,7 +25,7 @@ use msg_names::{ClassRef, ImpRef, Selector};
 use msg_reader::Notes;
 use msg_reader::laws::a_slot_of_few_classes_is_short;
 use msg_runtime::{Made, Runtime};
-use msg_tables::{Change, ChangeFault, Marks, Refused};
+use msg_tables::{Change, ChangeFault, ChangeList, Marks, Refused};
 use std::alloc::{AllocError, Global};
 use std::marker::Model;
 use std::sync::Arc;
@@ -39,8 +38,6 @@ pub struct HostedRuntime {
     arena: Arc<Arena, Global>,
     pub(crate) runtime: Runtime,
     turn: Turn,
-    // room for the changes that the next rows mean
-    pub(crate) changes: Vec<Change>,
     // how many class numbers are reserved
     classes: u32,
 }
@@ -80,7 +77,6 @@ impl HostedRuntime {
             arena,
             runtime,
             turn,
-            changes: Vec::new(alloc),
             classes: origin.class_count(),
         })
     }
@@ -115,19 +111,19 @@ impl HostedRuntime {
 
     /// Marks the class references whose lookups a list of changes may alter if it is made as one, beside those that are marked, each at its slot, and doesn't make it; or says which of them
     /// would be refused. Then what those before it may alter is marked; where memory is wanting, the marks say nothing.
-    pub fn reach_all(
+    pub fn reach_all<L: ChangeList>(
         &mut self,
         alloc: Global,
-        changes: &[Change],
+        changes: &L,
         marked: &mut [bool],
     ) -> Result<(), Refused>
         requires { length marked.old ≡ 2 * classes self.old.arena }
         ensures same { self.new ≡ self.old }
-        ensures ok { OnOk result (refused_from 0 (log self.old.history) changes.now ≡ None) }
-        ensures marks { OnOk result (MarksAllReached self.old changes.now marked.old marked.new) }
-        ensures refused { IfErr result (AreRefused changes.now self.old.history) }
+        ensures ok { OnOk result (refused_from 0 (log self.old.history) (L.changes changes.now) ≡ None) }
+        ensures marks { OnOk result (MarksAllReached self.old (L.changes changes.now) marked.old marked.new) }
+        ensures refused { IfErr result (AreRefused (L.changes changes.now) self.old.history) }
         ensures before { IfErr result (λ r. r.fault ≢ ChangeFault.Memory
-            → MarksAllReached self.old (take r.place changes.now) marked.old marked.new) }
+            → MarksAllReached self.old (take r.place (L.changes changes.now)) marked.old marked.new) }
         ensures length { length marked.new ≡ length marked.old }
     {
         self.runtime
@@ -147,13 +143,13 @@ impl HostedRuntime {
 
     /// Makes a list of changes as one, flushes the caches that it reaches, and answers how many times changes were made and what was written; or says which of them would be refused. After an
     /// error nothing was changed or flushed. An empty list changes nothing and isn't counted.
-    pub fn change_all(&mut self, alloc: Global, changes: &[Change]) -> Result<Made, Refused>
+    pub fn change_all<L: ChangeList>(&mut self, alloc: Global, changes: &L) -> Result<Made, Refused>
         ensures arena { self.new.arena ≡ self.old.arena }
-        ensures ok { OnOk result (AreMade changes.now self.old.history self.new.history) }
+        ensures ok { OnOk result (AreMade (L.changes changes.now) self.old.history self.new.history) }
         ensures count { IfOk result (λ made. made.count ≡ length self.new.history.changes) }
-        ensures back { IfOk result (λ made. TellsWayBack changes.now self.old.history made.written) }
+        ensures back { IfOk result (λ made. TellsWayBack (L.changes changes.now) self.old.history made.written) }
         ensures err { OnErr result (self.new ≡ self.old) }
-        ensures refused { IfErr result (AreRefused changes.now self.old.history) }
+        ensures refused { IfErr result (AreRefused (L.changes changes.now) self.old.history) }
     {
         self.runtime
             .change_all(alloc, &self.arena, &mut self.turn, changes)

@@ -5,8 +5,8 @@ ghost use Rattle.msg_names.specs.Number.{imp_number};
 ghost use Rattle.msg_tables.specs.Origin.{last_imp};
 ghost use Rattle.msg_tables.specs.History.{BeginsWith};
 ghost use Rattle.msg_cache.specs.Views.{IsFoundAt, classes};
-ghost use Rattle.msg_reader.specs.Notes.{AreNotesOf};
-ghost use Rattle.msg_host.specs.Named.{HaveLackedFor, HaveNotedFor};
+ghost use Rattle.msg_reader.specs.Notes.{AreNotesOf, HaveNotedFor};
+ghost use Rattle.msg_host.specs.Named.{HaveLackedFor};
 
 use msg_cache::Arena;
 use msg_names::{ClassRef, ImpRef, Selector};

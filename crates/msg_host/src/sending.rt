@@ -5,8 +5,8 @@ ghost use Rattle.msg_tables.specs.Origin.{last_imp};
 ghost use Rattle.msg_tables.specs.History.{BeginsWith, lookup};
 ghost use Rattle.msg_cache.specs.Views.{classes};
 ghost use Rattle.msg_host.specs.Asking.{ask_fault};
-ghost use Rattle.msg_reader.specs.Notes.{AreNotesOf};
-ghost use Rattle.msg_host.specs.Named.{HaveLacked, HaveNoted, IfFound, ref_of};
+ghost use Rattle.msg_reader.specs.Notes.{AreNotesOf, HaveLacked, HaveNoted};
+ghost use Rattle.msg_host.specs.Named.{IfFound, ref_of};
 
 use crate::fault::{AskFault, asked};
 use crate::runtime::HostedRuntime;

@@ -26,6 +26,15 @@ pub const MOST_BYTES: usize = 16_777_216;
 // So many bytes for each of a text hold the trees of most texts.
 const TREE_BYTES: usize = 4;
 
+// The first piece of a tree's arena has no more bytes. A second one has twice as many.
+const PIECE_BYTES: usize = 15_728_640;
+
+// More than the second piece has, and no more than 32 MiB: the largest block of which glibc learns by its being freed.
+const FREED_BYTES: usize = 32_505_856;
+
+// A text of so many bytes is long.
+const LONG_BYTES: usize = 65_536;
+
 /// An image, and what is to be sent and changed.
 #[derive(Drop)]
 pub struct Document {
@@ -92,8 +101,15 @@ pub fn judge_form(alloc: Global, form: &Form) -> Result<Document, DocumentFault>
 }
 
 // Room for the tree of most texts, taken at once. Where so much can't be had, the arena begins small.
+//
+// glibc gives a large block that is freed back to the system, unless one as large was freed before. So for a long text one is
+// freed first, in which nothing was written: then the image comes to lie where the tree lay, and the system needn't clear pages for it.
 fn arena(alloc: Global, bytes: &[u8]) -> Bump {
-    match Bump::try_with_capacity(alloc, bytes.len().saturating_mul(TREE_BYTES)) {
+    if bytes.len() >= LONG_BYTES {
+        drop(Bump::try_with_capacity(alloc, FREED_BYTES));
+    }
+    let room = bytes.len().saturating_mul(TREE_BYTES);
+    match Bump::try_with_capacity(alloc, room.min(PIECE_BYTES)) {
         Ok(bump) => bump,
         Err(_) => Bump::new(alloc),
     }

@@ -62,10 +62,10 @@ pub(crate) fn both<A: Drop, B: Drop>(
     Ok((first?, second?))
 }
 
-fn boxed<T: Drop>(alloc: Global, value: Result<T, AllocError>) -> Result<Box<T>, AllocError>
-    ensures { IfOk result (λ boxed. value ≡ Ok boxed.value) }
+fn boxed<T: Drop>(alloc: Global, value: T) -> Result<Box<T>, AllocError>
+    ensures { IfOk result (λ boxed. boxed.value ≡ value) }
 {
-    Ok(Box::new(alloc, value?)?)
+    Ok(Box::new(alloc, value)?)
 }
 
 fn value(names: &FormNames, constant: &Constant) -> Value
@@ -96,31 +96,44 @@ fn binary(operator: Operator, left: Box<Expr>, right: Box<Expr>) -> Expr
 fn expr(alloc: Global, names: &FormNames, form: &form::Expr) -> Result<Expr, AllocError>
     ensures { IfOk result (λ e. plain e ≡ expression_by names.now form.now) }
 {
+    Ok(Box::into_inner(boxed_expr(alloc, names, form)?))
+}
+
+// Each expression is written where it is to stand.
+#[cycle(expr)]
+fn boxed_expr(alloc: Global, names: &FormNames, form: &form::Expr) -> Result<Box<Expr>, AllocError>
+    ensures { IfOk result (λ b. plain b.value ≡ expression_by names.now form.now) }
+{
     match form {
-        form::Expr::Const(constant) => Ok(Expr::Const(value(names, constant))),
-        form::Expr::Me => Ok(Expr::Me),
-        form::Expr::Arg(place) => Ok(Expr::Arg((*place).min(255) as u8)),
+        form::Expr::Whole(number) => boxed(alloc, Expr::Const(Value::Number(*number))),
+        form::Expr::Const(constant) => boxed(alloc, Expr::Const(value(names, constant))),
+        form::Expr::Me => boxed(alloc, Expr::Me),
+        form::Expr::Arg(place) => boxed(alloc, Expr::Arg((*place).min(255) as u8)),
         form::Expr::Binary(parts) => {
-            let left = boxed(alloc, expr(alloc, names, &parts.left));
-            let right = boxed(alloc, expr(alloc, names, &parts.right));
+            let left = boxed_expr(alloc, names, &parts.left);
+            let right = boxed_expr(alloc, names, &parts.right);
             let (left, right) = both(left, right)?;
-            Ok(binary(parts.operator, left, right))
+            boxed(alloc, binary(parts.operator, left, right))
         }
         form::Expr::If(parts) => {
-            let condition = boxed(alloc, expr(alloc, names, &parts.condition));
-            let then = boxed(alloc, expr(alloc, names, &parts.then));
-            let otherwise = boxed(alloc, expr(alloc, names, &parts.otherwise));
+            let condition = boxed_expr(alloc, names, &parts.condition);
+            let then = boxed_expr(alloc, names, &parts.then);
+            let otherwise = boxed_expr(alloc, names, &parts.otherwise);
             let (condition, (then, otherwise)) = both(condition, both(then, otherwise))?;
-            Ok(Expr::If(condition, then, otherwise))
+            boxed(alloc, Expr::If(condition, then, otherwise))
         }
         form::Expr::Send(send) => {
-            let receiver = boxed(alloc, expr(alloc, names, &send.receiver));
+            let receiver = boxed_expr(alloc, names, &send.receiver);
             let (receiver, args) = both(receiver, exprs(alloc, names, send.args))?;
-            Ok(Expr::Send(receiver, selector_named(names, send.selector), args))
+            let sel = selector_named(names, send.selector);
+            boxed(alloc, Expr::Send(receiver, sel, args))
         }
         form::Expr::Super(send) => {
             let args = exprs(alloc, names, send.args)?;
-            Ok(Expr::Super(selector_named(names, send.selector), args))
+            boxed(
+                alloc,
+                Expr::Super(selector_named(names, send.selector), args),
+            )
         }
     }
 }

@@ -17,12 +17,27 @@ pub(crate) fn number(text: &str) -> Option<Number>
 {
     let bytes = text.as_bytes();
     if has_minus(bytes) {
-        return negative(&Numeral::scan(&bytes[1..]));
+        return after_minus(&bytes[1..]);
     }
     match plain_digits(bytes) {
         Some(number) => Some(Number::from(number)),
-        None => unsigned(&Numeral::scan(bytes)),
+        None => without_minus(bytes),
     }
+}
+
+// The next two stand apart from `number`, which would pay at its entry for what they keep on the stack.
+#[inline(never)]
+fn after_minus(bytes: &[u8]) -> Option<Number>
+    ensures { option_map number_view result ≡ number_from true (scan bytes.now) }
+{
+    negative(&Numeral::scan(bytes))
+}
+
+#[inline(never)]
+fn without_minus(bytes: &[u8]) -> Option<Number>
+    ensures { option_map number_view result ≡ number_from false (scan bytes.now) }
+{
+    unsigned(&Numeral::scan(bytes))
 }
 
 // The number that digits alone write, where it fits. The kit's reader would pass over a plus, which isn't JSON's.

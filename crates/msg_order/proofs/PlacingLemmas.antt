@@ -8,7 +8,7 @@ use Rattle.msg_order.specs.Order.{StandsBefore, mark_count, ArePlaced, IsClassOr
 use Rattle.msg_order.specs.Superclasses.{super_of}
 
 -- what stands in a list that grew by one at its end
-pushed-get : (xs : List ℕ) (x i j : ℕ) → slice_get (xs ++ x ∷ []) i ≡ Some j → (slice_get xs i ≡ Some j) ⊎ ((i ≡ length xs) × (x ≡ j))
+pub pushed-get : (xs : List ℕ) (x i j : ℕ) → slice_get (xs ++ x ∷ []) i ≡ Some j → (slice_get xs i ≡ Some j) ⊎ ((i ≡ length xs) × (x ≡ j))
 pushed-get [] x zero j e = inr (refl, same_Some x j e)
 pushed-get [] x (suc i) j e = inl e
 pushed-get (y ∷ xs) x zero j e = inl e
@@ -18,12 +18,12 @@ pushed-get (y ∷ xs) x (suc i) j e = step (pushed-get xs x i j e)
     step (inl h) = inl h
     step (inr (at, same)) = inr (omega (arith, at), same)
 
-pushed-kept : (xs : List ℕ) (x i j : ℕ) → slice_get xs i ≡ Some j → slice_get (xs ++ x ∷ []) i ≡ Some j
+pub pushed-kept : (xs : List ℕ) (x i j : ℕ) → slice_get xs i ≡ Some j → slice_get (xs ++ x ∷ []) i ≡ Some j
 pushed-kept [] x i j e = cc
 pushed-kept (y ∷ xs) x zero j e = e
 pushed-kept (y ∷ xs) x (suc i) j e = pushed-kept xs x i j e
 
-pushed-last : (xs : List ℕ) (x : ℕ) → slice_get (xs ++ x ∷ []) (length xs) ≡ Some x
+pub pushed-last : (xs : List ℕ) (x : ℕ) → slice_get (xs ++ x ∷ []) (length xs) ≡ Some x
 pushed-last [] x = refl
 pushed-last (y ∷ xs) x = pushed-last xs x
 

@@ -1,39 +1,28 @@
 -- What is noted of lookups.
-use Rattle.std.specs.Prelude.{◌≡◌, ◌≢◌, ◌<◌, ◌≤◌, ◌+◌, ◌*◌, ◌^◌, ◌%◌, ◌==◌, ◌&&◌, ℕ, Option, Some, None, if◌then◌else◌, length, nat_lt, slice_index_or, take, All}
+use Rattle.std.specs.Prelude.{◌≡◌, ◌<◌, ◌≤◌, ◌+◌, ◌^◌, ◌==◌, ◌&&◌, ℕ, Option, Some, None, if◌then◌else◌, length, nat_lt, option_and_then, slice_get, All}
 use Rattle.msg_names.specs.ClassRef.{slot_of}
 use Rattle.msg_names.specs.Number.{selector_number, imp_number}
 use Rattle.msg_names.specs.declared.value.ClassRef.{ClassRef}
 use Rattle.msg_names.specs.declared.value.ImpRef.{ImpRef}
 use Rattle.msg_names.specs.declared.value.Selector.{Selector}
+use Rattle.msg_reader.specs.Key.{key_of, none_bit, place_of}
 use Rattle.msg_tables.specs.Origin.{last_imp}
 use Rattle.msg_tables.specs.History.{History, lookup}
+use Rattle.msg_core.specs.State.{first}
 use Rattle.msg_cache.specs.Views.{IsFoundAt, ProberView}
 use Rattle.msg_reader.specs.Found.{IsListed}
-use Rattle.msg_reader.specs.declared.notes.Note.{Note}
+use Rattle.msg_reader.specs.declared.note.Note.{Note}
 use Rattle.msg_reader.specs.declared.notes.Notes.{Notes}
-
--- the point of a history after its first n changes
-abbrev pub point_at : ℕ → History → History
-point_at n h = record { origin = h.origin; changes = take n h.changes }
 
 -- The lookup of a selector by the class reference of a slot, at the point of the history after its first n changes, finds this implementation.
 pub record IsRecalled (h : History) (n slot sel imp : ℕ) : Type 0 where
   pub seen : n ≤ length h.changes
   pub listed : imp ≤ last_imp h.origin.counts
-  pub found : (c : ClassRef) → slot_of c ≡ slot → imp ≡ lookup (point_at n h) c sel
+  pub found : (c : ClassRef) → slot_of c ≡ slot → imp ≡ lookup (first n h) c sel
 
--- The key of a lookup: one to one, where the slot is below 2^26 and the selector takes 32 bits. It is even, and its low 16 bits are 32 times the place of its note.
-abbrev pub key_of : ℕ → ℕ → ℕ
-key_of slot sel = slot * 137438954496 + sel * 32
-
--- what the word of a note has beside the key: 1 where no method was found
-abbrev pub none_bit : ℕ → ℕ
-none_bit imp = if imp == 0 then 1 else 0
-
--- A note is what a lookup found at a point of the history, or blank. The word that says of which lookup it is says also whether a method was found: it is the lookup's key, or 1 more where none was.
+-- A note is what a lookup found at a point of the history, or blank.
 pub record IsNoteOf (h : History) (n : Note) : Type 0 where
   pub recalled : (slot sel : ℕ) → slot < 2 ^ 26 → sel < 2 ^ 32 → n.word ≡ key_of slot sel + none_bit n.imp → IsRecalled h n.count slot sel n.imp
-  pub method : (slot sel : ℕ) → 0 < sel → n.word ≡ key_of slot sel → n.imp ≢ 0
 
 -- each of the notes is
 pub record AreNotesOf (h : History) (n : Notes) : Type 0 where
@@ -43,24 +32,29 @@ pub record AreNotesOf (h : History) (n : Notes) : Type 0 where
 pub record AreBlank (n : Notes) : Type 0 where
   pub notes : All (λ (n : Note). (n.word ≡ 0) × (n.imp ≡ 0)) n.notes
 
--- the place of a lookup among the notes
-abbrev pub place_of : ℕ → ℕ → ℕ
-place_of slot sel = (slot * 32 + sel) % 2048
-
-abbrev pub blank : Note
-blank = record { word = 0; count = 0; imp = 0; spare = 0; spared = 0 }
-
 -- what a note has of a lookup: the implementation's number, 0 where it found no method
 abbrev pub found_by : Note → ℕ → ℕ → ℕ → Option ℕ
 found_by n count slot sel = if n.word == key_of slot sel + none_bit n.imp && n.count == count then Some n.imp else None
 
 -- what notes have of a lookup: that which stands at its place. Of slots from 2^26 on nothing is noted.
 abbrev pub recalled : Notes → ℕ → ℕ → ℕ → Option ℕ
-recalled n count slot sel = if nat_lt slot (2 ^ 26) then found_by (slice_index_or n.notes (place_of slot sel) blank) count slot sel else None
+recalled n count slot sel = if nat_lt slot (2 ^ 26) then option_and_then (λ k. found_by k count slot sel) (slice_get n.notes (place_of slot sel)) else None
 
--- after all changes of the history the notes have this implementation of a lookup, where the slot is below 2^26
+-- what notes have of a lookup at a history
+abbrev pub noted_at : Notes → History → ClassRef → ℕ → Option ℕ
+noted_at n h c sel = recalled n (length h.changes) (slot_of c) sel
+
+-- they have this implementation of it
+abbrev pub HaveNoted : Notes → History → ClassRef → ℕ → ℕ → Type 0
+HaveNoted n h c sel imp = noted_at n h c sel ≡ Some imp
+
+-- so it is where the slot is below 2^26
 abbrev pub IsNoted : History → Notes → ClassRef → ℕ → ℕ → Type 0
-IsNoted h n c sel imp = slot_of c < 2 ^ 26 → recalled n (length h.changes) (slot_of c) sel ≡ Some imp
+IsNoted h n c sel imp = slot_of c < 2 ^ 26 → HaveNoted n h c sel imp
+
+-- they had nothing of it at what a sender had seen, if it has seen no more since
+abbrev pub HaveLacked : Notes → History → History → ClassRef → ℕ → Type 0
+HaveLacked n before now c sel = now ≡ before → noted_at n before c sel ≡ None
 
 -- ---- what notes say
 
@@ -92,10 +86,14 @@ recalled_of n count c s = recalled n count (slot_of c) (selector_number s)
 abbrev pub HaveKept : Notes → ℕ → ClassRef → Selector → ImpRef → Type 0
 HaveKept n count c s i = slot_of c < 2 ^ 26 → recalled_of n count c s ≡ Some (imp_number i)
 
--- and after all changes of the history
-abbrev pub HaveNoted : History → Notes → ClassRef → Selector → ImpRef → Type 0
-HaveNoted h n c s i = IsNoted h n c (selector_number s) (imp_number i)
+-- they have it at a history
+abbrev pub HaveNotedFor : Notes → History → ClassRef → Selector → ImpRef → Type 0
+HaveNotedFor n h c s i = HaveNoted n h c (selector_number s) (imp_number i)
 
--- the sender saw a change, or else the notes had nothing of the lookup at what it has seen
+-- so it is where the slot is below 2^26
+abbrev pub IsNotedFor : History → Notes → ClassRef → Selector → ImpRef → Type 0
+IsNotedFor h n c s i = IsNoted h n c (selector_number s) (imp_number i)
+
+-- they had nothing of the lookup at what a prober had seen, if it has seen no more since
 abbrev pub LackedUnlessMoved : Notes → ClassRef → Selector → ProberView → ProberView → Type 0
-LackedUnlessMoved n c s old new = new.sender.front ≡ old.sender.front → recalled_of n (length old.sender.front.changes) c s ≡ None
+LackedUnlessMoved n c s old new = HaveLacked n old.sender.front new.sender.front c (selector_number s)

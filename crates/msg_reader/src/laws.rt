@@ -19,7 +19,7 @@ pub fn blank_notes_are_of_each_history()
 {}
 
 /// A history that begins with another and is no longer is that one.
-#[tactic(auto, using(crate::proofs::NoteLemmas::begins_same))]
+#[tactic(auto, using(msg_tables::proofs::BeginsLemmas::begins_same))]
 pub fn a_history_no_longer_is_the_same()
     ensures { (p h : History) → BeginsWith p h → length p.changes ≡ length h.changes → p ≡ h }
 {}
@@ -31,7 +31,7 @@ pub fn a_slot_of_few_classes_is_short()
 {}
 
 /// No two lookups have one key.
-#[tactic(auto, using(crate::proofs::NoteLemmas::keys_differ))]
+#[tactic(auto, using(crate::proofs::KeyLemmas::keys_differ))]
 pub fn keys_are_one_to_one()
     ensures { KeysAreOneToOne }
 {}

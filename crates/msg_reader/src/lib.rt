@@ -2,6 +2,7 @@
 #![tactic(auto)]
 
 pub mod laws;
+mod note;
 mod notes;
 mod reader;
 

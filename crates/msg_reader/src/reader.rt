@@ -10,7 +10,7 @@ ghost use Rattle.msg_cache.specs.Record.{Misses};
 ghost use Rattle.msg_cache.specs.Views.{HitsAndIsFound, IsFoundAt, IsSenderOf, ProbesFor, classes, layout};
 ghost use Rattle.msg_cache.specs.Plays.{given_again, renewed};
 ghost use Rattle.msg_reader.specs.Found.{IsListed};
-ghost use Rattle.msg_reader.specs.Notes.{AreNotesOf, HaveNoted, LackedUnlessMoved};
+ghost use Rattle.msg_reader.specs.Notes.{AreNotesOf, IsNotedFor, LackedUnlessMoved};
 
 use crate::laws::{a_history_no_longer_is_the_same, notes_are_of_longer_histories};
 use crate::notes::Notes;
@@ -163,7 +163,7 @@ impl Reader {
         ensures some { IfSome result (IsFoundAt self.new.sender.front class sel) }
         ensures listed { IfSome result (IsListed self.new.sender.front) }
         ensures notes { AreNotesOf self.new.sender.front notes.new }
-        ensures noted { IfSome result (HaveNoted self.new.sender.front notes.new class sel) }
+        ensures noted { IfSome result (IsNotedFor self.new.sender.front notes.new class sel) }
         ensures recalled { IfNone result (LackedUnlessMoved notes.old class sel self.old self.new) }
     {
         notes_are_of_longer_histories();
@@ -193,7 +193,7 @@ impl Reader {
         ensures some { IfSome result (IsFoundAt self.new.sender.front class sel) }
         ensures listed { IfSome result (IsListed self.new.sender.front) }
         ensures notes { AreNotesOf self.new.sender.front notes.new }
-        ensures noted { IfSome result (HaveNoted self.new.sender.front notes.new class sel) }
+        ensures noted { IfSome result (IsNotedFor self.new.sender.front notes.new class sel) }
     {
         match self.count {
             Some(count) => self.find_cached(arena, notes, count, class, sel),
@@ -219,7 +219,7 @@ impl Reader {
         ensures some { IfSome result (IsFoundAt self.new.sender.front class sel) }
         ensures listed { IfSome result (IsListed self.new.sender.front) }
         ensures notes { AreNotesOf self.new.sender.front notes.new }
-        ensures noted { IfSome result (HaveNoted self.new.sender.front notes.new class sel) }
+        ensures noted { IfSome result (IsNotedFor self.new.sender.front notes.new class sel) }
     {
         self.find(arena, notes, class, sel)
     }
@@ -244,7 +244,7 @@ impl Reader {
         ensures some { IfSome result (IsFoundAt self.new.sender.front class sel) }
         ensures listed { IfSome result (IsListed self.new.sender.front) }
         ensures notes { AreNotesOf self.new.sender.front notes.new }
-        ensures noted { IfSome result (HaveNoted self.new.sender.front notes.new class sel) }
+        ensures noted { IfSome result (IsNotedFor self.new.sender.front notes.new class sel) }
     {
         notes_are_of_longer_histories();
         a_history_no_longer_is_the_same();

@@ -6,7 +6,7 @@ ghost use Rattle.msg_devices.specs.Complaint.{status_of};
 ghost use Rattle.msg_runner.specs.Outcome.{WroteBy, Leaves};
 ghost use Rattle.msg_runner.specs.Program.{changes_of, WroteAsked};
 
-use crate::gate::OpenGate;
+use crate::gate::LastGate;
 use crate::running::{run, run_beside};
 use msg_devices::{Program, RunFault, Sink, Source, arguments, complain, words};
 use std::alloc::{Alloc, Global};
@@ -31,8 +31,8 @@ fn run_of<R: Source, W: Sink, T: Threads + Wait + Sync>(
     ensures nothing { Leaves (W.contents sink.old) (W.contents sink.new) result }
 {
     match program {
-        Program::Msgrun => run(rt, alloc, source, sink, workers, cut, &OpenGate),
-        Program::Msgbeside => run_beside(rt, alloc, source, sink, workers, cut, &OpenGate),
+        Program::Msgrun => run(rt, alloc, source, sink, workers, cut, &LastGate),
+        Program::Msgbeside => run_beside(rt, alloc, source, sink, workers, cut, &LastGate),
     }
 }
 
@@ -63,7 +63,7 @@ fn run_asked<R: Source, W: Sink, T: Threads + Wait + Sync>(
 }
 
 /// Answers a document as the words of a command line ask, says in a line why where that can't be, and gives the
-/// exit status.
+/// exit status, with which the process is to end: what the document takes stays taken.
 pub fn answer_words<R: Source, W: Sink, C: Sink, T: Threads + Wait + Sync>(
     rt: &T,
     alloc: Global,
@@ -86,7 +86,8 @@ pub fn answer_words<R: Source, W: Sink, C: Sink, T: Threads + Wait + Sync>(
     }
 }
 
-/// What a program does: it answers a document as the words that it was started with ask, and gives the exit status.
+/// What a program does: it answers a document as the words that it was started with ask, and gives the exit status,
+/// with which the process is to end.
 ///
 /// `whole` names no words, since no clause says what `words` gives.
 pub fn answer<R: Source, W: Sink, C: Sink, T: Env + Alloc<A = Global> + Threads + Wait + Sync>(

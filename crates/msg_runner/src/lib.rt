@@ -17,5 +17,5 @@ mod serving;
 mod work;
 
 pub use answering::{answer, answer_words};
-pub use gate::{Gate, OpenGate};
+pub use gate::{Gate, LastGate, OpenGate};
 pub use running::{run, run_beside};

@@ -1,26 +1,26 @@
 //! From bytes to bytes.
 
-ghost use Rattle.std.specs.Prelude.{◌≡◌, ◌≢◌, ◌<◌, ◌≤◌, ◌↔◌, ◌⊎◌, ℕ, List, length, false, true};
+ghost use Rattle.std.specs.Prelude.{◌≡◌, ◌≢◌, ◌≤◌, ◌↔◌, ◌⊎◌, ℕ, List, length, false, true};
 ghost use Rattle.std.specs.Prelude.{Err, IfErr, IfSome, OnOk};
-ghost use Rattle.msg_form.specs.declared.faults.DocumentFault.{DocumentFault};
 ghost use Rattle.msg_form.specs.declared.faults.DocumentFault.TheVariants as documents;
-ghost use Rattle.msg_image.specs.Answer.{IsAnswer};
 ghost use Rattle.msg_image.specs.DocumentParts.{document_parts};
+ghost use Rattle.msg_devices.specs.Admission.{AreNoWorkers, IsNoCut, TellsFaultOf};
 ghost use Rattle.msg_devices.specs.Reading.{IsSoundDocument};
 ghost use Rattle.msg_devices.specs.Writing.{Writes, Starts};
 ghost use Rattle.msg_runner.specs.Lines.{AreLinesOf};
 ghost use Rattle.msg_runner.specs.Outcome.{Leaves, Wrote, WroteBeside};
-ghost use Rattle.msg_runner.specs.Outcome.{WroteFront, WroteFrontBeside};
+ghost use Rattle.msg_runner.specs.Outcome.{WroteStart, WroteStartBeside};
 
 use crate::changes::Changes;
 use crate::context::Run;
 use crate::gate::Gate;
 use crate::serving::arena_for;
 use msg_answers::Deal;
-use msg_devices::{MAX_WORKERS, RunFault, Sink, Source, admit, write_text};
+use msg_devices::{RunFault, Sink, Source, admit, write_text};
 use msg_image::{Document, MAX_ITEMS};
 use std::alloc::Global;
 use std::marker::Brand;
+use std::mem;
 use std::sync::Wait;
 use std::thread::Threads;
 
@@ -34,7 +34,7 @@ impl<'r, G: Gate, T: Threads + Wait + Sync> Run<'r, G, T> {
         ensures whole { OnOk result ((text : List ℕ) × AreLinesOf self.now.changes
             self.now.deal.workers self.now.deal.cut (document_parts document.now) text
             × Writes W.contents sink.old sink.new text) }
-        ensures front { result ≡ Err RunFault.Write → (text : List ℕ)
+        ensures start { result ≡ Err RunFault.Write → (text : List ℕ)
             × AreLinesOf self.now.changes self.now.deal.workers self.now.deal.cut
             (document_parts document.now) text
             × Starts W.contents sink.old sink.new text }
@@ -45,6 +45,15 @@ impl<'r, G: Gate, T: Threads + Wait + Sync> Run<'r, G, T> {
         let (arena, keeper) = arena_for(self.alloc, &document.image, self.deal.workers)?;
         let text = self.over_dispatcher::<Brand>(arena, keeper, document)?;
         write_text(sink, &text)
+    }
+}
+
+// Gives back what a document takes, unless the process's end will.
+fn leave<G: Gate>(document: Document, gate: &G) {
+    if gate.is_last() {
+        mem::forget(document);
+    } else {
+        drop(document);
     }
 }
 
@@ -65,15 +74,12 @@ pub fn run<R: Source, W: Sink, G: Gate, T: Threads + Wait + Sync>(
     requires unwritten { W.mark sink.old ≡ false }
     ensures whole { OnOk result (IfSome (R.remaining source.old)
         (Wrote (W.contents sink.old) (W.contents sink.new))) }
-    ensures front { result ≡ Err RunFault.Write → IfSome (R.remaining source.old)
-        (WroteFront (W.contents sink.old) (W.contents sink.new)) }
+    ensures start { result ≡ Err RunFault.Write → IfSome (R.remaining source.old)
+        (WroteStart (W.contents sink.old) (W.contents sink.new)) }
     ensures nothing { Leaves (W.contents sink.old) (W.contents sink.new) result }
-    ensures workers { (result ≡ Err RunFault.Workers)
-        ↔ ((workers ≡ 0) ⊎ (MAX_WORKERS < workers)) }
-    ensures cut { (result ≡ Err RunFault.Cut)
-        ↔ ((cut ≡ 0) × (0 < workers) × (workers ≤ MAX_WORKERS)) }
-    ensures document { (f : DocumentFault) → result ≡ Err (RunFault.Document f)
-        → IfSome (R.remaining source.old) (λ bytes. IsAnswer bytes (Err f)) }
+    ensures workers { (result ≡ Err RunFault.Workers) ↔ AreNoWorkers workers }
+    ensures cut { (result ≡ Err RunFault.Cut) ↔ IsNoCut workers cut }
+    ensures document { TellsFaultOf (R.remaining source.old) result }
     ensures memory { result ≢ Err (RunFault.Document documents.Memory) }
     ensures read { (result ≡ Err RunFault.Read) ↔ (R.mark source.new ≡ true) }
     ensures write { (result ≡ Err RunFault.Write) ↔ (W.mark sink.new ≡ true) }
@@ -90,7 +96,9 @@ pub fn run<R: Source, W: Sink, G: Gate, T: Threads + Wait + Sync>(
             first: 0,
         },
     };
-    run.over_arena(&document, sink)
+    let written = run.over_arena(&document, sink);
+    leave(document, gate);
+    written
 }
 
 /// Reads a document, answers all its sends by workers while it makes the changes in their order, and writes a line for each item.
@@ -109,15 +117,12 @@ pub fn run_beside<R: Source, W: Sink, G: Gate, T: Threads + Wait + Sync>(
     requires unwritten { W.mark sink.old ≡ false }
     ensures whole { OnOk result (IfSome (R.remaining source.old)
         (WroteBeside workers cut (W.contents sink.old) (W.contents sink.new))) }
-    ensures front { result ≡ Err RunFault.Write → IfSome (R.remaining source.old)
-        (WroteFrontBeside workers cut (W.contents sink.old) (W.contents sink.new)) }
+    ensures start { result ≡ Err RunFault.Write → IfSome (R.remaining source.old)
+        (WroteStartBeside workers cut (W.contents sink.old) (W.contents sink.new)) }
     ensures nothing { Leaves (W.contents sink.old) (W.contents sink.new) result }
-    ensures workers { (result ≡ Err RunFault.Workers)
-        ↔ ((workers ≡ 0) ⊎ (MAX_WORKERS < workers)) }
-    ensures cut { (result ≡ Err RunFault.Cut)
-        ↔ ((cut ≡ 0) × (0 < workers) × (workers ≤ MAX_WORKERS)) }
-    ensures document { (f : DocumentFault) → result ≡ Err (RunFault.Document f)
-        → IfSome (R.remaining source.old) (λ bytes. IsAnswer bytes (Err f)) }
+    ensures workers { (result ≡ Err RunFault.Workers) ↔ AreNoWorkers workers }
+    ensures cut { (result ≡ Err RunFault.Cut) ↔ IsNoCut workers cut }
+    ensures document { TellsFaultOf (R.remaining source.old) result }
     ensures memory { result ≢ Err (RunFault.Document documents.Memory) }
     ensures read { (result ≡ Err RunFault.Read) ↔ (R.mark source.new ≡ true) }
     ensures write { (result ≡ Err RunFault.Write) ↔ (W.mark sink.new ≡ true) }
@@ -134,5 +139,7 @@ pub fn run_beside<R: Source, W: Sink, G: Gate, T: Threads + Wait + Sync>(
             first: 0,
         },
     };
-    run.over_arena(&document, sink)
+    let written = run.over_arena(&document, sink);
+    leave(document, gate);
+    written
 }

@@ -4,7 +4,7 @@ ghost use Rattle.std.specs.Prelude.{◌≡◌, ◌<◌, ◌≤◌, None, length,
 ghost use Rattle.msg_names.specs.declared.value.ClassRef.{ClassRef};
 ghost use Rattle.msg_tables.specs.Origin.{class_total};
 ghost use Rattle.msg_tables.specs.Affected.{if_any};
-ghost use Rattle.msg_tables.specs.Below.{is_among};
+ghost use Rattle.msg_tables.specs.Below.{covers};
 ghost use Rattle.msg_tables.specs.Log.{Log, and_then};
 ghost use Rattle.msg_tables.specs.Refusal.{refusal};
 ghost use Rattle.msg_tables.specs.Stands.{StandsAt};
@@ -41,7 +41,7 @@ fn flush_each(keeper: &mut Keeper, arena: &Arena, below: &Below)
     requires classes { AreClasses below.now.classes (keeper_history keeper.old).origin }
     ensures arena { IsKeeperOf arena.now keeper.new }
     ensures history { keeper_history keeper.new ≡ keeper_history keeper.old }
-    ensures flushed { (c : ClassRef) → is_among below.now c ≡ true → HasNoArray arena.now keeper.new c }
+    ensures flushed { (c : ClassRef) → covers below.now c ≡ true → HasNoArray arena.now keeper.new c }
     ensures others { StayFlushed arena.now keeper.old keeper.new }
 {
     for class in below.classes() {

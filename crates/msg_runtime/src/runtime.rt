@@ -23,7 +23,9 @@ use msg_names::{ClassRef, ImpRef, Selector};
 use msg_reader::laws::notes_are_of_longer_histories;
 use msg_reader::{Notes, Reader};
 use msg_tables::laws::{an_accepted_change_is_within_the_limit, tables_are_of_their_origin};
-use msg_tables::{Below, Change, ChangeFault, HasOrigin, Marks, Origin, Refused, Tables, Written};
+use msg_tables::{
+    Below, Change, ChangeFault, ChangeList, HasOrigin, Marks, Origin, Refused, Tables, Written,
+};
 use std::alloc::{AllocError, Global};
 use std::marker::Model;
 use std::mem::replace;
@@ -232,12 +234,12 @@ impl Runtime {
     /// would be refused. Then what those before it may alter is marked; where memory is wanting, the marks say nothing.
     ///
     /// No cache is touched. It costs the walk over the classes that it marks, and what it costs the tables to make the list and to take it back. The turn's history is the runtime's.
-    pub fn reach_all(
+    pub fn reach_all<L: ChangeList>(
         &mut self,
         alloc: Global,
         arena: &Arena,
         turn: &mut Turn,
-        changes: &[Change],
+        changes: &L,
         marked: &mut [bool],
     ) -> Result<(), Refused>
         requires arena { arena.now ≡ self.old.arena }
@@ -247,11 +249,11 @@ impl Runtime {
         ensures was { turn.old.history ≡ self.old.keeper.history }
         ensures is { turn.new.history ≡ self.old.keeper.history }
         ensures same { self.new ≡ record self.old { keeper = lent self.old.keeper } }
-        ensures ok { OnOk result (refused_from 0 (log self.old.keeper.history) changes.now ≡ None) }
-        ensures marks { OnOk result (MarksAllReached self.old changes.now marked.old marked.new) }
-        ensures refused { IfErr result (AreRefused changes.now self.old.keeper.history) }
+        ensures ok { OnOk result (refused_from 0 (log self.old.keeper.history) (L.changes changes.now) ≡ None) }
+        ensures marks { OnOk result (MarksAllReached self.old (L.changes changes.now) marked.old marked.new) }
+        ensures refused { IfErr result (AreRefused (L.changes changes.now) self.old.keeper.history) }
         ensures before { IfErr result (λ r. r.fault ≢ ChangeFault.Memory
-            → MarksAllReached self.old (take r.place changes.now) marked.old marked.new) }
+            → MarksAllReached self.old (take r.place (L.changes changes.now)) marked.old marked.new) }
         ensures length { length marked.new ≡ length marked.old }
     {
         tables_are_of_their_origin();
@@ -302,12 +304,12 @@ impl Runtime {
     ///
     /// The turn's history is the runtime's, before and after. It costs what its changes cost but for one count that is stored, and room for what they write, which is that of an earlier list where
     /// that was given back and is large enough.
-    pub fn change_all(
+    pub fn change_all<L: ChangeList>(
         &mut self,
         alloc: Global,
         arena: &Arena,
         turn: &mut Turn,
-        changes: &[Change],
+        changes: &L,
     ) -> Result<Made, Refused>
         requires arena { arena.now ≡ self.old.arena }
         requires turn { turn.old.table ≡ self.old.arena.table }
@@ -315,19 +317,19 @@ impl Runtime {
         ensures turn { turn.new.table ≡ self.old.arena.table }
         ensures was { turn.old.history ≡ self.old.keeper.history }
         ensures is { turn.new.history ≡ self.new.keeper.history }
-        ensures ok { OnOk result (AreMade changes.now self.old.keeper.history self.new.keeper.history) }
+        ensures ok { OnOk result (AreMade (L.changes changes.now) self.old.keeper.history self.new.keeper.history) }
         ensures count { IfOk result (λ made. made.count ≡ length self.new.keeper.history.changes) }
-        ensures back { IfOk result (λ made. TellsWayBack changes.now self.old.keeper.history made.written) }
+        ensures back { IfOk result (λ made. TellsWayBack (L.changes changes.now) self.old.keeper.history made.written) }
         ensures err { OnErr result (self.new.keeper.history ≡ self.old.keeper.history) }
         ensures caches { OnErr result (KeepsCaches self.old self.new) }
         ensures report { OnErr result (self.new.report ≡ self.old.report) }
-        ensures refused { IfErr result (AreRefused changes.now self.old.keeper.history) }
+        ensures refused { IfErr result (AreRefused (L.changes changes.now) self.old.keeper.history) }
     {
         tables_are_of_their_origin();
         self.keeper.face(arena, turn);
         let room = replace(&mut self.room, Written::none(alloc));
         let written = self.tables.apply_all(changes, room)?;
-        if changes.is_empty() {
+        if changes.len() == 0 {
             let count = self.keeper.count();
             return Ok(Made { count, written });
         }

@@ -39,6 +39,7 @@ pub mod PopLemmas
 pub mod PreorderLemmas
 pub mod WalkLemmas
 pub mod PlacedLemmas
+pub mod BeginsLemmas
 pub mod BelowAllLemmas
 pub mod RowSetLemmas
 pub mod RewriteLemmas

@@ -3,31 +3,12 @@ use Rattle.std.proofs.Common.{◌≡◌, ◌≢◌, ◌<◌, ◌≤◌, ◌+◌,
 use Rattle.std.specs.Prelude.{◌==◌, is_some, slice_set, IfSome}
 use Rattle.std.proofs.lemmas.List.{length-append, get_or-set_same, get_or-set_other}
 use Rattle.std.proofs.lemmas.Option.{same_Some}
+use Rattle.msg_order.proofs.PlacingLemmas.{pushed-get, pushed-kept, pushed-last}
 use Rattle.msg_names.proofs.TestLemmas.{same_number, other_number}
 use Rattle.msg_tables.specs.declared.presence.Presence.{Presence}
 use Rattle.msg_tables.specs.Chain.{presence_of, is_present}
 use Rattle.msg_tables.specs.Order.{StandsBefore, IsOrder, present_count}
 use Rattle.msg_tables.proofs.OrderLemmas.{count-le}
-
--- what stands in a list that grew by one at its end
-pushed-get : (xs : List ℕ) (x i j : ℕ) → slice_get (xs ++ x ∷ []) i ≡ Some j → (slice_get xs i ≡ Some j) ⊎ ((i ≡ length xs) × (x ≡ j))
-pushed-get [] x zero j e = inr (refl, same_Some x j e)
-pushed-get [] x (suc i) j e = inl e
-pushed-get (y ∷ xs) x zero j e = inl e
-pushed-get (y ∷ xs) x (suc i) j e = step (pushed-get xs x i j e)
-  where
-    step : (slice_get xs i ≡ Some j) ⊎ ((i ≡ length xs) × (x ≡ j)) → (slice_get (y ∷ xs) (suc i) ≡ Some j) ⊎ ((suc i ≡ length (y ∷ xs)) × (x ≡ j))
-    step (inl h) = inl h
-    step (inr (at, same)) = inr (omega (arith, at), same)
-
-pushed-kept : (xs : List ℕ) (x i j : ℕ) → slice_get xs i ≡ Some j → slice_get (xs ++ x ∷ []) i ≡ Some j
-pushed-kept [] x i j e = cc
-pushed-kept (y ∷ xs) x zero j e = e
-pushed-kept (y ∷ xs) x (suc i) j e = pushed-kept xs x i j e
-
-pushed-last : (xs : List ℕ) (x : ℕ) → slice_get (xs ++ x ∷ []) (length xs) ≡ Some x
-pushed-last [] x = refl
-pushed-last (y ∷ xs) x = pushed-last xs x
 
 -- one class more is present
 pub present_count-made : (supers : List (Option Presence)) (k : ℕ) (p : Presence) → k < length supers → is_present supers k ≡ false → present_count (slice_set supers k (Some p)) ≡ suc (present_count supers)

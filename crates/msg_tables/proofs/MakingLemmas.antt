@@ -1,6 +1,8 @@
 -- Changes of a list that are made one after another.
 use Rattle.std.proofs.Common.{◌≡◌, ◌<◌, ◌≤◌, ◌+◌, ℕ, zero, suc, List, [], ◌∷◌, ◌++◌, take, length, length-append, append_assoc, append-nil, Some, None, refl, sym, ap, ap₂, ◌∙◌, subst, slice_index_or, arith}
+use Rattle.std.specs.Prelude.{slice_get}
 use Rattle.std.proofs.lemmas.List.{take_more}
+use Rattle.std.proofs.lemmas.Option.{get_or_from_slice_get}
 use Rattle.msg_tables.specs.declared.change.Change.{Change}
 use Rattle.msg_tables.specs.declared.edit.Edit.{Edit}
 use Rattle.msg_tables.specs.declared.edit.Edit.TheVariants.{Append, Rewrite, RewriteBoth, Attach, Make}
@@ -81,6 +83,10 @@ beside-on old between new a b = record {
   count = b.count ∙ a.count;
   rest = a.rest ∙ ap (λ (t : TablesView). record t { supers = old.supers; order = old.order; lists = old.lists; row_count = old.row_count; change_count = old.change_count }) b.rest;
 }
+
+-- the change of a place, as lists of changes give it
+pub at-place : (xs : List Change) (i : ℕ) (x : Change) → slice_get xs i ≡ Some x → x ≡ slice_index_or xs i x
+at-place xs i x e = sym (get_or_from_slice_get xs i x x e)
 
 -- a place farther
 pub accepted-next : (h : Log) (xs : List Change) (i : ℕ) (x : Change) → i < length xs → x ≡ slice_index_or xs i x → AreAccepted h (take i xs) → refusal (and_all h (take i xs)) x ≡ None → AreAccepted h (take (i + 1) xs)

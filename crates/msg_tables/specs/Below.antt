@@ -15,13 +15,13 @@ pub record BelowView : Type 0 where
   -- how many classes there is room for
   pub room : ℕ
 
--- a class reference is one of these
-abbrev pub is_among : BelowView → ClassRef → Bool
-is_among b c = (if c.meta then b.meta else b.own) && is_in c.class b.classes
+-- they have this class reference
+abbrev pub covers : BelowView → ClassRef → Bool
+covers b c = (if c.meta then b.meta else b.own) && is_in c.class b.classes
 
 -- they are a class reference and those below it, at a log
 abbrev pub AreBelow : Log → ClassRef → BelowView → Type 0
-AreBelow h class b = (c : ClassRef) → is_among b c ≡ is_member class (chain_at h c)
+AreBelow h class b = (c : ClassRef) → covers b c ≡ is_member class (chain_at h c)
 
 -- what contracts see of them
 abbrev pub below_of : Inside → BelowView

@@ -5,6 +5,7 @@ pub mod Attached
 pub mod Below
 pub mod Buckets
 pub mod Chain
+pub mod ChangeList
 pub mod Edits
 pub mod FaultNumber
 pub mod Given

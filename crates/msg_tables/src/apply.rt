@@ -117,7 +117,7 @@ impl Tables {
     pub fn refusal(&self, change: &Change) -> Option<ChangeFault>
         ensures { (h : Log) → StandsAt self.now h → result ≡ refusal h change.now }
     {
-        self.judge(change).err()
+        self.judge(change.by_ref()).err()
     }
 
     /// Makes a change, or says why not and changes nothing.
@@ -131,7 +131,7 @@ impl Tables {
         ensures counts { self.new.counts ≡ self.old.counts }
         ensures memory { IsErrOf result ChangeFault.Memory → AcceptsRows self.old change.now }
     {
-        let edit = self.judge(change)?;
+        let edit = self.judge(change.by_ref())?;
         self.write(edit)?;
         self.change_count += 1;
         Ok(())

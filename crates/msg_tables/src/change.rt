@@ -1,5 +1,8 @@
 //! Changes of the class tables.
 
+ghost use Rattle.std.specs.Prelude.{◌≡◌};
+ghost use Rattle.msg_tables.specs.ChangeList.{change_of};
+
 use crate::methods::MethodList;
 use msg_names::{ClassRef, ImpRef, Selector};
 
@@ -42,4 +45,95 @@ pub enum Change {
         class: u32,
         superclass: Option<u32>,
     },
+}
+
+/// A change whose lists of methods stand elsewhere: one that is read.
+#[derive(Clone, Copy)]
+pub enum ChangeRef<'c> {
+    /// As [`Change::Add`].
+    Add {
+        class: ClassRef,
+        sel: Selector,
+        imp: ImpRef,
+    },
+    /// As [`Change::Replace`].
+    Replace {
+        class: ClassRef,
+        sel: Selector,
+        imp: ImpRef,
+    },
+    /// As [`Change::SetImp`].
+    SetImp {
+        class: ClassRef,
+        sel: Selector,
+        imp: ImpRef,
+    },
+    /// As [`Change::Exchange`].
+    Exchange {
+        class: ClassRef,
+        sel: Selector,
+        other: ClassRef,
+        other_sel: Selector,
+    },
+    /// As [`Change::Attach`].
+    Attach {
+        class: u32,
+        methods: &'c MethodList,
+        class_methods: &'c MethodList,
+    },
+    /// As [`Change::AddClass`].
+    AddClass {
+        class: u32,
+        superclass: Option<u32>,
+    },
+}
+
+impl Change {
+    /// The change, read.
+    #[inline(always)]
+    pub fn by_ref(&self) -> ChangeRef<'_>
+        ensures { change_of result ≡ self.now }
+    {
+        match self {
+            Change::Add { class, sel, imp } => ChangeRef::Add {
+                class: *class,
+                sel: *sel,
+                imp: *imp,
+            },
+            Change::Replace { class, sel, imp } => ChangeRef::Replace {
+                class: *class,
+                sel: *sel,
+                imp: *imp,
+            },
+            Change::SetImp { class, sel, imp } => ChangeRef::SetImp {
+                class: *class,
+                sel: *sel,
+                imp: *imp,
+            },
+            Change::Exchange {
+                class,
+                sel,
+                other,
+                other_sel,
+            } => ChangeRef::Exchange {
+                class: *class,
+                sel: *sel,
+                other: *other,
+                other_sel: *other_sel,
+            },
+            Change::Attach {
+                class,
+                methods,
+                class_methods,
+            } => ChangeRef::Attach {
+                class: *class,
+                methods,
+                class_methods,
+            },
+            Change::AddClass { class, superclass } => ChangeRef::AddClass {
+                class: *class,
+                superclass: *superclass,
+            },
+        }
+    }
 }

@@ -3,6 +3,7 @@
 ghost use Rattle.std.specs.Prelude.{◌≡◌, ◌<◌, ◌≤◌, ◌||◌, length, false, true, not, IfOk, IfSome, IsSome, None};
 ghost use Rattle.msg_names.specs.Number.{selector_number, imp_number};
 ghost use Rattle.msg_tables.specs.Chain.{is_present};
+ghost use Rattle.msg_tables.specs.ChangeList.{change_of};
 ghost use Rattle.msg_tables.specs.Edits.{Fits, HasRoomFor, IsJudged, adding, replacing, setting};
 ghost use Rattle.msg_tables.specs.Edits.{fault_of_methods, fault_of_row};
 ghost use Rattle.msg_tables.specs.Journal.{IsUndoneBy, MakesTheSame, WritesAt};
@@ -12,7 +13,7 @@ ghost use Rattle.msg_tables.specs.Stands.{AtLog};
 ghost use Rattle.msg_tables.specs.View.{HasClass, HaveListedImps, own_of};
 ghost use Rattle.msg_tables.specs.declared.change.Change.TheVariants.{AddClass, Attach, Exchange};
 
-use crate::change::Change;
+use crate::change::ChangeRef;
 use crate::counts::{last_imp, misfits, unlike};
 use crate::edit::{Edit, MethodRow};
 use crate::fault::ChangeFault;
@@ -103,6 +104,7 @@ impl Tables {
     }
 
     // Why the row could not stand, whatever stands there.
+    #[inline(always)]
     fn unfit(&self, row: MethodRow) -> Option<ChangeFault>
         ensures meaning { AtLog self.now (λ h. result ≡ fault_of_row h row) }
         ensures class { result ≡ None → row.class.class < length self.now.supers }
@@ -119,6 +121,7 @@ impl Tables {
         }
     }
 
+    #[inline(always)]
     fn judge_add<'c>(&self, row: MethodRow) -> Result<Edit<'c>, ChangeFault>
         ensures meaning { IsJudged self.now (adding row) result }
         ensures fits { IfOk result (Fits self.now) }
@@ -138,6 +141,7 @@ impl Tables {
         Ok(Edit::Append(row))
     }
 
+    #[inline(always)]
     fn judge_replace<'c>(&self, row: MethodRow) -> Result<Edit<'c>, ChangeFault>
         ensures meaning { IsJudged self.now (replacing row) result }
         ensures fits { IfOk result (Fits self.now) }
@@ -160,6 +164,7 @@ impl Tables {
         Ok(Edit::Append(row))
     }
 
+    #[inline(always)]
     fn judge_set<'c>(&self, row: MethodRow) -> Result<Edit<'c>, ChangeFault>
         ensures meaning { IsJudged self.now (setting row) result }
         ensures fits { IfOk result (Fits self.now) }
@@ -327,29 +332,30 @@ impl Tables {
     }
 
     // What the change would write, or the least fault for which it is refused.
-    pub(crate) fn judge<'c>(&self, change: &'c Change) -> Result<Edit<'c>, ChangeFault>
-        ensures meaning { IsJudged self.now change.now result }
+    #[inline(always)]
+    pub(crate) fn judge<'c>(&self, change: ChangeRef<'c>) -> Result<Edit<'c>, ChangeFault>
+        ensures meaning { IsJudged self.now (change_of change.entry) result }
         ensures fits { IfOk result (Fits self.now) }
-        ensures places { IfOk result (WritesAt self.now change.now) }
-        ensures made { IfOk result (MakesTheSame change.now) }
-        ensures undo { IfOk result (IsUndoneBy self.now change.now) }
+        ensures places { IfOk result (WritesAt self.now (change_of change.entry)) }
+        ensures made { IfOk result (MakesTheSame (change_of change.entry)) }
+        ensures undo { IfOk result (IsUndoneBy self.now (change_of change.entry)) }
     {
         match change {
-            Change::Add { class, sel, imp } => self.judge_add(row(*class, *sel, *imp)),
-            Change::Replace { class, sel, imp } => self.judge_replace(row(*class, *sel, *imp)),
-            Change::SetImp { class, sel, imp } => self.judge_set(row(*class, *sel, *imp)),
-            Change::Exchange {
+            ChangeRef::Add { class, sel, imp } => self.judge_add(row(class, sel, imp)),
+            ChangeRef::Replace { class, sel, imp } => self.judge_replace(row(class, sel, imp)),
+            ChangeRef::SetImp { class, sel, imp } => self.judge_set(row(class, sel, imp)),
+            ChangeRef::Exchange {
                 class,
                 sel,
                 other,
                 other_sel,
-            } => self.judge_exchange(*class, *sel, *other, *other_sel),
-            Change::Attach {
+            } => self.judge_exchange(class, sel, other, other_sel),
+            ChangeRef::Attach {
                 class,
                 methods,
                 class_methods,
-            } => self.judge_attach(*class, methods, class_methods),
-            Change::AddClass { class, superclass } => self.judge_make(*class, *superclass),
+            } => self.judge_attach(class, methods, class_methods),
+            ChangeRef::AddClass { class, superclass } => self.judge_make(class, superclass),
         }
     }
 }

@@ -5,6 +5,7 @@ mod apply;
 mod apply_all;
 mod below;
 mod change;
+mod change_list;
 mod counts;
 mod edit;
 mod entry;
@@ -32,7 +33,8 @@ mod take_back;
 
 pub use apply_all::Refused;
 pub use below::Below;
-pub use change::Change;
+pub use change::{Change, ChangeRef};
+pub use change_list::ChangeList;
 pub use counts::Counts;
 pub use entry::{Entry, Written};
 pub use fault::ChangeFault;

@@ -2,7 +2,7 @@
 
 ghost use Rattle.std.specs.Prelude.{◌≡◌, ◌==◌, ◌<◌, ◌≤◌, ◌+◌, ◌*◌, IfOk, ℕ, length, count_by, replicate, false, true};
 ghost use Rattle.msg_names.specs.ClassRef.{slot_of};
-ghost use Rattle.msg_tables.specs.Below.{is_among};
+ghost use Rattle.msg_tables.specs.Below.{covers};
 ghost use Rattle.msg_tables.specs.Marking.{MarksDescendants, MarksThose, is_marked, is_of};
 ghost use Rattle.msg_tables.specs.Preorder.{is_in};
 
@@ -80,7 +80,7 @@ pub(crate) fn mark_made(marked: &mut [bool], class: u32)
 // Marks class references beside those that are marked.
 fn mark_each(marked: &mut [bool], below: &Below)
     requires { (k : ℕ) → is_in k below.now.classes ≡ true → 2 * k + 1 < length marked.old }
-    ensures marks { MarksThose (is_among below.now) marked.old marked.new }
+    ensures marks { MarksThose (covers below.now) marked.old marked.new }
     ensures length { length marked.new ≡ length marked.old }
 {
     for class in below.classes() {

@@ -16,6 +16,7 @@ use msg_names::{ClassRef, ImpRef};
 use std::alloc::AllocError;
 
 // One more entry, for which there is room.
+#[inline(always)]
 fn note(journal: &mut Vec<Entry>, entry: Entry)
     requires { length journal.old.items < vec_capacity journal.old }
     ensures items { journal.new.items ≡ journal.old.items ++ entry ∷ [] }
@@ -26,6 +27,7 @@ fn note(journal: &mut Vec<Entry>, entry: Entry)
 }
 
 // A row that was rewritten, with the implementation that it had.
+#[inline(always)]
 fn note_rewritten(journal: &mut Vec<Entry>, row: MethodRow, was: ImpRef)
     requires { length journal.old.items < vec_capacity journal.old }
     ensures items { journal.new.items ≡ journal.old.items ++ Entry.Rewrote row.class row.sel was ∷ [] }
@@ -40,6 +42,7 @@ fn note_rewritten(journal: &mut Vec<Entry>, row: MethodRow, was: ImpRef)
 }
 
 impl Tables {
+    #[inline(always)]
     fn append_noted(&mut self, row: MethodRow, journal: &mut Vec<Entry>) -> Result<(), AllocError>
         requires fits { Fits self.old (Append row) }
         requires room { length journal.old.items < vec_capacity journal.old }
@@ -58,6 +61,7 @@ impl Tables {
         Ok(())
     }
 
+    #[inline(always)]
     fn rewrite_noted(&mut self, row: MethodRow, journal: &mut Vec<Entry>)
         requires own { IsOwn self.old row }
         requires room { length journal.old.items < vec_capacity journal.old }

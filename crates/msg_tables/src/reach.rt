@@ -2,6 +2,7 @@
 
 ghost use Rattle.std.specs.Prelude.{◌≡◌, ◌<◌, ◌≤◌, ◌*◌, OnOk, OnErr, IfErr, None, length};
 ghost use Rattle.msg_tables.specs.Accepts.{Refuses};
+ghost use Rattle.msg_tables.specs.ChangeList.{change_of};
 ghost use Rattle.msg_tables.specs.Log.{Log};
 ghost use Rattle.msg_tables.specs.Making.{AcceptsAndReaches, Reaches};
 ghost use Rattle.msg_tables.specs.Marking.{MarksAttached, MarksHolder};
@@ -9,7 +10,7 @@ ghost use Rattle.msg_tables.specs.Refusal.{refusal};
 ghost use Rattle.msg_tables.specs.Stands.{StandsAt};
 
 use crate::below::Below;
-use crate::change::Change;
+use crate::change::{Change, ChangeRef};
 use crate::fault::ChangeFault;
 use crate::marks::{Marks, mark_made};
 use crate::methods::MethodList;
@@ -52,44 +53,43 @@ impl Tables {
     }
 
     // Marks what an accepted change affects, beside what is marked.
-    pub(crate) fn mark_affected(&self, change: &Change, marked: &mut [bool], below: &mut Below)
-        requires accepted { (h : Log) × StandsAt self.now h × (refusal h change.now ≡ None) }
+    pub(crate) fn mark_affected(
+        &self,
+        change: ChangeRef<'_>,
+        marked: &mut [bool],
+        below: &mut Below,
+    )
+        requires accepted { (h : Log) × StandsAt self.now h × (refusal h (change_of change) ≡ None) }
         requires marks { length marked.old ≡ 2 * length self.now.supers }
         requires room { length self.now.supers ≤ below.old.room }
-        ensures marks { Reaches change.now self.now marked.old marked.new }
+        ensures marks { Reaches (change_of change.entry) self.now marked.old marked.new }
         ensures length { length marked.new ≡ length marked.old }
         ensures room { below.old.room ≤ below.new.room }
     {
         match change {
-            Change::Add { class, .. } => self.mark_below(*class, marked, below),
-            Change::Replace { class, .. } => self.mark_below(*class, marked, below),
-            Change::SetImp { class, sel, .. } => self.mark_holder(*class, *sel, marked, below),
-            Change::Exchange {
+            ChangeRef::Add { class, .. } => self.mark_below(class, marked, below),
+            ChangeRef::Replace { class, .. } => self.mark_below(class, marked, below),
+            ChangeRef::SetImp { class, sel, .. } => self.mark_holder(class, sel, marked, below),
+            ChangeRef::Exchange {
                 class,
                 sel,
                 other,
                 other_sel,
             } => {
-                self.mark_holder(*class, *sel, marked, below);
-                self.mark_holder(*other, *other_sel, marked, below);
+                self.mark_holder(class, sel, marked, below);
+                self.mark_holder(other, other_sel, marked, below);
             }
-            Change::Attach {
+            ChangeRef::Attach {
                 class,
                 methods,
                 class_methods,
             } => {
-                let own = ClassRef {
-                    class: *class,
-                    meta: false,
-                };
-                let meta = ClassRef {
-                    class: *class,
-                    meta: true,
-                };
+                let own = ClassRef { class, meta: false };
+                let meta = ClassRef { class, meta: true };
                 self.mark_attached(own, methods, marked, below);
                 self.mark_attached(meta, class_methods, marked, below);
             }
-            Change::AddClass { class, .. } => mark_made(marked, *class),
+            ChangeRef::AddClass { class, .. } => mark_made(marked, class),
         }
     }
 
@@ -104,8 +104,8 @@ impl Tables {
         ensures fault { IfErr result (Refuses self.now change.now) }
         ensures room { length marks.new ≡ length marks.old }
     {
-        self.judge(change)?;
-        self.mark_affected(change, &mut marks.marked, &mut marks.below);
+        self.judge(change.by_ref())?;
+        self.mark_affected(change.by_ref(), &mut marks.marked, &mut marks.below);
         Ok(())
     }
 }

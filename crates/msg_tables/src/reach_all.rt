@@ -3,6 +3,7 @@
 ghost use Rattle.std.specs.Prelude.{◌≡◌, ◌≢◌, ◌<◌, ◌≤◌, ◌+◌, ◌*◌, [], IfErr, IsErrOf, OnErr, OnOk, length};
 ghost use Rattle.std.specs.Vec.{vec_capacity};
 ghost use Rattle.msg_tables.specs.Accepts.{Accepts, Makes, Refuses};
+ghost use Rattle.msg_tables.specs.ChangeList.{change_of};
 ghost use Rattle.msg_tables.specs.declared.fault.ChangeFault.{ChangeFault};
 ghost use Rattle.msg_tables.specs.Log.{Log};
 ghost use Rattle.msg_tables.specs.Making.{AreMadeBefore, AreMadeTo, IsMade, IsPart, IsRefusedUnlessMemory};
@@ -11,7 +12,8 @@ ghost use Rattle.msg_tables.specs.Stands.{StandsAt};
 
 use crate::apply_all::Refused;
 use crate::below::Below;
-use crate::change::Change;
+use crate::change::ChangeRef;
+use crate::change_list::ChangeList;
 use crate::entry::Entry;
 use crate::fault::ChangeFault;
 use crate::tables::Tables;
@@ -21,7 +23,7 @@ impl Tables {
     // Marks what a change of a list affects, and then makes it.
     fn reach_part(
         &mut self,
-        change: &Change,
+        change: ChangeRef<'_>,
         journal: &mut Vec<Entry>,
         marked: &mut [bool],
         below: &mut Below,
@@ -30,18 +32,18 @@ impl Tables {
         requires stands { (h : Log) × StandsAt self.old h }
         requires marks { length marked.old ≡ 2 * length self.old.supers }
         requires below { length self.old.supers ≤ below.old.room }
-        ensures ok { OnOk result (Makes self.old change.now self.new) }
-        ensures part { OnOk result (IsPart change.now journal.old.items journal.new.items self.old self.new) }
+        ensures ok { OnOk result (Makes self.old (change_of change.entry) self.new) }
+        ensures part { OnOk result (IsPart (change_of change.entry) journal.old.items journal.new.items self.old self.new) }
         ensures err { OnErr result ((self.new ≡ self.old) × (journal.new.items ≡ journal.old.items)) }
-        ensures fault { IfErr result (λ f. f ≢ ChangeFault.Memory → Refuses self.old change.now f) }
-        ensures memory { IsErrOf result ChangeFault.Memory → Accepts self.old change.now }
-        ensures marks { OnOk result (Reaches change.now self.old marked.old marked.new) }
+        ensures fault { IfErr result (λ f. f ≢ ChangeFault.Memory → Refuses self.old (change_of change.entry) f) }
+        ensures memory { IsErrOf result ChangeFault.Memory → Accepts self.old (change_of change.entry) }
+        ensures marks { OnOk result (Reaches (change_of change.entry) self.old marked.old marked.new) }
         ensures kept { IfErr result (λ f. f ≢ ChangeFault.Memory → marked.new ≡ marked.old) }
         ensures length { length marked.new ≡ length marked.old }
         ensures room { vec_capacity journal.old ≤ vec_capacity journal.new }
         ensures below { below.old.room ≤ below.new.room }
     {
-        if let Some(fault) = self.refusal(change) {
+        if let Err(fault) = self.judge(change) {
             return Err(fault);
         }
         self.mark_affected(change, marked, below);
@@ -49,29 +51,29 @@ impl Tables {
     }
 
     // Marks what the changes of a list affect and makes them, one after another, as far as one that is refused.
-    fn reach_each(
+    fn reach_each<L: ChangeList>(
         &mut self,
-        changes: &[Change],
+        changes: &L,
         journal: &mut Vec<Entry>,
         marked: &mut [bool],
         below: &mut Below,
     ) -> Result<(), Refused>
         requires none { journal.old.items ≡ [] }
-        requires room { 2 * length changes.now ≤ vec_capacity journal.old }
+        requires room { 2 * length (L.changes changes.now) ≤ vec_capacity journal.old }
         requires stands { (h : Log) × StandsAt self.old h }
         requires marks { length marked.old ≡ 2 * length self.old.supers }
         requires below { length self.old.supers ≤ below.old.room }
-        ensures ok { OnOk result (IsMade changes.now journal.new.items self.old self.new) }
-        ensures err { IfErr result (AreMadeTo changes.now journal.new.items self.old self.new) }
-        ensures fault { IfErr result (IsRefusedUnlessMemory changes.now self.old) }
-        ensures memory { IfErr result (LacksMemory changes.now self.old) }
-        ensures marks { OnOk result (ReachesAll changes.now self.old marked.old marked.new) }
-        ensures before { IfErr result (ReachesBefore changes.now self.old marked.old marked.new) }
+        ensures ok { OnOk result (IsMade (L.changes changes.now) journal.new.items self.old self.new) }
+        ensures err { IfErr result (AreMadeTo (L.changes changes.now) journal.new.items self.old self.new) }
+        ensures fault { IfErr result (IsRefusedUnlessMemory (L.changes changes.now) self.old) }
+        ensures memory { IfErr result (LacksMemory (L.changes changes.now) self.old) }
+        ensures marks { OnOk result (ReachesAll (L.changes changes.now) self.old marked.old marked.new) }
+        ensures before { IfErr result (ReachesBefore (L.changes changes.now) self.old marked.old marked.new) }
         ensures length { length marked.new ≡ length marked.old }
         ensures below { below.old.room ≤ below.new.room }
     {
-        for (place, change) in changes.iter().enumerate() {
-            if let Err(fault) = self.reach_part(change, journal, marked, below) {
+        for place in 0..changes.len() {
+            if let Err(fault) = self.reach_part(changes.get(place), journal, marked, below) {
                 return Err(Refused { place, fault });
             }
         }
@@ -83,10 +85,10 @@ impl Tables {
     ///
     /// The changes are made, each after what it affects was marked, and taken back: what that costs, and the room for it, [`apply_all`](Tables::apply_all) says. Beside that it looks at the
     /// classes that it marks.
-    pub fn reach_all(
+    pub fn reach_all<L: ChangeList>(
         &mut self,
         alloc: Global,
-        changes: &[Change],
+        changes: &L,
         marked: &mut [bool],
         below: &mut Below,
     ) -> Result<(), Refused>
@@ -94,13 +96,13 @@ impl Tables {
         requires marks { length marked.old ≡ 2 * length self.old.supers }
         requires below { length self.old.supers ≤ below.old.room }
         ensures same { self.new ≡ self.old }
-        ensures ok { OnOk result (RefusesNone changes.now self.old) }
-        ensures marks { OnOk result (ReachesAll changes.now self.old marked.old marked.new) }
-        ensures fault { IfErr result (IsRefusedUnlessMemory changes.now self.old) }
-        ensures memory { IfErr result (LacksMemory changes.now self.old) }
-        ensures before { IfErr result (AreMadeBefore changes.now self.old) }
-        ensures within { IfErr result (λ r. r.place < length changes.now) }
-        ensures kept { IfErr result (ReachesBefore changes.now self.old marked.old marked.new) }
+        ensures ok { OnOk result (RefusesNone (L.changes changes.now) self.old) }
+        ensures marks { OnOk result (ReachesAll (L.changes changes.now) self.old marked.old marked.new) }
+        ensures fault { IfErr result (IsRefusedUnlessMemory (L.changes changes.now) self.old) }
+        ensures memory { IfErr result (LacksMemory (L.changes changes.now) self.old) }
+        ensures before { IfErr result (AreMadeBefore (L.changes changes.now) self.old) }
+        ensures within { IfErr result (λ r. r.place < length (L.changes changes.now)) }
+        ensures kept { IfErr result (ReachesBefore (L.changes changes.now) self.old marked.old marked.new) }
         ensures length { length marked.new ≡ length marked.old }
         ensures below { below.old.room ≤ below.new.room }
     {

@@ -55,7 +55,7 @@ fn a_list_is_made_and_told(rt: HostRuntime) {
     let tag = selector(&rt, &image, "tag");
     let changes = three(&rt, rt.alloc(), value, tag);
     let written = tables
-        .apply_all(&changes, Written::none(rt.alloc()))
+        .apply_all(&changes.as_slice(), Written::none(rt.alloc()))
         .expect(&rt, "no fault");
     let after = [(GRAND, value, 2), (CHILD, value, 12), (SIDE, tag, 1)];
     are_found(&rt, &image, &tables, &after);
@@ -103,7 +103,9 @@ fn a_refused_list_leaves_all_as_it_was(rt: HostRuntime) {
     };
     same(
         &rt,
-        tables.apply_all(&changes, Written::none(rt.alloc())).err(),
+        tables
+            .apply_all(&changes.as_slice(), Written::none(rt.alloc()))
+            .err(),
         Some(refused),
     );
     let before = [(GRAND, value, 1), (CHILD, value, 1), (SIDE, tag, 13)];
@@ -112,7 +114,7 @@ fn a_refused_list_leaves_all_as_it_was(rt: HostRuntime) {
     same(
         &rt,
         tables
-            .apply_all(&changes, Written::none(rt.alloc()))
+            .apply_all(&changes.as_slice(), Written::none(rt.alloc()))
             .is_ok(),
         true,
     );
@@ -145,7 +147,7 @@ fn a_list_is_undone(rt: HostRuntime) {
     let name = selector(&rt, &image, "name");
     let changes = two(&rt, rt.alloc(), value, name);
     let written = tables
-        .apply_all(&changes, Written::none(rt.alloc()))
+        .apply_all(&changes.as_slice(), Written::none(rt.alloc()))
         .expect(&rt, "no fault");
     let after = [(ROOT, value, 11), (GRAND, name, 12), (SIDE, name, 2)];
     are_found(&rt, &image, &tables, &after);
@@ -153,7 +155,9 @@ fn a_list_is_undone(rt: HostRuntime) {
     let back = undo.expect(&rt, "no row was added");
     same(
         &rt,
-        tables.apply_all(&back, Written::none(rt.alloc())).is_ok(),
+        tables
+            .apply_all(&back.as_slice(), Written::none(rt.alloc()))
+            .is_ok(),
         true,
     );
     let before = [(ROOT, value, 1), (GRAND, name, 11), (SIDE, name, 2)];

@@ -174,13 +174,13 @@ fn a_list_reaches_what_its_changes_may_alter(rt: HostRuntime) {
     let mut marked = vec![in rt.alloc(); false; places].expect(&rt, "memory");
     let value = selector(&rt, 2);
     let list = [added(CHILD, value), set(GRAND, value), added(CHILD, value)];
-    let reached = tables.reach_all(rt.alloc(), &list[..2], &mut marked, &mut below);
+    let reached = tables.reach_all(rt.alloc(), &&list[..2], &mut marked, &mut below);
     same(&rt, reached, Ok(()));
     same(&rt, marked.iter().filter(|mark| **mark).count(), 2);
     let refused = Refused {
         place: 2,
         fault: ChangeFault::MethodPresent,
     };
-    let again = tables.reach_all(rt.alloc(), &list, &mut marked, &mut below);
+    let again = tables.reach_all(rt.alloc(), &list.as_slice(), &mut marked, &mut below);
     same(&rt, again, Err(refused));
 }

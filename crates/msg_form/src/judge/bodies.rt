@@ -1,33 +1,61 @@
 //! What is wrong with bodies.
 //!
-//! Bodies are most of a large document. They are judged body by body, so that each is fetched from memory once: one walk looks for all faults.
+//! Bodies are most of a large document. One walk looks for all faults of a body, when it was read and still lies near. Only a body that names classes or
+//! objects is walked over again, to look these names up.
 
-ghost use Rattle.std.specs.Prelude.{◌≡◌, ◌&&◌, ◌||◌, not};
+ghost use Rattle.std.specs.Prelude.{◌≡◌, ◌&&◌, false, not};
 ghost use Rattle.std.specs.List.{list_any};
-ghost use Rattle.msg_form.specs.BodyFaults.{AreBodyFaults, has_miscounted_send};
+ghost use Rattle.msg_form.specs.BodyFaults.{AreAdded, AreBodyFaults, AreWorst, has_miscounted_send};
 ghost use Rattle.msg_form.specs.BodyFaults.{names_unknown_class, names_unknown_object};
 ghost use Rattle.msg_form.specs.Faults as spec;
+ghost use Rattle.msg_form.specs.ExprView.{expr_view};
 ghost use Rattle.msg_form.specs.FormNames.{AreNamesOf};
+ghost use Rattle.msg_form.specs.Parts.{has_texts};
 ghost use Rattle.msg_form.specs.Text.{is_among};
 ghost use Rattle.msg_form.specs.Views.{imp_view, imps_view, form_view};
 
 use super::body_walk::{BodyWalk, Found};
-use crate::form::{Form, Imp};
+use crate::form::{Expr, Form, Imp};
 use crate::form_names::FormNames;
-use crate::limits::{MAX_DEPTH, MAX_EXPRESSIONS};
 use crate::name_set::NameSet;
+use std::alloc::Global;
 
 /// Which faults some body has.
 #[derive(Clone, Copy)]
-pub(super) struct BodyFaults {
+pub(crate) struct BodyFaults {
     /// A super send in a method of a root class.
-    pub(super) sends_above: bool,
-    pub(super) unknown_class: bool,
-    pub(super) unknown_object: bool,
+    pub(crate) sends_above: bool,
+    pub(crate) unknown_class: bool,
+    pub(crate) unknown_object: bool,
     /// A send with too few or too many arguments.
-    pub(super) argument_count: bool,
-    pub(super) argument_index: bool,
-    pub(super) too_deep: bool,
+    pub(crate) argument_count: bool,
+    pub(crate) argument_index: bool,
+    pub(crate) too_deep: bool,
+}
+
+const NO_FAULTS: BodyFaults = BodyFaults {
+    sends_above: false,
+    unknown_class: false,
+    unknown_object: false,
+    argument_count: false,
+    argument_index: false,
+    too_deep: false,
+};
+
+/// What a look at a body finds when it is read: the faults that it has at its worst, in a method of a root class, where
+/// no class and no object has a name; and whether it has texts at places of selectors.
+pub(crate) fn looked_at(alloc: Global, body: &Expr, args: u8) -> Found
+    ensures worst { AreWorst result.faults args (expr_view body.now) }
+    ensures selects { result.selects ≡ has_texts (expr_view body.now) }
+{
+    let none = NameSet::new(alloc);
+    let walk = BodyWalk {
+        above: true,
+        classes: &none,
+        objects: &none,
+        args: u64::from(args),
+    };
+    walk.found(NO_FAULTS, body)
 }
 
 /// Which faults the bodies of a form have.
@@ -66,14 +94,7 @@ impl Known<'_, '_> {
         ensures too_deep { result.too_deep
             ≡ list_any (λ i. spec.is_too_deep i.body) (imps_view imps.now) }
     {
-        let mut faults = BodyFaults {
-            sends_above: false,
-            unknown_class: false,
-            unknown_object: false,
-            argument_count: false,
-            argument_index: false,
-            too_deep: false,
-        };
+        let mut faults = NO_FAULTS;
         for imp in imps {
             faults = self.with_body(faults, imp);
         }
@@ -81,18 +102,20 @@ impl Known<'_, '_> {
     }
 
     fn with_body(&self, faults: BodyFaults, imp: &Imp) -> BodyFaults
-        ensures sends_above { result.sends_above
-            ≡ (faults.sends_above || spec.sends_above self.now.roots.now (imp_view imp.now)) }
-        ensures unknown_class { result.unknown_class
-            ≡ (faults.unknown_class || names_unknown_class self.now.classes.now (imp_view imp.now)) }
-        ensures unknown_object { result.unknown_object
-            ≡ (faults.unknown_object || names_unknown_object self.now.objects.now (imp_view imp.now)) }
-        ensures argument_count { result.argument_count
-            ≡ (faults.argument_count || has_miscounted_send (imp_view imp.now)) }
-        ensures argument_index { result.argument_index
-            ≡ (faults.argument_index || spec.reads_beyond (imp_view imp.now)) }
-        ensures too_deep { result.too_deep
-            ≡ (faults.too_deep || spec.is_too_deep (imp_view imp.now).body) }
+        ensures { AreAdded self.now.roots.now self.now.classes.now self.now.objects.now
+            faults result (imp_view imp.now) }
+    {
+        if imp.worst.unknown_class | imp.worst.unknown_object {
+            self.with_names(faults, imp)
+        } else {
+            self.with_worst(faults, imp)
+        }
+    }
+
+    /// Looks the names of a body up.
+    fn with_names(&self, faults: BodyFaults, imp: &Imp) -> BodyFaults
+        ensures { AreAdded self.now.roots.now self.now.classes.now self.now.objects.now
+            faults result (imp_view imp.now) }
     {
         let walk = BodyWalk {
             above: looks_above(self.roots, imp),
@@ -100,12 +123,26 @@ impl Known<'_, '_> {
             objects: self.objects,
             args: u64::from(imp.args),
         };
-        let mut found = Found {
-            faults,
-            room: MAX_EXPRESSIONS,
-        };
-        walk.visit(&imp.body, MAX_DEPTH, &mut found);
-        found.faults
+        walk.found(faults, &imp.body).faults
+    }
+
+    /// A body that names no class and no object has its worst faults, but for those of a root class.
+    fn with_worst(&self, faults: BodyFaults, imp: &Imp) -> BodyFaults
+        requires class { imp.now.worst.unknown_class ≡ false }
+        requires object { imp.now.worst.unknown_object ≡ false }
+        ensures { AreAdded self.now.roots.now self.now.classes.now self.now.objects.now
+            faults result (imp_view imp.now) }
+    {
+        let worst = imp.worst;
+        let above = looks_above(self.roots, imp) & worst.sends_above;
+        BodyFaults {
+            sends_above: faults.sends_above | above,
+            unknown_class: faults.unknown_class,
+            unknown_object: faults.unknown_object,
+            argument_count: faults.argument_count | worst.argument_count,
+            argument_index: faults.argument_index | worst.argument_index,
+            too_deep: faults.too_deep | worst.too_deep,
+        }
     }
 }
 

@@ -2,19 +2,23 @@
 
 ghost use Rattle.std.specs.Prelude.{◌≡◌, fold};
 ghost use Rattle.msg_form.specs.BodyWalk as spec;
-ghost use Rattle.msg_form.specs.ExprView.{expr_view, exprs_view};
+ghost use Rattle.msg_form.specs.ExprView.{constant_view, expr_view, exprs_view};
+ghost use Rattle.msg_form.specs.Parts.{names_text};
 
 use super::bodies::BodyFaults;
 use super::counts::is_miscounted_send;
 use crate::form::{Constant, Expr};
+use crate::limits::{MAX_DEPTH, MAX_EXPRESSIONS};
 use crate::name_set::NameSet;
 
 /// What a walk has found so far.
 #[derive(Clone, Copy)]
-pub(super) struct Found {
-    pub(super) faults: BodyFaults,
+pub(crate) struct Found {
+    pub(crate) faults: BodyFaults,
+    /// Whether there is a text at a place of a selector.
+    pub(crate) selects: bool,
     /// How many more expressions there may be.
-    pub(super) room: u32,
+    room: u32,
 }
 
 impl Found {
@@ -39,16 +43,30 @@ pub(super) struct BodyWalk<'s, 'v> {
 }
 
 impl BodyWalk<'_, '_> {
+    /// What a whole body adds to faults.
+    pub(super) fn found(&self, faults: BodyFaults, body: &Expr) -> Found
+        ensures { result ≡ fold (spec.with_part_by self.now) (spec.with_faults faults)
+            (spec.parts_at MAX_DEPTH (expr_view body.now)) }
+    {
+        let mut found = Found {
+            faults,
+            selects: false,
+            room: MAX_EXPRESSIONS,
+        };
+        self.visit(body, MAX_DEPTH, &mut found);
+        found
+    }
+
     /// Looks at an expression and those inside it, where there may be so many levels.
     #[cycle(visit)]
-    pub(super) fn visit(&self, expr: &Expr, levels: u32, found: &mut Found)
+    fn visit(&self, expr: &Expr, levels: u32, found: &mut Found)
         ensures { found.new
             ≡ fold (spec.with_part_by self.now) found.old (spec.parts_at levels (expr_view expr.now)) }
     {
         self.look(expr, levels, found);
         let inner = levels.saturating_sub(1);
         match expr {
-            Expr::Const(_) | Expr::Me | Expr::Arg(_) => {}
+            Expr::Whole(_) | Expr::Const(_) | Expr::Me | Expr::Arg(_) => {}
             Expr::Binary(binary) => {
                 self.visit(&binary.left, inner, found);
                 self.visit(&binary.right, inner, found);
@@ -82,6 +100,7 @@ impl BodyWalk<'_, '_> {
             ≡ spec.with_part_by self.now found.old (levels, expr_view expr.now) }
     {
         found.enter(levels);
+        found.selects = found.selects | names_text(expr);
         self.note(expr, &mut found.faults);
     }
 
@@ -90,12 +109,7 @@ impl BodyWalk<'_, '_> {
             ≡ spec.with_own_by self.now faults.old (expr_view expr.now) }
     {
         match expr {
-            Expr::Const(Constant::Class(name)) => {
-                faults.unknown_class = faults.unknown_class | self.classes.lacks(*name);
-            }
-            Expr::Const(Constant::Object(name)) => {
-                faults.unknown_object = faults.unknown_object | self.objects.lacks(*name);
-            }
+            Expr::Const(constant) => self.note_constant(constant, faults),
             Expr::Arg(index) => {
                 let beyond = self.args <= *index;
                 faults.argument_index = faults.argument_index | beyond;
@@ -109,7 +123,33 @@ impl BodyWalk<'_, '_> {
                 faults.argument_count = faults.argument_count | miscounted;
                 faults.sends_above = faults.sends_above | self.above;
             }
-            Expr::Const(_) | Expr::Me | Expr::Binary(_) | Expr::If(_) => {}
+            Expr::Whole(_) | Expr::Me | Expr::Binary(_) | Expr::If(_) => {}
         }
+    }
+
+    fn note_constant(&self, constant: &Constant, faults: &mut BodyFaults)
+        ensures { faults.new ≡ spec.with_constant self.now.classes.now self.now.objects.now
+            faults.old (constant_view constant.now) }
+    {
+        match constant {
+            Constant::Class(name) => {
+                faults.unknown_class = faults.unknown_class | self.classes.lacks(*name);
+            }
+            Constant::Object(name) => {
+                faults.unknown_object = faults.unknown_object | self.objects.lacks(*name);
+            }
+            Constant::Whole(_) | Constant::Nil | Constant::Selector(_) => {}
+        }
+    }
+}
+
+/// Whether an expression itself has a text at a place of a selector.
+fn names_text(expr: &Expr) -> bool
+    ensures { result ≡ names_text (expr_view expr.now) }
+{
+    match expr {
+        Expr::Const(constant) => matches!(constant, Constant::Selector(_)),
+        Expr::Send(_) | Expr::Super(_) => true,
+        _ => false,
     }
 }

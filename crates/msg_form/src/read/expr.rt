@@ -119,7 +119,7 @@ fn expr<'v>(alloc: Global, bump: &'v Bump, value: &Tree<'v, '_>) -> Result<Expr<
     match value {
         Tree::Array(values) => listed(alloc, bump, values),
         _ => match constant(value) {
-            Some(constant) => Ok(Expr::Const(constant)),
+            Some(constant) => kept_constant(bump, constant),
             None => Err(ReadFault::Shape),
         },
     }
@@ -165,7 +165,7 @@ fn listed<'v>(alloc: Global, bump: &'v Bump, values: &[Tree<'v, '_>]) -> Result<
         _ => match operator(word) {
             Some(operator) => binary(alloc, bump, operator, values),
             None => match named(word, values) {
-                Some(constant) => Ok(Expr::Const(constant)),
+                Some(constant) => kept_constant(bump, constant),
                 None => Err(ReadFault::Shape),
             },
         },
@@ -285,6 +285,19 @@ pub(super) fn constants<'v>(
 }
 
 // ---- what is large, in the arena
+
+#[inline(always)]
+fn kept_constant<'v>(bump: &'v Bump, constant: Constant<'v>) -> Result<Expr<'v>, ReadFault>
+    ensures { Gives expr_view result (Some (plain.constant (constant_view constant.entry))) }
+{
+    if let Constant::Whole(number) = constant {
+        return Ok(Expr::Whole(number));
+    }
+    match bump.try_alloc(constant) {
+        Ok(constant) => Ok(Expr::Const(constant)),
+        Err(_) => Err(ReadFault::Memory),
+    }
+}
 
 fn kept_binary<'v>(
     bump: &'v Bump,

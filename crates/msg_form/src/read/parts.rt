@@ -18,6 +18,7 @@ use crate::faults::ReadFault;
 use crate::form::{
     Category, Change, Class, Expr, Form, Imp, Item, Object, Pair, is_second, is_third,
 };
+use crate::judge::looked_at;
 use msg_json::{Bump, Tree, get, has_keys, whole};
 use std::alloc::Global;
 
@@ -190,12 +191,16 @@ impl<'v> FromValue<'v> for Imp<'v> {
         let (Some(meta), Some(args)) = (truth(meta), arg_count(args)) else {
             return Err(ReadFault::Shape);
         };
+        let body = Expr::from_value(alloc, bump, body)?;
+        let found = looked_at(alloc, &body, args);
         Ok(Imp {
             name,
             class,
             meta,
             args,
-            body: Expr::from_value(alloc, bump, body)?,
+            body,
+            worst: found.faults,
+            selects: found.selects,
         })
     }
 }

@@ -5,8 +5,8 @@ use Rattle.std.specs.Io.KnownBytes.{Appends}
 use Rattle.msg_form.specs.FaultNumber.{document_fault_number, document_fault_text}
 use Rattle.msg_form.specs.declared.faults.DocumentFault.{DocumentFault}
 use Rattle.msg_devices.specs.Decimal.{digits}
-use Rattle.msg_devices.specs.Writing.{AppendsFront}
-use Rattle.msg_devices.proofs.ByteLemmas.{front_of_these, front_of_those, front_after}
+use Rattle.msg_devices.specs.Writing.{AppendsStart}
+use Rattle.msg_devices.proofs.ByteLemmas.{start_of_these, start_of_those, start_after}
 use Rattle.msg_devices.proofs.complaint.say_fault.Goals as goal
 
 -- the line in three parts
@@ -16,20 +16,20 @@ head f = codes "document fault " ++ digits (document_fault_number f)
 abbrev middle : DocumentFault → List ℕ
 middle f = codes ": " ++ document_fault_text f
 
-pub returns-in_err-write_numbered-clause-front : goal.returns-in_err-write_numbered-clause-front
-returns-in_err-write_numbered-clause-front g c =
+pub returns-in_err-write_numbered-clause-start : goal.returns-in_err-write_numbered-clause-start
+returns-in_err-write_numbered-clause-start g c =
     let e = err_from_is_err_and c.from_residual.result c.from_residual.ensures.1 in
     let number = ap digits c.number.ensures in
-    let first = subst (λ t. AppendsFront (g.W.Sink.contents c.args.sink.now) (g.W.Sink.contents c.write_numbered.new.sink) (codes "document fault " ++ t)) number c.in_err-write_numbered.ensures.front in
-    rw (e.1) (front_of_these _ _ (head c.args.fault) (middle c.args.fault ++ codes "\n") first)
+    let first = subst (λ t. AppendsStart (g.W.Sink.contents c.args.sink.now) (g.W.Sink.contents c.write_numbered.new.sink) (codes "document fault " ++ t)) number c.in_err-write_numbered.ensures.start in
+    rw (e.1) (start_of_these _ _ (head c.args.fault) (middle c.args.fault ++ codes "\n") first)
 
-pub returns-in_err-write_both-clause-front : goal.returns-in_err-write_both-clause-front
-returns-in_err-write_both-clause-front g c =
+pub returns-in_err-write_both-clause-start : goal.returns-in_err-write_both-clause-start
+returns-in_err-write_both-clause-start g c =
     let e = err_from_is_err_and c.from_residual-in_err-write_both.result c.from_residual-in_err-write_both.ensures.1 in
     let number = ap digits c.number.ensures in
     let first = subst (λ t. Appends (g.W.Sink.contents c.args.sink.now) (g.W.Sink.contents c.write_numbered.new.sink) (codes "document fault " ++ t)) number c.in_ok-write_numbered.ensures.whole in
-    let second = subst (λ t. AppendsFront (g.W.Sink.contents c.write_numbered.new.sink) (g.W.Sink.contents c.write_both.new.sink) (codes ": " ++ t)) (c.as_bytes.ensures.value ∙ c.text.ensures) c.in_err-write_both.ensures.front in
-    rw (e.1) (front_of_those _ _ _ (head c.args.fault) (middle c.args.fault ++ codes "\n") first (front_of_these _ _ (middle c.args.fault) (codes "\n") second))
+    let second = subst (λ t. AppendsStart (g.W.Sink.contents c.write_numbered.new.sink) (g.W.Sink.contents c.write_both.new.sink) (codes ": " ++ t)) (c.as_bytes.ensures.value ∙ c.text.ensures) c.in_err-write_both.ensures.start in
+    rw (e.1) (start_of_those _ _ _ (head c.args.fault) (middle c.args.fault ++ codes "\n") first (start_of_these _ _ (middle c.args.fault) (codes "\n") second))
 
 after : {A E : Type 0} (a b c d : Option (List ℕ)) (one two three : List ℕ) (r : Result A E) → Appends a b one → Appends b c two → OnOk r (Appends c d three) → OnOk r (Appends a d (one ++ (two ++ three)))
 after a b c d one two three (Ok x) first second third = Appends-trans a b d one (two ++ three) first (Appends-trans b c d two three second third)
@@ -42,9 +42,9 @@ returns-clause-whole g c =
     let second = subst (λ t. Appends (g.W.Sink.contents c.write_numbered.new.sink) (g.W.Sink.contents c.write_both.new.sink) (codes ": " ++ t)) (c.as_bytes.ensures.value ∙ c.text.ensures) c.in_ok-write_both.ensures.whole in
     after _ _ _ _ (head c.args.fault) (middle c.args.fault) (codes "\n") c.write_whole.result first second c.write_whole.ensures.whole
 
-pub returns-clause-front : goal.returns-clause-front
-returns-clause-front g c =
+pub returns-clause-start : goal.returns-clause-start
+returns-clause-start g c =
     let number = ap digits c.number.ensures in
     let first = subst (λ t. Appends (g.W.Sink.contents c.args.sink.now) (g.W.Sink.contents c.write_numbered.new.sink) (codes "document fault " ++ t)) number c.in_ok-write_numbered.ensures.whole in
     let second = subst (λ t. Appends (g.W.Sink.contents c.write_numbered.new.sink) (g.W.Sink.contents c.write_both.new.sink) (codes ": " ++ t)) (c.as_bytes.ensures.value ∙ c.text.ensures) c.in_ok-write_both.ensures.whole in
-    front_after _ _ _ (head c.args.fault) (middle c.args.fault ++ codes "\n") c.write_whole.result first (front_after _ _ _ (middle c.args.fault) (codes "\n") c.write_whole.result second c.write_whole.ensures.front)
+    start_after _ _ _ (head c.args.fault) (middle c.args.fault ++ codes "\n") c.write_whole.result first (start_after _ _ _ (middle c.args.fault) (codes "\n") c.write_whole.result second c.write_whole.ensures.start)

@@ -4,12 +4,15 @@ use Rattle.msg_form.specs.Expression.{expressions}
 use Rattle.msg_form.specs.ExprView.{expr_view}
 use Rattle.msg_form.specs.Text.{texts_view}
 use Rattle.msg_form.specs.Walk.{all_texts_in}
-use Rattle.msg_form.proofs.BodyWalkLemmas.{texts-Const, texts-Binary, texts-If, texts-Send, texts-Super, leaf_pushed, one_pushed, two_pushed, three_pushed, selector_pushed, send_pushed, pushed_on, pushed_all}
+use Rattle.msg_form.proofs.BodyWalkLemmas.{texts-Const, texts-Whole, none_pushed, texts-Binary, texts-If, texts-Send, texts-Super, leaf_pushed, one_pushed, two_pushed, three_pushed, selector_pushed, send_pushed, pushed_on, pushed_all}
 use Rattle.msg_form.proofs.walk.+push_expr.Goals as goal
 
 pub push_expr-returns-in-Const : goal.push_expr-returns-in-Const
 push_expr-returns-in-Const t c =
     on_ok_weaker c.push_selectors.result (one_pushed (texts_view c.args.texts.now.items) (texts_view c.push_selectors.new.texts.items) _ _ (texts-Const c.args.expr.now c.in-Const.constant c.in-Const.is)) c.push_selectors.ensures
+
+pub push_expr-returns-in-Whole : goal.push_expr-returns-in-Whole
+push_expr-returns-in-Whole t c = none_pushed (texts_view c.args.texts.now.items) _ (texts-Whole c.args.expr.now c.in-Whole.is)
 
 pub push_expr-returns-in-Me : goal.push_expr-returns-in-Me
 push_expr-returns-in-Me t c = leaf_pushed c.args.expr.now (texts_view c.args.texts.now.items) c.in-Me.is

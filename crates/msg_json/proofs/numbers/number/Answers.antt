@@ -8,9 +8,9 @@ unfolding number_of
 returns-then-has_minus c =
     let bytes = c.as_bytes-bytes.result.now in
     let minus : (get_or bytes 0 0 == 45) ≡ true = sym c.if-has_minus.ensures.value in
-    let after : c.scan.result ≡ scan (drop 1 bytes) = c.scan.ensures.parts ∙ ap scan (take_all _ (drop 1 bytes) (omega (arith, length-drop 1 bytes))) in
+    let after = take_all _ (drop 1 bytes) (omega (arith, length-drop 1 bytes)) in
     let here : number_from true (scan (drop 1 bytes)) ≡ number_of bytes = rw minus in
-    c.negative.ensures ∙ ap (number_from true) after ∙ here ∙ ap number_of c.as_bytes-bytes.ensures.value
+    c.after_minus.ensures ∙ ap (λ bs. number_from true (scan bs)) after ∙ here ∙ ap number_of c.as_bytes-bytes.ensures.value
 
 pub returns-in-Some : goal.returns-in-Some
 unfolding number_of
@@ -26,4 +26,4 @@ returns-in-None c =
     let bytes = c.as_bytes-bytes.result.now in
     let plain : (get_or bytes 0 0 == 45) ≡ false = sym c.if-has_minus.ensures.value in
     let here : number_from false (scan bytes) ≡ number_of bytes = rw plain in
-    c.unsigned.ensures ∙ ap (number_from false) c.scan-in-None.ensures.parts ∙ here ∙ ap number_of c.as_bytes-bytes.ensures.value
+    c.without_minus.ensures ∙ here ∙ ap number_of c.as_bytes-bytes.ensures.value

@@ -1,6 +1,6 @@
 use Rattle.std.proofs.Common.{◌≡◌, take, true}
 use Rattle.msg_names.specs.declared.value.ClassRef.{ClassRef}
-use Rattle.msg_tables.specs.Below.{is_among}
+use Rattle.msg_tables.specs.Below.{covers}
 use Rattle.msg_cache.specs.Ours.{HasNoArray}
 use Rattle.msg_runtime.specs.Parts.{IsKeeperOf, keeper_history}
 use Rattle.msg_runtime.proofs.flushing.flush_each.Given as goal
@@ -10,6 +10,6 @@ abbrev pub invariant-loop-class : goal.invariant-loop-class
 invariant-loop-class l = record {
   arena : IsKeeperOf l.arena l.keeper;
   history : keeper_history l.keeper ≡ keeper_history l.fn.keeper;
-  flushed : (c : ClassRef) → is_among (record l.below { classes = take l.class-index l.class-items }) c ≡ true → HasNoArray l.arena l.keeper c;
+  flushed : (c : ClassRef) → covers (record l.below { classes = take l.class-index l.class-items }) c ≡ true → HasNoArray l.arena l.keeper c;
   others : (c : ClassRef) → HasNoArray l.arena l.fn.keeper c → HasNoArray l.arena l.keeper c;
 }

@@ -20,8 +20,9 @@ use denote.Exit.{yes}
 use denote.Signature.{type_at}
 use denote.Steps.{nothing, heard}
 use Rattle.std.specs.declared.option.Option.{Option}
-use Rattle.std.specs.declared.option.Option.TheVariants.{Some}
+use Rattle.std.specs.Prelude.{is_some, true}
 use Rattle.msg_host.specs.contracts.sender.HostedSender as Plain
+use Rattle.msg_c.proofs.HeldLemmas.{held_in}
 use Rattle.msg_c.specs.contracts.sender_handle.HeldSender as Handle
 use denote.Triple.Spec.{triple_of}
 use denote.Triple.Table.{entered}
@@ -45,11 +46,12 @@ module _ {M : Type 1} {𝓤 : Ura M} (𝓛 : Logic 𝓤) (at_mem : Memory → SP
   walk z =
       let Post = (walk_of 𝓛 F.ended stayed (F.clauses 𝓛 at_mem run)).post z in
       let d = z.0.3.0 in
-      let x = z.1 in
-      let v : D E = record { ptr = d.at; alloc = d.alloc; value = x } in
       let To = type_at (F.signature).result tt in
+      qed 𝓛 ((‵ ftrue ⊛ ‵ (fsep (Handle.the_row.own_val d z.0.4.0) ftrue)) ∷ raw (fact 𝓤 (is_some d.state ≡ true)) ∷ []) ∵ move ! (1 ∷ []) $ heard ! (is_some d.state ≡ true) (λ some.
+      let (x, es) = held_in d.state some in
+      let v : D E = record { ptr = d.at; alloc = d.alloc; value = x } in
       let made : To.Denot = record { ptr = v.ptr; alloc = v.alloc; value = x } in
-      qed 𝓛 ((‵ ftrue ⊛ ‵ (fsep (Handle.the_row.own_val d z.0.4.0) ftrue)) ∷ raw (fact 𝓤 (d.state ≡ Some x)) ∷ []) ∵ move ! (1 ∷ []) $ heard ! (d.state ≡ Some x) (λ es. split ! $ drop ! $ fsplit ! $
+      split ! $ drop ! $ fsplit ! $
       rewrite ! 0 (λ (s : Option Plain.the_row.Denot). ‵ (Handle.the_row.own_val (record { at = d.at; alloc = d.alloc; state = s }) z.0.4.0)) es refl $
       box_out E ! v z.0.4.0 (λ b o hv e ws fa. box_in E ! v b o v.value e refl $ use1 𝓛 (‵ (To.own_val made (word E hv b o ∷ []))) (id⊢ 𝓤 _) $ move ! (1 ∷ 2 ∷ []) $ drop ! $ drop ! $
       let w = word E hv b o in
@@ -58,7 +60,7 @@ module _ {M : Type 1} {𝓤 : Ura M} (𝓛 : Logic 𝓤) (at_mem : Memory → SP
       (qed 𝓛 Γ ∵ enter ! 𝓣.C 𝓣.Λ code.function (w ∷ []) _ $ alloc_all ! (λ ls. pass_all ! refl (box_typed E hv b o fa, tt) $
       sets ! (of_opd ! (get_in ! (fld ! refl (stop !)) (sub ! 0 refl (whole !)))) refl (tt, tt) $ sets ! (of_opd ! (get_in ! (fld ! refl (stop !)) (sub ! 1 refl (whole !)))) refl fa $
       sets ! (agg ! (and_then ! (get ! refl) (and_then ! (get ! refl) (no_more !)))) refl (box_typed E hv b o fa) $ returns ! (look_at ! 0 refl) $ free_all ! refl $
-      suffices ! _ (ends_at 𝓛 F.ended stayed (F.clauses 𝓛 at_mem run) z w made (tt, tt) (tt, tt)) $ says ! refl $
+      suffices ! _ (ends_at 𝓛 F.ended stayed (F.clauses 𝓛 at_mem run) z w made (tt, tt) (tt, tt)) $ says ! es $
       nothing ! $ nothing ! $ fjoin ! $ join ! $ nothing ! $ join ! $ done !)))))
 
 pub into_parts_spec : {M : Type 1} → stated.statement M

@@ -1,12 +1,12 @@
 use Rattle.std.proofs.Common.{◌≡◌, refl}
 use Rattle.std.proofs.lemmas.List.Elements.{All-replicate}
-use Rattle.msg_reader.specs.declared.notes.Note.{Note}
-use Rattle.msg_reader.specs.Notes.{IsNoteOf, blank}
+use Rattle.msg_reader.specs.declared.note.Note.{Note}
+use Rattle.msg_reader.specs.Notes.{IsNoteOf}
 use Rattle.msg_reader.proofs.NoteLemmas.{unnamed}
 use Rattle.msg_reader.proofs.notes.Notes.new.Goals as goal
 
 pub returns-clause-blank : goal.returns-clause-blank
-returns-clause-blank c = record { notes = All-replicate (λ (n : Note). (n.word ≡ 0) × (n.imp ≡ 0)) 2048 blank (refl, refl) }
+returns-clause-blank c = record { notes = All-replicate (λ (n : Note). (n.word ≡ 0) × (n.imp ≡ 0)) 2048 _ (refl, refl) }
 
 pub returns-clause-notes : goal.returns-clause-notes
-returns-clause-notes c h = record { notes = All-replicate (IsNoteOf h) 2048 blank (unnamed h blank (refl, refl)) }
+returns-clause-notes c h = record { notes = All-replicate (IsNoteOf h) 2048 _ (unnamed h _ (refl, refl)) }

@@ -4,7 +4,7 @@ use Rattle.msg_tables.specs.Making.{IsMade}
 use Rattle.msg_tables.proofs.tables.Tables.apply_each.Given as goal
 
 abbrev pub invariant-loop-place : goal.invariant-loop-place
-invariant-loop-place l = record {
-  made : IsMade (take l.place l.changes) l.journal.items l.initial.self l.self;
-  room : 2 * length l.changes ≤ vec_capacity l.journal;
+invariant-loop-place g l = record {
+  made : IsMade (take l.place (g.L.ChangeList.changes l.changes)) l.journal.items l.initial.self l.self;
+  room : 2 * length (g.L.ChangeList.changes l.changes) ≤ vec_capacity l.journal;
 }

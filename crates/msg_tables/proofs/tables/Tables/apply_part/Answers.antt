@@ -2,22 +2,23 @@ use Rattle.std.proofs.Common.{◌≡◌, Some, ap, ◌∙◌}
 use Rattle.std.proofs.lemmas.Result.{err_from_is_err_and}
 use Rattle.msg_tables.specs.declared.fault.ChangeFault.TheVariants.{Memory}
 use Rattle.msg_tables.proofs.ApplyLemmas.{refused-not_memory, stands-after}
+use Rattle.msg_tables.specs.ChangeList.{change_of}
 use Rattle.msg_tables.proofs.MakingLemmas.{part-made}
 use Rattle.msg_tables.proofs.tables.Tables.apply_part.Goals as goal
 
 pub returns-clause-ok : goal.returns-clause-ok
 returns-clause-ok c h stands =
     let (none, same, makes) = rw (c.in_ok-edit.was) at (c.judge.ensures.meaning h stands) in
-    let after = stands-after c.args.self.now c.write_noted.new.self h c.args.change.now c.in_ok-edit.edit stands none same makes c.in_ok-write_noted.ensures.ok.writes in
+    let after = stands-after c.args.self.now c.write_noted.new.self h (change_of c.args.change) c.in_ok-edit.edit stands none same makes c.in_ok-write_noted.ensures.ok.writes in
     (none, rw (← c.self.view_is) at after)
 
 pub returns-clause-part : goal.returns-clause-part
 returns-clause-part c =
-    let part = part-made c.args.change.now c.in_ok-edit.edit c.args.journal.now.items c.write_noted.new.journal.items c.args.self.now c.write_noted.new.self (rw (c.in_ok-edit.was) at c.judge.ensures.places) (rw (c.in_ok-edit.was) at c.judge.ensures.made) (rw (c.in_ok-edit.was) at c.judge.ensures.undo) c.in_ok-write_noted.ensures.ok in
+    let part = part-made (change_of c.args.change) c.in_ok-edit.edit c.args.journal.now.items c.write_noted.new.journal.items c.args.self.now c.write_noted.new.self (rw (c.in_ok-edit.was) at c.judge.ensures.places) (rw (c.in_ok-edit.was) at c.judge.ensures.made) (rw (c.in_ok-edit.was) at c.judge.ensures.undo) c.in_ok-write_noted.ensures.ok in
     rw (← c.self.view_is) at part
 
 pub returns-in_err-edit-clause-memory : goal.returns-in_err-edit-clause-memory
 returns-in_err-edit-clause-memory c is h stands =
     let (y, at, same) = err_from_is_err_and c.from_residual.result c.from_residual.ensures.1 in
     let memory : c.in_err-edit.field-0.0 ≡ Memory = cc in
-    absurd (refused-not_memory h c.args.change.now (c.in_err-edit.ensures.meaning h stands ∙ ap Some memory))
+    absurd (refused-not_memory h (change_of c.args.change) (c.in_err-edit.ensures.meaning h stands ∙ ap Some memory))

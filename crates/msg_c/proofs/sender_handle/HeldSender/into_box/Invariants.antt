@@ -1,4 +1,0 @@
-use Rattle.msg_c.proofs.sender_handle.HeldSender.into_box.Given as goal
-
-abbrev pub ghost-into_parts : goal.ghost-into_parts
-ghost-into_parts g a = g.value

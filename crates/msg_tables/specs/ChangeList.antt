@@ -1,0 +1,14 @@
+-- Changes that are read.
+use Rattle.msg_tables.specs.declared.change.Change.{Change}
+use Rattle.msg_tables.specs.declared.change.Change.TheVariants as changes
+use Rattle.msg_tables.specs.declared.change.ChangeRef.{ChangeRef}
+use Rattle.msg_tables.specs.declared.change.ChangeRef.TheVariants.{Add, Replace, SetImp, Exchange, Attach, AddClass}
+
+-- the change that is read
+abbrev pub change_of : ChangeRef → Change
+change_of (Add c s i) = changes.Add c s i
+change_of (Replace c s i) = changes.Replace c s i
+change_of (SetImp c s i) = changes.SetImp c s i
+change_of (Exchange c s d t) = changes.Exchange c s d t
+change_of (Attach k methods class_methods) = changes.Attach k methods.now class_methods.now
+change_of (AddClass k d) = changes.AddClass k d
