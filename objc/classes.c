@@ -1,9 +1,8 @@
 /* Classes by name and by number, and classes that are made at run time. Trusted: that a name finds the class that has
  * it, once the tables have it, and that a class is freed only before it has a number. */
 #include "shim.h"
-#include <stdlib.h>
-#include <string.h>
 
+typedef Class (*objc_get_unknown_class_handler)(const char *name);
 enum { PLACES = 4096, GUESSES = 1024 };
 
 Class shim_classes[MOST_CLASSES + 1];
@@ -38,12 +37,10 @@ Class shim_class_named(const char *name)
 Class shim_class_coming(const char *name) { return named(name, MOST_CLASSES); }
 void shim_publish(void) { atomic_store(&made, shim_class_count); }
 
-struct record *shim_new_record(Class class_, bool meta)
+void shim_new_record(Class class_)
 {
-    struct record *record = shim_memory(sizeof *record);
-    record->meta = meta;
-    record->plain = record;
-    return class_->record = record;
+    class_->record = shim_memory(sizeof *class_->record);
+    class_->record->meta = class_isMetaClass(class_);
 }
 
 bool shim_has_class_number(void) { return shim_class_count + in_construction < shim_class_room; }
@@ -53,9 +50,7 @@ void shim_number_class(Class class_)
 {
     _Atomic(Class) *place = place_of(class_->name);
     shim_classes[++shim_class_count] = class_;
-    class_->record->number = shim_class_count;
-    class_->isa->record->number = shim_class_count;
-    class_->isa->record->plain = class_->record;
+    class_->record->number = class_->isa->record->number = shim_class_count;
     class_->record->next = atomic_load(place);
     atomic_store(place, class_);
 }
@@ -75,31 +70,23 @@ Class objc_getRequiredClass(const char *name)
     return class_;
 }
 
-Class objc_getMetaClass(const char *name)
-{
-    Class class_ = objc_getClass(name);
-    return class_ ? class_->isa : NULL;
-}
+static Class meta_of(Class class_) { return class_ ? class_->isa : NULL; }
 
+Class objc_getMetaClass(const char *name) { return meta_of(objc_getClass(name)); }
 Class objc_get_class(const char *name) { return objc_getRequiredClass(name); }
-/* As clang asks. */
-Class objc_lookup_class(const char *name) { return objc_getClass(name); }
-Class objc_get_meta_class(const char *name) { return objc_getRequiredClass(name)->isa; }
+Class objc_get_meta_class(const char *name) { return meta_of(objc_getRequiredClass(name)); }
+Class objc_lookup_class(const char *name) { return objc_getClass(name); } /* as clang asks */
 
 objc_get_unknown_class_handler objc_setGetUnknownClassHandler(objc_get_unknown_class_handler handler)
 {
-    objc_get_unknown_class_handler before = unknown_class;
-    unknown_class = handler;
-    return before;
+    return __atomic_exchange_n(&unknown_class, handler, __ATOMIC_ACQ_REL);
 }
 
 int objc_getClassList(Class *into, int most)
 {
     LOCKED;
-    int count = (int)shim_class_count;
-    if (!into) return count;
-    if (count > most) count = most;
-    for (int i = 0; i < count; i++) into[i] = shim_classes[i + 1];
+    int count = into && most < (int)shim_class_count ? most : (int)shim_class_count;
+    for (int i = 0; into && i < count; i++) into[i] = shim_classes[i + 1];
     return count;
 }
 
@@ -112,21 +99,46 @@ size_t class_getInstanceSize(Class class_) { return class_ ? (size_t)class_->ins
 /* Of a class whose superclass isn't there yet only the name is known. */
 Class class_getSuperclass(Class class_)
 {
-    if (!class_) return NULL;
-    if (class_->record) return class_->superclass.class_;
-    return objc_lookUpClass(class_->superclass.text);
+    return !class_ ? NULL : class_->record ? class_->superclass.class_ : objc_lookUpClass(class_->superclass.text);
 }
 
-static Class new_class(Class above, const char *name, size_t extra, unsigned long info)
+static Class new_class(Class above, size_t extra, unsigned long info)
 {
     Class class_ = extra < SIZE_MAX - sizeof *class_ ? calloc(1, sizeof *class_ + extra) : NULL;
     if (!class_) return NULL;
-    class_->name = name;
     class_->info = info;
     class_->superclass.class_ = above;
     class_->instance_size = above ? above->instance_size : (long)sizeof(struct objc_object);
-    shim_new_record(class_, info == CLASS_META);
+    shim_new_record(class_);
     return class_;
+}
+
+/* Of a list whose rows begin with the next. */
+static void free_list(void *row)
+{
+    for (void *next; row; row = next) {
+        next = *(void **)row;
+        free(row);
+    }
+}
+
+static void free_class(Class class_)
+{
+    if (!class_) return;
+    struct record *record = class_->record;
+    for (int32_t i = 0; class_->ivars && i < class_->ivars->count; i++) {
+        free((char *)class_->ivars->rows[i].name);
+        free((char *)class_->ivars->rows[i].type);
+    }
+    for (uint32_t i = 0; i < record->count; i++) {
+        free((char *)record->rows->at[i].method->types);
+        free(record->rows->at[i].method);
+    }
+    free(class_->ivars);
+    free_list(class_->protocols);
+    free_list(record->rows);
+    free(record);
+    free(class_);
 }
 
 Class objc_allocateClassPair(Class superclass, const char *name, size_t extra)
@@ -134,11 +146,10 @@ Class objc_allocateClassPair(Class superclass, const char *name, size_t extra)
     if (!name || objc_lookUpClass(name) || (superclass && (!superclass->record || shim_in_construction(superclass)))) return NULL;
     LOCKED;
     if (!shim_has_class_number()) return NULL;
-    Class class_ = new_class(superclass, name, extra, CLASS_PLAIN);
-    Class meta = class_ ? new_class(superclass ? superclass->isa : class_, name, extra, CLASS_META) : NULL;
+    Class class_ = new_class(superclass, extra, CLASS_PLAIN);
+    Class meta = class_ ? new_class(superclass ? superclass->isa : class_, extra, CLASS_META) : NULL;
     if (!meta) {
-        if (class_) free(class_->record);
-        free(class_);
+        free_class(class_);
         return NULL;
     }
     class_->name = meta->name = shim_copy(name);
@@ -158,39 +169,6 @@ void objc_registerClassPair(Class class_)
     shim_number_class(class_);
     shim_bring_class(class_);
     shim_make(class_->name);
-}
-
-static void free_methods(struct record *record)
-{
-    struct rows *rows = record->rows;
-    for (uint32_t i = 0; i < record->count; i++) {
-        free((char *)rows->at[i].method->types);
-        free(rows->at[i].method);
-    }
-    for (struct rows *before; rows; rows = before) {
-        before = rows->before;
-        free(rows);
-    }
-    free(record);
-}
-
-static void free_protocols(struct protocol_list *list)
-{
-    if (!list) return;
-    free_protocols(list->next);
-    free(list);
-}
-
-static void free_class(Class class_)
-{
-    for (int32_t i = 0; class_->ivars && i < class_->ivars->count; i++) {
-        free((char *)class_->ivars->rows[i].name);
-        free((char *)class_->ivars->rows[i].type);
-    }
-    free(class_->ivars);
-    free_protocols(class_->protocols);
-    free_methods(class_->record);
-    free(class_);
 }
 
 void objc_disposeClassPair(Class class_)

@@ -14,23 +14,23 @@ typedef void *(*forwarder)(id, SEL, SEL, void *);
 IMP (*__objc_msg_forward)(SEL);
 IMP (*__objc_msg_forward2)(id, SEL);
 
+static IMP own_method(id self, int own) { return self ? shim_look(shim_class_of(self), &shim_own[own]) : NULL; }
+
 static void *forward(id self, SEL sel, void *frame)
 {
-    SEL name = &shim_own[FORWARD];
-    IMP imp = self ? shim_look(shim_class_of(self), name) : NULL;
-    if (imp) return ((forwarder)(void (*)(void))imp)(self, name, sel, frame);
-    name = &shim_own[NOT_RECOGNIZED];
-    imp = self ? shim_look(shim_class_of(self), name) : NULL;
+    forwarder forwards = (forwarder)(void (*)(void))own_method(self, FORWARD);
+    if (forwards) return forwards(self, &shim_own[FORWARD], sel, frame);
+    IMP imp = own_method(self, NOT_RECOGNIZED);
     if (!imp) shim_stop("unrecognized selector", sel_getName(sel));
-    ((void (*)(id, SEL, SEL))(void (*)(void))imp)(self, name, sel);
+    imp(self, &shim_own[NOT_RECOGNIZED], sel);
     return NULL;
 }
 
-#if defined(__clang__)
-static id forward_word(id self, SEL sel, ...) { return forward(self, sel, NULL); }
-static struct large forward_large(id self, SEL sel, ...) { forward(self, sel, NULL); return (struct large){{0}}; }
-static double forward_double(id self, SEL sel, ...) { forward(self, sel, NULL); return 0; }
-#else
+#ifdef __clang__ /* it has neither: forward:: gets no arguments, and its result is lost */
+#define __builtin_apply_args() NULL
+#define __builtin_return(result) ((void)(result))
+#endif
+
 static id forward_word(id self, SEL sel, ...)
 {
     void *result = forward(self, sel, __builtin_apply_args());
@@ -51,7 +51,6 @@ static double forward_double(id self, SEL sel, ...)
     if (result) __builtin_return(result);
     return 0;
 }
-#endif
 
 static IMP by_types(const char *types)
 {

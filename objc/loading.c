@@ -3,7 +3,6 @@
  * above others, and that all of it is brought before it is made. */
 #include "shim.h"
 #include <stdio.h>
-#include <string.h>
 
 void (*_objc_load_callback)(Class, struct objc_category *);
 
@@ -26,7 +25,6 @@ static void take_method(Class class_, struct record *record, Method method)
 {
     const char *name = method->name.text;
     method->name.sel = shim_needed_selector(name, method->types);
-    if (!shim_number(method->imp)) shim_stop("too many implementations", class_->name);
     if (record->meta && !strcmp(name, "load")) note_load(class_, NULL, method->imp, method->name.sel);
     shim_bring_method(record, method, true);
 }
@@ -44,14 +42,14 @@ static void take_class(Class class_, Class above)
     class_->superclass.class_ = above;
     meta->superclass.class_ = above ? above->isa : class_;
     meta->isa = above ? above->isa->isa : meta;
-    shim_new_record(class_, false);
-    shim_new_record(meta, true);
+    shim_new_record(class_);
+    shim_new_record(meta);
     shim_number_class(class_);
     note_load(class_, NULL, NULL, NULL);
     shim_bring_class(class_);
     take_lists(class_, class_->record, class_->methods);
     take_lists(class_, meta->record, meta->methods);
-    shim_take_protocols(class_->protocols, shim_class_coming("Protocol"));
+    shim_take_protocols(class_->protocols);
 }
 
 /* A class for which there is no number waits, as one without its superclass. */
@@ -78,11 +76,11 @@ static bool try_class(void *row)
 
 static void adopt(Class class_, struct protocol_list *list)
 {
+    struct protocol_list **end = &list;
     if (!list) return;
-    shim_take_protocols(list, shim_class_coming("Protocol"));
-    struct protocol_list *last = list;
-    while (last->next) last = last->next;
-    last->next = class_->protocols;
+    shim_take_protocols(list);
+    while (*end) end = &(*end)->next;
+    *end = class_->protocols;
     class_->protocols = class_->isa->protocols = list;
 }
 
@@ -103,9 +101,8 @@ static bool try_constants(void *row)
     struct constants *list = row;
     Class class_ = shim_class_named(list->class_name);
     if (!class_) return false;
-    bool protocols = !strcmp(list->class_name, "Protocol");
     for (id *object = list->rows; *object; object++)
-        if (protocols) shim_take_protocol((struct protocol *)*object, class_);
+        if (class_ == &shim_protocol) shim_take_protocol((struct protocol *)*object);
         else (*object)->isa = class_;
     return true;
 }
@@ -136,15 +133,6 @@ static void take_symbols(struct symbols *symbols)
     for (struct constants **list = *at; list && *list; list++) wait_row(&constants, *list);
 }
 
-/* What a module brings, and what it was waited for with, is one change. */
-static void take_what_waits(const char *name)
-{
-    while (try_all(&classes, try_class)) {}
-    try_all(&categories, try_category);
-    shim_make(name);
-    try_all(&constants, try_constants);
-}
-
 static bool next_load(struct load *load)
 {
     LOCKED;
@@ -163,15 +151,18 @@ static void send_loads(void)
     }
 }
 
+/* What a module brings, and what waited for that, is one change. */
 static void take_module(struct module *module)
 {
-    static bool begun;
+    static bool has_roots;
     CHANGING;
-    if (begun && module == &shim_roots) return;
-    if (!begun) take_symbols(shim_roots.symbols);
-    begun = true;
+    if (!has_roots) take_symbols(shim_roots.symbols);
+    has_roots = true;
     if (module != &shim_roots) take_symbols(module->symbols);
-    take_what_waits(module->name);
+    while (try_all(&classes, try_class)) {}
+    try_all(&categories, try_category);
+    shim_make(module->name);
+    try_all(&constants, try_constants);
 }
 
 /* A program may have no module, and those of others may come before. */

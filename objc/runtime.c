@@ -1,13 +1,11 @@
-/* Over the layer for a process (process/msg_process.c), which has the one runtime, its lock and the threads' senders:
- * its start, and functions by their numbers. Trusted: that a number finds its function. */
+/* Over the layer for a process (process/msg_process.c), which has the one runtime, its lock and the threads' senders: its
+ * start, and what is asked of it under the lock. Trusted: that it is started before anything is asked. */
 #include "seat.h"
-#include <stdlib.h>
 
 /* All arrays are written at the start: they are two fifths of the default, and five times what any of GNUstep's test programs takes. */
-enum { SENDERS = 1024, CLASS_NUMBERS = 16384, PLACES = 16384 };
+enum { SENDERS = 1024, CLASS_NUMBERS = 16384 };
 #define ARRAYS {1024, 768, 320, 160, 64, 32, 8, 4, 2}
 
-_Alignas(LINE) _Atomic(IMP) shim_functions[MOST_IMPS + 1];
 msg_runtime *shim_runtime;
 
 /* Of want of memory, since nothing else is left that the shim doesn't see to before. */
@@ -34,42 +32,19 @@ static uint32_t take(bool to_change) { return to_change ? msg_process_lock_to_ch
 
 void shim_take(bool to_change)
 {
-    uint32_t fault = take(to_change);
-    if (__builtin_expect(fault == MSG_CLOSED, 0)) {
-        start();
-        fault = take(to_change);
-    }
+    uint32_t fault;
+    while (__builtin_expect((fault = take(to_change)) == MSG_CLOSED, 0)) start();
     shim_must(fault, "in a handler of a signal");
-}
-
-void shim_give(char *unused)
-{
-    (void)unused;
-    msg_process_unlock();
-}
-
-uint32_t shim_number(IMP imp)
-{
-    static uint32_t first[PLACES], next[MOST_IMPS + 1], count;
-    uint32_t *place = &first[(uintptr_t)imp * 0x9e3779b97f4a7c15 >> 50];
-    for (uint32_t at = *place; at; at = next[at])
-        if (atomic_load_explicit(&shim_functions[at], memory_order_relaxed) == imp) return at;
-    if (count == MOST_IMPS) return 0;
-    atomic_store(&shim_functions[++count], imp);
-    next[count] = *place;
-    return *place = count;
 }
 
 IMP shim_find(Class class_, uint32_t sel)
 {
     static _Thread_local volatile bool finds; /* only a handler of a signal sees it set here */
+    bool waits = !finds;
     uint32_t imp, fault = MSG_LOCK_HELD;
-    if (!shim_in_construction(class_)) {
-        bool waits = !finds;
-        finds = true;
-        fault = msg_process_find_slowly(msg_key(2 * class_->record->number + class_->record->meta, sel), waits, &imp);
-        finds = !waits;
-    }
+    finds = true;
+    if (!shim_in_construction(class_)) fault = msg_process_find_slowly(shim_key(class_->record, sel), waits, &imp);
+    finds = !waits;
     if (fault == MSG_LOCK_HELD) {
         Method method = shim_standing(class_, sel);
         return method ? shim_imp(method) : NULL;

@@ -8,12 +8,10 @@
 /* By their numbers; number 0 is forwarding, and NULL. Address space until a number is used, so that it never moves. */
 extern __attribute__((visibility("hidden"))) _Atomic(IMP) shim_functions[MOST_IMPS + 1];
 
-/* What the calling thread's sender finds, by all changes that returned before; NULL is forwarding. In a handler of a
- * signal whose own thread has the lock, or which would have to wait where that thread is on this way itself: what the
- * rows say. */
-IMP shim_find(Class class_, uint32_t sel);
-
 static inline IMP shim_function(uint32_t imp) { return atomic_load_explicit(&shim_functions[imp], memory_order_acquire); }
+
+/* By how many changes were begun, or a number that no note has while one is made. */
+static inline uint64_t shim_begun(void) { return __atomic_load_n(&msg_process_changes.begun, __ATOMIC_ACQUIRE); }
 
 /* What a note says: a method, that there is none, or, of any other value, nothing of the lookup. */
 enum { METHOD, NO_METHOD, NOTHING };
@@ -39,17 +37,6 @@ static inline uint64_t shim_note_at(uint64_t count, Class class_, SEL sel, uint3
     return word - key;
 }
 
-/* By how many changes were begun, or a number that no note has while one is made. */
-static inline uint64_t shim_begun(void) { return __atomic_load_n(&msg_process_changes.begun, __ATOMIC_ACQUIRE); }
 static inline uint64_t shim_note(Class class_, SEL sel, uint32_t *number) { return shim_note_at(shim_begun(), class_, sel, number); }
-
-/* The function that is noted, or NULL, which is number 0's, where it is noted that the lookup finds nothing. */
-static inline bool shim_noted(Class class_, SEL sel, IMP *imp)
-{
-    uint32_t number;
-    if (shim_note(class_, sel, &number) > NO_METHOD) return false;
-    *imp = shim_function(number);
-    return true;
-}
 
 #endif

@@ -1,20 +1,19 @@
 /* Sends: +initialize before a class's first, and then what the proved dispatcher finds. Trusted: that +initialize is
  * sent before the first message and once, and that what is found is what the library answers. */
-#define _GNU_SOURCE /* for a recursive lock without a call */
 #include "seat.h"
 
 /* The thread that sends +initialize may send to the class meanwhile; others wait for it. */
 pthread_mutex_t shim_initializing = PTHREAD_RECURSIVE_MUTEX_INITIALIZER_NP;
 
-id nil_method(id self, SEL sel, ...) { (void)sel; return self; }
+id nil_method(id self, SEL sel, ...) { return self; }
 
 /* Also where its +initialize was left by an exception: the class is as it would have been. */
 static void end_initialize(Class *ending)
 {
     Class class_ = *ending;
     atomic_store(&class_->record->initialized, DONE);
-    __atomic_store_n(&class_->key, msg_key(2 * class_->record->number, 0), __ATOMIC_RELEASE);
-    __atomic_store_n(&class_->isa->key, msg_key(2 * class_->record->number + 1, 0), __ATOMIC_RELEASE);
+    __atomic_store_n(&class_->key, shim_key(class_->record, 0), __ATOMIC_RELEASE);
+    __atomic_store_n(&class_->isa->key, shim_key(class_->isa->record, 0), __ATOMIC_RELEASE);
 }
 
 static void initialize(Class class_)
@@ -34,14 +33,23 @@ static Class plain_class(Class class_) { return class_->record->meta ? shim_clas
 
 static void ensure_initialized(Class class_)
 {
-    atomic_int *state = &class_->record->plain->initialized;
-    if (atomic_load_explicit(state, memory_order_acquire) != DONE) initialize(plain_class(class_));
+    Class plain = plain_class(class_);
+    if (atomic_load_explicit(&plain->record->initialized, memory_order_acquire) != DONE) initialize(plain);
+}
+
+/* The function that is noted, or NULL, which is number 0's, where it is noted that the lookup finds nothing. */
+static inline bool noted(Class class_, SEL sel, IMP *imp)
+{
+    uint32_t number;
+    if (shim_note(class_, sel, &number) > NO_METHOD) return false;
+    *imp = shim_function(number);
+    return true;
 }
 
 IMP shim_look(Class class_, SEL sel)
 {
     IMP imp;
-    return shim_noted(class_, sel, &imp) ? imp : shim_find(class_, shim_sel(sel));
+    return noted(class_, sel, &imp) ? imp : shim_find(class_, shim_sel(sel));
 }
 
 /* Whether a thread's note said so after just as many changes as are begun now: it is then so for all threads. */
@@ -84,18 +92,13 @@ static __attribute__((noinline, cold)) IMP find_first(Class class_, SEL sel)
     return imp ? imp : find_resolved(class_, sel);
 }
 
-static inline IMP find(Class class_, SEL sel)
-{
-    IMP imp;
-    if (!shim_noted(class_, sel, &imp)) return find_first(class_, sel);
-    return imp ? imp : find_resolved(class_, sel);
-}
-
 /* Of a class that may be NULL, as above a root. */
 static __attribute__((noinline)) IMP find_from(id receiver, Class class_, SEL sel)
 {
+    IMP imp;
     if (!class_) shim_stop("a root class has no super to be sent", sel_getName(sel));
-    IMP imp = find(class_, sel);
+    if (!noted(class_, sel, &imp)) imp = find_first(class_, sel);
+    else if (!imp) imp = find_resolved(class_, sel);
     return imp ? imp : shim_forward(receiver, sel);
 }
 
@@ -116,20 +119,14 @@ __attribute__((aligned(LINE))) IMP objc_msg_lookup(id receiver, SEL sel)
     return __builtin_expect(shim_note(shim_class_of(receiver), sel, &number) == METHOD, 1) ? shim_function(number) : find_slowly(receiver, sel);
 }
 
-IMP objc_msg_lookup_super(struct objc_super *super_, SEL sel)
+static inline IMP find(id receiver, Class class_, SEL sel)
 {
     IMP imp;
-    if (!super_->self) return nil_method;
-    if (super_->class_ && shim_noted(super_->class_, sel, &imp) && imp) return imp;
-    return find_from(super_->self, super_->class_, sel);
+    return class_ && noted(class_, sel, &imp) && imp ? imp : find_from(receiver, class_, sel);
 }
 
-IMP class_getMethodImplementation(Class class_, SEL sel)
-{
-    IMP imp;
-    if (!class_ || !sel) return NULL;
-    return shim_noted(class_, sel, &imp) && imp ? imp : find_from(NULL, class_, sel);
-}
+IMP objc_msg_lookup_super(struct objc_super *super_, SEL sel) { return super_->self ? find(super_->self, super_->class_, sel) : nil_method; }
+IMP class_getMethodImplementation(Class class_, SEL sel) { return class_ && sel ? find(NULL, class_, sel) : NULL; }
 
 BOOL class_respondsToSelector(Class class_, SEL sel)
 {

@@ -4,18 +4,21 @@
 #define MSG_OBJC_SHIM_H
 
 #include "abi.h"
-#include "calls.h"
 #include "msg_runtime.h"
 #include <pthread.h>
 #include <stdatomic.h>
+#include <stdlib.h>
+#include <string.h>
 
 /* Of the process's layer nothing is seen outside of the shim, so it is reached without a table of a shared library's. */
 #pragma GCC visibility push(hidden)
 #include "msg_process.h"
 #pragma GCC visibility pop
 
-_Static_assert(sizeof(void *) == 8 && __BYTE_ORDER__ == __ORDER_LITTLE_ENDIAN__,
-               "notes, keys and exception tables are read as on such a machine");
+/* Calls of the interface are given more than some need. */
+#pragma GCC diagnostic ignored "-Wunused-parameter"
+
+_Static_assert(sizeof(void *) == 8 && __BYTE_ORDER__ == __ORDER_LITTLE_ENDIAN__, "notes, keys and exception tables are read so");
 
 /* Of class numbers the tables reserve as many as runtime.c says; the others are address space until they are used. */
 enum { MOST_SELECTORS = (1 << 20) - 1, MOST_CLASSES = (1 << 20) - 1, MOST_IMPS = (1 << 20) - 1, LINE = 64 };
@@ -28,15 +31,13 @@ struct rows { struct rows *before; struct row at[]; };
 
 enum { NOT_YET, RUNNING, DONE };
 
-/* `number` is 0 for a class in construction, which the tables don't hold. `plain`: of a metaclass's record, its
- * class's; else itself. `next`: the class that is found after it by its name.
- * `rows`: of all its methods, in the order in which they came. */
+/* `number` is 0 for a class in construction, which the tables don't hold, and a metaclass's is its class's. `rows`: of
+ * all its methods, in the order in which they came. `next`: the class that is found after it by its name. */
 struct record {
     bool meta;
     uint32_t number, room;
     _Atomic(uint32_t) count;
     _Atomic(struct rows *) rows;
-    struct record *plain;
     Class next;
     uint64_t unresolved; /* the last count of changes after which a note said that it has no resolver; 0 is none's */
     atomic_int initialized;
@@ -45,19 +46,42 @@ struct record {
 extern Class shim_classes[MOST_CLASSES + 1]; /* by number, from 1; class 0 of the tables is never made */
 extern uint32_t shim_class_count, shim_class_room;
 
-/* Without the lock. */
+/* Calls of the interface that several files make: without the lock. */
+IMP objc_msg_lookup(id receiver, SEL sel);
+const char *sel_getName(SEL sel);
+BOOL sel_isEqual(SEL one, SEL other);
+Class objc_getClass(const char *name);
+Class class_getSuperclass(Class class_);
+BOOL class_isMetaClass(Class class_);
+const char *object_getClassName(id object);
+BOOL protocol_isEqual(Protocol *protocol, Protocol *other);
+int objc_sizeof_type(const char *type);
+const char *objc_skip_type_qualifiers(const char *type);
+const char *objc_skip_typespec(const char *type);
+const char *objc_skip_argspec(const char *type);
+
+/* names.c. Without the lock: what takes memory ends the program where there is none. */
 _Noreturn void shim_stop(const char *why, const char *what);
+void *shim_or_stop(void *memory, const char *what);
 void *shim_memory(size_t size);
 char *shim_copy(const char *text);
 uint32_t shim_mixed(const char *name);
 /* The same rows, with room for one more. */
 void *shim_more(void *rows, uint32_t count, uint32_t *room, size_t size);
-void shim_unlock(pthread_mutex_t **lock);
-/* Held to the end of the block, also where an exception leaves it. */
-#define HOLDING(lock) pthread_mutex_t *held __attribute__((cleanup(shim_unlock), unused)) = (pthread_mutex_lock(lock), (lock))
-/* The lock, in the same way, to ask the tables; or to ask and change them, when no send goes by what was noted before. */
+/* For a caller's own: room for so many rows and an empty one, or NULL for none; and they are counted where that is asked. */
+void *shim_list(size_t many, size_t size, unsigned int *count);
+
+/* A lock, or none where it is NULL, to the end of the block, also where an exception leaves it. */
+static inline pthread_mutex_t *shim_hold(pthread_mutex_t *lock)
+{
+    if (lock) pthread_mutex_lock(lock);
+    return lock;
+}
+static inline void shim_unlock(pthread_mutex_t **lock) { if (*lock) pthread_mutex_unlock(*lock); }
+#define HOLDING(lock) pthread_mutex_t *held __attribute__((cleanup(shim_unlock), unused)) = shim_hold(lock)
+/* The runtime's, in the same way, to ask the tables; or to ask and change them, when no send goes by what was noted before. */
 void shim_take(bool to_change);
-void shim_give(char *unused);
+static inline void shim_give(char *unused) { msg_process_unlock(); }
 #define LOCKED shim_take(false); char locked __attribute__((cleanup(shim_give), unused))
 #define CHANGING shim_take(true); char locked __attribute__((cleanup(shim_give), unused))
 
@@ -66,29 +90,32 @@ enum { INITIALIZE = 1, RESOLVE_INSTANCE, RESOLVE_CLASS, FORWARD, NOT_RECOGNIZED 
 enum { RETAIN = NOT_RECOGNIZED + 1, RELEASE, AUTORELEASE, COPY, MUTABLE_COPY, FIRST_FREE };
 extern const struct objc_selector shim_own[FIRST_FREE];
 
-static inline uint32_t shim_sel(SEL sel) { return MSG_SEL_OF(sel->name.key); }
+static inline uint32_t shim_sel(SEL sel) { return (uint32_t)(sel->name.key / msg_key(0, 1)); } /* of slot 0 there is no more in it */
 
-/* names.c: NULL where no name is to be had any more. */
-SEL shim_typed_selector(const char *name, const char *types);
+/* names.c: NULL, or 0, where none is to be had any more. Texts that last aren't copied. */
+SEL shim_typed_selector(uint32_t number, const char *types, bool lasts);
 SEL shim_needed_selector(const char *name, const char *types); /* or the program ends: of a module's, whose texts last */
 void shim_take_selector(struct objc_selector *sel);
+uint32_t shim_number(IMP imp);
 
 /* classes.c */
 Class shim_class_named(const char *name); /* without the lock */
 Class shim_class_coming(const char *name); /* or one that is numbered and not yet found by others */
-struct record *shim_new_record(Class class_, bool meta);
+void shim_new_record(Class class_);
 bool shim_has_class_number(void);
 void shim_number_class(Class class_);
 void shim_publish(void); /* those that are numbered are found by their names from now on: the tables have them */
 static inline bool shim_in_construction(Class class_) { return class_->record && !class_->record->number; }
+static inline uint64_t shim_key(const struct record *record, uint32_t sel) { return msg_key(2 * record->number + record->meta, sel); }
 
 /* roots.c: the module of Object, Protocol and NXConstantString; loading.c takes it. */
 extern struct module shim_roots;
+extern struct objc_class shim_protocol;
 void shim_take_roots(void);
 
 /* protocols.c */
-void shim_take_protocol(struct protocol *protocol, Class class_);
-void shim_take_protocols(struct protocol_list *list, Class class_);
+void shim_take_protocol(struct protocol *protocol);
+void shim_take_protocols(struct protocol_list *list);
 
 /* changing.c: what a module or a class pair brings, in the order in which it counts, and then all of it as one change. */
 void shim_bring_class(Class class_); /* with the methods that it has by now */
@@ -96,16 +123,14 @@ void shim_bring_method(struct record *record, Method method, bool is_new); /* or
 void shim_make(const char *what);
 Method shim_standing(Class class_, uint32_t sel); /* what the rows say; also without the lock */
 static inline IMP shim_imp(Method method) { return __atomic_load_n(&method->imp, __ATOMIC_ACQUIRE); }
-static inline void shim_set_imp(Method method, IMP imp) { __atomic_store_n(&method->imp, imp, __ATOMIC_RELEASE); }
 
 /* sending.c: without the lock. A look is without +initialize; to resolve is with it. */
 IMP shim_look(Class class_, SEL sel);
 bool shim_resolve(Class class_, SEL sel);
 
-/* forking.c, and what it asks of the files that have locks of their own. */
+/* threads.c, and what it asks for a fork of the files that have locks of their own. */
 void shim_care_for_forks(void);
 extern pthread_mutex_t shim_initializing;
-void shim_hold_places(bool hold);
 void shim_renew_property_locks(void);
 
 /* Another thread may set an object's class meanwhile, as observing a key does. */
@@ -117,6 +142,8 @@ IMP shim_forward(id receiver, SEL sel);
 /* runtime.c */
 extern msg_runtime *shim_runtime;
 void shim_must(uint32_t fault, const char *what); /* or the program ends */
-uint32_t shim_number(IMP imp); /* a function's, or 0 where there are no more */
+/* Without the lock: what the calling thread's sender finds, by all changes that returned before; NULL is forwarding. In a
+ * handler of a signal whose own thread has the lock, or is on this way itself and would be waited for: what the rows say. */
+IMP shim_find(Class class_, uint32_t sel);
 
 #endif

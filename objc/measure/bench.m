@@ -5,7 +5,7 @@
  * (class_respondsToSelector that answers YES, NO); forwarded (objc_msg_lookup of what no class has, which a hook
  * answers); on one thread, class_replaceMethod with the next send: replace, in a class without subclasses, and
  * replace_above, in one that has two. */
-#include "../calls.h"
+#include "../tests/calls.h"
 #include <pthread.h>
 #include <stdbool.h>
 #include <stdio.h>

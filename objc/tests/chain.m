@@ -1,5 +1,5 @@
 /* Sends as a compiler emits them: own and inherited methods, super, a category, class methods, +load and +initialize, nil. */
-#include "../calls.h"
+#include "calls.h"
 #include <stdio.h>
 
 __attribute__((objc_root_class)) @interface Shape { Class isa; }

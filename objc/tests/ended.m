@@ -1,6 +1,6 @@
 /* Threads whose last destructors of thread data send: what they leave behind doesn't grow, and new threads still have
  * a sender. */
-#include "../roots.h"
+#include "roots.h"
 #include <malloc.h>
 #include <pthread.h>
 #include <stdio.h>

@@ -1,5 +1,5 @@
 /* for .. in: over a collection, and over one that changes meanwhile. */
-#include "../roots.h"
+#include "roots.h"
 #include <stdio.h>
 #include <stdlib.h>
 

@@ -1,5 +1,5 @@
 /* Classes, functions and names until there is no room: what has none is refused, and what was there before is right. */
-#include "../calls.h"
+#include "calls.h"
 #include <stdio.h>
 
 enum { MOST = 1200000 };

@@ -1,5 +1,5 @@
 /* Instance variables: by name, of a superclass, their offsets and types, read and written; and of a class in construction. */
-#include "../roots.h"
+#include "roots.h"
 #include <stdio.h>
 #include <stdlib.h>
 #include <string.h>

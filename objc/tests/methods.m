@@ -1,5 +1,5 @@
 /* Methods: what they say of themselves, added, replaced, set, exchanged, listed; of classes and metaclasses. */
-#include "../roots.h"
+#include "roots.h"
 #include <stdio.h>
 #include <stdlib.h>
 #include <string.h>

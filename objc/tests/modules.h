@@ -1,5 +1,5 @@
 /* Modules spelled out in C, as a compiler emits them, for tests without one. */
-#include "../calls.h"
+#include "calls.h"
 #include <stdio.h>
 #include <string.h>
 

@@ -1,5 +1,5 @@
 /* Synthesized accessors: kept, copied, of a structure, atomic or not; and that no property is listed. */
-#include "../roots.h"
+#include "roots.h"
 #include <stdio.h>
 
 struct pair { long first, second; };

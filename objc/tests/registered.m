@@ -1,5 +1,5 @@
 /* A class is made beside a thread that waits for its name: who finds it can send what it has. */
-#include "../roots.h"
+#include "roots.h"
 #include <pthread.h>
 #include <stdio.h>
 

@@ -1,6 +1,5 @@
 /* Answers that are easily given otherwise; each is as GCC's libobjc gives it. */
-#include "../roots.h"
-#include "../threads.h"
+#include "roots.h"
 #include <stdio.h>
 #include <stdlib.h>
 

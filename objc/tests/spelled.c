@@ -1,6 +1,6 @@
 /* Encodings that come from anywhere: none ends the program, or leads past its end; and what GCC writes of instance
  * variables is measured. */
-#include "../calls.h"
+#include "calls.h"
 #include <stdio.h>
 #include <stdlib.h>
 #include <string.h>

@@ -1,5 +1,5 @@
 /* Constant strings: their class reference is filled in before +load, and they answer. */
-#include "../roots.h"
+#include "roots.h"
 #include <stdio.h>
 
 @interface Early : Object

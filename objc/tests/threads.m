@@ -1,6 +1,5 @@
 /* Threads by a message, locks that one thread holds twice, a condition, a thread's own value. */
-#include "../roots.h"
-#include "../threads.h"
+#include "roots.h"
 #include <stdio.h>
 
 static objc_mutex_t lock;

@@ -1,5 +1,5 @@
 /* A module of the test `opened`, of 64 classes, whose names have its number N, and a category. */
-#include "../../roots.h"
+#include "../roots.h"
 
 @interface Base
 + (int)value;
