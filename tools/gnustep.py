@@ -24,19 +24,6 @@ exec timeout -k 2 "$SECONDS_LEFT" env -u COPIED -u SECONDS_LEFT "$@"
 """
 
 
-def missing():
-    return [name for name in PACKAGES if subprocess.run(["dpkg", "-s", name], capture_output=True).returncode]
-
-
-def install(wanted):
-    names = missing()
-    if names and wanted:
-        subprocess.run(["apt-get", "install", "-y", "--no-install-recommends", *names], check=False, stdout=sys.stderr)
-        names = missing()
-    if names:
-        sys.exit("not installed: " + ", ".join(names) + " (Debian 12 has them; --install asks apt-get for them)")
-
-
 def get_sources(folder):
     """Debian's source package of the gnustep-base that is installed, by a list of apt-get's own, so that the machine's isn't touched."""
     sources = os.path.join(folder, "source")
