@@ -2,10 +2,12 @@
 use Rattle.std.specs.Prelude.{◌≡◌, ◌≢◌, ◌<◌, ◌≤◌, ◌+◌, ◌*◌, ◌||◌, Bool, true, List, ◌++◌, Some, None, length, take}
 use Rattle.msg_names.specs.declared.value.ClassRef.{ClassRef}
 use Rattle.msg_tables.specs.declared.change.Change.{Change}
+use Rattle.msg_tables.specs.declared.change.ChangeRef.{ChangeRef}
 use Rattle.msg_tables.specs.declared.apply_all.Refused.{Refused}
 use Rattle.msg_tables.specs.declared.entry.Entry.{Entry}
 use Rattle.msg_tables.specs.declared.fault.ChangeFault.TheVariants.{Memory}
 use Rattle.msg_tables.specs.Affected.{written_refs}
+use Rattle.msg_tables.specs.ChangeList.{change_of}
 use Rattle.msg_tables.specs.Log.{Log, table}
 use Rattle.msg_tables.specs.Marking.{MarksAffected, MarksAffectedByAll}
 use Rattle.msg_tables.specs.Journal.{AllNameListed, IsJournalOf, classes_of, places_of, undo_journal}
@@ -32,6 +34,10 @@ pub record IsPart (x : Change) (journal longer : List Entry) (old new : TablesVi
   pub undone : (h : Log) → StandsAt old h → undo_journal entries ≡ undo (table h) x
   pub listed : AllNameListed (length old.supers) entries
   pub beside : IsBeside old new
+
+-- so of a change as it is read
+abbrev pub IsReadPart : ChangeRef → List Entry → List Entry → TablesView → TablesView → Type 0
+IsReadPart r journal longer old new = IsPart (change_of r) journal longer old new
 
 -- a journal has the class references at which a list adds or rewrites rows, in their order
 abbrev pub HasPlaces : List Change → TablesView → List Entry → Type 0

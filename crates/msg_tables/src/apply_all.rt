@@ -6,7 +6,7 @@ ghost use Rattle.msg_tables.specs.declared.fault.ChangeFault.{ChangeFault};
 ghost use Rattle.msg_tables.specs.Accepts.{Accepts, Makes, Refuses};
 ghost use Rattle.msg_tables.specs.ChangeList.{change_of};
 ghost use Rattle.msg_tables.specs.Journal.{NamesListed, classes_of};
-ghost use Rattle.msg_tables.specs.Making.{AreMadeBefore, AreMadeTo, HasPlaces, IsMade, IsPart, IsRefused, IsRefusedUnlessMemory, IsUndone, LacksMemory, StandAfter, TellsAll};
+ghost use Rattle.msg_tables.specs.Making.{AreMadeBefore, AreMadeTo, HasPlaces, IsMade, IsReadPart, IsRefused, IsRefusedUnlessMemory, IsUndone, LacksMemory, StandAfter, TellsAll};
 ghost use Rattle.msg_tables.specs.Several.{made_by_all};
 
 use crate::change::ChangeRef;
@@ -49,7 +49,7 @@ impl Tables {
     ) -> Result<(), ChangeFault>
         requires { length journal.old.items + 2 ≤ vec_capacity journal.old }
         ensures ok { OnOk result (Makes self.old (change_of change.entry) self.new) }
-        ensures part { OnOk result (IsPart (change_of change.entry) journal.old.items journal.new.items self.old self.new) }
+        ensures part { OnOk result (IsReadPart change.entry journal.old.items journal.new.items self.old self.new) }
         ensures err { OnErr result ((self.new ≡ self.old) × (journal.new.items ≡ journal.old.items)) }
         ensures fault { IfErr result (λ f. f ≢ ChangeFault.Memory → Refuses self.old (change_of change.entry) f) }
         ensures memory { IsErrOf result ChangeFault.Memory → Accepts self.old (change_of change.entry) }

@@ -6,7 +6,7 @@ ghost use Rattle.msg_tables.specs.Accepts.{Accepts, Makes, Refuses};
 ghost use Rattle.msg_tables.specs.ChangeList.{change_of};
 ghost use Rattle.msg_tables.specs.declared.fault.ChangeFault.{ChangeFault};
 ghost use Rattle.msg_tables.specs.Log.{Log};
-ghost use Rattle.msg_tables.specs.Making.{AreMadeBefore, AreMadeTo, IsMade, IsPart, IsRefusedUnlessMemory};
+ghost use Rattle.msg_tables.specs.Making.{AreMadeBefore, AreMadeTo, IsMade, IsReadPart, IsRefusedUnlessMemory};
 ghost use Rattle.msg_tables.specs.Making.{LacksMemory, Reaches, ReachesAll, ReachesBefore, RefusesNone};
 ghost use Rattle.msg_tables.specs.Stands.{StandsAt};
 
@@ -33,7 +33,7 @@ impl Tables {
         requires marks { length marked.old ≡ 2 * length self.old.supers }
         requires below { length self.old.supers ≤ below.old.room }
         ensures ok { OnOk result (Makes self.old (change_of change.entry) self.new) }
-        ensures part { OnOk result (IsPart (change_of change.entry) journal.old.items journal.new.items self.old self.new) }
+        ensures part { OnOk result (IsReadPart change.entry journal.old.items journal.new.items self.old self.new) }
         ensures err { OnErr result ((self.new ≡ self.old) × (journal.new.items ≡ journal.old.items)) }
         ensures fault { IfErr result (λ f. f ≢ ChangeFault.Memory → Refuses self.old (change_of change.entry) f) }
         ensures memory { IsErrOf result ChangeFault.Memory → Accepts self.old (change_of change.entry) }
