@@ -45,15 +45,16 @@ static void *program(void *none)
 static long swap(struct objc_method_swap *rows, size_t count)
 {
     pthread_t threads[THREADS];
+    int i;
     fake = rows[0].imp == (IMP)fake_now;
     is_over = 0;
-    for (int i = 0; i < THREADS; i++) pthread_create(&threads[i], NULL, program, NULL);
+    for (i = 0; i < THREADS; i++) pthread_create(&threads[i], NULL, program, NULL);
     pthread_barrier_wait(&sending);
     size_t made = objc_replace_methods(rows, count);
-    for (int i = 0; i < 100; i++) [Store name];
+    for (i = 0; i < 100; i++) [Store name];
     __atomic_store_n(&is_over, 1, __ATOMIC_RELEASE);
     long half = 0;
-    for (int i = 0; i < THREADS; i++) {
+    for (i = 0; i < THREADS; i++) {
         void *one;
         pthread_join(threads[i], &one);
         half += (long)one;
@@ -71,13 +72,14 @@ int main(void)
         {store, @selector(written), (IMP)fake_written, NULL},
         {store, @selector(name), (IMP)fake_name, NULL},
     };
+    int i;
     pthread_barrier_init(&sending, NULL, THREADS + 1);
     show("as it is");
     long half = swap(rows, 3);
     show("with fakes");
     half += swap(rows, 3);                                    /* the rows now have what was there before */
     show("taken back");
-    for (int i = 0; i < 2 * TIMES; i++) half += swap(rows, 3);
+    for (i = 0; i < 2 * TIMES; i++) half += swap(rows, 3);
     printf("half of a swap was seen %ld times\n", half);
 
     struct objc_method_swap refused[] = {{clock, @selector(now), (IMP)fake_now, NULL}, {store, @selector(nobodys), (IMP)fake_now, NULL}};
