@@ -1,5 +1,7 @@
-/* One runtime for the whole process, with its lock and a sender for each thread: for hosts whose threads send without more ado. msg_runtime.h is the reference of what a call
- * answers. This header and process/msg_process.c, which is linked with the library, are TRUSTED. What they rest on, and the reason for each order of memory, stands in the latter.
+/* One runtime for the whole process, with its lock and a sender for each thread: for hosts whose
+ * threads send without more ado. msg_runtime.h is the reference of what a call answers. This header
+ * and process/msg_process.c, which is linked with the library, are TRUSTED. What they rest on, and
+ * the reason for each order of memory, stands in the latter.
  *
  *     msg_runtime *runtime;
  *     uint32_t fault = msg_process_start(NULL);
@@ -7,18 +9,24 @@
  *     if (!fault) { fault = msg_make_root_class(runtime, SHAPE); msg_process_unlock(); }
  *     if (!fault) fault = msg_process_find(SHAPE, false, AREA, &imp);
  *
- * Threads: any. A thread gets its sender at its first find, and gives it back at its end. A thread that finds as many out as the config says, or no memory, finds under the lock as
- * long as it lives; so does a thread that ends, from where its sender is given back.
+ * Threads: any. A thread gets its sender at its first find, and gives it back at its end. A thread
+ * that finds as many out as the config says, or no memory, finds under the lock as long as it
+ * lives; so does a thread that ends, from where its sender is given back.
  *
- * Fork: the child has its thread, that thread's sender and the runtime, as they were; the others' senders are closed in it. It may find, change and start threads. Fork in no handler
- * of a signal. Where the forking thread held the lock, it does in the child, too, and there the sender of another thread that was in a find may stay out.
+ * Fork: the child has its thread, that thread's sender and the runtime, as they were; the others'
+ * senders are closed in it. It may find, change and start threads. Fork in no handler of a signal.
+ * Where the forking thread held the lock, it does in the child, too, and there the sender of
+ * another thread that was in a find may stay out.
  *
- * Handlers of signals find by msg_process_find_at_once, which waits for nothing. Where it answers MSG_LOCK_HELD, let the handler put the work off until after it, or block the signal
- * while the lock is held. msg_process_find and the locks also answer MSG_LOCK_HELD to a handler whose own thread has the lock, and are right in one otherwise; but they may wait for a
- * thread that wants memory, and a thread's first find takes some: so not where malloc may be what the handler interrupted. A handler ends by its return, and no thread is cancelled
- * asynchronously.
+ * Handlers of signals find by msg_process_find_at_once, which waits for nothing. Where it answers
+ * MSG_LOCK_HELD, let the handler put the work off until after it, or block the signal while the
+ * lock is held. msg_process_find and the locks also answer MSG_LOCK_HELD to a handler whose own
+ * thread has the lock, and are right in one otherwise; but they may wait for a thread that wants
+ * memory, and a thread's first find takes some: so not where malloc may be what the handler
+ * interrupted. A handler ends by its return, and no thread is cancelled asynchronously.
  *
- * msg_runtime.h promises nothing of its calls in handlers and in a forked child: that they answer there is tested (tools/process), not proved. */
+ * msg_runtime.h promises nothing of its calls in handlers and in a forked child: that they answer
+ * there is tested (tools/process), not proved. */
 #ifndef MSG_PROCESS_H
 #define MSG_PROCESS_H
 
@@ -28,26 +36,39 @@
 extern "C" {
 #endif
 
-/* Opens the runtime of the process, once; of a NULL all is by default. MSG_ALREADY_OPEN at a second time, else as msg_open. */
+/* Opens the runtime of the process, once; of a NULL all is by default. MSG_ALREADY_OPEN at a second
+ * time, else as msg_open. */
 uint32_t msg_process_start(const msg_config *config);
 
-/* The runtime, under its lock, to ask it; or to ask and change it: until the unlock no thread goes by what it had noted before. MSG_CLOSED before the start, and MSG_LOCK_HELD where the
- * calling thread holds it; then there is nothing to unlock. */
+/* The runtime, under its lock, to ask it; or to ask and change it: until the unlock no thread goes
+ * by what it had noted before. MSG_CLOSED before the start, and MSG_LOCK_HELD where the calling
+ * thread holds it; then there is nothing to unlock. */
 uint32_t msg_process_lock(msg_runtime **runtime);
 uint32_t msg_process_lock_to_change(msg_runtime **runtime);
 /* Gives the lock back; by the thread that took it. */
 void msg_process_unlock(void);
 
-/* Where the calling thread holds the lock, after a change: what the lookup of a key finds by now is cached, so that no thread waits for the lock to find it, and noted for the calling
- * one. It does nothing where that has no sender. */
+/* Where the calling thread holds the lock, after a change: what the lookup of a key finds by now is
+ * cached, so that no thread waits for the lock to find it, and noted for the calling one. It does
+ * nothing where that has no sender. */
 void msg_process_cache(uint64_t key);
 
-/* The inline calls below, where the calling thread has noted nothing, or isn't asked. */
-uint32_t msg_process_find_slowly(uint64_t key, bool waits, uint32_t *imp);
+/* By a thread that may take memory, outside the lock: so that a thread's first find has a sender
+ * and takes no memory. It costs a load where senders are spare. A program's start, and what it does
+ * where it allocates, are places to call it. */
+void msg_process_spare(void);
 
-/* What the inline call goes by. `turns`: how often the thread was on the slow way. `sender`: its own; or one without notes while that is in use, and where it has none. */
+/* The inline calls below, where the calling thread has noted nothing, or isn't asked. For the lock
+ * it waits as is said; where that isn't to be had, it answers MSG_LOCK_HELD. A while is a second at
+ * most, and ends where a fork has the lock. */
+enum { MSG_WAITS_NOT, MSG_WAITS, MSG_WAITS_A_WHILE };
+uint32_t msg_process_find_slowly(uint64_t key, unsigned waits, uint32_t *imp);
+
+/* What the inline call goes by. `turns`: how often the thread was on the slow way. `sender`: its
+ * own; or one without notes while that is in use, and where it has none. */
 struct msg_process_thread { const msg_sender *sender; uint64_t turns; };
-/* How many changes there are, or more than ever are noted, while the lock is held to change. On a line of the cache of its own. */
+/* How many changes there are, or more than ever are noted, while the lock is held to change. On a
+ * line of the cache of its own. */
 struct msg_process_count { uint64_t begun, spare[7]; };
 #ifndef MSG_TLS
 #define MSG_TLS "initial-exec" /* "local-exec" takes an instruction less, in what is linked into a program alone */
@@ -59,34 +80,43 @@ extern struct msg_process_count msg_process_changes;
 }
 #endif
 
-/* msg_process_find of a key, for a host that keeps msg_key(2 * number + meta, 0) with each class, and adds msg_key(0, sel) to it. */
+/* msg_process_find of a key, for a host that keeps 2 * number + meta times MSG_KEY_OF_SLOT with
+ * each class, and adds msg_key(0, sel) to it. A handler of a signal may come between any two of the
+ * loads, and find: then `turns` is another after them. */
 static inline uint32_t msg_process_find_key(uint64_t key, uint32_t *imp)
 {
     uint64_t turns = __atomic_load_n(&msg_process_own.turns, __ATOMIC_RELAXED);
-    __atomic_signal_fence(__ATOMIC_SEQ_CST); /* a handler may come between any two of the loads, and find: then `turns` is another after them */
+    __atomic_signal_fence(__ATOMIC_SEQ_CST);
     const msg_sender *sender = __atomic_load_n(&msg_process_own.sender, __ATOMIC_RELAXED);
     uint64_t count = __atomic_load_n(&msg_process_changes.begun, __ATOMIC_ACQUIRE);
     const msg_note *note = MSG_NOTE_OF(sender, key); /* as msg_recall_key */
-    bool is_of = note->word == key && note->count == count;
-    uint32_t found = note->imp;
+    uint64_t said = note->count == count ? msg_said(note, key) : MSG_SAID_NONE;
+    uint32_t found = said < MSG_SAID_LONG ? (uint32_t)said : said == MSG_SAID_LONG ? note->imp : 0;
     __atomic_signal_fence(__ATOMIC_SEQ_CST);
-    if (!is_of || !found || __atomic_load_n(&msg_process_own.turns, __ATOMIC_RELAXED) != turns) return msg_process_find_slowly(key, true, imp);
-    MSG_TEST(found == msg_recall(sender, MSG_SLOT_OF(key), MSG_SEL_OF(key), count) || __atomic_load_n(&msg_process_own.turns, __ATOMIC_RELAXED) != turns);
+    bool is_same = __atomic_load_n(&msg_process_own.turns, __ATOMIC_RELAXED) == turns;
+    if (!found || !is_same) return msg_process_find_slowly(key, MSG_WAITS, imp);
+    MSG_TEST(found == msg_recall(sender, MSG_SLOT_OF(key), MSG_SEL_OF(key), count) ||
+             __atomic_load_n(&msg_process_own.turns, __ATOMIC_RELAXED) != turns);
     *imp = found;
     return MSG_DONE;
 }
 
-/* objc_msg_lookup, by all changes whose unlock had returned: the implementation's number, 0 for forwarding. Faults: MSG_CLOSED before the start, MSG_NO_CLASS, MSG_NO_SELECTOR and,
- * where the calling thread holds the lock, MSG_LOCK_HELD. */
+/* objc_msg_lookup, by all changes whose unlock had returned: the implementation's number, 0 for
+ * forwarding. Faults: MSG_CLOSED before the start, MSG_NO_CLASS, MSG_NO_SELECTOR and, where the
+ * calling thread holds the lock, MSG_LOCK_HELD. */
 static inline uint32_t msg_process_find(uint32_t number, bool meta, uint32_t sel, uint32_t *imp)
 {
-    return number >= MSG_SLOTS / 2 ? (uint32_t)MSG_NO_CLASS : msg_process_find_key(msg_key(2 * number + meta, sel), imp);
+    uint32_t slot = msg_slot(number, meta);
+    return slot < MSG_SLOTS ? msg_process_find_key(msg_key(slot, sel), imp) : (uint32_t)MSG_NO_CLASS;
 }
 
-/* msg_process_find that never waits and takes no memory: where it would ask under the lock, and any thread has that, it answers MSG_LOCK_HELD. */
+/* msg_process_find that never waits and takes no memory: where it would ask under the lock, and any
+ * thread has that, it answers MSG_LOCK_HELD. */
 static inline uint32_t msg_process_find_at_once(uint32_t number, bool meta, uint32_t sel, uint32_t *imp)
 {
-    return number >= MSG_SLOTS / 2 ? (uint32_t)MSG_NO_CLASS : msg_process_find_slowly(msg_key(2 * number + meta, sel), false, imp);
+    uint32_t slot = msg_slot(number, meta);
+    if (slot == MSG_SLOTS) return MSG_NO_CLASS;
+    return msg_process_find_slowly(msg_key(slot, sel), MSG_WAITS_NOT, imp);
 }
 
 #endif

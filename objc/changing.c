@@ -1,16 +1,20 @@
-/* Methods that stand in classes, and changes of them: by the proved calls of the tables and then of the rows, under one
- * lock. So what a row says nobody finds otherwise by the tables later; and what it no longer says, nobody has found
- * before by them, since what was changed is found anew under the lock alone. Trusted: this order, that rows and tables
- * say the same after each change, that a change for whose function there is no number changes neither, and that of what
- * a module brings no name is found before the tables have all of it. */
+/* Methods that stand in classes, and changes of them: by the proved calls of the tables and then of
+ * the rows, under one lock. So what a row says nobody finds otherwise by the tables later; and what
+ * it no longer says, nobody has found before by them, since what was changed is found anew under
+ * the lock alone. Trusted: this order, that rows and tables say the same after each change, and
+ * that of what a module brings no name is found before the tables have all of it. */
 #include "shim.h"
 #include "msg_objc.h"
 
-/* A method that gets a function, which has that number: of the record's class, or, where there is no record, of none.
- * Where it is NULL it is new. `before`: what was called. */
-struct part { struct record *record; Method method; SEL sel; IMP imp, before; const char *types; uint32_t number; };
+/* A method that gets a function, which has that number: of the record's class, or, where there is
+ * no record, of none. Where it is NULL it is new. `before`: what was called. */
+struct part {
+    struct record *record; Method method; SEL sel;
+    IMP imp, before; const char *types; uint32_t number;
+};
 
-/* The count is read first: so many rows any array has that is there then. The last of a name counts. */
+/* The count is read first: so many rows any array has that is there then. The last of a name
+ * counts. */
 static Method method_of(struct record *record, uint32_t sel)
 {
     uint32_t count = record->count;
@@ -25,7 +29,8 @@ static Method method_of(struct record *record, uint32_t sel)
 Method shim_standing(Class class_, uint32_t sel)
 {
     Method method = NULL;
-    for (; class_ && !method; class_ = class_->superclass.class_) method = method_of(class_->record, sel);
+    for (; class_ && !method; class_ = class_->superclass.class_)
+        method = method_of(class_->record, sel);
     return method;
 }
 
@@ -35,17 +40,27 @@ static struct record *record_at(uint32_t number, bool meta)
     return (meta ? class_->isa : class_)->record;
 }
 
+/* By a method where it may stand: a slot of the tables, whose rows say whether it does. */
+static struct index homes;
+
+static bool is_home(uint32_t slot, const void *method)
+{
+    return method_of(record_at(slot / 2, slot % 2), shim_sel(((Method)method)->name.sel)) == method;
+}
+
 /* Where a method stands, or NULL, as of one of a class in construction. */
 static struct record *home_of(Method method)
 {
-    for (uint32_t i = 2; method && i < 2 * shim_class_count + 2; i++) {
-        struct record *record = record_at(i / 2, i % 2);
-        if (method_of(record, shim_sel(method->name.sel)) == method) return record;
-    }
-    return NULL;
+    uint32_t mixed = shim_mixed_word((uintptr_t)method);
+    uint32_t slot = method ? shim_number_in(&homes, mixed, is_home, method) : 0;
+    return slot ? record_at(slot / 2, slot % 2) : NULL;
 }
 
-static void set_imp(Method method, IMP imp) { __atomic_store_n(&method->imp, imp, __ATOMIC_RELEASE); }
+static void note_home(const struct record *record, Method method)
+{
+    uint32_t slot = 2 * record->number + record->meta;
+    if (record->number) free(shim_index(&homes, shim_mixed_word((uintptr_t)method), slot));
+}
 
 /* `more`: how many come to the record now, this one counted. */
 static void stand(struct record *record, Method method, uint32_t more)
@@ -53,13 +68,15 @@ static void stand(struct record *record, Method method, uint32_t more)
     uint32_t count = record->count;
     if (count + more > record->room) {
         record->room = count + count / 2 + more;
-        struct rows *before = record->rows, *rows = shim_memory(sizeof *rows + record->room * sizeof *rows->at);
+        struct rows *before = record->rows;
+        struct rows *rows = shim_memory(sizeof *rows + record->room * sizeof *rows->at);
         rows->before = before;
         if (before) memcpy(rows->at, before->at, count * sizeof *rows->at);
         record->rows = rows;
     }
     record->rows->at[count] = (struct row){shim_sel(method->name.sel), method};
     record->count = count + 1;
+    note_home(record, method);
 }
 
 static msg_change replacing(const struct record *record, SEL sel, uint32_t number)
@@ -81,9 +98,7 @@ static void bring(msg_change change)
 
 void shim_bring_method(struct record *record, Method method, bool is_new)
 {
-    uint32_t number = shim_number(method->imp);
-    if (!number) shim_stop("too many implementations", shim_classes[record->number]->name);
-    bring(replacing(record, method->name.sel, number));
+    bring(replacing(record, method->name.sel, shim_number(method->imp)));
     if (!is_new) return;
     coming = shim_more(coming, coming_count, &coming_room, sizeof *coming);
     coming[coming_count++] = (struct coming){record, method};
@@ -93,9 +108,13 @@ void shim_bring_class(Class class_)
 {
     Class above = class_->superclass.class_;
     struct record *both[2] = {class_->record, class_->isa->record};
-    bring((msg_change){above ? MSG_MAKES_CLASS : MSG_MAKES_ROOT_CLASS, both[0]->number, 0, 0, 0, above ? above->record->number : 0, 0, 0});
+    uint32_t kind = above ? MSG_MAKES_CLASS : MSG_MAKES_ROOT_CLASS;
+    bring((msg_change){kind, both[0]->number, .other = above ? above->record->number : 0});
     for (int j = 0; j < 2; j++)
-        for (uint32_t i = 0; i < both[j]->count; i++) shim_bring_method(both[j], both[j]->rows->at[i].method, false);
+        for (uint32_t i = 0; i < both[j]->count; i++) {
+            shim_bring_method(both[j], both[j]->rows->at[i].method, false);
+            note_home(both[j], both[j]->rows->at[i].method);
+        }
 }
 
 void shim_make(const char *what)
@@ -116,26 +135,27 @@ void shim_make(const char *what)
 
 /* ---- parts of a change that programs ask for ---- */
 
-/* Of a method that stands, or is NULL. There is none without a number for the function, or without types for a new one. */
-static inline bool plan(struct part *part, struct record *record, Method method, SEL sel, IMP imp, const char *types)
+/* Of a method that stands, or is NULL: then there are types. */
+static struct part part_of(struct record *at, Method method, SEL sel, IMP imp, const char *types)
 {
-    *part = (struct part){record, method, sel, imp, method ? method->imp : NULL, types, shim_number(imp)};
-    return part->number && (method || types);
+    IMP before = method ? shim_imp(method) : NULL;
+    return (struct part){at, method, sel, imp, before, types, shim_number(imp)};
 }
 
 static Method new_method(const struct part *part)
 {
     Method method = shim_memory(sizeof *method);
-    *method = (struct objc_method){{.sel = shim_typed_selector(shim_sel(part->sel), part->types, false)}, shim_copy(part->types), part->imp};
+    SEL sel = shim_typed_selector(shim_sel(part->sel), part->types, false);
+    *method = (struct objc_method){{.sel = sel}, shim_copy(part->types), part->imp};
     return method;
 }
 
-static inline bool is_in_tables(const struct part *part) { return part->record && part->record->number; }
+static bool is_in_tables(const struct part *part) { return part->record && part->record->number; }
 
 /* In the rows, after the tables. */
 static inline void settle(const struct part *part)
 {
-    if (part->method) set_imp(part->method, part->imp);
+    if (part->method) STORE(part->method->imp, part->imp);
     else stand(part->record, new_method(part), 1);
 }
 
@@ -147,27 +167,33 @@ static inline void cache(const struct part *part)
 static inline void make_one(const struct part *part)
 {
     struct record *of = part->record;
-    if (is_in_tables(part)) shim_must(msg_replace(shim_runtime, of->number, of->meta, shim_sel(part->sel), part->number), "replace");
+    uint32_t sel = shim_sel(part->sel);
+    if (is_in_tables(part))
+        shim_must(msg_replace(shim_runtime, of->number, of->meta, sel, part->number), "replace");
     settle(part);
     cache(part);
 }
 
 /* ---- as programs ask for them ---- */
 
-/* Whether the class, which may be in construction, then has it so. `before`: what its own method called; where it is NULL there may be none. */
+/* Whether the class, which may be in construction, then has it so. `before`: what its own method
+ * called; where it is NULL there may be none. */
 static inline bool put(Class class_, SEL sel, IMP imp, const char *types, IMP *before)
 {
-    struct part part;
     if (!class_ || !class_->record || !sel || !imp || !types) return false;
     CHANGING;
     Method method = method_of(class_->record, shim_sel(sel));
-    if ((method && !before) || !plan(&part, class_->record, method, sel, imp, types)) return false;
+    if (method ? !before : !*types) return false;
+    struct part part = part_of(class_->record, method, sel, imp, types);
     make_one(&part);
     if (before) *before = part.before;
     return true;
 }
 
-BOOL class_addMethod(Class class_, SEL sel, IMP imp, const char *types) { return put(class_, sel, imp, types, NULL); }
+BOOL class_addMethod(Class class_, SEL sel, IMP imp, const char *types)
+{
+    return put(class_, sel, imp, types, NULL);
+}
 
 IMP class_replaceMethod(Class class_, SEL sel, IMP imp, const char *types)
 {
@@ -178,10 +204,9 @@ IMP class_replaceMethod(Class class_, SEL sel, IMP imp, const char *types)
 
 IMP method_setImplementation(Method method, IMP imp)
 {
-    struct part part;
     if (!method || !imp) return NULL;
     CHANGING;
-    if (!plan(&part, home_of(method), method, method->name.sel, imp, NULL)) return NULL;
+    struct part part = part_of(home_of(method), method, method->name.sel, imp, NULL);
     make_one(&part);
     return part.before;
 }
@@ -191,7 +216,8 @@ static bool plan_exchange(const struct objc_method_pair *pair, msg_change *chang
     struct record *here = home_of(pair->one), *there = here ? home_of(pair->other) : NULL;
     if (!there) return false;
     uint32_t sel = shim_sel(pair->one->name.sel), other_sel = shim_sel(pair->other->name.sel);
-    *change = (msg_change){MSG_EXCHANGES, here->number, here->meta, sel, 0, there->number, there->meta, other_sel};
+    *change = (msg_change){MSG_EXCHANGES, here->number,  here->meta,  sel, 0,
+                           there->number, there->meta, other_sel};
     return true;
 }
 
@@ -204,9 +230,9 @@ size_t objc_exchange_methods(const struct objc_method_pair *pairs, size_t count)
     bool made = place == count && !msg_change_all(shim_runtime, all, count, &place);
     free(all);
     for (size_t i = 0; made && i < count; i++) {
-        IMP imp = pairs[i].one->imp;
-        set_imp(pairs[i].one, pairs[i].other->imp);
-        set_imp(pairs[i].other, imp);
+        IMP imp = shim_imp(pairs[i].one);
+        STORE(pairs[i].one->imp, shim_imp(pairs[i].other));
+        STORE(pairs[i].other->imp, imp);
     }
     return place;
 }
@@ -215,8 +241,7 @@ size_t objc_exchange_methods(const struct objc_method_pair *pairs, size_t count)
 void method_exchangeImplementations(Method one, Method other)
 {
     if (!one || !other || objc_exchange_methods(&(struct objc_method_pair){one, other}, 1)) return;
-    IMP imp = one->imp;
-    if (method_setImplementation(one, other->imp)) method_setImplementation(other, imp);
+    method_setImplementation(other, method_setImplementation(one, shim_imp(other)));
 }
 
 static bool plan_swap(const struct objc_method_swap *rows, size_t at, struct part *part)
@@ -226,10 +251,14 @@ static bool plan_swap(const struct objc_method_swap *rows, size_t at, struct par
     if (!record || !record->number || !it->sel || !it->imp) return false;
     for (const struct objc_method_swap *before = rows; before < it; before++)
         if (before->class_ == it->class_ && sel_isEqual(before->sel, it->sel)) return false;
-    Method method = method_of(record, shim_sel(it->sel)), known = method ? method : shim_standing(it->class_, shim_sel(it->sel));
-    bool is_planned = plan(part, record, method, it->sel, it->imp, it->types || !known ? it->types : known->types);
+    uint32_t sel = shim_sel(it->sel);
+    Method method = method_of(record, sel), known = method;
+    if (!known) known = shim_standing(it->class_, sel);
+    const char *types = it->types || !known ? it->types : known->types;
+    if (!method && !types) return false;
+    *part = part_of(record, method, it->sel, it->imp, types);
     part->before = known ? known->imp : NULL;
-    return is_planned;
+    return true;
 }
 
 size_t objc_replace_methods(struct objc_method_swap *rows, size_t count)
@@ -256,7 +285,8 @@ static Method instance_method(Class class_, uint32_t sel)
     msg_class at;
     LOCKED;
     if (shim_in_construction(class_)) return shim_standing(class_, sel);
-    uint32_t fault = msg_holder(shim_runtime, class_->record->number, class_->record->meta, sel, &at);
+    struct record *of = class_->record;
+    uint32_t fault = msg_holder(shim_runtime, of->number, of->meta, sel, &at);
     return fault ? NULL : method_of(record_at(at.number, at.meta), sel);
 }
 
@@ -269,7 +299,8 @@ Method class_getInstanceMethod(Class class_, SEL sel)
 
 Method class_getClassMethod(Class class_, SEL sel)
 {
-    return class_ ? class_getInstanceMethod(class_isMetaClass(class_) ? class_ : class_->isa, sel) : NULL;
+    Class of = !class_ || class_isMetaClass(class_) ? class_ : class_->isa;
+    return class_getInstanceMethod(of, sel);
 }
 
 /* The newest first. */

@@ -1,26 +1,28 @@
-/* Classes by name and by number, and classes that are made at run time. Trusted: that a name finds the class that has
- * it, once the tables have it, and that a class is freed only before it has a number. */
+/* Classes by name and by number, and classes that are made at run time. Trusted: that a name finds
+ * the class that has it, once the tables have it, and that a class is freed only before it has a
+ * number. */
 #include "shim.h"
 
-typedef Class (*objc_get_unknown_class_handler)(const char *name);
-enum { PLACES = 4096, GUESSES = 1024 };
+typedef Class (*finder)(const char *name);
+enum { GUESSES = 1024 };
 
 Class shim_classes[MOST_CLASSES + 1];
 uint32_t shim_class_count, shim_class_room;
 static uint32_t in_construction; /* for which a number is kept */
 static _Atomic(uint32_t) made; /* the tables have the classes of the numbers up to this */
-static _Atomic(Class) by_name[PLACES]; /* the last that came of each place, and before it its record's next */
-static _Atomic(Class) guesses[GUESSES]; /* what was found of a name that lay at such an address: its text says whether it is meant */
-static objc_get_unknown_class_handler unknown_class;
+static struct index by_name; /* what it leaves isn't freed: it is read without the lock */
+/* What was found of a name that lay at such an address: its text says whether it is meant. */
+static _Atomic(Class) guesses[GUESSES];
+static _Atomic(finder) unknown_class;
+finder _objc_lookup_class; /* an older hook, where there is no handler */
 
-static _Atomic(Class) *place_of(const char *name) { return &by_name[shim_mixed(name) % PLACES]; }
+static bool is_named(uint32_t at, const void *it) { return !strcmp(shim_classes[at]->name, it); }
 
-/* No class leaves the table, so it is read without the lock. */
+/* No class leaves it. */
 static Class named(const char *name, uint32_t last)
 {
-    Class class_ = atomic_load_explicit(place_of(name), memory_order_acquire);
-    while (class_ && (class_->record->number > last || strcmp(class_->name, name))) class_ = class_->record->next;
-    return class_;
+    uint32_t number = shim_number_in(&by_name, shim_mixed(name), is_named, name);
+    return number <= last ? shim_classes[number] : NULL;
 }
 
 /* A program asks by the same text at the same address each time. */
@@ -39,8 +41,9 @@ void shim_publish(void) { atomic_store(&made, shim_class_count); }
 
 void shim_new_record(Class class_)
 {
-    class_->record = shim_memory(sizeof *class_->record);
-    class_->record->meta = class_isMetaClass(class_);
+    struct record *record = shim_memory(sizeof *record);
+    record->meta = class_isMetaClass(class_);
+    STORE(class_->record, record); /* its superclass is one by now */
 }
 
 bool shim_has_class_number(void) { return shim_class_count + in_construction < shim_class_room; }
@@ -48,11 +51,9 @@ bool shim_has_class_number(void) { return shim_class_count + in_construction < s
 /* The class and its metaclass have records. */
 void shim_number_class(Class class_)
 {
-    _Atomic(Class) *place = place_of(class_->name);
     shim_classes[++shim_class_count] = class_;
     class_->record->number = class_->isa->record->number = shim_class_count;
-    class_->record->next = atomic_load(place);
-    atomic_store(place, class_);
+    shim_index(&by_name, shim_mixed(class_->name), shim_class_count);
 }
 
 Class objc_lookUpClass(const char *name) { return name ? shim_class_named(name) : NULL; }
@@ -60,7 +61,10 @@ Class objc_lookUpClass(const char *name) { return name ? shim_class_named(name) 
 Class objc_getClass(const char *name)
 {
     Class class_ = objc_lookUpClass(name);
-    return class_ || !name || !unknown_class ? class_ : unknown_class(name);
+    if (class_ || !name) return class_;
+    finder find = atomic_load(&unknown_class);
+    if (!find) find = LOAD(_objc_lookup_class);
+    return find ? find(name) : NULL;
 }
 
 Class objc_getRequiredClass(const char *name)
@@ -77,16 +81,14 @@ Class objc_get_class(const char *name) { return objc_getRequiredClass(name); }
 Class objc_get_meta_class(const char *name) { return meta_of(objc_getRequiredClass(name)); }
 Class objc_lookup_class(const char *name) { return objc_getClass(name); } /* as clang asks */
 
-objc_get_unknown_class_handler objc_setGetUnknownClassHandler(objc_get_unknown_class_handler handler)
-{
-    return __atomic_exchange_n(&unknown_class, handler, __ATOMIC_ACQ_REL);
-}
+finder objc_setGetUnknownClassHandler(finder to) { return atomic_exchange(&unknown_class, to); }
 
 int objc_getClassList(Class *into, int most)
 {
     LOCKED;
     int count = into && most < (int)shim_class_count ? most : (int)shim_class_count;
-    for (int i = 0; into && i < count; i++) into[i] = shim_classes[i + 1];
+    if (count < 0) count = 0;
+    if (into) memcpy(into, shim_classes + 1, (size_t)count * sizeof *into);
     return count;
 }
 
@@ -99,7 +101,10 @@ size_t class_getInstanceSize(Class class_) { return class_ ? (size_t)class_->ins
 /* Of a class whose superclass isn't there yet only the name is known. */
 Class class_getSuperclass(Class class_)
 {
-    return !class_ ? NULL : class_->record ? class_->superclass.class_ : objc_lookUpClass(class_->superclass.text);
+    if (!class_) return NULL;
+    if (LOAD(class_->record)) return class_->superclass.class_;
+    LOCKED;
+    return class_->record ? class_->superclass.class_ : objc_lookUpClass(class_->superclass.text);
 }
 
 static Class new_class(Class above, size_t extra, unsigned long info)
@@ -143,11 +148,13 @@ static void free_class(Class class_)
 
 Class objc_allocateClassPair(Class superclass, const char *name, size_t extra)
 {
-    if (!name || objc_lookUpClass(name) || (superclass && (!superclass->record || shim_in_construction(superclass)))) return NULL;
+    if (!name || objc_lookUpClass(name)) return NULL;
+    if (superclass && (!superclass->record || shim_in_construction(superclass))) return NULL;
     LOCKED;
     if (!shim_has_class_number()) return NULL;
     Class class_ = new_class(superclass, extra, CLASS_PLAIN);
-    Class meta = class_ ? new_class(superclass ? superclass->isa : class_, extra, CLASS_META) : NULL;
+    Class above = superclass ? superclass->isa : class_;
+    Class meta = class_ ? new_class(above, extra, CLASS_META) : NULL;
     if (!meta) {
         free_class(class_);
         return NULL;

@@ -1,7 +1,8 @@
-/* What is called where no method is found: a program's hook, the receiver's forward::, its doesNotRecognize:, or the
- * end. forward:: is given the arguments' registers and memory as __builtin_apply_args makes them, and answers a
- * result as __builtin_apply does (GCC's manual, Constructing Calls). Trusted: that the result of forward:: is
- * returned where the message's is sought. */
+/* What is called where no method is found: a program's hook, the receiver's forward::, its
+ * doesNotRecognize:, or the end. forward:: is given the arguments' registers and memory as
+ * __builtin_apply_args makes them, and answers a result as __builtin_apply does (GCC's manual,
+ * Constructing Calls). Trusted: that the result of forward:: is returned where the message's is
+ * sought. */
 #include "shim.h"
 
 enum { MOST_IN_REGISTERS = 16 };
@@ -14,7 +15,10 @@ typedef void *(*forwarder)(id, SEL, SEL, void *);
 IMP (*__objc_msg_forward)(SEL);
 IMP (*__objc_msg_forward2)(id, SEL);
 
-static IMP own_method(id self, int own) { return self ? shim_look(shim_class_of(self), &shim_own[own]) : NULL; }
+static IMP own_method(id self, int own)
+{
+    return self ? shim_look(shim_class_of(self), &shim_own[own]) : NULL;
+}
 
 static void *forward(id self, SEL sel, void *frame)
 {
@@ -55,15 +59,19 @@ static double forward_double(id self, SEL sel, ...)
 static IMP by_types(const char *types)
 {
     types = types ? objc_skip_type_qualifiers(types) : "";
-    if ((*types == '{' || *types == '(' || *types == '[') && objc_sizeof_type(types) > MOST_IN_REGISTERS) return (IMP)(void (*)(void))forward_large;
+    bool is_made_of_parts = *types == '{' || *types == '(' || *types == '[';
+    if (is_made_of_parts && objc_sizeof_type(types) > MOST_IN_REGISTERS)
+        return (IMP)(void (*)(void))forward_large;
     if (*types == 'f' || *types == 'd') return (IMP)(void (*)(void))forward_double;
     return forward_word;
 }
 
 IMP shim_forward(id receiver, SEL sel)
 {
-    IMP imp = NULL;
-    if (__objc_msg_forward2) imp = __objc_msg_forward2(receiver, sel);
-    if (!imp && __objc_msg_forward) imp = __objc_msg_forward(sel);
+    IMP (*both)(id, SEL) = LOAD(__objc_msg_forward2);
+    IMP imp = both ? both(receiver, sel) : NULL;
+    if (imp) return imp;
+    IMP (*one)(SEL) = LOAD(__objc_msg_forward);
+    imp = one ? one(sel) : NULL;
     return imp ? imp : by_types(sel->types);
 }

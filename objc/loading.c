@@ -1,15 +1,20 @@
-/* Modules: classes are taken when their superclass is there; categories and constant objects wait for their class;
- * +load is sent once, a superclass's first. Trusted: that what a module says is taken once, in the order of classes
- * above others, and that all of it is brought before it is made. */
+/* Modules: classes are taken when their superclass is there; categories and constant objects wait
+ * for their class; +load is sent once, a superclass's first. Trusted: that what a module says is
+ * taken once, in the order of classes above others, and that all of it is brought before it is
+ * made. */
 #include "shim.h"
+#include <link.h>
+#include <dlfcn.h>
 #include <stdio.h>
 
 void (*_objc_load_callback)(Class, struct objc_category *);
 
 /* The first `tried` wait for more than there was when `tried_at` was so. */
-static struct waiting { void **rows; uint32_t count, room, tried, tried_at; } classes, categories, constants;
+struct waiting { void **rows; uint32_t count, room, tried, tried_at; };
+static struct waiting classes, categories, constants;
 
-/* What is to be done without the lock, in order: a +load that is sent, or, without an implementation, the callback of a class or category. */
+/* What is to be done without the lock, in order: a +load that is sent, or, without an
+ * implementation, the callback of a class or category. */
 struct load { Class class_; struct objc_category *category; IMP imp; SEL sel; };
 static struct load *loads;
 static uint32_t load_count, load_room, loaded_count;
@@ -24,8 +29,9 @@ static void note_load(Class class_, struct objc_category *category, IMP imp, SEL
 static void take_method(Class class_, struct record *record, Method method)
 {
     const char *name = method->name.text;
-    method->name.sel = shim_needed_selector(name, method->types);
-    if (record->meta && !strcmp(name, "load")) note_load(class_, NULL, method->imp, method->name.sel);
+    method->name.sel = shim_lasting_selector(name, method->types);
+    if (record->meta && !strcmp(name, "load"))
+        note_load(class_, NULL, method->imp, method->name.sel);
     shim_bring_method(record, method, true);
 }
 
@@ -57,7 +63,8 @@ static bool has_number(Class class_)
 {
     static bool told;
     bool has = shim_has_class_number();
-    if (!has && !told) fprintf(stderr, "objc: no class number is left for %s (MSG_CLASSES)\n", class_->name);
+    if (!has && !told)
+        fprintf(stderr, "objc: no class number is left for %s (MSG_CLASSES)\n", class_->name);
     told = told || !has;
     return has;
 }
@@ -107,10 +114,12 @@ static bool try_constants(void *row)
     return true;
 }
 
-/* Those that no longer wait leave; the others keep their order. Nothing is tried again before there are more classes, or a number for one. */
+/* Those that no longer wait leave; the others keep their order. Nothing is tried again before there
+ * are more classes, or a number for one. */
 static bool try_all(struct waiting *all, bool (*try_one)(void *))
 {
-    uint32_t now = 2 * shim_class_count + shim_has_class_number(), count = all->count, left = now == all->tried_at ? all->tried : 0;
+    uint32_t now = 2 * shim_class_count + shim_has_class_number(), count = all->count;
+    uint32_t left = now == all->tried_at ? all->tried : 0;
     for (uint32_t i = left; i < count; i++)
         if (!try_one(all->rows[i])) all->rows[left++] = all->rows[i];
     all->count = all->tried = left;
@@ -126,9 +135,11 @@ static void wait_row(struct waiting *all, void *row)
 
 static void take_symbols(struct symbols *symbols)
 {
-    for (struct objc_selector *sel = symbols->refs; sel && sel->name.text; sel++) shim_take_selector(sel);
-    void **at = symbols->defs;
-    for (uint32_t i = 0; i < symbols->class_count; i++) wait_row(&classes, *at++);
+    for (struct objc_selector *sel = symbols->refs; sel && sel->name.text; sel++)
+        shim_take_selector(sel);
+    void **at = symbols->defs + symbols->class_count;
+    /* GCC lists the last first */
+    for (uint32_t i = symbols->class_count; i--;) wait_row(&classes, symbols->defs[i]);
     for (uint32_t i = 0; i < symbols->category_count; i++) wait_row(&categories, *at++);
     for (struct constants **list = *at; list && *list; list++) wait_row(&constants, *list);
 }
@@ -151,6 +162,19 @@ static void send_loads(void)
     }
 }
 
+/* Names, classes and methods are used where they lie, so no dlclose takes what brings a module
+ * away. Once for each: the modules of one come in turn. The program itself has no name. */
+static void keep_loaded(const void *module)
+{
+    static _Atomic(struct link_map *) last;
+    struct link_map *of;
+    Dl_info unused;
+    if (!dladdr1(module, &unused, (void **)&of, RTLD_DL_LINKMAP)) return;
+    if (atomic_exchange(&last, of) == of) return;
+    void *handle = *of->l_name ? dlopen(of->l_name, RTLD_LAZY | RTLD_NOLOAD | RTLD_NODELETE) : NULL;
+    if (handle) dlclose(handle);
+}
+
 /* What a module brings, and what waited for that, is one change. */
 static void take_module(struct module *module)
 {
@@ -170,7 +194,10 @@ void shim_take_roots(void) { take_module(&shim_roots); }
 
 void __objc_exec_class(struct module *module)
 {
-    if (module->version != 8 || module->size != sizeof *module) shim_stop("a module of another version", module->name);
+    if (module->version != 8 || module->size != sizeof *module)
+        shim_stop("a module of another version", module->name);
+    keep_loaded(module);
     take_module(module);
+    msg_process_spare();
     send_loads();
 }

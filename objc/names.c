@@ -1,27 +1,33 @@
-/* Numbers, of selectors by their names and of functions; and memory. Trusted: that equal names have one number and
- * others another, as functions have, and that the numbers of the selectors that the shim sends are right. */
+/* Numbers, of selectors by their names and of functions; and memory. Trusted: that equal names have
+ * one number and others another, as functions have, that a table that has grown has all that it
+ * had, and that the numbers of the selectors that the shim sends are right. */
 #include "seat.h"
 #include <stdio.h>
+#include <sys/auxv.h>
+#include <sys/mman.h>
 
-enum { PLACES = 8192, KEPT = 512 };
+enum { FEWEST = 64, CHUNK = 4096, KEPT = 512, MOST_OF_A_PAGE = 1 << 16, STEP = MOST_OF_A_PAGE };
 
 /* The selectors of one name that differ in their types. */
 struct typed { struct objc_selector sel; struct typed *next; };
+struct name { const char *text; struct typed *typed; };
 
 static const char *const own_names[FIRST_FREE] = {
-    [INITIALIZE] = "initialize", [RESOLVE_INSTANCE] = "resolveInstanceMethod:", [RESOLVE_CLASS] = "resolveClassMethod:",
-    [FORWARD] = "forward::", [NOT_RECOGNIZED] = "doesNotRecognize:", [RETAIN] = "retain", [RELEASE] = "release",
-    [AUTORELEASE] = "autorelease", [COPY] = "copyWithZone:", [MUTABLE_COPY] = "mutableCopyWithZone:"};
-#define OWN(number) [number] = {.name.key = 32 * (number)}
+    [INITIALIZE] = "initialize", [RESOLVE_INSTANCE] = "resolveInstanceMethod:",
+    [RESOLVE_CLASS] = "resolveClassMethod:", [FORWARD] = "forward::",
+    [NOT_RECOGNIZED] = "doesNotRecognize:", [RETAIN] = "retain", [RELEASE] = "release",
+    [AUTORELEASE] = "autorelease", [COPY] = "copyWithZone:",
+    [MUTABLE_COPY] = "mutableCopyWithZone:"};
+#define OWN(number) [number] = {.name.key = MSG_KEY_OF_SLOT + 32 * (number)}
 const struct objc_selector shim_own[FIRST_FREE] = {
     OWN(INITIALIZE), OWN(RESOLVE_INSTANCE), OWN(RESOLVE_CLASS), OWN(FORWARD), OWN(NOT_RECOGNIZED),
     OWN(RETAIN), OWN(RELEASE), OWN(AUTORELEASE), OWN(COPY), OWN(MUTABLE_COPY)};
 
-/* By their numbers; `next`: the name that is found after it. */
-static struct { const char *text; struct typed *typed; uint32_t next; } names[MOST_SELECTORS + 1];
-static uint32_t name_count, first[PLACES];
+static struct name *names[MOST_SELECTORS / CHUNK + 1]; /* by their numbers, where they stay */
+static uint32_t name_count;
+static struct index by_text, by_function;
 
-_Alignas(LINE) _Atomic(IMP) shim_functions[MOST_IMPS + 1];
+_Alignas(MOST_OF_A_PAGE) _Atomic(IMP) shim_functions[MOST_IMPS + 1];
 
 void shim_stop(const char *why, const char *what)
 {
@@ -51,79 +57,137 @@ void *shim_list(size_t many, size_t size, unsigned int *count)
     return many ? shim_memory((many + 1) * size) : NULL;
 }
 
-/* By eight letters at a time: each name of a module is mixed as it is loaded. */
+/* ---- numbers by what they are of ---- */
+
+/* Of this process alone, so nobody can choose names that are mixed alike. */
+static uint64_t secret[2];
+static __attribute__((constructor(101))) void take_secret(void)
+{
+    memcpy(secret, (const void *)getauxval(AT_RANDOM), sizeof secret);
+}
+
+static uint64_t mix(uint64_t mixed, uint64_t word)
+{
+    unsigned __int128 product = (unsigned __int128)(mixed ^ word) * (secret[1] | 1);
+    return (uint64_t)product ^ (uint64_t)(product >> 64);
+}
+
 uint32_t shim_mixed(const char *name)
 {
-    uint64_t mixed = 0, word;
+    uint64_t mixed = secret[0], word;
     size_t left = strlen(name);
     for (; left >= sizeof word; left -= sizeof word, name += sizeof word) {
         memcpy(&word, name, sizeof word);
-        mixed = (mixed ^ word ^ mixed >> 32) * 0x9e3779b97f4a7c15;
+        mixed = mix(mixed, word);
     }
     for (word = 0; left; left--) word = word << 8 | (unsigned char)name[left - 1];
-    return (uint32_t)((mixed ^ word ^ mixed >> 32) * 0x9e3779b97f4a7c15 >> 32);
+    return (uint32_t)mix(mixed, word);
+}
+
+uint32_t shim_mixed_word(uintptr_t word) { return (uint32_t)mix(secret[0], word); }
+
+uint32_t shim_number_in(const struct index *index, uint32_t mixed,
+                        bool (*is)(uint32_t number, const void *it), const void *it)
+{
+    const struct places *places = atomic_load_explicit(&index->places, memory_order_acquire);
+    uint64_t place = 0;
+    for (uint32_t at = mixed; places; at++) {
+        place = atomic_load_explicit(&places->at[at & places->last], memory_order_acquire);
+        if (!place || (place >> 32 == mixed && is((uint32_t)place, it))) break;
+    }
+    return (uint32_t)place;
+}
+
+static void put(struct places *places, uint64_t place)
+{
+    uint32_t at = (uint32_t)(place >> 32);
+    while (atomic_load_explicit(&places->at[at & places->last], memory_order_relaxed)) at++;
+    atomic_store_explicit(&places->at[at & places->last], place, memory_order_release);
+}
+
+void *shim_index(struct index *index, uint32_t mixed, uint32_t number)
+{
+    struct places *before = index->places, *places = before;
+    uint32_t room = before ? before->last + 1 : 0, more = room ? 2 * room : FEWEST;
+    if (++index->count > room / 4 * 3) {
+        places = shim_memory(sizeof *places + more * sizeof *places->at);
+        places->before = before;
+        places->last = more - 1;
+        for (uint32_t i = 0; i < room; i++) if (before->at[i]) put(places, before->at[i]);
+    }
+    put(places, (uint64_t)mixed << 32 | number);
+    atomic_store_explicit(&index->places, places, memory_order_release);
+    return places == before ? NULL : before;
+}
+
+static bool is_function(uint32_t number, const void *imp)
+{
+    return atomic_load_explicit(&shim_functions[number], memory_order_relaxed) == *(const IMP *)imp;
+}
+
+/* Numbers are used a step at a time: what lies behind is an address alone, also where a program has
+ * all of its memory locked, or may promise little. */
+static void make_room(uint32_t number)
+{
+    int how = MAP_PRIVATE | MAP_ANONYMOUS | MAP_NORESERVE | MAP_FIXED;
+    if (number == 1) mmap(shim_functions, sizeof shim_functions, PROT_READ, how, -1, 0);
+    if (number != 1 && number % STEP) return;
+    void *from = (void *)&shim_functions[number / STEP * STEP];
+    if (mprotect(from, STEP * sizeof(IMP), PROT_READ | PROT_WRITE)) shim_or_stop(NULL, "runtime");
 }
 
 uint32_t shim_number(IMP imp)
 {
-    static uint32_t first[PLACES], next[MOST_IMPS + 1], count;
-    uint32_t *place = &first[(uintptr_t)imp * 0x9e3779b97f4a7c15 >> 51];
-    for (uint32_t at = *place; at; at = next[at])
-        if (atomic_load_explicit(&shim_functions[at], memory_order_relaxed) == imp) return at;
-    if (count == MOST_IMPS) return 0;
-    atomic_store(&shim_functions[++count], imp);
-    next[count] = *place;
-    return *place = count;
+    static uint32_t count;
+    uint32_t mixed = shim_mixed_word((uintptr_t)imp);
+    uint32_t number = shim_number_in(&by_function, mixed, is_function, &imp);
+    if (number) return number;
+    if (count == MOST_IMPS) shim_stop("no number is left for an implementation", "all are taken");
+    make_room(++count);
+    atomic_store(&shim_functions[count], imp);
+    free(shim_index(&by_function, mixed, count));
+    return count;
 }
 
-static uint32_t *place_of(const char *name) { return &first[shim_mixed(name) % PLACES]; }
+/* ---- selectors ---- */
 
-static uint32_t list(const char *name, uint32_t *place)
-{
-    names[++name_count].text = name;
-    names[name_count].next = *place;
-    return *place = name_count;
-}
+static struct name *name_at(uint32_t number) { return &names[number / CHUNK][number % CHUNK]; }
+static bool is_named(uint32_t at, const void *text) { return !strcmp(name_at(at)->text, text); }
 
-/* The name's number, or 0; and where it would be listed. */
-static uint32_t number_of(const char *name, uint32_t **place)
+static uint32_t list(const char *text, uint32_t mixed)
 {
-    while (name_count < FIRST_FREE - 1) list(own_names[name_count + 1], place_of(own_names[name_count + 1]));
-    *place = place_of(name);
-    uint32_t number = **place;
-    while (number && strcmp(names[number].text, name)) number = names[number].next;
-    return number;
+    if (name_count == MOST_SELECTORS) shim_stop("no number is left for a selector", text);
+    struct name **chunk = &names[++name_count / CHUNK];
+    if (!*chunk) *chunk = shim_memory(CHUNK * sizeof **chunk);
+    name_at(name_count)->text = text;
+    free(shim_index(&by_text, mixed, name_count));
+    return name_count;
 }
 
 /* A text that lasts isn't copied: a module's, which is never unloaded. */
-static uint32_t numbered(const char *name, bool lasts)
+static uint32_t numbered(const char *text, bool lasts)
 {
-    uint32_t *place, number = number_of(name, &place);
-    return number || name_count == MOST_SELECTORS ? number : list(lasts ? name : shim_copy(name), place);
+    while (name_count < FIRST_FREE - 1)
+        list(own_names[name_count + 1], shim_mixed(own_names[name_count + 1]));
+    uint32_t mixed = shim_mixed(text), number = shim_number_in(&by_text, mixed, is_named, text);
+    return number ? number : list(lasts ? text : shim_copy(text), mixed);
 }
 
-/* Of a module's. */
-static uint32_t needed_number(const char *name)
+static struct typed *typed_of(const char *text)
 {
-    uint32_t number = numbered(name, true);
-    if (!number) shim_stop("too many selectors", name);
-    return number;
+    uint32_t number = text ? shim_number_in(&by_text, shim_mixed(text), is_named, text) : 0;
+    return number ? name_at(number)->typed : NULL;
 }
 
-static struct typed *typed_of(const char *name)
-{
-    uint32_t *place;
-    return name ? names[number_of(name, &place)].typed : NULL;
-}
-
-/* The same but for the places of the arguments, which programs write by hand without knowing them. */
+/* The same but for the places of the arguments, which programs write without knowing them. */
 static bool same_types(const char *one, const char *other)
 {
     if (!one || !other) return one == other;
     if (!strcmp(one, other)) return true;
     while (*one && *one == *other) {
         size_t length = (size_t)(objc_skip_typespec(one) - one);
-        if (strncmp(one, other, length) || objc_skip_typespec(other) != other + length) return false;
+        if (strncmp(one, other, length) || objc_skip_typespec(other) != other + length)
+            return false;
         one = objc_skip_argspec(one);
         other = objc_skip_argspec(other);
     }
@@ -134,23 +198,25 @@ static bool same_types(const char *one, const char *other)
 SEL shim_typed_selector(uint32_t number, const char *types, bool lasts)
 {
     static struct typed *fresh, *end;
-    struct typed *at = names[number].typed;
+    struct typed **first = &name_at(number)->typed, *at = *first;
     while (at && !same_types(at->sel.types, types)) at = at->next;
-    if (at || !number) return at ? &at->sel : NULL;
+    if (at) return &at->sel;
     if (fresh == end) end = (fresh = shim_memory(KEPT * sizeof *fresh)) + KEPT;
-    *fresh = (struct typed){{{.key = msg_key(0, number)}, types && !lasts ? shim_copy(types) : types}, names[number].typed};
-    names[number].typed = fresh;
+    if (types && !lasts) types = shim_copy(types);
+    *fresh = (struct typed){{{.key = msg_key(0, number)}, types}, *first};
+    *first = fresh;
     return &fresh++->sel;
 }
 
-SEL shim_needed_selector(const char *name, const char *types) { return shim_typed_selector(needed_number(name), types, true); }
+SEL shim_lasting_selector(const char *name, const char *types)
+{
+    return shim_typed_selector(numbered(name, true), types, true);
+}
 
 /* A selector of a module is its own: code compares it by its number. */
 void shim_take_selector(struct objc_selector *sel)
 {
-    uint32_t number = needed_number(sel->name.text);
-    sel->name.key = msg_key(0, number);
-    shim_typed_selector(number, sel->types, true);
+    sel->name.key = shim_lasting_selector(sel->name.text, sel->types)->name.key;
 }
 
 SEL sel_registerTypedName(const char *name, const char *types)
@@ -185,6 +251,21 @@ SEL *sel_copyTypedSelectorList(const char *name, unsigned int *count)
     return list;
 }
 
-const char *sel_getName(SEL sel) { return sel ? names[shim_sel(sel)].text : "<null selector>"; }
+/* Older calls: the newest selector of a name that is known; whether it is a selector at all. */
+SEL sel_get_any_uid(const char *name)
+{
+    LOCKED;
+    struct typed *newest = typed_of(name);
+    return newest ? &newest->sel : NULL;
+}
+
+BOOL sel_is_mapped(SEL sel)
+{
+    LOCKED;
+    uint32_t number = sel ? shim_sel(sel) : 0;
+    return number && number <= name_count && sel->name.key == msg_key(0, number);
+}
+
+const char *sel_getName(SEL sel) { return sel ? name_at(shim_sel(sel))->text : "<null selector>"; }
 const char *sel_getTypeEncoding(SEL sel) { return sel ? sel->types : NULL; }
-BOOL sel_isEqual(SEL one, SEL other) { return one && other ? one->name.key == other->name.key : one == other; }
+BOOL sel_isEqual(SEL a, SEL b) { return a && b ? a->name.key == b->name.key : a == b; }

@@ -1,10 +1,13 @@
-/* Over the layer for a process (process/msg_process.c), which has the one runtime, its lock and the threads' senders: its
- * start, and what is asked of it under the lock. Trusted: that it is started before anything is asked. */
+/* Over the layer for a process (process/msg_process.c), which has the one runtime, its lock and the
+ * threads' senders: its start, and what is asked of it under the lock. Trusted: that it is started
+ * before anything is asked. */
 #include "seat.h"
 
-/* All arrays are written at the start: they are two fifths of the default, and five times what any of GNUstep's test programs takes. */
-enum { SENDERS = 1024, CLASS_NUMBERS = 16384 };
-#define ARRAYS {1024, 768, 320, 160, 64, 32, 8, 4, 2}
+/* All arrays are written at the start, so they are what programs take: of up to 32 entries two
+ * fifths of the default, of which no program was seen to want more, and of larger ones the
+ * default, since half of these were too few for programs with windows. */
+enum { SENDERS = 4096, MOST_SENDERS = 16384, CLASS_NUMBERS = 16384 };
+#define ARRAYS {1024, 768, 320, 160, 128, 64, 32, 16, 8}
 
 msg_runtime *shim_runtime;
 
@@ -14,21 +17,34 @@ void shim_must(uint32_t fault, const char *what)
     if (__builtin_expect(fault, 0)) shim_stop(msg_fault_text(fault), what);
 }
 
+/* What the environment asks for, within these. */
+static uint32_t room(const char *name, uint32_t fewest, uint32_t most)
+{
+    const char *said = secure_getenv(name);
+    unsigned long number = said ? strtoul(said, NULL, 10) : 0;
+    return number < fewest ? fewest : number > most ? most : (uint32_t)number;
+}
+
 /* Another thread may have come first. */
 static void start(void)
 {
-    const char *said = getenv("MSG_CLASSES");
-    unsigned long number = said ? strtoul(said, NULL, 10) : 0;
-    uint32_t classes = !number ? CLASS_NUMBERS : number > MOST_CLASSES ? MOST_CLASSES + 1 : (uint32_t)number;
-    if (msg_version() != MSG_VERSION_NUMBER || msg_sender_size() != sizeof(msg_sender)) shim_stop("the library is of another header", "msg_version");
+    uint32_t classes = room("MSG_CLASSES", CLASS_NUMBERS, MOST_CLASSES + 1);
+    uint32_t senders = room("MSG_SENDERS", SENDERS, MOST_SENDERS);
+    if (msg_version() != MSG_VERSION_NUMBER || msg_sender_size() != sizeof(msg_sender))
+        shim_stop("the library is of another header", "msg_version");
     shim_class_room = classes - 1;
-    uint32_t fault = msg_process_start(&(msg_config){classes, SENDERS, ARRAYS});
+    uint32_t fault = msg_process_start(&(msg_config){classes, senders, ARRAYS});
     if (fault == MSG_ALREADY_OPEN) return;
     shim_must(fault, "runtime");
     shim_care_for_forks();
+    const char *said = secure_getenv("MSG_REPORT");
+    if (said && !strcmp(said, "1")) atexit(shim_report);
 }
 
-static uint32_t take(bool to_change) { return to_change ? msg_process_lock_to_change(&shim_runtime) : msg_process_lock(&shim_runtime); }
+static uint32_t take(bool to_change)
+{
+    return to_change ? msg_process_lock_to_change(&shim_runtime) : msg_process_lock(&shim_runtime);
+}
 
 void shim_take(bool to_change)
 {
@@ -43,7 +59,9 @@ IMP shim_find(Class class_, uint32_t sel)
     bool waits = !finds;
     uint32_t imp, fault = MSG_LOCK_HELD;
     finds = true;
-    if (!shim_in_construction(class_)) fault = msg_process_find_slowly(shim_key(class_->record, sel), waits, &imp);
+    uint64_t key = shim_key(class_->record, sel);
+    unsigned how = waits ? MSG_WAITS_A_WHILE : MSG_WAITS_NOT;
+    if (!shim_in_construction(class_)) fault = msg_process_find_slowly(key, how, &imp);
     finds = !waits;
     if (fault == MSG_LOCK_HELD) {
         Method method = shim_standing(class_, sel);

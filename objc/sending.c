@@ -1,9 +1,23 @@
-/* Sends: +initialize before a class's first, and then what the proved dispatcher finds. Trusted: that +initialize is
- * sent before the first message and once, and that what is found is what the library answers. */
+/* Sends: +initialize before a class's first, and then what the proved dispatcher finds. Trusted:
+ * that +initialize is sent before the first message and once, and that what is found is what the
+ * library answers. */
 #include "seat.h"
 
-/* The thread that sends +initialize may send to the class meanwhile; others wait for it. */
-pthread_mutex_t shim_initializing = PTHREAD_RECURSIVE_MUTEX_INITIALIZER_NP;
+/* The thread that sends +initialize may send to the class meanwhile; others wait for it. How often
+ * the thread has the lock is known here alone, so the thread of a forked child gives what it took
+ * before. */
+static pthread_mutex_t initializing = PTHREAD_MUTEX_INITIALIZER;
+static _Thread_local uint32_t depth;
+
+void shim_take_initialize(void)
+{
+    if (!depth) pthread_mutex_lock(&initializing);
+    depth++;
+}
+
+void shim_give_initialize(void) { if (!--depth) pthread_mutex_unlock(&initializing); }
+
+static void give_initialize(char *unused) { shim_give_initialize(); }
 
 id nil_method(id self, SEL sel, ...) { return self; }
 
@@ -12,32 +26,38 @@ static void end_initialize(Class *ending)
 {
     Class class_ = *ending;
     atomic_store(&class_->record->initialized, DONE);
-    __atomic_store_n(&class_->key, shim_key(class_->record, 0), __ATOMIC_RELEASE);
-    __atomic_store_n(&class_->isa->key, shim_key(class_->isa->record, 0), __ATOMIC_RELEASE);
+    STORE(class_->key, shim_class_key(class_->record));
+    STORE(class_->isa->key, shim_class_key(class_->isa->record));
 }
 
 static void initialize(Class class_)
 {
     SEL sel = &shim_own[INITIALIZE];
-    HOLDING(&shim_initializing);
+    shim_take_initialize();
+    char taken AT_END(give_initialize);
     Class above = class_->superclass.class_;
     if (above && atomic_load(&above->record->initialized) == NOT_YET) initialize(above);
     if (atomic_load(&class_->record->initialized) != NOT_YET) return;
     atomic_store(&class_->record->initialized, RUNNING);
-    Class ending __attribute__((cleanup(end_initialize), unused)) = class_;
+    Class ending AT_END(end_initialize) = class_;
     IMP imp = shim_look(class_->isa, sel);
     if (imp) imp((id)class_, sel);
 }
 
-static Class plain_class(Class class_) { return class_->record->meta ? shim_classes[class_->record->number] : class_; }
+static Class plain_class(Class class_)
+{
+    return class_->record->meta ? shim_classes[class_->record->number] : class_;
+}
 
 static void ensure_initialized(Class class_)
 {
     Class plain = plain_class(class_);
-    if (atomic_load_explicit(&plain->record->initialized, memory_order_acquire) != DONE) initialize(plain);
+    if (atomic_load_explicit(&plain->record->initialized, memory_order_acquire) != DONE)
+        initialize(plain);
 }
 
-/* The function that is noted, or NULL, which is number 0's, where it is noted that the lookup finds nothing. */
+/* The function that is noted, or NULL, which is number 0's, where it is noted that the lookup finds
+ * nothing. */
 static inline bool noted(Class class_, SEL sel, IMP *imp)
 {
     uint32_t number;
@@ -52,8 +72,9 @@ IMP shim_look(Class class_, SEL sel)
     return noted(class_, sel, &imp) ? imp : shim_find(class_, shim_sel(sel));
 }
 
-/* Whether a thread's note said so after just as many changes as are begun now: it is then so for all threads. */
-static inline bool has_no_resolver(Class class_) { return __atomic_load_n(&class_->record->unresolved, __ATOMIC_RELAXED) == shim_begun(); }
+/* Whether a thread's note said so after just as many changes as are begun now: it is then so for
+ * all threads. */
+static bool has_no_resolver(Class of) { return LOAD(of->record->unresolved) == shim_begun(); }
 
 static inline bool resolve(Class class_, SEL sel)
 {
@@ -61,13 +82,14 @@ static inline bool resolve(Class class_, SEL sel)
     uint64_t count = shim_begun();
     Class plain = plain_class(class_);
     SEL asked = &shim_own[class_->record->meta ? RESOLVE_CLASS : RESOLVE_INSTANCE];
-    uint64_t said = shim_note_at(count, plain->isa, asked, &number);
+    uint32_t said = shim_note_at(count, plain->isa, asked, &number);
     if (said == NO_METHOD) {
         __atomic_store_n(&class_->record->unresolved, count, __ATOMIC_RELAXED);
         return false;
     }
     IMP imp = said == METHOD ? shim_function(number) : shim_find(plain->isa, shim_sel(asked));
-    return __builtin_expect(imp != NULL, 0) && ((BOOL (*)(id, SEL, SEL))(void (*)(void))imp)((id)plain, asked, sel);
+    return __builtin_expect(imp != NULL, 0) &&
+           ((BOOL (*)(id, SEL, SEL))(void (*)(void))imp)((id)plain, asked, sel);
 }
 
 /* Asks the class to add a method that it lacks: whether it says that it has. */
@@ -79,8 +101,12 @@ bool shim_resolve(Class class_, SEL sel)
 }
 
 /* Where it is noted that nothing is found, or was found to be so: NULL is forwarding. */
-static inline IMP resolved(Class class_, SEL sel) { return resolve(class_, sel) ? shim_look(class_, sel) : NULL; }
-static __attribute__((noinline)) IMP find_resolved(Class class_, SEL sel) { return resolved(class_, sel); }
+static inline IMP resolved(Class class_, SEL sel)
+{
+    return resolve(class_, sel) ? shim_look(class_, sel) : NULL;
+}
+
+static __attribute__((noinline)) IMP find_resolved(Class of, SEL sel) { return resolved(of, sel); }
 
 /* Where nothing is noted, as before a class's first message. */
 static __attribute__((noinline, cold)) IMP find_first(Class class_, SEL sel)
@@ -106,7 +132,9 @@ static __attribute__((noinline)) IMP find_slowly(id receiver, SEL sel)
 {
     uint32_t number;
     Class class_ = shim_class_of(receiver);
-    if (__builtin_expect(shim_note(class_, sel, &number) != NO_METHOD, 0)) return find_from(receiver, class_, sel);
+    uint32_t said = shim_note(class_, sel, &number);
+    if (said == METHOD) return shim_function(number); /* a long number */
+    if (__builtin_expect(said != NO_METHOD, 0)) return find_from(receiver, class_, sel);
     IMP imp = has_no_resolver(class_) ? NULL : resolved(class_, sel);
     return imp ? imp : shim_forward(receiver, sel);
 }
@@ -114,9 +142,9 @@ static __attribute__((noinline)) IMP find_slowly(id receiver, SEL sel)
 /* At the begin of a line of the cache, as it is wherever the linker puts it. */
 __attribute__((aligned(LINE))) IMP objc_msg_lookup(id receiver, SEL sel)
 {
-    uint32_t number;
     if (__builtin_expect(!receiver, 0)) return nil_method;
-    return __builtin_expect(shim_note(shim_class_of(receiver), sel, &number) == METHOD, 1) ? shim_function(number) : find_slowly(receiver, sel);
+    uint64_t said = shim_said_at(shim_begun(), shim_class_of(receiver), sel);
+    return __builtin_expect(said < MSG_SAID_LONG, 1) ? shim_function((uint32_t)said) : find_slowly(receiver, sel);
 }
 
 static inline IMP find(id receiver, Class class_, SEL sel)
@@ -125,17 +153,31 @@ static inline IMP find(id receiver, Class class_, SEL sel)
     return class_ && noted(class_, sel, &imp) && imp ? imp : find_from(receiver, class_, sel);
 }
 
-IMP objc_msg_lookup_super(struct objc_super *super_, SEL sel) { return super_->self ? find(super_->self, super_->class_, sel) : nil_method; }
-IMP class_getMethodImplementation(Class class_, SEL sel) { return class_ && sel ? find(NULL, class_, sel) : NULL; }
+IMP objc_msg_lookup_super(struct objc_super *super_, SEL sel)
+{
+    return super_->self ? find(super_->self, super_->class_, sel) : nil_method;
+}
+
+IMP class_getMethodImplementation(Class class_, SEL sel)
+{
+    return class_ && sel ? find(NULL, class_, sel) : NULL;
+}
+
+/* An older name. */
+IMP get_imp(Class class_, SEL sel) { return class_getMethodImplementation(class_, sel); }
 
 BOOL class_respondsToSelector(Class class_, SEL sel)
 {
     uint32_t number;
     if (!class_ || !sel) return false;
-    uint64_t said = shim_note(class_, sel, &number);
-    if (said <= NO_METHOD) return said == METHOD || (!has_no_resolver(class_) && find_resolved(class_, sel));
+    uint32_t said = shim_note(class_, sel, &number);
+    if (said <= NO_METHOD)
+        return said == METHOD || (!has_no_resolver(class_) && find_resolved(class_, sel));
     return class_->record && !shim_in_construction(class_) && find_first(class_, sel);
 }
 
 /* In no header; programs ask it. */
-BOOL __objc_responds_to(id object, SEL sel) { return object && class_respondsToSelector(shim_class_of(object), sel); }
+BOOL __objc_responds_to(id object, SEL sel)
+{
+    return object && class_respondsToSelector(shim_class_of(object), sel);
+}

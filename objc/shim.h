@@ -1,5 +1,5 @@
-/* What the files of the shim share. All of it is called under the lock of the process's runtime where nothing else is
- * said. Trusted: as the files that it names. */
+/* What the files of the shim share. All of it is called under the lock of the process's runtime
+ * where nothing else is said. Trusted: as the files that it names. */
 #ifndef MSG_OBJC_SHIM_H
 #define MSG_OBJC_SHIM_H
 
@@ -10,7 +10,8 @@
 #include <stdlib.h>
 #include <string.h>
 
-/* Of the process's layer nothing is seen outside of the shim, so it is reached without a table of a shared library's. */
+/* Of the process's layer nothing is seen outside of the shim, so it is reached without a table of a
+ * shared library's. */
 #pragma GCC visibility push(hidden)
 #include "msg_process.h"
 #pragma GCC visibility pop
@@ -18,32 +19,41 @@
 /* Calls of the interface are given more than some need. */
 #pragma GCC diagnostic ignored "-Wunused-parameter"
 
-_Static_assert(sizeof(void *) == 8 && __BYTE_ORDER__ == __ORDER_LITTLE_ENDIAN__, "notes, keys and exception tables are read so");
+_Static_assert(sizeof(void *) == 8 && __BYTE_ORDER__ == __ORDER_LITTLE_ENDIAN__,
+               "notes, keys and exception tables are read so");
 
-/* Of class numbers the tables reserve as many as runtime.c says; the others are address space until they are used. */
-enum { MOST_SELECTORS = (1 << 20) - 1, MOST_CLASSES = (1 << 20) - 1, MOST_IMPS = (1 << 20) - 1, LINE = 64 };
+/* Of class numbers the tables reserve as many as runtime.c says; the others are address space until
+ * they are used. */
+#ifndef MSG_ROOM
+#define MSG_ROOM 24 /* bits of a selector's number, and of an implementation's */
+#endif
+enum { MOST_SELECTORS = (1 << MSG_ROOM) - 1, MOST_IMPS = (1 << MSG_ROOM) - 1 };
+enum { MOST_CLASSES = (1 << 20) - 1, LINE = 64 };
 
-/* A method of a class: what the proved tables hold, kept beside them, since they know numbers alone. The last of a name counts. */
+/* A method of a class: what the proved tables hold, kept beside them, since they know numbers
+ * alone. The last of a name counts. */
 struct row { uint32_t sel; Method method; };
 
-/* Handlers of signals read rows without the lock: what a larger array took the place of stays, behind it. */
+/* Handlers of signals read rows without the lock: what a larger array took the place of stays,
+ * behind it. */
 struct rows { struct rows *before; struct row at[]; };
 
 enum { NOT_YET, RUNNING, DONE };
 
-/* `number` is 0 for a class in construction, which the tables don't hold, and a metaclass's is its class's. `rows`: of
- * all its methods, in the order in which they came. `next`: the class that is found after it by its name. */
+/* `number` is 0 for a class in construction, which the tables don't hold, and a metaclass's is its
+ * class's. `rows`: of all its methods, in the order in which they came. */
 struct record {
     bool meta;
     uint32_t number, room;
     _Atomic(uint32_t) count;
     _Atomic(struct rows *) rows;
-    Class next;
-    uint64_t unresolved; /* the last count of changes after which a note said that it has no resolver; 0 is none's */
+    /* The last count of changes after which a note said that it has no resolver; 0 is none's. */
+    uint64_t unresolved;
     atomic_int initialized;
 };
 
-extern Class shim_classes[MOST_CLASSES + 1]; /* by number, from 1; class 0 of the tables is never made */
+/* By number, from 1; class 0 of the tables is never made. */
+extern Class shim_classes[MOST_CLASSES + 1];
 extern uint32_t shim_class_count, shim_class_room;
 
 /* Calls of the interface that several files make: without the lock. */
@@ -66,9 +76,19 @@ void *shim_or_stop(void *memory, const char *what);
 void *shim_memory(size_t size);
 char *shim_copy(const char *text);
 uint32_t shim_mixed(const char *name);
+uint32_t shim_mixed_word(uintptr_t word);
+/* Numbers by what they are of, which a word is mixed from; also found without the lock. A number is
+ * put there once, by which a larger array may take the place of one: what is answered may be freed
+ * once nobody reads it. */
+struct places { struct places *before; uint32_t last; _Atomic(uint64_t) at[]; };
+struct index { _Atomic(struct places *) places; uint32_t count; };
+uint32_t shim_number_in(const struct index *index, uint32_t mixed,
+                        bool (*is)(uint32_t number, const void *it), const void *it);
+void *shim_index(struct index *index, uint32_t mixed, uint32_t number);
 /* The same rows, with room for one more. */
 void *shim_more(void *rows, uint32_t count, uint32_t *room, size_t size);
-/* For a caller's own: room for so many rows and an empty one, or NULL for none; and they are counted where that is asked. */
+/* For a caller's own: room for so many rows and an empty one, or NULL for none; and they are
+ * counted where that is asked. */
 void *shim_list(size_t many, size_t size, unsigned int *count);
 
 /* A lock, or none where it is NULL, to the end of the block, also where an exception leaves it. */
@@ -78,23 +98,29 @@ static inline pthread_mutex_t *shim_hold(pthread_mutex_t *lock)
     return lock;
 }
 static inline void shim_unlock(pthread_mutex_t **lock) { if (*lock) pthread_mutex_unlock(*lock); }
-#define HOLDING(lock) pthread_mutex_t *held __attribute__((cleanup(shim_unlock), unused)) = shim_hold(lock)
-/* The runtime's, in the same way, to ask the tables; or to ask and change them, when no send goes by what was noted before. */
+#define AT_END(give) __attribute__((cleanup(give), unused))
+#define HOLDING(lock) pthread_mutex_t *held AT_END(shim_unlock) = shim_hold(lock)
+/* The runtime's, in the same way, to ask the tables; or to ask and change them, when no send goes
+ * by what was noted before. */
 void shim_take(bool to_change);
 static inline void shim_give(char *unused) { msg_process_unlock(); }
-#define LOCKED shim_take(false); char locked __attribute__((cleanup(shim_give), unused))
-#define CHANGING shim_take(true); char locked __attribute__((cleanup(shim_give), unused))
+#define LOCKED shim_take(false); char locked AT_END(shim_give)
+#define CHANGING shim_take(true); char locked AT_END(shim_give)
+
+/* What threads share without a lock: with what was written before it was stored. */
+#define LOAD(place) __atomic_load_n(&(place), __ATOMIC_ACQUIRE)
+#define STORE(place, value) __atomic_store_n(&(place), value, __ATOMIC_RELEASE)
 
 /* Selectors that the shim sends itself, by fixed numbers. */
 enum { INITIALIZE = 1, RESOLVE_INSTANCE, RESOLVE_CLASS, FORWARD, NOT_RECOGNIZED };
 enum { RETAIN = NOT_RECOGNIZED + 1, RELEASE, AUTORELEASE, COPY, MUTABLE_COPY, FIRST_FREE };
 extern const struct objc_selector shim_own[FIRST_FREE];
 
-static inline uint32_t shim_sel(SEL sel) { return (uint32_t)(sel->name.key / msg_key(0, 1)); } /* of slot 0 there is no more in it */
+static inline uint32_t shim_sel(SEL sel) { return MSG_SEL_OF(sel->name.key); }
 
-/* names.c: NULL, or 0, where none is to be had any more. Texts that last aren't copied. */
+/* names.c: the program ends where no number is left. Texts that last, a module's, aren't copied. */
 SEL shim_typed_selector(uint32_t number, const char *types, bool lasts);
-SEL shim_needed_selector(const char *name, const char *types); /* or the program ends: of a module's, whose texts last */
+SEL shim_lasting_selector(const char *name, const char *types);
 void shim_take_selector(struct objc_selector *sel);
 uint32_t shim_number(IMP imp);
 
@@ -104,9 +130,18 @@ Class shim_class_coming(const char *name); /* or one that is numbered and not ye
 void shim_new_record(Class class_);
 bool shim_has_class_number(void);
 void shim_number_class(Class class_);
-void shim_publish(void); /* those that are numbered are found by their names from now on: the tables have them */
-static inline bool shim_in_construction(Class class_) { return class_->record && !class_->record->number; }
-static inline uint64_t shim_key(const struct record *record, uint32_t sel) { return msg_key(2 * record->number + record->meta, sel); }
+/* Those that are numbered are found by their names from now on: the tables have them. */
+void shim_publish(void);
+static inline bool shim_in_construction(Class of) { return of->record && !of->record->number; }
+/* A class's part of its keys, which is 0 of number 0 alone; and a whole key. */
+static inline uint64_t shim_class_key(const struct record *record)
+{
+    return (2 * record->number + record->meta) * MSG_KEY_OF_SLOT;
+}
+static inline uint64_t shim_key(const struct record *record, uint32_t sel)
+{
+    return shim_class_key(record) + msg_key(0, sel);
+}
 
 /* roots.c: the module of Object, Protocol and NXConstantString; loading.c takes it. */
 extern struct module shim_roots;
@@ -117,33 +152,39 @@ void shim_take_roots(void);
 void shim_take_protocol(struct protocol *protocol);
 void shim_take_protocols(struct protocol_list *list);
 
-/* changing.c: what a module or a class pair brings, in the order in which it counts, and then all of it as one change. */
+/* changing.c: what a module or a class pair brings, in the order in which it counts, and then all
+ * of it as one change. */
 void shim_bring_class(Class class_); /* with the methods that it has by now */
-void shim_bring_method(struct record *record, Method method, bool is_new); /* or it is one of those */
+void shim_bring_method(struct record *record, Method method, bool is_new); /* or one of those */
 void shim_make(const char *what);
 Method shim_standing(Class class_, uint32_t sel); /* what the rows say; also without the lock */
-static inline IMP shim_imp(Method method) { return __atomic_load_n(&method->imp, __ATOMIC_ACQUIRE); }
+static inline IMP shim_imp(Method method) { return LOAD(method->imp); }
 
 /* sending.c: without the lock. A look is without +initialize; to resolve is with it. */
 IMP shim_look(Class class_, SEL sel);
 bool shim_resolve(Class class_, SEL sel);
+void shim_take_initialize(void); /* the lock of all +initialize, as often as it is given */
+void shim_give_initialize(void);
 
 /* threads.c, and what it asks for a fork of the files that have locks of their own. */
 void shim_care_for_forks(void);
-extern pthread_mutex_t shim_initializing;
 void shim_renew_property_locks(void);
 
 /* Another thread may set an object's class meanwhile, as observing a key does. */
-static inline Class shim_class_of(id object) { return __atomic_load_n(&object->isa, __ATOMIC_ACQUIRE); }
+static inline Class shim_class_of(id object) { return LOAD(object->isa); }
 
 /* forwarding.c: what is called where no method is found. Without the lock. */
 IMP shim_forward(id receiver, SEL sel);
 
+/* report.c, without the lock */
+void shim_report(void);
+
 /* runtime.c */
 extern msg_runtime *shim_runtime;
 void shim_must(uint32_t fault, const char *what); /* or the program ends */
-/* Without the lock: what the calling thread's sender finds, by all changes that returned before; NULL is forwarding. In a
- * handler of a signal whose own thread has the lock, or is on this way itself and would be waited for: what the rows say. */
+/* Without the lock: what the calling thread's sender finds, by all changes that returned before;
+ * NULL is forwarding. In a handler of a signal whose own thread has the lock, or is on this way
+ * itself and would be waited for: what the rows say. */
 IMP shim_find(Class class_, uint32_t sel);
 
 #endif

@@ -1,33 +1,52 @@
-/* The runtime of a process: its lock, a sender for each thread, fork, and handlers of signals (include/msg_process.h).
+/* The runtime of a process: its lock, a sender for each thread, fork, and handlers of signals
+ * (include/msg_process.h).
  *
- * Trusted with what msg_runtime.h asks of a host: one call on the runtime at a time, one on a sender, each sender for
- * one thread; and with what is said in msg_process.h of threads, forks and handlers. Its rules:
+ * Trusted with what msg_runtime.h asks of a host: one call on the runtime at a time, one on a
+ * sender, each sender for one thread; and with what is said in msg_process.h of threads, forks and
+ * handlers. tools/check_c runs each order of signals and changes over these lines, within bounds.
+ * Its rules:
  *
- *  1. Calls that take the runtime are made between `take` and `give`. Nothing of the caller's is called there.
- *  2. Changes. `begun` is a number that no note has from before a change until it is the count of changes again, refused
- *     or not. So what a thread recalls is from after each change that it can know of. It is stored relaxed before the
- *     change, whose own stores are sequentially consistent and carry it: who has seen one of them sees the new `begun`.
- *     The count is stored by a release after the change, and loaded by an acquire: who goes by it, or asks its sender
- *     then, has all that the change stored, and what the host wrote before.
- *  3. A sender is in one call at a time. While its thread uses it `sender` is nobody's, so a handler recalls nothing that
- *     is half written, finds no seat, and asks under the lock. `turns` goes up before each use, so a find that a handler
- *     interrupted between its loads starts again. All of this is one thread's: fences of signals do.
- *  4. A handler doesn't wait for its own thread: `holds` is set before the lock is taken and cleared after it is given.
- *     In glibc and musl a lock may be taken in a handler that interrupted no use of it. But who holds it may want memory,
- *     and the handler may have interrupted malloc; hence msg_process_find_at_once.
- *  5. A fork comes while no other sender is in a call without the lock, so that the child may close them: a thread
- *     stores `asks` and then loads `forks`, a fork the other way about. Both are sequentially consistent, so one sees the
- *     other. `asks` is cleared by a release: the call's stores are before it. So who `asks` after the wait is about to
- *     see the fork, and in no call. The fork gives the lock while it waits, since a handler in such a call may want it.
- *  6. A thread has one try for a sender: later finds take no memory, also in handlers, and none waits for a number.
- *  7. `started` is stored by a release, and loaded by an acquire before all else: who goes on has the key of threads. */
+ *  1. Calls that take the runtime are made between `take` and `give`. Nothing of the caller's is
+ *     called there.
+ *  2. Changes. `begun` is a number that no note has from before a change until it is the count of
+ *     changes again, refused or not. So what a thread recalls is from after each change that it can
+ *     know of. It is stored relaxed before the change, whose own stores are sequentially consistent
+ *     and carry it: who has seen one of them sees the new `begun`. The count is stored by a release
+ *     after the change, and loaded by an acquire: who goes by it, or asks its sender then, has all
+ *     that the change stored, and what the host wrote before.
+ *  3. A sender is in one call at a time. Its thread takes it from `msg_process_own` by one
+ *     exchange, so a handler in the middle of a call finds nobody's there, recalls nothing that is
+ *     half written, and asks under the lock. `turns` goes up before, so a find that a handler
+ *     interrupted between two loads starts again. All of this is one thread's: fences of signals
+ *     do.
+ *  4. A handler doesn't wait for its own thread: `holds` is set before the lock is taken and
+ *     cleared after it is given. In glibc and musl a lock may be taken in a handler that
+ *     interrupted no use of it. But who holds it may want memory, and the handler may have
+ *     interrupted malloc: hence finds that don't wait, or wait for a while.
+ *  5. A fork comes while no other sender is in a call without the lock, so that the child may close
+ *     them: a thread stores `asks` and then loads `forks`, a fork the other way about. Both are
+ *     sequentially consistent, so one sees the other. `asks` is cleared by a release: the call's
+ *     stores are before it. So who `asks` after the wait is about to see the fork, and in no call.
+ *     The fork gives the lock while it waits, since a handler in such a call may want it.
+ *  6. A fork that has the lock waits for the C library's memory, which a handler's thread may have.
+ *     So from `still` on a find for a while doesn't wait for the fork. No change is half made then.
+ *  7. Seats are opened where memory may be taken. A thread's first find takes one that is spare: it
+ *     asks for no memory, since it may be a handler's. Where there is none it asks under the lock;
+ *     only after PATIENCE of these it opens one itself. A thread has one try at that, and none
+ *     waits for a number.
+ *  8. `started` is stored by a release, and loaded by an acquire before all else: who goes on has
+ *     the key of threads. */
+#define _DEFAULT_SOURCE 1 /* for MAP_ANONYMOUS */
 #include "msg_process.h"
 #include <sched.h>
 #include <stdatomic.h>
-#include <stdlib.h>
+#include <sys/mman.h>
+#include <time.h>
 
 #define BEGUN UINT64_MAX /* no sender notes anything after so many changes */
 #define PARTS_OF(key) MSG_SLOT_OF(key) / 2, MSG_SLOT_OF(key) % 2, MSG_SEL_OF(key)
+enum { SPARES = 2, PATIENCE = 64 };
+enum { SLICE = 1000000, SLICES = 1000 }; /* of a wait for a while: nanoseconds, and how many */
 
 struct seat { _Alignas(64) msg_sender sender; struct seat *next; atomic_bool asks; };
 
@@ -38,19 +57,45 @@ __thread struct msg_process_thread msg_process_own = {.sender = &nobody};
 static pthread_mutex_t lock = PTHREAD_MUTEX_INITIALIZER;
 /* Under the lock. */
 static msg_runtime runtime = MSG_RUNTIME_INIT;
-static struct seat *seats;
+static struct seat *seats, *spares; /* threads', and nobody's, which are open */
+static atomic_uint spare_count, spare_most; /* read without it; none before msg_process_spare */
 
 static atomic_bool started;
 static atomic_uint forks; /* that are coming */
+static atomic_bool still; /* a fork has the lock, and no change is half made */
 static pthread_key_t key;
 static __thread struct seat *own;
 static __thread volatile bool holds, tried, kept; /* `kept`: the lock was held before the fork */
+static __thread volatile unsigned stood;          /* finds without a seat, while none was spare */
 
-static inline uint32_t take(bool to_change, bool waits)
+/* POSIX has it, and a source that includes this may have asked for less. */
+int pthread_mutex_timedlock(pthread_mutex_t *, const struct timespec *);
+
+static int lock_for_a_while(void)
+{
+    int failed = pthread_mutex_trylock(&lock);
+    for (int slice = 0; failed && slice < SLICES && !atomic_load(&still); slice++) {
+        struct timespec end;
+        timespec_get(&end, TIME_UTC);
+        end.tv_nsec += SLICE;
+        end.tv_sec += end.tv_nsec / 1000000000;
+        end.tv_nsec %= 1000000000;
+        failed = pthread_mutex_timedlock(&lock, &end);
+    }
+    return failed;
+}
+
+static inline int lock_by(unsigned waits)
+{
+    return waits == MSG_WAITS ? pthread_mutex_lock(&lock)
+         : waits == MSG_WAITS_A_WHILE ? lock_for_a_while() : pthread_mutex_trylock(&lock);
+}
+
+static inline uint32_t take(bool to_change, unsigned waits)
 {
     if (holds) return MSG_LOCK_HELD;
     holds = true;
-    if (waits ? pthread_mutex_lock(&lock) : pthread_mutex_trylock(&lock)) {
+    if (lock_by(waits)) {
         holds = false;
         return MSG_LOCK_HELD;
     }
@@ -67,61 +112,138 @@ static void give(void)
     holds = false;
 }
 
-/* Under the lock, the thread's own or all others. One that may be in a call stays out: in the child of a fork that didn't wait alone. */
-static void close_seats(bool others)
+/* ---- seats, under the lock ---- */
+
+static void push(struct seat **list, struct seat *seat)
 {
-    for (struct seat **at = &seats; *at;) {
-        struct seat *seat = *at;
-        bool is_over = (seat != own) == others;
-        if (is_over) *at = seat->next;
-        else at = &seat->next;
-        if (!is_over || (kept && seat->asks)) continue;
-        msg_sender_close(&runtime, &seat->sender);
-        free(seat);
-    }
-    if (!others) own = NULL;
+    seat->next = *list;
+    *list = seat;
 }
+
+static void push_spare(struct seat *seat)
+{
+    push(&spares, seat);
+    atomic_fetch_add(&spare_count, 1);
+}
+
+static struct seat *pop_spare(void)
+{
+    struct seat *seat = spares;
+    if (seat) spares = seat->next, atomic_fetch_sub(&spare_count, 1);
+    return seat;
+}
+
+/* Zeros, which take memory page by page as notes are written: most threads need a few. */
+static struct seat *new_seat(void)
+{
+    int how = MAP_PRIVATE | MAP_ANONYMOUS;
+    void *seat = mmap(NULL, sizeof(struct seat), PROT_READ | PROT_WRITE, how, -1, 0);
+    return seat == MAP_FAILED ? NULL : seat;
+}
+
+static void free_seat(struct seat *seat) { munmap(seat, sizeof *seat); }
+
+static void close_seat(struct seat *seat)
+{
+    msg_sender_close(&runtime, &seat->sender);
+    free_seat(seat);
+}
+
+/* In the child of a fork. One that may be in a call stays out: of a fork that didn't wait alone. */
+static void close_others(void)
+{
+    struct seat *all = seats;
+    seats = NULL;
+    for (struct seat *seat = all, *next; seat; seat = next) {
+        next = seat->next;
+        if (seat == own) push(&seats, seat);
+        else if (!kept || !seat->asks) close_seat(seat);
+    }
+    while (spares && spare_count > spare_most) close_seat(pop_spare());
+}
+
+/* A seat is another thread's next, with what is noted there, which is right for any. */
+static void stand_up(void)
+{
+    struct seat **at = &seats, *seat = own;
+    if (!seat) return;
+    while (*at != seat) at = &(*at)->next;
+    *at = seat->next;
+    own = NULL;
+    if (spare_count < spare_most) push_spare(seat);
+    else close_seat(seat);
+}
+
+/* ---- a thread's seat ---- */
 
 static void show(struct seat *seat)
 {
     atomic_signal_fence(memory_order_seq_cst);
-    __atomic_store_n(&msg_process_own.sender, seat ? &seat->sender : &nobody, __ATOMIC_RELAXED);
+    if (seat) __atomic_store_n(&msg_process_own.sender, &seat->sender, __ATOMIC_RELAXED);
     atomic_signal_fence(memory_order_seq_cst);
 }
 
-/* The thread's seat, for the caller alone until it is shown; NULL where it has none, or is using it already. */
+/* For the caller alone until it is shown; NULL where there is none, or it is in use already. */
 static struct seat *hide(void)
 {
-    struct seat *seat = msg_process_own.sender == &nobody ? NULL : own;
     __atomic_store_n(&msg_process_own.turns, msg_process_own.turns + 1, __ATOMIC_RELAXED);
-    show(NULL);
-    return seat;
+    bool shown = __atomic_exchange_n(&msg_process_own.sender, &nobody, __ATOMIC_SEQ_CST) != &nobody;
+    return shown ? own : NULL;
 }
 
 static void at_thread_end(void *unused)
 {
     (void)unused;
+    tried = true;
     hide();
-    take(false, true); /* or the thread ends with the lock, which is given below */
-    close_seats(false);
+    take(false, MSG_WAITS); /* or the thread ends with the lock, which is given below */
+    stand_up();
     give();
 }
 
+/* One spare seat more; it takes memory. */
+static bool stock(void)
+{
+    struct seat *seat = new_seat();
+    if (!seat) return false;
+    take(false, MSG_WAITS);
+    bool opens = !msg_sender_open(&runtime, &seat->sender);
+    if (opens) push_spare(seat);
+    give();
+    if (!opens) free_seat(seat);
+    return opens;
+}
+
+void msg_process_spare(void)
+{
+    unsigned there = atomic_load_explicit(&spare_count, memory_order_relaxed);
+    if (__builtin_expect(there >= SPARES, 1)) return;
+    if (!atomic_load_explicit(&started, memory_order_acquire) || holds) return;
+    atomic_store(&spare_most, SPARES);
+    stock();
+}
+
 /* The thread's seat at its first find; or NULL. */
-static struct seat *sit_down(void)
+static struct seat *sit_down(unsigned waits)
 {
     if (tried || holds) return NULL;
-    tried = true;
-    struct seat *seat = aligned_alloc(_Alignof(struct seat), sizeof *seat);
-    if (!seat) return NULL;
-    memset(seat, 0, sizeof *seat);
-    take(false, true);
-    seat->next = seats;
-    own = seats = seat;
-    if (msg_sender_open(&runtime, &seat->sender) || pthread_setspecific(key, seat)) close_seats(false);
+    bool is_short = !atomic_load(&spare_count);
+    if (is_short && waits != MSG_WAITS && ++stood < PATIENCE) return NULL;
+    if (__atomic_exchange_n(&tried, true, __ATOMIC_SEQ_CST)) return NULL;
+    if (is_short && !stock()) return NULL;
+    if (take(false, waits)) {
+        tried = false;
+        return NULL;
+    }
+    own = pop_spare();
+    if (own) push(&seats, own);
+    tried = own != NULL; /* or another thread was quicker */
+    if (own && pthread_setspecific(key, own)) stand_up();
     give();
     return own;
 }
+
+/* ---- finding ---- */
 
 static uint32_t probe(struct seat *seat, uint64_t key, uint32_t *imp)
 {
@@ -138,14 +260,15 @@ static uint32_t probe(struct seat *seat, uint64_t key, uint32_t *imp)
 
 static inline uint32_t fill(struct seat *seat, uint64_t key, uint32_t *imp)
 {
-    return seat ? msg_fill(&runtime, &seat->sender, PARTS_OF(key), imp) : msg_lookup(&runtime, PARTS_OF(key), imp);
+    return seat ? msg_fill(&runtime, &seat->sender, PARTS_OF(key), imp)
+                : msg_lookup(&runtime, PARTS_OF(key), imp);
 }
 
-uint32_t msg_process_find_slowly(uint64_t key, bool waits, uint32_t *imp)
+uint32_t msg_process_find_slowly(uint64_t key, unsigned waits, uint32_t *imp)
 {
     if (!atomic_load_explicit(&started, memory_order_acquire)) return MSG_CLOSED;
     struct seat *seat = hide();
-    if (!seat && waits) seat = sit_down();
+    if (!seat && waits) seat = sit_down(waits);
     uint32_t answer = seat ? probe(seat, key, imp) : (uint32_t)MSG_MISSED;
     if (answer == MSG_MISSED && !(answer = take(false, waits))) {
         answer = fill(seat, key, imp);
@@ -163,9 +286,12 @@ void msg_process_cache(uint64_t key)
     show(seat);
 }
 
+/* ---- the lock, for the host ---- */
+
 static uint32_t take_started(bool to_change, msg_runtime **taken)
 {
-    uint32_t fault = atomic_load_explicit(&started, memory_order_acquire) ? take(to_change, true) : MSG_CLOSED;
+    bool is_open = atomic_load_explicit(&started, memory_order_acquire);
+    uint32_t fault = is_open ? take(to_change, MSG_WAITS) : (uint32_t)MSG_CLOSED;
     if (!fault) *taken = &runtime;
     return fault;
 }
@@ -174,41 +300,51 @@ uint32_t msg_process_lock(msg_runtime **taken) { return take_started(false, take
 uint32_t msg_process_lock_to_change(msg_runtime **taken) { return take_started(true, taken); }
 void msg_process_unlock(void) { if (holds) give(); }
 
+/* ---- forks ---- */
+
 static void before_fork(void)
 {
     kept = holds;
     atomic_fetch_add(&forks, 1);
     if (kept) return; /* without waiting, which the lock would have to be given for */
-    take(false, true);
+    take(false, MSG_WAITS);
     for (struct seat *seat = seats; seat;) {
         bool asks = seat != own && atomic_load(&seat->asks);
         if (asks) {
             give();
             sched_yield();
-            take(false, true);
+            take(false, MSG_WAITS);
         }
         seat = asks ? seats : seat->next; /* after a wait it may be gone */
     }
+    atomic_store(&still, true);
+}
+
+static void end_fork(void)
+{
+    atomic_store(&still, false);
+    if (!kept) give();
 }
 
 static void in_parent(void)
 {
     atomic_fetch_sub(&forks, 1);
-    if (!kept) give();
+    end_fork();
 }
 
-/* The other threads aren't here. Those that ask by now have seen the fork and are in no call, unless it didn't wait. */
+/* The other threads aren't here. Those that ask by now have seen the fork and are in no call,
+ * unless it didn't wait. */
 static void in_child(void)
 {
-    close_seats(true);
+    close_others();
     atomic_store(&forks, 0);
-    if (!kept) give();
+    end_fork();
 }
 
 uint32_t msg_process_start(const msg_config *config)
 {
     static bool has_key, has_forks; /* also of a start that was refused */
-    uint32_t fault = take(false, true);
+    uint32_t fault = take(false, MSG_WAITS);
     if (fault) return fault;
     has_key = has_key || !pthread_key_create(&key, at_thread_end);
     has_forks = has_forks || !pthread_atfork(before_fork, in_parent, in_child);

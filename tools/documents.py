@@ -1,4 +1,5 @@
-"""The documents of tools/bench, each heavy in one thing. A part of 1 is the whole size; the same part gives the same bytes each time."""
+"""The documents of tools/bench, each heavy in one thing. A part of 1 is the whole size; the same
+part gives the same bytes each time."""
 import json
 import os
 import random

@@ -1,4 +1,5 @@
-"""GNUstep base's test programs and Debian's libobjc: got by name, built once, and each run in namespaces of its own."""
+"""GNUstep base's test programs and Debian's libobjc: got by name, built once, and each run in
+namespaces of its own."""
 import concurrent.futures
 import glob
 import os
@@ -15,17 +16,27 @@ DEBIAN = "http://deb.debian.org/debian"
 PACKAGES = ("gobjc-12", "gobjc", "libobjc-12-dev", "gnustep-make", "libgnustep-base-dev", "gnustep-base-runtime", "dpkg-dev", "make", "unar", "openvpn-auth-ldap", "iproute2", "valgrind")
 OWN = os.path.join(ROOT, "objc", "gnustep")
 ENDED_BY_TIME = 124  # of timeout(1)
+NOT_APART = 121
+HIDDEN = ("/root", "/tmp", "/run")
 
-# In the program's own namespaces: no network but its own machine's, no process that outlives it, an empty place for GNUstep's defaults and ports, and a copy of its folder.
-INSIDE = """ip link set lo up
-for place in /root /tmp /run; do mount -t tmpfs none $place; done
-if [ -n "$COPIED" ]; then mkdir /tmp/.copy && cp -a "$COPIED/." /tmp/.copy && mount --bind /tmp/.copy "$COPIED" && cd "$COPIED"; fi
+# In the program's own namespaces: no network but its own machine's, no process that outlives it,
+# empty places for GNUstep's defaults and ports, and a copy of its folder; or it isn't started.
+INSIDE = f"""ip link set lo up
+for place in {' '.join(HIDDEN)}; do mount -t tmpfs none $place || exit {NOT_APART}; done
+if [ -n "$COPIED" ]; then mkdir /tmp/.copy && cp -a "$COPIED/." /tmp/.copy && mount --bind /tmp/.copy "$COPIED" && cd "$COPIED" || exit {NOT_APART}; fi
 exec timeout -k 2 "$SECONDS_LEFT" env -u COPIED -u SECONDS_LEFT "$@"
 """
 
 
+def is_hidden(folder):
+    """Whether it lies where a program finds an empty place instead."""
+    folder = os.path.realpath(folder)
+    return any(os.path.commonpath((folder, place)) == place for place in map(os.path.realpath, HIDDEN))
+
+
 def get_sources(folder):
-    """Debian's source package of the gnustep-base that is installed, by a list of apt-get's own, so that the machine's isn't touched."""
+    """Debian's source package of the gnustep-base that is installed, by a list of apt-get's own, so
+    that the machine's isn't touched."""
     sources = os.path.join(folder, "source")
     if os.path.isdir(sources):
         return sources
@@ -45,7 +56,8 @@ def get_sources(folder):
 
 
 class Suite:
-    """Tests/base, a copy with the programs in each folder's obj/, built against Debian's libobjc in the way that gnustep-tests builds them."""
+    """Tests/base, a copy with the programs in each folder's obj/, built against Debian's libobjc in
+    the way that gnustep-tests builds them."""
 
     def __init__(self, folder):
         self.folder = folder
@@ -120,7 +132,8 @@ def our_library(folder, given, *more):
 
 
 class Library:
-    """What programs run over: `folder` has the libobjc.so.4 that they load, or is None for Debian's."""
+    """What programs run over: `folder` has the libobjc.so.4 that they load, or is None for
+    Debian's."""
 
     def __init__(self, title, folder=None, **more):
         self.title = title
@@ -130,7 +143,8 @@ class Library:
 
 
 def run(words, library, seconds, copied="", place=None, env=None, out=subprocess.PIPE):
-    """The status, the seconds of processors and what was written of a program, in namespaces of its own."""
+    """The status, the seconds of processors and what was written of a program, in namespaces of its
+    own."""
     inner = [f"{name}={value}" for name, value in {**library.more, **(env or {})}.items()]
     outer = {name: value for name, value in os.environ.items() if name not in ("LD_LIBRARY_PATH", "LD_PRELOAD")}
     outer.update(HOME="/root", LC_ALL="C.UTF-8", COPIED=copied, SECONDS_LEFT=str(seconds))
@@ -140,6 +154,8 @@ def run(words, library, seconds, copied="", place=None, env=None, out=subprocess
     said = process.stdout.read().decode(errors="replace") if out == subprocess.PIPE else ""
     _, status, used = os.wait4(process.pid, 0)
     process.returncode = os.waitstatus_to_exitcode(status)
+    if process.returncode == NOT_APART:
+        sys.exit(f"{words[0]} isn't run, since no copy of {copied or place} stands apart for it")
     return process.returncode, used.ru_utime + used.ru_stime, said
 
 
@@ -174,7 +190,8 @@ def run_test(suite, program, library, given, logs):
 
 
 def run_suite(suite, programs, libraries, given, logs):
-    """What each program told over each library, several side by side; a program's runs beside each other."""
+    """What each program told over each library, several side by side; a program's runs beside each
+    other."""
     os.makedirs(logs, exist_ok=True)
     began, told = time.time(), {}
     with concurrent.futures.ThreadPoolExecutor(given.jobs) as pool:

@@ -1,4 +1,5 @@
-"""Debian's programs for GNUstep over libobjc and over the shim, with inputs that are made here; their times; and bundles loaded beside threads that send: what tools/gnustep_tests asks."""
+"""Debian's programs for GNUstep over libobjc and over the shim, with inputs that are made here;
+their times; and bundles loaded beside threads that send: what tools/gnustep_tests asks."""
 import bz2
 import difflib
 import glob
@@ -71,7 +72,8 @@ BODY = """#import "Small.h"
 
 SERVED = "python3 ldap_server.py 3389 & sleep 1; ./ldap " + PLUGIN
 
-# By their names, the commands that are run in a copy of the folder of inputs. (cvtenc -EscapeOut writes bytes that it never set, which differ from run to run.)
+# By their names, the commands that are run in a copy of the folder of inputs. (cvtenc -EscapeOut
+# writes bytes that it never set, which differ from run to run.)
 CASES = {
     "gspath": "for what in defaults libpath path user; do gspath $what; done; gspath none",
     "plparse": "plparse plain.plist xml.plist large.plist binary.plist broken.plist none",
@@ -242,7 +244,8 @@ def make_bundles(folder):
 
 
 def load_bundles(program, place, library, given):
-    """The times of loading, the count of wrong answers, and how runs ended that ended otherwise than they must."""
+    """The times of loading, the count of wrong answers, and how runs ended that ended otherwise
+    than they must."""
     took, wrong, ended = [], 0, []
     for _ in range(given.runs):
         status, _, text = gnustep.run([program, place, str(BUNDLES)], library, given.seconds, place=place)
@@ -289,7 +292,8 @@ def long_runs(suite, given):
 
 
 def run_times(suite, ours, given):
-    """Processors' time and instructions of whole programs, in turns over both: whether no median ratio is above the aims."""
+    """Processors' time and instructions of whole programs, in turns over both: whether no median
+    ratio is above the aims."""
     libraries, right = [gnustep.Library("libobjc"), gnustep.Library("the shim", ours)], True
     print(f"| | seconds of processors, medians of {given.runs} runs: libobjc | the shim | ratio | millions of instructions: libobjc | the shim | ratio |\n|---|---|---|---|---|---|---|")
     for title, (words, copied) in long_runs(suite, given).items():

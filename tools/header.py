@@ -1,4 +1,5 @@
-"""Reads include/msg_runtime.h and msg_process.h, for the tools that go by them: their calls, structures and constants, and what their comments say of them."""
+"""Reads include/msg_runtime.h and msg_process.h, for the tools that go by them: their calls,
+structures and constants, and what their comments say of them."""
 import os
 import re
 from typing import NamedTuple
@@ -88,7 +89,8 @@ def said_of(text):
 
 
 def groups(text):
-    """The header in its order: a title, ('title', words); or ('calls', words, calls) for what one comment says of the calls behind it."""
+    """The header in its order: a title, ('title', words); or ('calls', words, calls) for what one
+    comment says of the calls behind it."""
     parts = re.split(r"(/\*.*?\*/)", text, flags=re.S)
     for comment, behind in zip(parts[1::2], parts[2::2]):
         words = " ".join(line.strip().lstrip("*").strip() for line in comment[2:-2].split("\n")).strip()

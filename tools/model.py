@@ -1,4 +1,5 @@
-"""What msgrun answers to a document, by docs/FORMAT.md alone: a plain model that shares nothing with the crates, for tools/fuzz."""
+"""What msgrun answers to a document, by docs/FORMAT.md alone: a plain model that shares nothing
+with the crates, for tools/fuzz."""
 import copy
 import re
 
@@ -365,7 +366,8 @@ class Refused(Exception):
 
 
 class Tables:
-    """Superclasses of the classes that are present, and of each class reference its methods, the newest first."""
+    """Superclasses of the classes that are present, and of each class reference its methods, the
+    newest first."""
 
     def __init__(self, document):
         self.above = {it[0]: it[1] for it in document.classes}

@@ -1,4 +1,5 @@
-"""Debian's packages that a tool needs: those that aren't installed are said, or got by apt-get where that is asked for."""
+"""Debian's packages that a tool needs: those that aren't installed are said, or got by apt-get
+where that is asked for."""
 import subprocess
 import sys
 
@@ -8,7 +9,8 @@ def missing(names):
 
 
 def need(names, wanted):
-    """Ends with a line where some aren't installed. Apt-get's lists are got first: a new machine has none."""
+    """Ends with a line where some aren't installed. Apt-get's lists are got first: a new machine
+    has none."""
     names = missing(names)
     if names and wanted:
         for words in (["update"], ["install", "-y", "--no-install-recommends", *names]):

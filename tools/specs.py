@@ -1,4 +1,5 @@
-"""Reads what the crates define: the definitions of specs/*.antt, the types and constants of src/*.rt, and which of them each names."""
+"""Reads what the crates define: the definitions of specs/*.antt, the types and constants of
+src/*.rt, and which of them each names."""
 import functools
 import os
 import re
@@ -18,7 +19,8 @@ RUST_USE = re.compile(r"(?m)^use ((?:crate|msg_\w+)(?:::\w+)*)::(?:(\w+)|\{([^}]
 
 
 class Item(NamedTuple):
-    """One definition, with its comment. `names` are those by which others cite it; `part` is specs or src."""
+    """One definition, with its comment. `names` are those by which others cite it; `part` is specs
+    or src."""
 
     crate: str
     file: str
@@ -55,7 +57,8 @@ def files(crate, part, ending):
 
 
 def names_in(block):
-    """The names that a block of a specification defines: its own, those of a mutual block, and the constructors of data; fields of records are none."""
+    """The names that a block of a specification defines: its own, those of a mutual block, and the
+    constructors of data; fields of records are none."""
     lines, found, in_data = block.split("\n"), [], False
     is_mutual = lines[0].endswith("mutual")
     for line in lines[1:] if is_mutual else lines:
@@ -133,7 +136,8 @@ def rust_path(crate, parts):
 
 @functools.lru_cache(None)
 def resolve(package, module, name):
-    """What a name of a module of the contracts' language stands for: an item of ours, or None where it is the kit's or generated."""
+    """What a name of a module of the contracts' language stands for: an item of ours, or None where
+    it is the kit's or generated."""
     if not os.path.isdir(os.path.join(CRATES, package)):
         return None
     parts = module.split(".")
@@ -153,7 +157,8 @@ def resolve(package, module, name):
 
 @functools.lru_cache(None)
 def scope(path):
-    """What a file's names stand for: (package, module, name) of each that it imports, and (package, module) of each alias."""
+    """What a file's names stand for: (package, module, name) of each that it imports, and (package,
+    module) of each alias."""
     known, aliases = {}, {}
     for where, names, alias in IMPORT.findall(text_of(path)):
         parts = where.split(".")

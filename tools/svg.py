@@ -1,4 +1,5 @@
-"""Draws pictures as SVG: text, boxes, lines and arrows on a ground of their own, so that they are readable on dark pages and on white ones."""
+"""Draws pictures as SVG: text, boxes, lines and arrows on a ground of their own, so that they are
+readable on dark pages and on white ones."""
 from html import escape
 
 FONT = "Helvetica, Arial, sans-serif"

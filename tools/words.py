@@ -1,4 +1,5 @@
-"""How the tools in Python read their words: --help tells the tool's page and starts nothing; what isn't understood is refused in a line, with status 2."""
+"""How the tools in Python read their words: --help tells the tool's page and starts nothing; what
+isn't understood is refused in a line, with status 2."""
 import argparse
 import os
 import sys

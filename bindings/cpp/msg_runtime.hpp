@@ -362,7 +362,7 @@ public:
         must(answer);
         return imp;
     }
-    // What is noted after so many changes; 0 where nothing is, or forwarding.
+    // What is noted after so many changes or more; 0 where nothing is, or forwarding.
     std::uint32_t recall(class_ref of, std::uint32_t selector, std::uint64_t count) const
     {
         return own ? static_cast<std::uint32_t>(msg_recall(own.get(), of.slot(), selector, count)) : 0;
@@ -387,6 +387,14 @@ public:
         std::uint64_t count = 0;
         shared();
         must(msg_refresh(own.get(), &count));
+        return count;
+    }
+    // Since how many changes none has affected the class reference; the sender has then seen all.
+    std::uint64_t stamp(class_ref of)
+    {
+        std::uint64_t count = 0;
+        shared();
+        must(msg_stamp(own.get(), of.number, of.meta, &count));
         return count;
     }
     void close() noexcept

@@ -155,7 +155,7 @@ static void senders()
     CHECK(sender.recall_key(msg::sender::key_of(child, VALUE), 4) == 1);
     CHECK(sender.find(child, VALUE) == 1 && sender.find(child_itself, NEW) == 4 && sender.find(child, TAKE) == 0);
     runtime.lock().replace(child, VALUE, 5);
-    CHECK(sender.find_seen(child, VALUE) == 1);
+    CHECK(sender.find_seen(child, VALUE) == 5);
     CHECK(sender.find(child, VALUE) == 5 && sender.find_seen(child, VALUE) == 5);
     runtime.lock().replace(child, VALUE, 6);
     CHECK(sender.refresh() == 6 && sender.find_seen(child, VALUE) == 6);

@@ -1,4 +1,5 @@
-/* A bundle of 40 classes with 12 methods each, and of categories of two classes of Foundation's; N is its number. */
+/* A bundle of 40 classes with 12 methods each, and of categories of two classes of Foundation's;
+ * N is its number. */
 #import <Foundation/Foundation.h>
 
 #define JOINED(a, n, b) a##n##b

@@ -1,6 +1,6 @@
-/* Loads bundles by NSBundle while three threads send, also to what has been loaded:   bundles FOLDER COUNT
- * It prints how many sends the threads made, how many answered otherwise than they must, and the milliseconds of
- * loading. */
+/* Loads bundles by NSBundle while three threads send, also to what has been loaded:   bundles
+ * FOLDER COUNT It prints how many sends the threads made, how many answered otherwise than they
+ * must, and the milliseconds of loading. */
 #import <Foundation/Foundation.h>
 #include <objc/runtime.h>
 #include <pthread.h>

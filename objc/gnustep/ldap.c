@@ -1,5 +1,5 @@
-/* Asks openvpn-auth-ldap, which uses libobjc alone, as OpenVPN does:   ldap PLUGIN CONFIGURATION [USER PASSWORD]..
- * It prints what the plug-in answers. */
+/* Asks openvpn-auth-ldap, which uses libobjc alone, as OpenVPN does:   ldap PLUGIN CONFIGURATION
+ * [USER PASSWORD].. It prints what the plug-in answers. */
 #include <dlfcn.h>
 #include <stdio.h>
 

@@ -1,10 +1,10 @@
-/* bench LOAD THREADS: for each line of standard input a window, and how many nanoseconds one of its steps took on its
- * slowest thread; so two programs take turns.
- * bench LOAD THREADS WINDOWS: so many windows at once, of which nothing is told, for a count of instructions.
- * LOAD: own, inherited, mixed (objc_msg_lookup); class (a send to a class by name); responds, lacks
- * (class_respondsToSelector that answers YES, NO); forwarded (objc_msg_lookup of what no class has, which a hook
- * answers); on one thread, class_replaceMethod with the next send: replace, in a class without subclasses, and
- * replace_above, in one that has two. */
+/* bench LOAD THREADS: for each line of standard input a window, and how many nanoseconds one of
+ * its steps took on its slowest thread; so two programs take turns. bench LOAD THREADS WINDOWS:
+ * so many windows at once, of which nothing is told, for a count of instructions. LOAD: own,
+ * inherited, mixed (objc_msg_lookup); class (a send to a class by name); responds, lacks
+ * (class_respondsToSelector that answers YES, NO); forwarded (objc_msg_lookup of what no class
+ * has, which a hook answers); on one thread, class_replaceMethod with the next send: replace, in
+ * a class without subclasses, and replace_above, in one that has two. */
 #include "../tests/calls.h"
 #include <pthread.h>
 #include <stdbool.h>

@@ -1,4 +1,5 @@
-/* changes COUNT: so many changes, each with a send that sees it, by threads that come and go; for a memory checker. Prints the most memory that was resident, in KiB. */
+/* changes COUNT: so many changes, each with a send that sees it, by threads that come and go;
+ * for a memory checker. Prints the most memory that was resident, in KiB. */
 #include "../tests/modules.h"
 #include <pthread.h>
 #include <stdlib.h>

@@ -1,6 +1,7 @@
-/* A change is stopped before each single instruction of it, and there a handler of a signal sends, then another thread,
- * and the handler again: none finds an older method than who found one before it. The other thread may have to wait for
- * the change's lock: then it isn't waited for. */
+/* A change is stopped before each single instruction of it, and there a handler of a signal
+ * sends, then another thread, and the handler again: none finds an older method than who found
+ * one before it. The other thread may have to wait for the change's lock: then it isn't waited
+ * for. */
 #define _GNU_SOURCE /* for the names of registers */
 #include "modules.h"
 #include <pthread.h>

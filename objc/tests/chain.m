@@ -1,4 +1,5 @@
-/* Sends as a compiler emits them: own and inherited methods, super, a category, class methods, +load and +initialize, nil. */
+/* Sends as a compiler emits them: own and inherited methods, super, a category, class methods,
+ * +load and +initialize, nil. */
 #include "calls.h"
 #include <stdio.h>
 

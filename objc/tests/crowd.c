@@ -1,5 +1,5 @@
-/* 1,100 threads at once, more than there are senders; then 300 one after the other, which give theirs back. Methods are
- * replaced meanwhile. */
+/* 1,100 threads at once, more than there are senders; then 300 one after the other, which give
+ * theirs back. Methods are replaced meanwhile. */
 #include "modules.h"
 #include <pthread.h>
 #include <stdatomic.h>

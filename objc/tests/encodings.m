@@ -1,4 +1,5 @@
-/* Sizes and alignments by encoding are the compiler's; what is skipped; a structure member by member. */
+/* Sizes and alignments by encoding are the compiler's; what is skipped; a structure member by
+ * member. */
 #include "roots.h"
 #include <stdio.h>
 

@@ -1,5 +1,5 @@
-/* Threads whose last destructors of thread data send: what they leave behind doesn't grow, and new threads still have
- * a sender. */
+/* Threads whose last destructors of thread data send: what they leave behind doesn't grow, and
+ * new threads still have a sender. */
 #include "roots.h"
 #include <malloc.h>
 #include <pthread.h>

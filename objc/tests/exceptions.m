@@ -1,4 +1,5 @@
-/* @try, @catch by class, @finally, thrown again, through frames and out of +initialize, a matcher of the program's, and one that nobody catches. */
+/* @try, @catch by class, @finally, thrown again, through frames and out of +initialize, a
+ * matcher of the program's, and one that nobody catches. */
 #include "roots.h"
 #include <stdio.h>
 #include <stdlib.h>

@@ -1,4 +1,5 @@
-/* After an exchange the subclass finds the exchanged methods, by name and by a neighbouring name. */
+/* After an exchange the subclass finds the exchanged methods, by name and by a neighbouring
+ * name. */
 #include "modules.h"
 
 int main(void)

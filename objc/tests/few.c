@@ -1,14 +1,28 @@
-/* With few class numbers (MSG_CLASSES): what has none is refused, or not found by its name; the rest goes on. */
+/* Where few class numbers are left: what has none is refused, or not found by its name; the rest
+ * goes on. A MSG_CLASSES of less than the default, as one of 1, is the default. */
 #include "modules.h"
 #include <stdlib.h>
 #include <unistd.h>
 
 static struct objc_class late_meta = {.name = "Late", .info = 2, .instance_size = 104};
-static struct objc_class late = {.isa = &late_meta, .superclass.text = "Root", .name = "Late", .info = 1, .instance_size = 8};
-static struct { unsigned long ref_count; struct objc_selector *refs; uint16_t class_count, category_count; void *defs[2]; } late_symbols = {0, NULL, 1, 0, {&late, NULL}};
-static struct { unsigned long ref_count; struct objc_selector *refs; uint16_t class_count, category_count; void *defs[1]; } no_symbols;
-static struct module late_module = {8, sizeof late_module, "a late one", (struct symbols *)&late_symbols};
-static struct module empty_module = {8, sizeof empty_module, "one of nothing", (struct symbols *)&no_symbols};
+static struct objc_class late = {
+    .isa = &late_meta, .superclass.text = "Root", .name = "Late", .info = 1, .instance_size = 8};
+static struct {
+    unsigned long ref_count;
+    struct objc_selector *refs;
+    uint16_t class_count, category_count;
+    void *defs[2];
+} late_symbols = {0, NULL, 1, 0, {&late, NULL}};
+static struct {
+    unsigned long ref_count;
+    struct objc_selector *refs;
+    uint16_t class_count, category_count;
+    void *defs[1];
+} no_symbols;
+static struct module late_module = {8, sizeof late_module, "a late one",
+                                    (struct symbols *)&late_symbols};
+static struct module empty_module = {8, sizeof empty_module, "one of nothing",
+                                     (struct symbols *)&no_symbols};
 
 static Class make(const char *name)
 {
@@ -17,15 +31,21 @@ static Class make(const char *name)
     return class_;
 }
 
-/* Of the 8 numbers 0 is nobody's, and 3 are the shim's own classes'. */
+/* Of 16,384 numbers 0 is nobody's, 3 are the shim's own classes', 2 the module's, and 2 are
+ * left. */
 int main(int count, char **words)
 {
     (void)count;
     if (!getenv("MSG_CLASSES")) {
-        setenv("MSG_CLASSES", "8", 1);
+        setenv("MSG_CLASSES", "1", 1);
         execv("/proc/self/exe", words);
     }
     take();
+    for (int i = 0; i < 16384 - 8; i++) {
+        char name[32];
+        snprintf(name, sizeof name, "Many%d", i);
+        if (!make(name)) printf("%s is refused\n", name);
+    }
     Class third = make("Third"), waiting = objc_allocateClassPair(&child, "Waiting", 0);
     printf("made %d %d, no more %d\n", third != NULL, waiting != NULL, make("Fifth") == NULL);
     close(2); /* one line is told */
@@ -35,7 +55,8 @@ int main(int count, char **words)
     __objc_exec_class(&empty_module);
     printf("once there is a number: %d\n", objc_getClass("Late") == &late);
     id object = class_createInstance(&late, 0), other = class_createInstance(third, 0);
-    printf("sent: %ld %ld\n", send(object, sel_registerName("one")), send(other, sel_registerName("two")));
+    printf("sent: %ld %ld\n", send(object, sel_registerName("one")),
+           send(other, sel_registerName("two")));
     object_dispose(object);
     object_dispose(other);
     return 0;

@@ -1,5 +1,5 @@
-/* What comes before a class's first message: +initialize before a resolver, also one that throws, and of a class
- * whose method was replaced before. */
+/* What comes before a class's first message: +initialize before a resolver, also one that
+ * throws, and of a class whose method was replaced before. */
 #include "roots.h"
 #include <pthread.h>
 #include <stdio.h>

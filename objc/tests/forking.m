@@ -1,5 +1,5 @@
-/* fork beside threads that send, change methods, make classes and lock objects: each child sends, changes, makes a
- * class, locks, and reads a property. */
+/* fork beside threads that send, change methods, make classes and lock objects: each child
+ * sends, changes, makes a class, locks, and reads a property. */
 #include "roots.h"
 #include <pthread.h>
 #include <signal.h>

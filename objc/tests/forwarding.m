@@ -1,4 +1,5 @@
-/* Where no method is found: a class adds one, a hook of the program's, forward:: with its arguments, doesNotRecognize:. */
+/* Where no method is found: a class adds one, a hook of the program's, forward:: with its
+ * arguments, doesNotRecognize:. */
 #include "roots.h"
 #include <stdio.h>
 #include <stdlib.h>

@@ -1,5 +1,5 @@
-/* A program that has the layer for a process for itself, beside the shim's: each has its own runtime, lock and senders,
- * also in a forked child. */
+/* A program that has the layer for a process for itself, beside the shim's: each has its own
+ * runtime, lock and senders, also in a forked child. */
 #include "modules.h"
 #define take take_lock /* both have one */
 #include "../../process/msg_process.c"

@@ -1,4 +1,5 @@
-/* Instance variables: by name, of a superclass, their offsets and types, read and written; and of a class in construction. */
+/* Instance variables: by name, of a superclass, their offsets and types, read and written; of a
+ * class in construction, and of the runtime's own. */
 #include "roots.h"
 #include <stdio.h>
 #include <stdlib.h>
@@ -11,6 +12,10 @@
 @interface Case : Box { double weight; }
 @end
 @implementation Case
+@end
+
+@protocol Shown
+- (void)show;
 @end
 
 static void show(Class class_)
@@ -44,5 +49,8 @@ int main(void)
     objc_registerClassPair(made);
     show(made);
     printf("size %zu\n", class_getInstanceSize(made));
+    const char *const own[] = {"Object", "Protocol", "NXConstantString"};
+    for (int i = 0; i < 3; i++) show(objc_getClass(own[i]));
+    printf("a protocol's name: %s\n", *(char **)((char *)@protocol(Shown) + ivar_getOffset(class_getInstanceVariable(objc_getClass("Protocol"), "protocol_name"))));
     return 0;
 }

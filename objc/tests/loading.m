@@ -1,4 +1,5 @@
-/* +load: a superclass's first, then a category's, each once, before main; the callback for each class; +initialize: once each, before the first send. */
+/* +load: a superclass's first, then a category's, each once, before main; the callback for each
+ * class; +initialize: once each, before the first send. */
 #include "roots.h"
 #include <stdio.h>
 

@@ -1,5 +1,5 @@
-/* Classes made at run time: under a class, as a root, given up, of a name that is taken; and 2,000 of them while
- * another thread sends. */
+/* Classes made at run time: under a class, as a root, given up, of a name that is taken; and
+ * 2,000 of them while another thread sends. */
 #include "roots.h"
 #include <pthread.h>
 #include <stdio.h>

@@ -1,4 +1,5 @@
-/* Methods: what they say of themselves, added, replaced, set, exchanged, listed; of classes and metaclasses. */
+/* Methods: what they say of themselves, added, replaced, set, exchanged, listed; of classes and
+ * metaclasses. */
 #include "roots.h"
 #include <stdio.h>
 #include <stdlib.h>
@@ -37,14 +38,31 @@
 static int ten(id self, SEL sel) { return 10; }
 static int eleven(id self, SEL sel) { return 11; }
 
+/* As much as there is room for, which has stars in it before; what is filled up with zeros is
+ * told as dots. */
+static void show_cut(Method method, size_t room)
+{
+    char result[] = "********", third[] = "********", ninth[] = "********", *all[] = {result, third, ninth};
+    method_getReturnType(method, result, room);
+    method_getArgumentType(method, 2, third, room);
+    method_getArgumentType(method, 8, ninth, room);
+    printf("in %zu:", room);
+    for (int i = 0; i < 3; i++) {
+        for (size_t j = 0; j < sizeof result - 1; j++) all[i][j] = all[i][j] ? all[i][j] : '.';
+        printf(" %s", all[i]);
+    }
+    printf("\n");
+}
+
 static void show(Method method)
 {
-    char *result = method_copyReturnType(method), *last = method_copyArgumentType(method, method_getNumberOfArguments(method) - 1), cut[4];
-    method_getArgumentType(method, 2, cut, sizeof cut);
-    printf("%s %s: %u arguments, %s, %s, %s\n", sel_getName(method_getName(method)), method_getTypeEncoding(method), method_getNumberOfArguments(method), result, last, cut);
+    char *type = method_copyReturnType(method);
+    printf("%s %s: %u arguments, %s", sel_getName(method_getName(method)), method_getTypeEncoding(method), method_getNumberOfArguments(method), type);
+    free(type);
+    for (unsigned int i = 0; (type = method_copyArgumentType(method, i)); i++, free(type)) printf(", %s", type);
+    printf("\n");
+    for (size_t room = 0; room < 6; room++) show_cut(method, room);
     printf("described alike: %d\n", method_getDescription(method)->types == method_getTypeEncoding(method));
-    free(result);
-    free(last);
 }
 
 static void show_both(void)
@@ -83,6 +101,8 @@ int main(void)
     printf("of classes %d %d, found %d\n", [Torch lamps], [Lamp lamps], class_getClassMethod(torch, @selector(lamps)) != class_getClassMethod(lamp, @selector(lamps)));
     printf("answers %d, %d, %d\n", class_respondsToSelector(torch, @selector(two)), class_respondsToSelector(torch, @selector(lamps)), class_getMethodImplementation(torch, @selector(two)) == method_getImplementation(class_getInstanceMethod(torch, @selector(two))));
     printf("of nothing: %d %d %d\n", class_getInstanceMethod(NULL, @selector(one)) == NULL, method_getName(NULL) == NULL, class_addMethod(torch, NULL, (IMP)ten, "i16@0:8"));
+    printf("no types: %d %d\n", method_copyReturnType(NULL) == NULL, method_copyArgumentType(NULL, 0) == NULL);
+    show_cut(NULL, 2);
     object_dispose(object);
     show_both();
     return 0;

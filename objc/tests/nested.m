@@ -1,4 +1,5 @@
-/* Atomic properties: a -retain that reads another one, and threads that read and write one beside each other. */
+/* Atomic properties: a -retain that reads another one, and threads that read and write one
+ * beside each other. */
 #include "roots.h"
 #include <pthread.h>
 #include <stdio.h>

@@ -1,4 +1,5 @@
-/* Objects: copied, of another class, disposed of; classes by name, with the program's handler; versions; super in class methods; nil. */
+/* Objects: copied, of another class, disposed of; classes by name, with the program's handler;
+ * versions; super in class methods; nil. */
 #include "roots.h"
 #include <stdio.h>
 #include <string.h>

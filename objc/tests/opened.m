@@ -1,5 +1,6 @@
-/* Modules are loaded beside threads that find their classes by name: who finds one can ask it and send to it, and has all
- * that its module brings to other classes, also where it was noted before that there is no such method. */
+/* Modules are loaded beside threads that find their classes by name: who finds one can ask it
+ * and send to it, and has all that its module brings to other classes, also where it was noted
+ * before that there is no such method. */
 #include "roots.h"
 #include <dlfcn.h>
 #include <pthread.h>

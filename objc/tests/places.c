@@ -1,5 +1,6 @@
-/* Selectors of a class that have one place for their notes, and classes that have one for a selector, in turns: each is
- * answered by its own method. The methods aren't called: their functions are numbers, behind the begin of memory. */
+/* Selectors of a class that have one place for their notes, and classes that have one for a
+ * selector, in turns: each is answered by its own method. The methods aren't called: their
+ * functions are numbers, behind the begin of memory. */
 #include "modules.h"
 
 enum { NOTES = 2048, NAMES = NOTES + 100, CLASSES = 70, OF_CLASSES = 5, BEGIN = 1 << 24 };

@@ -1,4 +1,5 @@
-/* Synthesized accessors: kept, copied, of a structure, atomic or not; and that no property is listed. */
+/* Synthesized accessors: kept, copied, of a structure, atomic or not; and that no property is
+ * listed. */
 #include "roots.h"
 #include <stdio.h>
 

@@ -1,4 +1,5 @@
-/* Protocols: by name, adopted by classes, categories and protocols, and what they say of methods. */
+/* Protocols: by name, adopted by classes, categories and protocols, and what they say of
+ * methods. */
 #include "roots.h"
 #include <stdio.h>
 #include <stdlib.h>

@@ -1,5 +1,5 @@
-/* Threads that send what no class has, which a hook answers, and at the same time what a class resolves: for a
- * sanitizer, and for the answers. */
+/* Threads that send what no class has, which a hook answers, and at the same time what a class
+ * resolves: for a sanitizer, and for the answers. */
 #include "roots.h"
 #include <pthread.h>
 #include <stdio.h>

@@ -1,5 +1,5 @@
-/* objc_replace_methods and objc_exchange_methods: what they answer, what the rows say then, and that a refusal leaves
- * all as it was. */
+/* objc_replace_methods and objc_exchange_methods: what they answer, what the rows say then, and
+ * that a refusal leaves all as it was. */
 #include "modules.h"
 #include "msg_objc.h"
 

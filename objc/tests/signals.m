@@ -1,6 +1,6 @@
-/* Handlers of signals that send what was sent before: in the thread that changes methods, and in one that sends
- * beside it. No answer is older than a change that had returned, or than one that the thread had seen; none is newer
- * than what was begun. */
+/* Handlers of signals that send what was sent before: in the thread that changes methods, and in
+ * one that sends beside it. No answer is older than a change that had returned, or than one that
+ * the thread had seen; none is newer than what was begun. */
 #include "roots.h"
 #include <pthread.h>
 #include <signal.h>

@@ -1,5 +1,5 @@
-/* Encodings that come from anywhere: none ends the program, or leads past its end; and what GCC writes of instance
- * variables is measured. */
+/* Encodings that come from anywhere: none ends the program, or leads past its end; and what GCC
+ * writes of instance variables is measured. */
 #include "calls.h"
 #include <stdio.h>
 #include <stdlib.h>

@@ -1,9 +1,9 @@
-/* A stand-in for those calls of the library that the shim and process/ make: plain tables, nothing proved. For trying
- * their own logic where the archive isn't built, and under sanitizers: what is seen with it says nothing of the proved
- * dispatcher.
- * It goes the ways that the library goes: notes are written, so that a send hits; a shared cache is probed without a
- * lock; as many senders are given out as the config says; the faults are the header's. What would break the one
- * `requires` that the header leaves ends the program. */
+/* A stand-in for those calls of the library that the shim and process/ make: plain tables,
+ * nothing proved. For trying their own logic where the archive isn't built, and under
+ * sanitizers: what is seen with it says nothing of the proved dispatcher. It goes the ways that
+ * the library goes: notes are written, so that a send hits; a shared cache is probed without a
+ * lock; as many senders are given out as the config says; the faults are the header's. What
+ * would break the one `requires` that the header leaves ends the program. */
 #include "msg_runtime.h"
 #include <stdatomic.h>
 #include <stdlib.h>
@@ -14,12 +14,12 @@ enum { CLASSES = 1 << 20, SENDERS = 1 << 14, ARRAYS = 65535, PLACES = 8192 };
 /* A method of a class, or an empty place. */
 struct cell { uint64_t key; uint32_t imp; };
 
-/* A place of the cache: what was found for a slot and a selector at a version, and their key mixed with it, so that
- * who reads both words without a lock sees whether they are of one entry. */
+/* A place of the cache: what was found for a slot and a selector at a version, and their key
+ * mixed with it, so that who reads both words without a lock sees whether they are of one entry. */
 struct entry { _Atomic(uint64_t) mixed, found; };
 
-/* `root`: the number of the root above it, and `changed`, of a root: the version of the last change below it. What is
- * cached of an earlier version is no longer found. */
+/* `root`: the number of the root above it, and `changed`, of a root: the version of the last
+ * change below it. What is cached of an earlier version is no longer found. */
 struct class { bool made; int64_t above; _Atomic(uint32_t) root; _Atomic(uint64_t) changed; };
 
 struct tables {
@@ -27,12 +27,14 @@ struct tables {
     struct cell *cells;
     size_t cell_room, cell_count;
     uint32_t classes, senders, out;
+    uint64_t fills, refused;
+    struct asker *askers; /* all that are out: a handle may lie where no sanitizer looks */
     _Atomic(uint64_t) version;
     struct entry cache[PLACES];
 };
 
 /* What a sender's handle points to. */
-struct asker { struct tables *tables; uint64_t seen; };
+struct asker { struct tables *tables; uint64_t seen; struct asker *next; };
 
 static void must(bool holds) { if (!holds) abort(); }
 
@@ -144,7 +146,8 @@ static void flush(struct tables *tables, uint32_t number)
 
 /* ---- changes: each is a list of parts ---- */
 
-/* What a part wrote, so that it can be taken back: the method of a key as it was, or, of key 0, the class that is made. */
+/* What a part wrote, so that it can be taken back: the method of a key as it was, or, of key 0,
+ * the class that is made. */
 struct was { uint64_t key; uint32_t imp; };
 struct log { struct was *rows; size_t count; };
 
@@ -264,7 +267,8 @@ static void commit(struct tables *tables, const msg_change *changes, size_t coun
     atomic_fetch_add(&tables->version, 1);
 }
 
-/* Makes the parts, as far as one that is refused, and marks before each what it reaches, where that is asked. */
+/* Makes the parts, as far as one that is refused, and marks before each what it reaches, where
+ * that is asked. */
 static uint32_t change_each(struct tables *tables, struct log *log, const msg_change *changes, size_t count, bool *reached, size_t *place)
 {
     uint32_t fault = MSG_DONE;
@@ -292,6 +296,7 @@ uint32_t msg_change_all_with_undo(msg_runtime *runtime, const msg_change *change
     uint32_t fault = change_each(tables, &log, changes, count, NULL, place);
     if (fault) take_back(tables, &log);
     else if (count) commit(tables, changes, count);
+    if (undone && !fault) *undone = 0;
     for (size_t i = log.count; undone && !fault && i--;) {
         struct was was = log.rows[i];
         uint32_t slot = MSG_SLOT_OF(was.key);
@@ -390,10 +395,14 @@ uint32_t msg_sender_open(msg_runtime *runtime, msg_sender *sender)
     if (!runtime->open) return MSG_CLOSED;
     if (sender->open) return MSG_ALREADY_OPEN;
     struct tables *tables = runtime->at;
-    if (tables->out == tables->senders) return MSG_NO_SENDER;
+    if (tables->out == tables->senders) {
+        tables->refused++;
+        return MSG_NO_SENDER;
+    }
     struct asker *asker = malloc(sizeof *asker);
     if (!asker) return MSG_NO_MEMORY;
-    *asker = (struct asker){tables, atomic_load(&tables->version)};
+    *asker = (struct asker){tables, atomic_load(&tables->version), tables->askers};
+    tables->askers = asker;
     tables->out++;
     sender->at = asker;
     sender->open = true;
@@ -405,6 +414,9 @@ uint32_t msg_sender_close(msg_runtime *runtime, msg_sender *sender)
     if (!sender->open) return MSG_CLOSED;
     struct asker *asker = sender->at;
     must(asker && runtime->at == asker->tables); /* in no other call */
+    struct asker **at = &asker->tables->askers;
+    while (*at != asker) at = &(*at)->next;
+    *at = asker->next;
     asker->tables->out--;
     free(asker);
     memset(sender, 0, sizeof *sender);
@@ -415,20 +427,25 @@ uint32_t msg_version(void) { return MSG_VERSION_NUMBER; }
 
 size_t msg_sender_size(void) { return sizeof(msg_sender); }
 
+static uint64_t mark_of(uint32_t imp)
+{
+    return !imp ? MSG_SAID_NONE : imp < MSG_SAID_LONG ? imp : MSG_SAID_LONG;
+}
+
 static const msg_note *note_at(const msg_sender *sender, uint32_t slot, uint32_t sel)
 {
-    return &sender->notes[(slot * 32 + sel) % MSG_NOTES];
+    return MSG_NOTE_OF(sender, msg_key(slot, sel));
 }
 
 static void note(msg_sender *sender, uint32_t slot, uint32_t sel, uint64_t count, uint32_t imp)
 {
-    *(msg_note *)note_at(sender, slot, sel) = (msg_note){msg_key(slot, sel) + !imp, count, imp, 0, 0};
+    *(msg_note *)note_at(sender, slot, sel) = (msg_note){msg_key(slot, sel) - mark_of(imp), count, imp, 0, 0};
 }
 
 static bool is_noted(const msg_sender *sender, uint32_t slot, uint32_t sel, uint64_t count)
 {
     const msg_note *at = note_at(sender, slot, sel);
-    return at->word == msg_key(slot, sel) + !at->imp && at->count == count;
+    return at->seal + mark_of(at->imp) == msg_key(slot, sel) && at->count >= count;
 }
 
 size_t msg_recall(const msg_sender *sender, size_t slot, uint32_t sel, uint64_t count)
@@ -456,6 +473,20 @@ uint32_t msg_fill(msg_runtime *runtime, msg_sender *sender, uint32_t number, boo
     struct entry *entry = place(asker->tables, key);
     atomic_store(&entry->found, found);
     atomic_store(&entry->mixed, key ^ mix(found));
+    asker->tables->fills++;
+    return MSG_DONE;
+}
+
+/* Of what isn't done here 0. */
+uint32_t msg_report_words(msg_runtime *runtime, uint64_t *words, size_t count)
+{
+    if (!runtime->open) return MSG_CLOSED;
+    const struct tables *tables = runtime->at;
+    for (size_t i = 0; i < count; i++) {
+        bool fills = i * sizeof *words == offsetof(struct msg_report_row, fills);
+        bool refused = i * sizeof *words == offsetof(struct msg_report_row, refused_senders);
+        words[i] = fills ? tables->fills : refused ? tables->refused : 0;
+    }
     return MSG_DONE;
 }
 

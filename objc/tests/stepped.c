@@ -1,5 +1,5 @@
-/* A handler of a signal comes before each single instruction of a send, and of a change, and sends: what it finds, and
- * what it came between, is by the changes that there are. */
+/* A handler of a signal comes before each single instruction of a send, and of a change, and
+ * sends: what it finds, and what it came between, is by the changes that there are. */
 #define _GNU_SOURCE /* for the names of registers */
 #include "modules.h"
 #include <signal.h>

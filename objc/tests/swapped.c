@@ -1,6 +1,6 @@
-/* Lists that replace two methods at once, beside threads that look one up and then the other: never is the first as a
- * list made it and the second as before. Then the same one by one, where it is so. The methods aren't called: their
- * functions are numbers, behind the begin of memory. */
+/* Lists that replace two methods at once, beside threads that look one up and then the other:
+ * never is the first as a list made it and the second as before. Then the same one by one, where
+ * it is so. The methods aren't called: their functions are numbers, behind the begin of memory. */
 #include "modules.h"
 #include "msg_objc.h"
 #include <pthread.h>

@@ -1,4 +1,5 @@
-/* @synchronized: one thread at a time in it, entered twice by one, left by an exception, and of nil. */
+/* @synchronized: one thread at a time in it, entered twice by one, left by an exception, and of
+ * nil. */
 #include "roots.h"
 #include <pthread.h>
 #include <stdio.h>

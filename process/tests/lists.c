@@ -1,6 +1,11 @@
-/* What include/msg_runtime.h says of lists of changes: all or nothing, the first fault and its place, one more change, each kind as the call of its name, the way back, and what is reached. */
+/* What include/msg_runtime.h says of lists of changes: all or nothing, the first fault and its
+ * place, one more change, each kind as the call of its name, the way back, and what is reached. */
+#define MSG_PATIENCE 1
 #include "msg_runtime.h"
+#include <signal.h>
 #include <stdio.h>
+#include <sys/wait.h>
+#include <unistd.h>
 
 enum { ROOT, CHILD, MADE, CLASSES = 8, ONE = 1, TWO, NOBODYS, COUNT_IN = 7 };
 
@@ -57,7 +62,8 @@ static void made(void)
     WANT(changes(), before + 1);
 }
 
-/* Behind a made class, two replaced methods and an added one, and before one that would be refused. */
+/* Behind a made class, two replaced methods and an added one, and before one that would be
+ * refused. */
 static void refused(msg_change last, uint32_t fault)
 {
     const msg_change parts[] = {
@@ -96,7 +102,8 @@ static void all_refused(void)
     refused((msg_change){.kind = MSG_REPLACES, .number = ROOT, .meta = 2, .sel = ONE, .imp = 1}, MSG_BAD_CHANGE);
 }
 
-/* Two replaced methods and an exchange of them, taken back; a method that is added has no way back. */
+/* Two replaced methods and an exchange of them, taken back; a method that is added has no way
+ * back. */
 static void undone(void)
 {
     const msg_change parts[] = {
@@ -125,7 +132,8 @@ static void undone(void)
     WANT(look(CHILD, false, NOBODYS), 43);
 }
 
-/* As slots: of a root with its child and the child's, all three and their metaclasses, for a method of the root stands for metaclasses too. */
+/* As slots: of a root with its child and the child's, all three and their metaclasses, for a
+ * method of the root stands for metaclasses too. */
 static void reached(void)
 {
     const msg_change parts[] = {
@@ -150,6 +158,42 @@ static void reached(void)
     WANT(msg_holder(&runtime, MADE + 2, false, TWO, &above), MSG_NONE); /* not made */
 }
 
+/* A slice of length 0 may be NULL. */
+static void of_nothing(void)
+{
+    bool found[2 * CLASSES] = {false};
+    size_t place = 99, undone = 99;
+    uint64_t before = changes();
+    WANT(msg_change_all(&runtime, NULL, 0, &place), MSG_DONE);
+    WANT(msg_change_all_with_undo(&runtime, NULL, 0, NULL, 0, &undone, &place), MSG_DONE);
+    WANT(undone, 0);
+    WANT(changes(), before);
+    WANT(msg_reach(&runtime, NULL, 0, found, 2 * CLASSES, &place), MSG_DONE);
+    for (size_t slot = 0; slot < 2 * CLASSES; slot++) WANT(found[slot], false);
+    WANT(place, 99);
+    WANT(msg_attach(&runtime, ROOT, NULL, 0, NULL, 0), MSG_DONE);
+    WANT(changes(), before + 1);
+}
+
+/* A find by a thread that holds the lock would wait for itself: MSG_CHECK tells it. */
+static void held(void)
+{
+    pthread_mutex_t lock = PTHREAD_MUTEX_INITIALIZER;
+    uint32_t imp;
+    int status = 0;
+    pthread_mutex_lock(&lock);
+    fflush(stdout);
+    pid_t child = fork();
+    if (!child) {
+        fclose(stderr);
+        msg_find(&runtime, &lock, &sender, CHILD, false, NOBODYS + 1000, &imp);
+        _exit(0);
+    }
+    WANT(waitpid(child, &status, 0), (uint64_t)child);
+    WANT(WIFSIGNALED(status) && WTERMSIG(status) == SIGABRT, 1);
+    pthread_mutex_unlock(&lock);
+}
+
 int main(void)
 {
     size_t place = 99;
@@ -165,6 +209,8 @@ int main(void)
     WANT(look(MADE + 1, false, ONE), 24);
     undone();
     reached();
+    of_nothing();
+    held();
     printf("lists: %d wrong\n", wrong);
     return wrong != 0;
 }

@@ -1,5 +1,6 @@
-/* What include/msg_process.h says of each call, one after another: before the start, faults, the lock, threads beyond the senders and at their end, handlers, and forks with the lock.
- * FAULTS are the numbers of the header's enumeration as tools/process reads them, each as F(number). */
+/* What include/msg_process.h says of each call, one after another: before the start, faults, the
+ * lock, threads beyond the senders and at their end, handlers, and forks with the lock. FAULTS
+ * are the numbers of the header's enumeration as tools/process reads them, each as F(number). */
 #define _DEFAULT_SOURCE
 #include "msg_process.h"
 #include <limits.h>
@@ -109,7 +110,8 @@ static void finds(void)
     }
 }
 
-/* A find is answered from what was noted after a change that was refused: the count is the old one again. */
+/* A find is answered from what was noted after a change that was refused: the count is the old
+ * one again. */
 static void refused(void)
 {
     WANT(set(UNMADE, false, ONE, 13), MSG_NO_SUCH_CLASS);
@@ -123,7 +125,8 @@ static void refused(void)
     WANT(find(ROOT, false, ONE), 11);
 }
 
-/* With the lock, what is noted is found where it is held to ask, and nothing where it is held to change. */
+/* With the lock, what is noted is found where it is held to ask, and nothing where it is held to
+ * change. */
 static void locked(void)
 {
     uint32_t imp;
@@ -192,7 +195,8 @@ static void at_once(void)
     WANT(find_at_once(CHILD, true, TWO + 1002), 0);
 }
 
-/* In a thread that hasn't found before, it takes no memory, and so no sender; nor does it stand in the way of one later. */
+/* In a thread that hasn't found before, it takes no memory, and so no sender; nor does it stand
+ * in the way of one later. */
 static void *find_first_at_once(void *none)
 {
     WANT(find_at_once(CHILD, false, ONE), 15);
@@ -253,7 +257,8 @@ static void at_end(void *rounds)
     if ((size_t)rounds > 1) pthread_setspecific(ending, (char *)rounds - 1);
 }
 
-/* Of destructors: in all, so also after the layer's last. ThreadSanitizer ends a thread before the last. */
+/* Of destructors: in all, so also after the layer's last. ThreadSanitizer ends a thread before
+ * the last. */
 #ifdef SANITIZED_thread
 enum { ROUNDS = PTHREAD_DESTRUCTOR_ITERATIONS - 1 };
 #else
@@ -358,7 +363,8 @@ static void fork_and_wait(bool holds)
 
 static atomic_bool asks_on, is_asking;
 
-/* Two selectors that are noted at one place, and both cached: so it is in a call without the lock nearly always. */
+/* Two selectors that are noted at one place, and both cached: so it is in a call without the
+ * lock nearly always. */
 static void *ask(void *none)
 {
     while (asks_on) {
@@ -369,7 +375,8 @@ static void *ask(void *none)
     return none;
 }
 
-/* Asked last before a fork, since it is registered before the layer's: the other goes on meanwhile. */
+/* Asked last before a fork, since it is registered before the layer's: the other goes on
+ * meanwhile. */
 static void let_run(void)
 {
     if (asks_on) usleep(100);

@@ -1,5 +1,7 @@
-/* A handler of a signal comes before each single instruction of a find, and of a change, and finds; and before each two of the short way. What it finds, and what it came between, is
- * by the changes that there are. Two methods are noted at one place, so that the handler writes what the find was reading. */
+/* A handler of a signal comes before each single instruction of a find, and of a change, and
+ * finds; and before each two of the short way. What it finds, and what it came between, is by
+ * the changes that there are. Two methods are noted at one place, so that the handler writes
+ * what the find was reading. */
 #define _GNU_SOURCE /* for the names of registers */
 #include "msg_process.h"
 #include <signal.h>

@@ -1,7 +1,11 @@
-/* Threads that find, change, make classes, fork, open and close senders at once, and handlers of signals that find, for SECONDS. Step s of the history gives method s % METHODS the
- * implementation s. So an answer s says that the find was at a point from s until the step s + METHODS: it has to have the method's remainder, to be no later than what was begun, and
- * METHODS + s has to be beyond each point that the thread has seen, and beyond each step that had returned, whose lock may still be held. So no method goes back, and none lags behind
- * another. The methods stand in the roots of TREES trees, on both of their sides: what is cached for one tree outlasts the changes of the others. */
+/* Threads that find, change, make classes, fork, open and close senders at once, and handlers of
+ * signals that find, for SECONDS. Step s of the history gives method s % METHODS the
+ * implementation s. So an answer s says that the find was at a point from s until the step s +
+ * METHODS: it has to have the method's remainder, to be no later than what was begun, and
+ * METHODS + s has to be beyond each point that the thread has seen, and beyond each step that
+ * had returned, whose lock may still be held. So no method goes back, and none lags behind
+ * another. The methods stand in the roots of TREES trees, on both of their sides: what is cached
+ * for one tree outlasts the changes of the others. */
 #define _GNU_SOURCE
 #include "msg_process.h"
 #include <errno.h>
@@ -50,7 +54,8 @@ static uint32_t of_tree(uint32_t class_, long method)
     return is < (uint32_t)made ? is : is - TREES;
 }
 
-/* A find, and whether its answer may be. With the lock, as perhaps in a handler, it may have none. */
+/* A find, and whether its answer may be. With the lock, as perhaps in a handler, it may have
+ * none. */
 static void find(uint32_t class_, long method, bool may_hold)
 {
     uint32_t imp;

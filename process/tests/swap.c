@@ -1,5 +1,6 @@
-/* Lists that replace two methods, A and B, as one change, beside threads that find A and then B: no B is older than the A before it. Then the same one by one, where one is. The
- * implementation of both is the number of the swap. */
+/* Lists that replace two methods, A and B, as one change, beside threads that find A and then B:
+ * no B is older than the A before it. Then the same one by one, where one is. The implementation
+ * of both is the number of the swap. */
 #include "msg_process.h"
 #include <sched.h>
 #include <stdatomic.h>

@@ -1,4 +1,5 @@
-"""Each call of the header through the package, each kind of fault, and threads beside changes, with and without the interpreter's lock held in calls."""
+"""Each call of the header through the package, each kind of fault, and threads beside changes, with
+and without the interpreter's lock held in calls."""
 import gc
 import threading
 import unittest
@@ -138,7 +139,7 @@ class Calls(unittest.TestCase):
             self.assertEqual((1, 1), (sender.probe(CHILDREN, VALUE), sender.recall(CHILDREN, VALUE, 4)))
             self.assertEqual((4, None), (sender.find(CHILD_ITSELF, NEW), sender.find(CHILDREN, TAKE)))
             runtime.replace(CHILDREN, VALUE, 5)
-            self.assertEqual(1, sender.find_seen(CHILDREN, VALUE))
+            self.assertEqual(5, sender.find_seen(CHILDREN, VALUE))
             self.assertEqual(5, sender.find(CHILDREN, VALUE))
             runtime.replace(CHILDREN, VALUE, 6)
             self.assertEqual((6, 6), (sender.refresh(), sender.find_seen(CHILDREN, VALUE)))

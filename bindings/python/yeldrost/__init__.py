@@ -1,4 +1,5 @@
-"""Message dispatch in the manner of Objective-C's runtime, whose answers are proved: classes, methods, lookups, and changes beside them.
+"""Message dispatch in the manner of Objective-C's runtime, whose answers are proved: classes,
+methods, lookups, and changes beside them.
 
     import yeldrost
 
@@ -8,7 +9,8 @@
         with runtime.sender() as sender:                            # one for each thread
             sender.find(yeldrost.instances_of(SHAPE), SIDES)        # 1; None is forwarding
 
-Numbers of classes (from 0), selectors and implementations (from 1) are yours; an implementation's is mostly a place in a list of functions.
+Numbers of classes (from 0), selectors and implementations (from 1) are yours; an implementation's
+is mostly a place in a list of functions.
 """
 import contextlib
 import ctypes
@@ -24,8 +26,9 @@ _MOST = 2**32 - 1
 
 
 class Fault(Exception):
-    """Why a call was refused: nothing has changed by it. Each kind is a class of its own below this one, as `yeldrost.NoSender`; `number` is the header's. `place`: of `Runtime.change_all`
-    which change of the list is refused, from 0."""
+    """Why a call was refused: nothing has changed by it. Each kind is a class of its own below this
+    one, as `yeldrost.NoSender`; `number` is the header's. `place`: of `Runtime.change_all` which
+    change of the list is refused, from 0."""
 
     number, place = 0, None
 
@@ -71,7 +74,8 @@ def class_itself(number):
 
 
 class Change(typing.NamedTuple):
-    """A change of a list that `Runtime.change_all` makes as one: what the runtime's method of the name makes alone. It is made by `Change.add` and those that follow."""
+    """A change of a list that `Runtime.change_all` makes as one: what the runtime's method of the
+    name makes alone. It is made by `Change.add` and those that follow."""
 
     kind: int
     number: int
@@ -121,7 +125,8 @@ class _Shared:
 
 
 class Runtime:
-    """A runtime without classes, which any thread may use. `with` closes it at its end. Where `holds_gil` is false, calls let the interpreter's lock go."""
+    """A runtime without classes, which any thread may use. `with` closes it at its end. Where
+    `holds_gil` is false, calls let the interpreter's lock go."""
 
     def __init__(self, classes=0, senders=0, arrays=(0,) * 9, holds_gil=True):
         _checked(classes, senders, *arrays)
@@ -140,7 +145,8 @@ class Runtime:
 
     @contextlib.contextmanager
     def held(self):
-        """The runtime's lock: what is asked and changed inside, no other thread's changes come between."""
+        """The runtime's lock: what is asked and changed inside, no other thread's changes come
+        between."""
         with self._shared.lock:
             yield self
 
@@ -167,7 +173,8 @@ class Runtime:
         _must(self._answer(1, name, *words))
 
     def _answer(self, changes, name, *words):
-        """No sender goes by a note from before, once the change has begun. `changes`: 1, or 0 for what changes nothing."""
+        """No sender goes by a note from before, once the change has begun. `changes`: 1, or 0 for
+        what changes nothing."""
         shared = self._shared
         with shared.lock:
             shared.begun += changes
@@ -238,21 +245,24 @@ class Runtime:
         self._change("msg_exchange", *of, selector, *other, other_selector)
 
     def attach(self, number, methods=(), class_methods=()):
-        """Attaches pairs of a selector and an implementation, as a category does: before those that are there."""
+        """Attaches pairs of a selector and an implementation, as a category does: before those that
+        are there."""
         _checked(number)
         self._change("msg_attach", number, *_methods(methods), *_methods(class_methods))
 
 
     def change_all(self, changes):
-        """Makes several changes as one: each lookup answers from before all of them or after all. It is refused as the first is that would be refused where those before it were
-        made; then nothing has changed, and the fault that is raised has its `place`."""
+        """Makes several changes as one: each lookup answers from before all of them or after all.
+        It is refused as the first is that would be refused where those before it were made; then
+        nothing has changed, and the fault that is raised has its `place`."""
         rows, count = _changes(changes)
         place = ctypes.c_size_t()
         answer = self._answer(min(1, count), "msg_change_all", rows, count, ctypes.byref(place))
         _must_at(answer, place)
 
     def change_all_with_undo(self, changes):
-        """The same, and answers the changes that take these back if `change_all` makes them directly afterwards; None where there is no way back, since a method was added or a class
+        """The same, and answers the changes that take these back if `change_all` makes them
+        directly afterwards; None where there is no way back, since a method was added or a class
         made."""
         rows, count = _changes(changes)
         undo, undone, place = (_header.msg_change * (2 * count + 1))(), ctypes.c_size_t(), ctypes.c_size_t()
@@ -262,7 +272,8 @@ class Runtime:
         return back if back or not count else None
 
     def reach(self, changes):
-        """Which lookups `change_all` would alter, without making the changes: those of these class references and no others. It takes memory for all class numbers."""
+        """Which lookups `change_all` would alter, without making the changes: those of these class
+        references and no others. It takes memory for all class numbers."""
         rows, count = _changes(changes)
         reached, place = (ctypes.c_bool * (2 * self.class_count))(), ctypes.c_size_t()
         with self._shared.lock:
@@ -300,7 +311,8 @@ def _close_sender(shared, raw):
 
 
 class Sender:
-    """What one thread looks methods up by: that which opened it, or that which `adopt`s it. It may outlive its runtime."""
+    """What one thread looks methods up by: that which opened it, or that which `adopt`s it. It may
+    outlive its runtime."""
 
     def __init__(self, shared):
         self._shared, self._raw, self._thread = shared, _header.msg_sender(), threading.get_ident()
@@ -338,7 +350,8 @@ class Sender:
         return self.find_seen(of, selector)
 
     def find_seen(self, of, selector):
-        """The same, at what the sender has then seen: no older than what it found before, and maybe no newer. A probe, and after a miss a fill under the lock."""
+        """The same, at what the sender has then seen: no older than what it found before, and maybe
+        no newer. A probe, and after a miss a fill under the lock."""
         found = self._probe(of, selector)
         if found == _MISSED:
             return self.fill(of, selector)
@@ -351,7 +364,8 @@ class Sender:
         return self._shared.library.msg_probe(self._at, *of, selector, ctypes.byref(self._imp))
 
     def probe(self, of, selector):
-        """Noted or cached, at what the sender has then seen: an implementation, or 0 for none. None where it is neither; then `fill`."""
+        """Noted or cached, at what the sender has then seen: an implementation, or 0 for none. None
+        where it is neither; then `fill`."""
         answer = self._probe(of, selector)
         if answer == _MISSED:
             return None
@@ -381,8 +395,15 @@ class Sender:
         _must(self._shared.library.msg_refresh(self._at, ctypes.byref(count)))
         return count.value
 
+    def stamp(self, of):
+        """Since how many changes none has affected the class reference; the sender has then seen all."""
+        self._own()
+        count = ctypes.c_uint64()
+        _must(self._shared.library.msg_stamp(self._at, of[0], of[1], ctypes.byref(count)))
+        return count.value
+
     def recall(self, of, selector, count):
-        """What is noted after so many changes; None where nothing is, or where no method is found."""
+        """What is noted after so many changes or more; None where nothing is, or where no method is found."""
         self._own()
         _checked(of[0], selector)
         return self._shared.library.msg_recall(self._at, 2 * of[0] + of[1], selector, count) % _header.NOTED_NONE or None
@@ -395,7 +416,8 @@ class Sender:
 
 
 class Texts:
-    """Texts of any bytes with numbers, from 1 in the order in which they first came: names of selectors, or of classes. Any thread may use them."""
+    """Texts of any bytes with numbers, from 1 in the order in which they first came: names of
+    selectors, or of classes. Any thread may use them."""
 
     def __init__(self, holds_gil=True):
         self._library, self._handle, self._lock = _library.load(holds_gil), _header.msg_texts(), threading.Lock()

@@ -1,4 +1,5 @@
-"""`msg_runtime.h` as ctypes see it. What each call answers, and what its caller is trusted with, stands in that header."""
+"""`msg_runtime.h` as ctypes see it. What each call answers, and what its caller is trusted with,
+stands in that header."""
 import ctypes as c
 
 VERSION, NOTES = 1000, 2048
@@ -6,7 +7,7 @@ NOTED_NONE = 1 << 32
 
 
 class msg_note(c.Structure):
-    _fields_ = [("word", c.c_uint64), ("count", c.c_uint64), ("imp", c.c_uint32), ("spare", c.c_uint32), ("spared", c.c_uint64)]
+    _fields_ = [("seal", c.c_uint64), ("count", c.c_uint64), ("imp", c.c_uint32), ("spare", c.c_uint32), ("spared", c.c_uint64)]
 
 
 class msg_runtime(c.Structure):
@@ -115,6 +116,7 @@ CALLS = {
     "msg_recall": (c.c_size_t, (_sender, c.c_size_t, _selector, c.c_uint64)),
     "msg_probe": (_answer, (_sender, _number, _meta, _selector, _told32)),
     "msg_refresh": (_answer, (_sender, _told64)),
+    "msg_stamp": (_answer, (_sender, _number, _meta, _told64)),
     "msg_texts_open": (_answer, (_texts,)),
     "msg_texts_close": (_answer, (_texts,)),
     "msg_texts_intern": (_answer, (_texts, _bytes, c.c_size_t, _told32)),
@@ -130,6 +132,8 @@ INLINE = {
     "msg_fault_text": "Fault",
     "msg_find": "Sender.find_seen",
     "msg_key": "Sender.recall",
+    "msg_said": "Sender.recall",
+    "msg_slot": "Sender.recall",
     "msg_recall_key": "Sender.recall",
     "msg_recall_none_key": "Sender.recalls_none",
     "msg_recall_inline": "Sender.recall",

@@ -11,7 +11,8 @@ SONAME = "libyeldrost.so.0"
 
 
 def _path():
-    """Where $YELDROST_LIBRARY says, else where pkg-config says that it is installed, else where the linker looks."""
+    """Where $YELDROST_LIBRARY says, else where pkg-config says that it is installed, else where the
+    linker looks."""
     named = os.environ.get("YELDROST_LIBRARY")
     if named:
         return named

@@ -31,6 +31,23 @@ pub one_more_send : (items : List Item) (n : ℕ) (x : Item) → n < length item
     → AllSends (map item_parts (take n items)) → AllSends (map item_parts (take (n + 1) items))
 one_more_send items n x lt at is all = rw add-one (sends_next items n x lt at is all)
 
+first_send : (p : ItemParts) (rest : List ItemParts) → AllSends (p ∷ rest) → is_send p ≡ true
+first_send (SendItem r s args) rest all = refl
+first_send changes rest all = absurd all
+
+sends_behind : (p : ItemParts) (rest : List ItemParts) → AllSends (p ∷ rest) → AllSends rest
+sends_behind (SendItem r s args) rest all = all
+sends_behind changes rest all = absurd all
+
+-- of sends alone each is a send
+pub each_is_send : (items : List Item) (n m : ℕ) (x : Item) → n < length items → n < m → x ≡ get_or items n x
+    → AllSends (map item_parts (take m items)) → is_send (item_parts x) ≡ true
+each_is_send [] n m x lt less at all = absurd (omega (arith, lt))
+each_is_send (y ∷ ys) n zero x lt less at all = absurd (omega (arith, less))
+each_is_send (y ∷ ys) zero (suc m) x lt less at all = ap (λ z. is_send (item_parts z)) at ∙ first_send (item_parts y) (map item_parts (take m ys)) all
+each_is_send (y ∷ ys) (suc n) (suc m) x lt less at all =
+    each_is_send ys n m x (omega (arith, lt)) (omega (arith, less)) at (sends_behind (item_parts y) (map item_parts (take m ys)) all)
+
 pub map_split : (items : List Item) (n : ℕ) → map item_parts items ≡ map item_parts (take n items) ++ map item_parts (drop n items)
 map_split [] zero = refl
 map_split [] (suc n) = refl

@@ -1,6 +1,6 @@
 //! The items of a document: sends, and changes between them.
 
-ghost use Rattle.std.specs.Prelude.{◌≡◌, ◌≤◌, ◌<◌, ◌⊎◌, false, true};
+ghost use Rattle.std.specs.Prelude.{◌≡◌, ◌+◌, ◌≤◌, ◌<◌, ◌⊎◌, false, true};
 ghost use Rattle.std.specs.Prelude.{count_by, length, map, take};
 ghost use Rattle.msg_image.specs.Plain.{item_parts};
 ghost use Rattle.msg_answers.specs.Serving as spec;
@@ -25,13 +25,14 @@ pub fn sends_in(items: &[Item]) -> usize
         .count()
 }
 
-/// How many items are a part: the sends before the next item of changes, or one such item.
+/// How many items are a part: all sends before the next item of changes, or one such item.
 pub fn part_len(items: &[Item]) -> usize
     requires { 0 < length items.now }
     ensures some { 0 < result }
     ensures inside { result ≤ length items.now }
     ensures part { AllSends (map item_parts (take result items.now))
         ⊎ IsOneChange (map item_parts (take result items.now)) }
+    ensures most { AllSends (map item_parts (take (result + 1) items.now)) → result ≡ length items.now }
 {
     let mut count = 0;
     while count < items.len() {

@@ -3,3 +3,4 @@ pub mod RuntimeAsBox
 pub mod NoteLemmas
 pub mod SenderAsBox
 pub mod TextsAsBox
+pub mod RuntimeLemmas

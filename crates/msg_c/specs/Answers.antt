@@ -6,7 +6,8 @@ use Rattle.msg_cache.specs.Views.{ArenaView, classes}
 use Rattle.msg_host.specs.Asking.{ask_fault, ask_fault_number}
 use Rattle.msg_host.specs.Config.{are_known, config_of, is_beyond}
 use Rattle.msg_host.specs.Named.{ref_of}
-use Rattle.msg_host.specs.View.{RuntimeView, SenderView}
+use Rattle.msg_host.specs.View.{SenderView}
+use Rattle.msg_runtime.specs.View.{RuntimeView}
 use Rattle.msg_host.specs.declared.fault.AskFault.{AskFault}
 use Rattle.msg_c.specs.declared.answer.TheConstants.{NONE}
 use Rattle.msg_c.specs.declared.asking.MsgClass.{MsgClass}
@@ -43,11 +44,11 @@ TellsNone a class sel found n = IsAsked a class sel → found ≡ None → n ≡
 
 -- a question for the superclass of a class reference finds none
 abbrev pub TellsNoSuperclass : RuntimeView → ℕ → Bool → ℕ → Type 0
-TellsNoSuperclass v class meta n = TellsNone v.arena class 1 (superclass v.history (ref_of class meta)) n
+TellsNoSuperclass v class meta n = TellsNone v.arena class 1 (superclass v.keeper.history (ref_of class meta)) n
 
 -- a question for where a method stands finds none
 abbrev pub TellsNoHolder : RuntimeView → ℕ → Bool → ℕ → ℕ → Type 0
-TellsNoHolder v class meta sel n = TellsNone v.arena class sel (holder v.history (ref_of class meta) sel) n
+TellsNoHolder v class meta sel n = TellsNone v.arena class sel (holder v.keeper.history (ref_of class meta) sel) n
 
 -- a class reference is written out
 abbrev pub Shows : MsgClass → ClassRef → Type 0
@@ -58,7 +59,11 @@ abbrev pub runtime_arena : Option RuntimeView → Option ArenaView
 runtime_arena = option_map (λ v. v.arena)
 
 abbrev pub runtime_history : Option RuntimeView → Option History
-runtime_history = option_map (λ v. v.history)
+runtime_history = option_map (λ v. v.keeper.history)
+
+-- which sender numbers are out
+abbrev pub runtime_given : Option RuntimeView → Option (List Bool)
+runtime_given = option_map (λ v. v.keeper.given)
 
 -- the arena of a sender, and the history that it has seen, if there is one
 abbrev pub sender_arena : Option SenderView → Option ArenaView

@@ -1,21 +1,26 @@
 -- What handles hold, where they are open, and what calls make of it.
-use Rattle.std.specs.Prelude.{◌≡◌, ◌≢◌, ◌<◌, ◌≤◌, ◌%◌, ℕ, Bool, List, Option, Some, None, IfSome, is_some, true}
+use Rattle.std.specs.Prelude.{◌≡◌, ◌≢◌, ◌<◌, ◌≤◌, ◌+◌, ◌%◌, ℕ, Bool, List, Option, Some, None, IfSome, is_some, true}
 use Rattle.msg_names.specs.declared.value.ClassRef.{ClassRef}
 use Rattle.msg_tables.specs.declared.change.Change.{Change}
 use Rattle.msg_tables.specs.declared.change.Change.TheVariants.{AddClass}
 use Rattle.msg_tables.specs.Origin.{last_imp}
 use Rattle.msg_tables.specs.History.{History}
+use Rattle.msg_cache.specs.Plays.{given_again, taken_in}
 use Rattle.msg_cache.specs.Views.{ArenaView, classes}
-use Rattle.msg_reader.specs.Notes.{HaveNoted, IsRecalled, noted_at}
+use Rattle.msg_reader.specs.Kept.{FindsUnprobed, HaveNotedSince, LoadsStamp}
+use Rattle.msg_reader.specs.Notes.{HaveNoted, IsRecalledSince}
 use Rattle.msg_host.specs.Asking.{AnswersChange}
-use Rattle.msg_host.specs.Listing.{AreRefusedRows, MakesRows, ReachesRows}
+use Rattle.msg_host.specs.Listing.{AreRefusedRows, LackMemoryIf, MakesRows, ReachesRows, RefusesToReach}
 use Rattle.msg_host.specs.Named.{TellsAttachFault, attachment, exchange, ref_of}
 use Rattle.msg_host.specs.Opening.{OpensAs}
-use Rattle.msg_host.specs.View.{RuntimeView}
+use Rattle.msg_host.specs.View.{SenderView}
+use Rattle.msg_runtime.specs.Calls.{AllAreOut, CachesNumber}
+use Rattle.msg_runtime.specs.Parts.{IsNew}
+use Rattle.msg_runtime.specs.View.{RuntimeView}
 use Rattle.msg_host.specs.declared.changing.MethodRow.{MethodRow}
 use Rattle.msg_host.specs.declared.config.HostConfig.{HostConfig}
 use Rattle.msg_host.specs.declared.listing.ChangeRow.{ChangeRow}
-use Rattle.msg_c.specs.Answers.{SeesOn, fault_in, runtime_arena, runtime_history, sender_arena, sender_front}
+use Rattle.msg_c.specs.Answers.{SeesOn, fault_in, runtime_arena, runtime_given, runtime_history, sender_arena, sender_front}
 use Rattle.msg_c.specs.Interned.{TextsView}
 use Rattle.msg_c.specs.declared.answer.TheConstants.{MISSED, NOT_NOTED, NOTED_NONE}
 use Rattle.msg_c.specs.declared.runtime_handle.RuntimeHandle.{RuntimeHandle}
@@ -41,6 +46,38 @@ OpensIn config r = IfSome r.held.state (λ v. OpensAs config v)
 -- so it is with the runtime in a handle that is open
 abbrev pub IfOpen : RuntimeHandle → (RuntimeView → Type 0) → Type 0
 IfOpen r is_so = (v : RuntimeView) → r.held.state ≡ Some v → is_so v
+
+-- it has the arena and the history that it had, open or closed
+abbrev pub StaysAt : RuntimeHandle → RuntimeHandle → Type 0
+StaysAt was is = (runtime_arena is.held.state ≡ runtime_arena was.held.state) × (runtime_history is.held.state ≡ runtime_history was.held.state)
+
+-- the same sender numbers are out
+abbrev pub LeavesNumbers : RuntimeHandle → RuntimeHandle → Type 0
+LeavesNumbers was is = runtime_given is.held.state ≡ runtime_given was.held.state
+
+-- as many senders are out as there may be
+abbrev pub HasAllOut : RuntimeHandle → Type 0
+HasAllOut r = IfOpen r (λ v. AllAreOut v)
+
+-- where both handles are open, what the runtime of one went through with the sender of the other
+abbrev pub GoesWith : RuntimeHandle → RuntimeHandle → SenderHandle → (RuntimeView → RuntimeView → SenderView → Type 0) → Type 0
+GoesWith was is s goes = (v w : RuntimeView) (u : SenderView) → was.held.state ≡ Some v → is.held.state ≡ Some w → s.held.state ≡ Some u → goes v w u
+
+-- a sender's number that wasn't out is given out: what a handle holds went from was to is
+abbrev pub GivesOut : RuntimeHandle → RuntimeHandle → SenderHandle → Type 0
+GivesOut was is s = GoesWith was is s (λ v w u. IsNew u.seen v.keeper w.keeper)
+
+-- its number isn't out any more
+abbrev pub TakesBack : RuntimeHandle → RuntimeHandle → SenderHandle → Type 0
+TakesBack was is s = GoesWith was is s (λ v w u. w ≡ record v { keeper = taken_in u.seen v.keeper })
+
+-- it was shown the whole history
+abbrev pub Meets : RuntimeHandle → RuntimeHandle → SenderHandle → Type 0
+Meets was is s = GoesWith was is s (λ v w u. w ≡ record v { keeper = given_again u.seen v.keeper })
+
+-- what was found for a class reference and a selector was cached, where there was room, and counted
+abbrev pub CachesIn : RuntimeHandle → RuntimeHandle → SenderHandle → ClassRef → ℕ → ℕ → Type 0
+CachesIn was is s c sel imp = GoesWith was is s (λ v w u. CachesNumber c sel imp u.seen v w)
 
 -- the answer is that to a question for a class and a selector, as far as it is a fault's
 abbrev pub AnswersAsked : RuntimeHandle → ℕ → ℕ → ℕ → Type 0
@@ -77,15 +114,23 @@ RefusesAttachmentIn r class methods class_methods n = IfOpen r (λ v. TellsAttac
 
 -- the changes that rows mean took what a handle holds from was to is, as one
 abbrev pub MakesRowsIn : List ChangeRow → RuntimeHandle → RuntimeHandle → Type 0
-MakesRowsIn rows was is = (v w : RuntimeView) → was.held.state ≡ Some v → is.held.state ≡ Some w → MakesRows rows v.history w.history
+MakesRowsIn rows was is = (v w : RuntimeView) → was.held.state ≡ Some v → is.held.state ≡ Some w → MakesRows rows v.keeper.history w.keeper.history
 
 -- rows are refused by the runtime in a handle: that of this place, for the fault of this number
 abbrev pub RefusesRowsIn : RuntimeHandle → List ChangeRow → ℕ → ℕ → Type 0
-RefusesRowsIn r rows place n = IfOpen r (λ v. AreRefusedRows rows v.history place n)
+RefusesRowsIn r rows place n = IfOpen r (λ v. AreRefusedRows rows v.keeper.history place n)
+
+-- where memory was wanting, nothing else speaks against them up to that of this place
+abbrev pub LacksMemoryIn : RuntimeHandle → List ChangeRow → ℕ → ℕ → Type 0
+LacksMemoryIn r rows place n = IfOpen r (λ v. LackMemoryIf rows v.keeper.history place n)
+
+-- the runtime in a handle says why it doesn't tell what rows would reach, and marks what those before would, or nothing
+abbrev pub RefusesReachIn : RuntimeHandle → List ChangeRow → ℕ → ℕ → List Bool → List Bool → Type 0
+RefusesReachIn r rows place n old new = IfOpen r (λ v. RefusesToReach v rows place n old new)
 
 -- what the changes of rows may alter in the runtime of a handle is marked, beside what was
 abbrev pub ReachesRowsIn : RuntimeHandle → List ChangeRow → List Bool → List Bool → Type 0
-ReachesRowsIn r rows old new = IfOpen r (λ v. ReachesRows rows v.history (classes v.arena) old new)
+ReachesRowsIn r rows old new = IfOpen r (λ v. ReachesRows rows v.keeper.history (classes v.arena) old new)
 
 -- so it is with the history that the sender in an open handle has seen
 abbrev pub IfSeen : SenderHandle → (History → Type 0) → Type 0
@@ -99,9 +144,25 @@ SeesMore was is = SeesOn (sender_front was.held.state) (sender_front is.held.sta
 abbrev pub HasSeenAll : SenderHandle → RuntimeHandle → Type 0
 HasSeenAll s r = sender_front s.held.state ≡ runtime_history r.held.state
 
--- at that history its notes have this implementation of a lookup
-abbrev pub HasNotedSeen : SenderHandle → ClassRef → ℕ → ℕ → Type 0
-HasNotedSeen s c sel imp = IfSeen s (λ h. HaveNoted s.notes h c sel imp)
+-- so it is with the sender in an open handle
+abbrev pub IfSender : SenderHandle → (SenderView → Type 0) → Type 0
+IfSender s is_so = (w : SenderView) → s.held.state ≡ Some w → is_so w
+
+-- and with what it was before and is now
+abbrev pub IfSenders : SenderHandle → SenderHandle → (SenderView → SenderView → Type 0) → Type 0
+IfSenders was is are_so = (u w : SenderView) → was.held.state ≡ Some u → is.held.state ≡ Some w → are_so u w
+
+-- since the stamp that it loaded last its notes have this implementation of a lookup
+abbrev pub HasNotedSince : SenderHandle → ClassRef → ℕ → ℕ → Type 0
+HasNotedSince s c sel imp = IfSender s (λ w. HaveNotedSince s.notes c sel w.seen imp)
+
+-- a stamp was loaded, and what its notes had since then was found, without a probe
+abbrev pub FindsNotedIn : SenderHandle → SenderHandle → ClassRef → ℕ → Option ℕ → Type 0
+FindsNotedIn was is c sel found = IfSenders was is (λ u w. FindsUnprobed was.notes c sel u.seen w.seen found)
+
+-- the stamp of a class reference was loaded, which was n, and nothing else was done
+abbrev pub LoadsStampIn : SenderHandle → SenderHandle → ClassRef → ℕ → Type 0
+LoadsStampIn was is c n = IfSenders was is (λ u w. LoadsStamp c n u.seen w.seen)
 
 -- they have it at the history of the runtime in an open handle
 abbrev pub HasNotedAt : SenderHandle → RuntimeHandle → ClassRef → ℕ → ℕ → Type 0
@@ -119,18 +180,17 @@ IsListedIn s imp = IfOfArena s (λ a. imp ≤ last_imp a.key.origin.counts)
 abbrev pub TellsFaultIn : SenderHandle → ℕ → ℕ → ℕ → Type 0
 TellsFaultIn s class sel n = IfOfArena s (λ a. n ≢ 0 → n ≢ MISSED → n ≡ fault_in a class sel)
 
--- what is answered as noted, NOTED_NONE for no method, the lookup found after so many changes of what its sender has seen
+-- what is answered as noted, NOTED_NONE for no method, the lookup found at some point of what its sender has seen, after so many changes or more
 abbrev pub Recalls : SenderHandle → ℕ → ℕ → ℕ → ℕ → Type 0
-Recalls s count slot sel n = n ≢ NOT_NOTED → IfSeen s (λ h. IsRecalled h count slot sel (n % NOTED_NONE))
+Recalls s since slot sel n = n ≢ NOT_NOTED → IfSeen s (λ h. IsRecalledSince h since slot sel (n % NOTED_NONE))
+
+-- the sender of an open handle has loaded the count of changes once more
+abbrev pub LooksOnceMore : SenderHandle → SenderHandle → Type 0
+LooksOnceMore was is = IfSenders was is (λ u w. w.seen.looks ≡ u.seen.looks + 1)
 
 -- it is of the runtime in a handle
 abbrev pub IsOfRuntime : SenderHandle → RuntimeHandle → Type 0
 IsOfRuntime s r = sender_arena s.held.state ≡ runtime_arena r.held.state
-
--- the notes of a handle lacked a lookup at what its sender has seen, if it has seen no more since
-abbrev pub HasLacked : SenderHandle → SenderHandle → ClassRef → ℕ → Type 0
-HasLacked was is c sel =
-    (h : History) → sender_front was.held.state ≡ Some h → sender_front is.held.state ≡ Some h → noted_at was.notes h c sel ≡ None
 
 -- so it is with the texts in an open handle
 abbrev pub IfInterned : TextsHandle → (TextsView → Type 0) → Type 0

@@ -33,7 +33,7 @@ pub extern "C" fn msg_class_count(
     ensures closed { runtime.old.held.state ≡ None → result ≡ CLOSED }
     ensures left { result ≢ 0 → count.new ≡ count.old }
     ensures done { IfOpen runtime.old (λ v. (result ≡ 0) × (count.new ≡ classes v.arena)) }
-    ensures origin { IfOpen runtime.old (λ v. v.history.origin ≡ v.arena.key.origin) }
+    ensures origin { IfOpen runtime.old (λ v. v.keeper.history.origin ≡ v.arena.key.origin) }
 {
     let Some(held) = runtime.take(alloc) else {
         return CLOSED;
@@ -53,7 +53,7 @@ pub extern "C" fn msg_change_count(
     ensures kept { runtime.new.held.state ≡ runtime.old.held.state }
     ensures closed { runtime.old.held.state ≡ None → result ≡ CLOSED }
     ensures left { result ≢ 0 → count.new ≡ count.old }
-    ensures done { IfOpen runtime.old (λ v. (result ≡ 0) × (count.new ≡ length v.history.changes)) }
+    ensures done { IfOpen runtime.old (λ v. (result ≡ 0) × (count.new ≡ length v.keeper.history.changes)) }
 {
     let Some(held) = runtime.take(alloc) else {
         return CLOSED;
@@ -126,7 +126,7 @@ pub extern "C" fn msg_superclass(
     ensures fault { IfOpen runtime.old (λ v. TellsFault v.arena class 1 result) }
     ensures none { IfOpen runtime.old (λ v. TellsNoSuperclass v class meta result) }
     ensures done { IfOpen runtime.old (λ v. IsAsked v.arena class 1 → (c : ClassRef)
-        → superclass v.history (ref_of class meta) ≡ Some c → (result ≡ 0) × Shows above.new c) }
+        → superclass v.keeper.history (ref_of class meta) ≡ Some c → (result ≡ 0) × Shows above.new c) }
 {
     let Some(held) = runtime.take(alloc) else {
         return CLOSED;
@@ -155,7 +155,7 @@ pub extern "C" fn msg_holder(
     ensures fault { IfOpen runtime.old (λ v. TellsFault v.arena class sel result) }
     ensures none { IfOpen runtime.old (λ v. TellsNoHolder v class meta sel result) }
     ensures done { IfOpen runtime.old (λ v. IsAsked v.arena class sel → (c : ClassRef)
-        → holder v.history (ref_of class meta) sel ≡ Some c → (result ≡ 0) × Shows at.new c) }
+        → holder v.keeper.history (ref_of class meta) sel ≡ Some c → (result ≡ 0) × Shows at.new c) }
 {
     let Some(held) = runtime.take(alloc) else {
         return CLOSED;

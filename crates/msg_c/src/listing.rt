@@ -1,11 +1,12 @@
 //! Several changes as one.
 
-ghost use Rattle.std.specs.Prelude.{◌≡◌, ◌≢◌, ◌<◌, ◌*◌, ◌⊎◌, None, length};
+ghost use Rattle.std.specs.Prelude.{◌≡◌, ◌≢◌, ◌<◌, ◌≤◌, ◌*◌, ◌⊎◌, None, length};
 ghost use Rattle.msg_cache.specs.Views.{classes};
 ghost use Rattle.msg_host.specs.Asking.{IsRefusal, want_of_memory, want_of_room};
 ghost use Rattle.msg_host.specs.Listing.{UndoesRows};
 ghost use Rattle.msg_c.specs.Answers.{runtime_arena};
-ghost use Rattle.msg_c.specs.Handles.{IfOpen, MakesRowsIn, ReachesRowsIn, RefusesRowsIn};
+ghost use Rattle.msg_c.specs.Handles.{IfOpen, LacksMemoryIn, LeavesNumbers, MakesRowsIn};
+ghost use Rattle.msg_c.specs.Handles.{ReachesRowsIn, RefusesReachIn, RefusesRowsIn};
 
 use crate::answer::CLOSED;
 use crate::runtime_handle::RuntimeHandle;
@@ -23,12 +24,14 @@ pub extern "C" fn msg_change_all(
     place: &mut usize,
 ) -> u32
     ensures arena { runtime_arena runtime.new.held.state ≡ runtime_arena runtime.old.held.state }
+    ensures given { LeavesNumbers runtime.old runtime.new }
     ensures closed { runtime.old.held.state ≡ None → (result ≡ CLOSED) × (place.new ≡ place.old) }
     ensures left { result ≢ 0 → runtime.new.held.state ≡ runtime.old.held.state }
     ensures made { result ≡ 0 → MakesRowsIn changes.now runtime.old runtime.new }
     ensures kept { result ≡ 0 → place.new ≡ place.old }
     ensures place { result ≢ 0 → IfOpen runtime.old (λ v. place.new < length changes.now) }
     ensures fault { result ≢ 0 → result ≢ want_of_memory → RefusesRowsIn runtime.old changes.now place.new result }
+    ensures memory { LacksMemoryIn runtime.old changes.now place.new result }
 {
     let Some(mut held) = runtime.take(alloc) else {
         return CLOSED;
@@ -50,16 +53,19 @@ pub extern "C" fn msg_change_all_with_undo(
     place: &mut usize,
 ) -> u32
     ensures arena { runtime_arena runtime.new.held.state ≡ runtime_arena runtime.old.held.state }
-    ensures closed { runtime.old.held.state ≡ None → result ≡ CLOSED }
+    ensures given { LeavesNumbers runtime.old runtime.new }
+    ensures closed { runtime.old.held.state ≡ None → (result ≡ CLOSED) × (place.new ≡ place.old) }
     ensures left { result ≢ 0 → runtime.new.held.state ≡ runtime.old.held.state }
     ensures made { result ≡ 0 → MakesRowsIn changes.now runtime.old runtime.new }
-    ensures undo { result ≡ 0 → IfOpen runtime.old (λ v. UndoesRows changes.now v.history undo.new undone.new) }
+    ensures undo { result ≡ 0 → IfOpen runtime.old (λ v. UndoesRows changes.now v.keeper.history undo.new undone.new) }
     ensures room { length undo.old < 2 * length changes.now → IfOpen runtime.old (λ v. result ≡ want_of_room) }
     ensures short { result ≡ want_of_room → length undo.old < 2 * length changes.now }
+    ensures within { result ≡ 0 → undone.new ≤ length undo.new }
     ensures unwritten { result ≢ 0 → (undo.new ≡ undo.old) × (undone.new ≡ undone.old) }
     ensures kept { (result ≡ 0) ⊎ (result ≡ want_of_room) → place.new ≡ place.old }
     ensures place { result ≢ 0 → result ≢ want_of_room → IfOpen runtime.old (λ v. place.new < length changes.now) }
     ensures fault { IsRefusal result → RefusesRowsIn runtime.old changes.now place.new result }
+    ensures memory { LacksMemoryIn runtime.old changes.now place.new result }
 {
     let Some(mut held) = runtime.take(alloc) else {
         return CLOSED;
@@ -69,9 +75,12 @@ pub extern "C" fn msg_change_all_with_undo(
     answer
 }
 
-/// Marks the class references whose lookups the changes may alter if they are made as one, beside those that are marked, and makes none: outside what is marked no lookup would be altered. A
-/// class has its place at twice its number and its metaclass the next; there are so many places, or else 76 is answered and nothing marked. 0, or the number of the fault for which
-/// `msg_change_all` would refuse them, with its place; what those before it may alter is then marked, and where memory is wanting (7) the marks say nothing.
+/// Marks the class references whose lookups the changes may alter if they are made as one, beside
+/// those that are marked, and makes none: outside what is marked no lookup would be altered. A
+/// class has its place at twice its number and its metaclass the next; there are so many places, or
+/// else 76 is answered and nothing marked. 0, or the number of the fault for which `msg_change_all`
+/// would refuse them, with its place; what those before it may alter is then marked, but after 67
+/// and 75 nothing, and where memory is wanting (7) the marks say nothing.
 #[unsafe(no_mangle)]
 pub extern "C" fn msg_reach(
     alloc: Global,
@@ -81,14 +90,15 @@ pub extern "C" fn msg_reach(
     place: &mut usize,
 ) -> u32
     ensures same { runtime.new.held.state ≡ runtime.old.held.state }
-    ensures closed { runtime.old.held.state ≡ None → (result ≡ CLOSED) × (reached.new ≡ reached.old) }
+    ensures closed { runtime.old.held.state ≡ None → (result ≡ CLOSED) × (reached.new ≡ reached.old) × (place.new ≡ place.old) }
     ensures reached { result ≡ 0 → ReachesRowsIn runtime.old changes.now reached.old reached.new }
     ensures room { IfOpen runtime.old (λ v. length reached.old ≢ 2 * classes v.arena → result ≡ want_of_room) }
     ensures short { result ≡ want_of_room → IfOpen runtime.old (λ v. length reached.old ≢ 2 * classes v.arena) }
     ensures unmarked { result ≡ want_of_room → reached.new ≡ reached.old }
     ensures kept { (result ≡ 0) ⊎ (result ≡ want_of_room) → place.new ≡ place.old }
     ensures place { result ≢ 0 → result ≢ want_of_room → IfOpen runtime.old (λ v. place.new < length changes.now) }
-    ensures fault { IsRefusal result → RefusesRowsIn runtime.old changes.now place.new result }
+    ensures fault { IsRefusal result → RefusesReachIn runtime.old changes.now place.new result reached.old reached.new }
+    ensures memory { LacksMemoryIn runtime.old changes.now place.new result }
 {
     let Some(mut held) = runtime.take(alloc) else {
         return CLOSED;

@@ -2,9 +2,9 @@
 
 ghost use Rattle.std.specs.Prelude.{◌≡◌, ◌≢◌, ◌<◌, ℕ, Some, None, length};
 ghost use Rattle.msg_cache.specs.Counts.{AreCounts};
-ghost use Rattle.msg_cache.specs.declared.answer.Report.{Report};
 ghost use Rattle.msg_host.specs.Config.{word_at};
-ghost use Rattle.msg_host.specs.View.{RuntimeView};
+ghost use Rattle.msg_runtime.specs.View.{RuntimeView};
+ghost use Rattle.msg_c.specs.Handles.{IfOpen};
 ghost use Rattle.msg_c.specs.Shown.{IsShown, counts_of};
 
 use crate::answer::{CLOSED, DONE};
@@ -69,7 +69,7 @@ pub extern "C" fn msg_report_words(
     ensures closed { runtime.old.held.state ≡ None → result ≡ CLOSED }
     ensures left { result ≢ 0 → words.new ≡ words.old }
     ensures open { (v : RuntimeView) → runtime.old.held.state ≡ Some v → result ≡ 0 }
-    ensures done { result ≡ 0 → (report : Report) × AreCounts report × IsShown words.new report }
+    ensures done { result ≡ 0 → IfOpen runtime.old (λ v. AreCounts v.report × IsShown words.new v.report) }
 {
     let Some(held) = runtime.take(alloc) else {
         return CLOSED;

@@ -1,7 +1,7 @@
 //! What C holds of a runtime.
 
 ghost use Rattle.std.specs.Prelude.{◌≡◌, Option, Some, None, option_map, is_some, true};
-ghost use Rattle.msg_host.specs.View.{RuntimeView};
+ghost use Rattle.msg_runtime.specs.View.{RuntimeView};
 ghost use Rattle.msg_c.specs.RuntimeOwned.{held_owns, state_coded};
 
 use crate::parts::Parts;

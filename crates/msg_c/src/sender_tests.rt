@@ -7,7 +7,7 @@ use crate::same::{answers, same};
 use crate::sender_handle::SenderHandle;
 use crate::sending::{
     msg_fill, msg_meet, msg_probe, msg_recall, msg_refresh, msg_sender_close, msg_sender_open,
-    msg_sender_size,
+    msg_sender_size, msg_stamp,
 };
 use crate::tests::{BEYOND, CHILD, MADE_BY, NAME, NEW, ROOT, VALUE, opened, sending};
 use std::test::Fail;
@@ -207,7 +207,7 @@ fn as_many_senders_are_out_as_are_asked_for(rt: HostRuntime) -> Result<(), Fail>
 }
 
 #[test]
-fn a_sender_remembers_until_it_sees_a_change(rt: HostRuntime) -> Result<(), Fail> {
+fn a_sender_sees_a_change_of_a_class_that_it_asks(rt: HostRuntime) -> Result<(), Fail> {
     let alloc = rt.alloc();
     let mut runtime = opened(&rt, alloc);
     let mut sender = sending(&rt, alloc, &mut runtime);
@@ -234,15 +234,11 @@ fn a_sender_remembers_until_it_sees_a_change(rt: HostRuntime) -> Result<(), Fail
     answers(
         &rt,
         msg_probe(alloc, &mut sender, CHILD, false, VALUE, &mut imp),
-        DONE,
-    );
-    answers(&rt, imp, 1);
-    answers(&rt, msg_refresh(alloc, &mut sender, &mut count), DONE);
-    answers(
-        &rt,
-        msg_probe(alloc, &mut sender, CHILD, false, VALUE, &mut imp),
         MISSED,
     );
+    answers(&rt, imp, 99);
+    answers(&rt, msg_refresh(alloc, &mut sender, &mut count), DONE);
+    same(&rt, count, MADE_BY + 1);
     Ok(())
 }
 
@@ -274,7 +270,7 @@ const META_SLOT: usize = 3;
 const NOWHERE: u32 = 77;
 
 #[test]
-fn what_is_noted_is_recalled_at_its_count(rt: HostRuntime) -> Result<(), Fail> {
+fn what_is_noted_is_recalled_since_its_count(rt: HostRuntime) -> Result<(), Fail> {
     let alloc = rt.alloc();
     let mut runtime = opened(&rt, alloc);
     let mut sender = sending(&rt, alloc, &mut runtime);
@@ -355,9 +351,76 @@ fn what_is_noted_is_recalled_at_its_count(rt: HostRuntime) -> Result<(), Fail> {
         DONE,
     );
     same(&rt, msg_recall(&sender, CHILD_SLOT, VALUE, MADE_BY + 1), 2);
+    same(&rt, msg_recall(&sender, CHILD_SLOT, VALUE, MADE_BY), 2);
+    Ok(())
+}
+
+// What a stamp says of a class reference that is closed.
+const ALL_CHANGES: u64 = u64::MAX;
+
+#[test]
+fn a_stamp_says_since_when_a_class_was_not_changed(rt: HostRuntime) -> Result<(), Fail> {
+    let alloc = rt.alloc();
+    let mut runtime = opened(&rt, alloc);
+    let mut sender = sending(&rt, alloc, &mut runtime);
+    let (mut imp, mut stamp) = (99, 99);
+    answers(
+        &rt,
+        msg_stamp(alloc, &mut sender, BEYOND, false, &mut stamp),
+        66,
+    );
+    same(&rt, stamp, 99);
+    answers(
+        &rt,
+        msg_stamp(alloc, &mut sender, CHILD, false, &mut stamp),
+        DONE,
+    );
+    same(&rt, stamp, ALL_CHANGES);
+    answers(
+        &rt,
+        msg_fill(
+            alloc,
+            &mut runtime,
+            &mut sender,
+            CHILD,
+            false,
+            VALUE,
+            &mut imp,
+        ),
+        DONE,
+    );
+    answers(
+        &rt,
+        msg_stamp(alloc, &mut sender, CHILD, false, &mut stamp),
+        DONE,
+    );
+    same(&rt, stamp, MADE_BY);
+    answers(
+        &rt,
+        msg_replace(alloc, &mut runtime, CHILD, true, VALUE, 2),
+        DONE,
+    );
+    answers(
+        &rt,
+        msg_stamp(alloc, &mut sender, CHILD, false, &mut stamp),
+        DONE,
+    );
+    same(&rt, stamp, MADE_BY);
+    same(&rt, msg_recall(&sender, CHILD_SLOT, VALUE, stamp), 1);
+    answers(
+        &rt,
+        msg_replace(alloc, &mut runtime, CHILD, false, VALUE, 2),
+        DONE,
+    );
+    answers(
+        &rt,
+        msg_stamp(alloc, &mut sender, CHILD, false, &mut stamp),
+        DONE,
+    );
+    same(&rt, stamp, ALL_CHANGES);
     same(
         &rt,
-        msg_recall(&sender, CHILD_SLOT, VALUE, MADE_BY),
+        msg_recall(&sender, CHILD_SLOT, VALUE, stamp),
         NOT_NOTED,
     );
     Ok(())

@@ -1,15 +1,18 @@
 //! Senders.
 
-ghost use Rattle.std.specs.Prelude.{◌≡◌, ◌≢◌, ◌≤◌, ◌⊎◌, length, None};
+ghost use Rattle.std.specs.Prelude.{◌≡◌, ◌≢◌, ◌≤◌, ◌⊎◌, length, None, Some};
 ghost use Rattle.msg_tables.specs.Origin.{last_imp};
 ghost use Rattle.msg_tables.specs.History.{lookup};
+ghost use Rattle.msg_core.specs.Stamps.{last_affected};
+ghost use Rattle.msg_reader.specs.Kept.{HaveOthersOf};
 ghost use Rattle.msg_reader.specs.Notes.{recalled};
-ghost use Rattle.msg_c.specs.Answers.{AreOfOneArena, IsAsked};
+ghost use Rattle.msg_c.specs.Answers.{AreOfOneArena, IsAsked, fault_in};
 ghost use Rattle.msg_c.specs.Answers.{number_of_recalled, sender_arena};
 ghost use Rattle.msg_host.specs.Named.{ref_of};
-ghost use Rattle.msg_c.specs.Handles.{AnswersAsked, HasLacked, HasNotedAt, HasNotedSeen};
+ghost use Rattle.msg_c.specs.Handles.{AnswersAsked, CachesIn, FindsNotedIn, GivesOut, HasAllOut, HasNotedAt, HasNotedSince};
 ghost use Rattle.msg_c.specs.Handles.{HasRuntime, HasSeenAll, HasSender, IfAt, IfOfArena, IfSeen};
-ghost use Rattle.msg_c.specs.Handles.{IsListedIn, IsOfRuntime, Recalls, SeesMore, TellsFaultIn};
+ghost use Rattle.msg_c.specs.Handles.{IsListedIn, IsOfRuntime, LeavesNumbers, LoadsStampIn, LooksOnceMore, Meets};
+ghost use Rattle.msg_c.specs.Handles.{Recalls, SeesMore, StaysAt, TakesBack, TellsFaultIn};
 
 use crate::answer::{
     ALREADY_OPEN, CLOSED, DONE, MISSED, NO_MEMORY, NO_SENDER, NOT_NOTED, NOTED_NONE,
@@ -41,10 +44,13 @@ pub extern "C" fn msg_sender_open(
     runtime: &mut RuntimeHandle,
     sender: &mut SenderHandle,
 ) -> u32
-    ensures kept { runtime.new.held.state ≡ runtime.old.held.state }
+    ensures kept { StaysAt runtime.old runtime.new }
     ensures closed { runtime.old.held.state ≡ None → sender.old.held.state ≡ None → result ≡ CLOSED }
     ensures refused { HasRuntime runtime.old → sender.old.held.state ≡ None → result ≢ 0
         → (result ≡ NO_SENDER) ⊎ (result ≡ NO_MEMORY) }
+    ensures none { result ≡ NO_SENDER → HasAllOut runtime.old }
+    ensures given { result ≡ 0 → GivesOut runtime.old runtime.new sender.new }
+    ensures unused { result ≢ 0 → LeavesNumbers runtime.old runtime.new }
     ensures already { HasSender sender.old → result ≡ ALREADY_OPEN }
     ensures left { result ≢ 0 → sender.new.held.state ≡ sender.old.held.state }
     ensures open { result ≡ 0 → HasSender sender.new }
@@ -83,7 +89,8 @@ pub extern "C" fn msg_sender_close(
     sender: &mut SenderHandle,
 ) -> u32
     requires together { AreOfOneArena runtime.old.held.state sender.old.held.state }
-    ensures kept { runtime.new.held.state ≡ runtime.old.held.state }
+    ensures kept { StaysAt runtime.old runtime.new }
+    ensures back { TakesBack runtime.old runtime.new sender.old }
     ensures closed { sender.new.held.state ≡ None }
     ensures was_closed { sender.old.held.state ≡ None → result ≡ CLOSED }
     ensures was_open { HasSender sender.old → result ≡ 0 }
@@ -116,13 +123,16 @@ pub extern "C" fn msg_probe(
     ensures closed { sender.old.held.state ≡ None → result ≡ CLOSED }
     ensures left { result ≢ 0 → imp.new ≡ imp.old }
     ensures still { result ≢ 0 → result ≢ MISSED → sender.new.held.state ≡ sender.old.held.state }
+    ensures unnoted { result ≢ 0 → result ≢ MISSED → sender.new.notes ≡ sender.old.notes }
+    ensures others { HaveOthersOf (ref_of class meta) sel sender.old.notes sender.new.notes }
     ensures begins { SeesMore sender.old sender.new }
     ensures hit { result ≡ 0 → IfSeen sender.new (λ h. imp.new ≡ lookup h (ref_of class meta) sel) }
     ensures listed { result ≡ 0 → IsListedIn sender.old imp.new }
     ensures fault { TellsFaultIn sender.old class sel result }
-    ensures noted { result ≡ 0 → HasNotedSeen sender.new (ref_of class meta) sel imp.new }
+    ensures noted { result ≡ 0 → HasNotedSince sender.new (ref_of class meta) sel imp.new }
+    ensures unprobed { result ≡ 0 → FindsNotedIn sender.old sender.new (ref_of class meta) sel (Some imp.new) }
     ensures miss { IfOfArena sender.old (λ a. result ≡ MISSED → IsAsked a class sel) }
-    ensures recalled { result ≡ MISSED → HasLacked sender.old sender.new (ref_of class meta) sel }
+    ensures recalled { result ≡ MISSED → FindsNotedIn sender.old sender.new (ref_of class meta) sel None }
 {
     if !sender.is_open() {
         return CLOSED;
@@ -140,28 +150,56 @@ pub extern "C" fn msg_probe(
     }
 }
 
-/// The number of the implementation that the sender noted after so many changes for a slot (twice a class's number, and 1 more for its metaclass) and a selector,
-/// where it has that still; `NOTED_NONE` where it noted that no method is found, and 0 where it noted nothing. It is what the lookup found after the first `count` changes.
+/// The number of the implementation that the sender noted after so many changes or more for a slot (twice a class's number, and 1 more for its metaclass) and a selector, where it has that still;
+/// `NOTED_NONE` where it noted that no method is found, and 0 where it noted nothing. Since the stamp of the class reference it is what a lookup finds still.
 ///
 /// It takes no lock, loads no word that threads share, and writes nothing: a few loads from the handle.
 #[unsafe(no_mangle)]
-pub extern "C" fn msg_recall(sender: &SenderHandle, slot: usize, sel: u32, count: u64) -> usize
-    ensures found { Recalls sender.now count slot sel result }
+pub extern "C" fn msg_recall(sender: &SenderHandle, slot: usize, sel: u32, since: u64) -> usize
+    ensures found { Recalls sender.now since slot sel result }
     ensures closed { sender.now.held.state ≡ None → result ≡ NOT_NOTED }
-    ensures answer { result ≡ number_of_recalled (recalled sender.now.notes count slot sel) }
+    ensures answer { result ≡ number_of_recalled (recalled sender.now.notes since slot sel) }
 {
-    number_of_recalled(sender.notes.recall_method(count, slot, sel))
-}
-
-// What was noted, as one number: 0 for nothing.
-#[inline(always)]
-fn number_of_recalled(recalled: Option<u32>) -> usize
-    ensures { result ≡ number_of_recalled recalled }
-{
-    match recalled {
+    match sender.notes.recall_method(since, slot, sel) {
         None => NOT_NOTED,
         Some(0) => NOTED_NONE,
         Some(imp) => imp as usize,
+    }
+}
+
+/// The stamp of a class or of its metaclass: no change after so many has affected it, so what was noted of it after so many or more is what a lookup finds. The sender has then seen all changes. No
+/// lock is wanted: one shared word is loaded.
+#[unsafe(no_mangle)]
+pub extern "C" fn msg_stamp(
+    alloc: Global,
+    sender: &mut SenderHandle,
+    class: u32,
+    meta: bool,
+    stamp: &mut u64,
+) -> u32
+    ensures arena { sender_arena sender.new.held.state ≡ sender_arena sender.old.held.state }
+    ensures closed { sender.old.held.state ≡ None → result ≡ CLOSED }
+    ensures left { result ≢ 0 → stamp.new ≡ stamp.old }
+    ensures still { result ≢ 0 → sender.new.held.state ≡ sender.old.held.state }
+    ensures fault { IfOfArena sender.old (λ a. result ≡ fault_in a class 1) }
+    ensures begins { SeesMore sender.old sender.new }
+    ensures notes { sender.new.notes ≡ sender.old.notes }
+    ensures loaded { result ≡ 0 → LoadsStampIn sender.old sender.new (ref_of class meta) stamp.new }
+    ensures since { result ≡ 0 → IfSeen sender.new (λ h. last_affected h (ref_of class meta) ≤ stamp.new) }
+{
+    if !sender.is_open() {
+        return CLOSED;
+    }
+    notes_are_of_longer_histories();
+    let mut asker = sender.held.take(alloc);
+    let found = asker.stamp(class, meta);
+    sender.held.put(asker);
+    match found {
+        Ok(found) => {
+            *stamp = found;
+            DONE
+        }
+        Err(fault) => fault.number(),
     }
 }
 
@@ -177,12 +215,16 @@ pub extern "C" fn msg_fill(
     imp: &mut u32,
 ) -> u32
     requires together { AreOfOneArena runtime.old.held.state sender.old.held.state }
-    ensures kept { runtime.new.held.state ≡ runtime.old.held.state }
+    ensures kept { StaysAt runtime.old runtime.new }
+    ensures cached { result ≡ 0 → CachesIn runtime.old runtime.new sender.old (ref_of class meta) sel imp.new }
+    ensures unfilled { result ≢ 0 → runtime.new.held.state ≡ runtime.old.held.state }
     ensures arena { sender_arena sender.new.held.state ≡ sender_arena sender.old.held.state }
     ensures closed { runtime.old.held.state ≡ None → result ≡ CLOSED }
     ensures no_sender { sender.old.held.state ≡ None → result ≡ CLOSED }
     ensures left { result ≢ 0 → imp.new ≡ imp.old }
     ensures still { result ≢ 0 → sender.new.held.state ≡ sender.old.held.state }
+    ensures unnoted { result ≢ 0 → sender.new.notes ≡ sender.old.notes }
+    ensures others { HaveOthersOf (ref_of class meta) sel sender.old.notes sender.new.notes }
     ensures done { result ≡ 0 → IfAt runtime.old (λ h. imp.new ≡ lookup h (ref_of class meta) sel) }
     ensures listed { result ≡ 0 → IfAt runtime.old (λ h. imp.new ≤ last_imp h.origin.counts) }
     ensures front { result ≡ 0 → HasSeenAll sender.new runtime.old }
@@ -218,12 +260,15 @@ pub extern "C" fn msg_meet(
     sender: &mut SenderHandle,
 ) -> u32
     requires together { AreOfOneArena runtime.old.held.state sender.old.held.state }
-    ensures kept { runtime.new.held.state ≡ runtime.old.held.state }
+    ensures kept { StaysAt runtime.old runtime.new }
+    ensures met { Meets runtime.old runtime.new sender.old }
     ensures arena { sender_arena sender.new.held.state ≡ sender_arena sender.old.held.state }
     ensures closed { runtime.old.held.state ≡ None → result ≡ CLOSED }
     ensures no_sender { sender.old.held.state ≡ None → result ≡ CLOSED }
     ensures left { result ≢ 0 → sender.new.held.state ≡ sender.old.held.state }
     ensures was_open { HasRuntime runtime.old → HasSender sender.old → result ≡ 0 }
+    ensures notes { sender.new.notes ≡ sender.old.notes }
+    ensures begins { SeesMore sender.old sender.new }
     ensures front { result ≡ 0 → HasSeenAll sender.new runtime.old }
 {
     let Some(mut held) = runtime.take(alloc) else {
@@ -249,6 +294,8 @@ pub extern "C" fn msg_refresh(alloc: Global, sender: &mut SenderHandle, count: &
     ensures was_open { HasSender sender.old → result ≡ 0 }
     ensures left { result ≢ 0 → count.new ≡ count.old }
     ensures begins { SeesMore sender.old sender.new }
+    ensures looked { LooksOnceMore sender.old sender.new }
+    ensures notes { sender.new.notes ≡ sender.old.notes }
     ensures done { IfSeen sender.new (λ h. count.new ≡ length h.changes) }
 {
     if !sender.is_open() {

@@ -2,6 +2,7 @@
 
 ghost use Rattle.std.specs.Prelude.{◌≡◌, Some, None, IfOk, is_some, true};
 ghost use Rattle.msg_c.specs.Answers.{AreOfOneArena};
+ghost use Rattle.msg_c.specs.Handles.{StaysAt};
 
 use crate::answer::{ALREADY_OPEN, BAD_CONFIG, CLOSED, DONE, NONE};
 use crate::asking::{
@@ -497,7 +498,7 @@ fn a_closed_runtime_answers_nothing(rt: HostRuntime) -> Result<(), Fail> {
 
 // A sender of a runtime.
 pub(crate) fn sending<R: Abort>(rt: &R, alloc: Global, runtime: &mut RuntimeHandle) -> SenderHandle
-    ensures kept { runtime.new.held.state ≡ runtime.old.held.state }
+    ensures kept { StaysAt runtime.old runtime.new }
     ensures together { AreOfOneArena runtime.new.held.state result.held.state }
 {
     let mut sender = SenderHandle::closed(alloc);

@@ -21,12 +21,13 @@ use Rattle.msg_cache.specs.declared.view.TurnAt.TheVariants.{Away, Home}
 use Rattle.msg_cache.specs.declared.view.KeeperView.{KeeperView}
 use Rattle.msg_cache.specs.declared.view.View.{View}
 use Rattle.msg_cache.specs.declared.view.View.TheVariants.{Sender, Keeper, Turn, Spent}
-use Rattle.msg_cache.specs.Layout.{SettingView, layout_of, header_at, base, probe_at}
-use Rattle.msg_cache.specs.Rule.{HasNoEntry, LiveWordsAgreeAfter, NoneIsGivenFrom, live_in, word_in, Ruled, RuledBy, IsTidy, TidyBy, holds, shown_by}
-use Rattle.msg_cache.specs.Plays.{Sat, keeper_of, stored, flushed, installed, committed, looked, rest_looked, given_out, taken_in, newcomer, lent, at_home, kept, IsTold, Stores, Flushes, Installs, Commits, Looks, RestLooks, Witnesses}
+use Rattle.msg_cache.specs.Layout.{SettingView, layout_of, header_at, base, stamp_at, probe_at}
+use Rattle.msg_core.specs.Stamps.{last_affected}
+use Rattle.msg_cache.specs.Rule.{HasNoEntry, LiveWordsAgreeAfter, NoneIsGivenFrom, StampsAreClosedFor, live_in, word_in, Ruled, RuledBy, IsTidy, TidyBy, holds, shown_by}
+use Rattle.msg_cache.specs.Plays.{Sat, keeper_of, stored, flushed, installed, committed, looked, rest_looked, given_out, taken_in, newcomer_with, lent, at_home, kept, IsTold, Stores, Flushes, Installs, Commits, Looks, RestLooks, Witnesses}
 use Rattle.msg_cache.proofs.LayoutLemmas.{header_same}
 use Rattle.msg_core.proofs.LegalSteps.{may_commit}
-use Rattle.msg_cache.proofs.KeeperLemmas.{fill_step, clear_step, commit_step, flush_step, install_step, look_step, idle_step}
+use Rattle.msg_cache.proofs.KeeperLemmas.{fill_step, clear_step, stamp_step, commit_step, flush_step, install_step, look_step, idle_step}
 use Rattle.msg_cache.proofs.NobodyLemmas.{rest_step}
 use Rattle.msg_cache.proofs.SeatLemmas.{at_below}
 use Rattle.msg_cache.proofs.TokenLemmas.{give_step, take_step, lend_step, home_step}
@@ -82,11 +83,25 @@ module _ (look : History → ClassRef → ℕ → ℕ) (key : SettingView) (slot
         sat_is (stored i 0 (keeper_of m.0)),
       )
 
+  pub stamp_allowed : (c : ClassRef) (w : ℕ) → c.class < class_total key.origin → last_affected (keeper_of m.0).history c ≤ w
+      → Allows (holds look key) slots id m (stamp_at (layout_of key) c) (λ _. w) (λ _. Stores (step slots (stamp_at (layout_of key) c) w 0 none) m w)
+  stamp_allowed c w lt le st r homes at bound =
+      let e : r.keeper ≡ keeper_of m.0 = own st r at in
+      let i : ℕ = stamp_at (layout_of key) c in (
+        Keeper (stored i w (keeper_of m.0)),
+        keeps,
+        tt,
+        subst (λ (x : KeeperView). RuledBy look key (slice_set st.words i w) (slice_set st.views id (Keeper (stored i w x)))) e
+            (stamp_step look (layout_of key) key.origin st.words st.views r id (at_own st r at) c w lt (subst (λ (x : KeeperView). last_affected x.history c ≤ w) (sym e) le)).0,
+        sat_is (stored i w (keeper_of m.0)),
+      )
+
   pub commit_allowed : (x : List Change) (g : History) → 0 < length x → (keeper_of m.0).turn ≡ Home g → refusal_of_all (log (keeper_of m.0).history) x ≡ None
+      → StampsAreClosedFor key (keeper_of m.0) x
       → LiveWordsAgreeAfter look key (keeper_of m.0) x
       → (w : ℕ) → w ≡ size (keeper_of m.0).history + 1
       → Allows (holds look key) slots id m 0 (λ _. w) (λ _. Commits x (step slots 0 w 0 none) m w)
-  commit_allowed x g filled home accepted good w is_w st r homes at bound =
+  commit_allowed x g filled home accepted closed good w is_w st r homes at bound =
       let e : r.keeper ≡ keeper_of m.0 = own st r at in
       let legal = may_commit look (layout_of key) (shown_by look (layout_of key) key.origin r) x (ap (λ (y : KeeperView). refusal_of_all (log y.history) x) e ∙ accepted)
       (subst (λ (y : KeeperView). LiveWordsAgreeAfter look key y x) (sym e) good) in (
@@ -94,7 +109,7 @@ module _ (look : History → ClassRef → ℕ → ℕ) (key : SettingView) (slot
         keeps,
         tt,
         subst (λ (y : ℕ × KeeperView). RuledBy look key (slice_set st.words 0 y.0) (slice_set st.views id (Keeper (committed x y.1)))) (λ i. ((ap (λ (y : KeeperView). size y.history + 1) e ∙ sym is_w) i, e i))
-            (commit_step look (layout_of key) key.origin st.words st.views r id (at_own st r at) x g filled (ap (λ (y : KeeperView). y.turn) e ∙ home) legal).1.0,
+            (commit_step look (layout_of key) key.origin st.words st.views r id (at_own st r at) x g filled (ap (λ (y : KeeperView). y.turn) e ∙ home) (subst (λ (y : KeeperView). StampsAreClosedFor key y x) (sym e) closed) legal).1.0,
         (sat_is (committed x (keeper_of m.0)), is_told st r e),
       )
 
@@ -158,11 +173,11 @@ module _ (look : History → ClassRef → ℕ → ℕ) (key : SettingView) (slot
         (sat_is (keeper_of m.0) ∙ sym is, is_told st r e),
       )
 
-  pub give_allowed : (n : ℕ) → n < key.senders → awaits (keeper_of m.0).given n ≡ false → Splits (holds look key) id m.0 (Keeper (given_out n (keeper_of m.0))) (Sender (newcomer n (keeper_of m.0).history))
-  give_allowed n lt free st r at =
+  pub give_allowed : (n : ℕ) (stamps : List (ClassRef × ℕ)) → n < key.senders → awaits (keeper_of m.0).given n ≡ false → Splits (holds look key) id m.0 (Keeper (given_out n (keeper_of m.0))) (Sender (newcomer_with n stamps (keeper_of m.0).history))
+  give_allowed n stamps lt free st r at =
       let e : r.keeper ≡ keeper_of m.0 = own st r at in
-      subst (λ (x : KeeperView). RuledBy look key st.words (slice_set st.views id (Keeper (given_out n x)) ++ Sender (newcomer n x.history) ∷ [])) e
-      (give_step look (layout_of key) key.origin st.words st.views r id (at_own st r at) n lt (ap (λ (x : KeeperView). awaits x.given n) e ∙ free)).0
+      subst (λ (x : KeeperView). RuledBy look key st.words (slice_set st.views id (Keeper (given_out n x)) ++ Sender (newcomer_with n stamps x.history) ∷ [])) e
+      (give_step look (layout_of key) key.origin st.words st.views r id (at_own st r at) n stamps lt (ap (λ (x : KeeperView). awaits x.given n) e ∙ free)).0
 
   pub lend_allowed : (keeper_of m.0).turn ≢ Away → Splits (holds look key) id m.0 (Keeper (lent (keeper_of m.0))) (Turn (keeper_of m.0).history)
   lend_allowed home st r at =

@@ -13,12 +13,12 @@ use Rattle.msg_core.specs.State.{capacity}
 use Rattle.msg_cache.specs.declared.view.SenderView.{SenderView}
 use Rattle.msg_cache.specs.declared.view.View.{View}
 use Rattle.msg_cache.specs.declared.view.View.TheVariants.{Sender}
-use Rattle.msg_cache.specs.Layout.{SettingView, layout_of, header_at, base, probe_at}
+use Rattle.msg_cache.specs.Layout.{SettingView, layout_of, header_at, base, stamp_at, probe_at}
 use Rattle.msg_cache.specs.Rule.{IsAccepted, Ruled, holds}
-use Rattle.msg_cache.specs.Plays.{Sat, seated, sender_of, headed, read_on, gone_to, Headed, Reads, Published, Goes}
+use Rattle.msg_cache.specs.Plays.{Sat, seated, sender_of, headed, read_on, gone_to, told_to, stamped_to, Headed, Reads, Published, Stamped, Goes}
 use Rattle.msg_cache.proofs.PastLemmas.{accepted_before}
 use Rattle.msg_cache.proofs.SeatLemmas.{at_below}
-use Rattle.msg_cache.proofs.SenderLemmas.{header_step, bucket_step, version_step, enter_step, leave_step}
+use Rattle.msg_cache.proofs.SenderLemmas.{header_step, bucket_step, version_step, stamp_step, enter_step, leave_step}
 
 module _ (look : History → ClassRef → ℕ → ℕ) (key : SettingView) (slots id : ℕ) (m : Sat) (is : m ≡ seated (sender_of m.0)) where
   seen : (views : List View) → get_elem? views id ≡ some m.0 → get_elem? views id ≡ some (Sender (sender_of m.0))
@@ -61,7 +61,15 @@ module _ (look : History → ClassRef → ℕ → ℕ) (key : SettingView) (slot
       let v = sender_of m.0 in
       let n : ℕ = slice_index st.words 0 in
       let t = version_step look (layout_of key) key.origin st.words st.views r id v (seen st.views at) n free refl in
-      (Sender (gone_to v r.keeper.history v.whereabouts), keeps, tt, t.0.0, record { front = r.keeper.history; seat = sat_is (gone_to v r.keeper.history v.whereabouts); begins = t.1; accepted = r.kept.accepted; length_is = t.2 })
+      (Sender (told_to v r.keeper.history), keeps, tt, t.0.0, record { front = r.keeper.history; seat = sat_is (told_to v r.keeper.history); begins = t.1; accepted = r.kept.accepted; length_is = t.2 })
+
+  pub stamp_allowed : (c : ClassRef) → c.class < class_total key.origin → ((d : ClassRef) (a : ℕ) → (sender_of m.0).whereabouts ≢ Holding d a)
+      → Allows (holds look key) slots id m (stamp_at (layout_of key) c) (λ n. n) (Stamped c (step slots (stamp_at (layout_of key) c) 0 0 none) m)
+  stamp_allowed c lt free st r homes at bound =
+      let v = sender_of m.0 in
+      let n : ℕ = slice_index st.words (stamp_at (layout_of key) c) in
+      let t = stamp_step look (layout_of key) key.origin st.words st.views r id v (seen st.views at) c n lt free refl in
+      (Sender (stamped_to v r.keeper.history c n), keeps, tt, t.0.0, record { front = r.keeper.history; seat = sat_is (stamped_to v r.keeper.history c n); begins = t.1; accepted = r.kept.accepted; since = t.2 })
 
   pub enter_allowed : (sender_of m.0).whereabouts ≡ Out
       → Allows (holds look key) slots id m (probe_at (layout_of key) (sender_of m.0).number) (λ _. 1) (λ _. Goes In (step slots (probe_at (layout_of key) (sender_of m.0).number) 1 0 none) m 1)

@@ -11,6 +11,7 @@ use Rattle.msg_tables.specs.Origin.{OriginView}
 use Rattle.msg_tables.specs.declared.change.Change.{Change}
 use Rattle.msg_tables.specs.History.{History, BeginsWith, and_then, empty, log}
 use Rattle.msg_tables.proofs.SeveralLemmas.{accepted-all}
+use Rattle.msg_tables.specs.Several.{is_affected_by_all}
 use Rattle.msg_core.specs.Event.{Event, Fill, Install, Flush, Look, Clear, Commit}
 use Rattle.msg_core.specs.declared.state.Standing.{Standing}
 use Rattle.msg_core.specs.declared.state.Standing.TheVariants.{Free, Live, Retired}
@@ -20,22 +21,24 @@ use Rattle.msg_core.specs.State.{Layout, State, capacity, size, awaits, state_fr
 use Rattle.msg_core.specs.Steps.{at, stored as stored_at, retired, everyone, seen_out, is_out, after, Legal}
 use Rattle.msg_core.specs.View.{standing_at}
 use Rattle.msg_core.proofs.KeepLemmas.{looked_retired}
-use Rattle.msg_core.proofs.PointLemmas.{number_or, at_same, at_other}
+use Rattle.msg_core.proofs.PointLemmas.{number_or, class_or, at_same, at_other}
 use Rattle.msg_core.proofs.RunLemmas.{sound_after}
 use Rattle.msg_core.proofs.LegalLemmas.{legal_commit}
 use Rattle.msg_cache.specs.declared.view.TurnAt.TheVariants.{Away, Home}
 use Rattle.msg_cache.specs.declared.view.KeeperView.{KeeperView}
 use Rattle.msg_cache.specs.declared.view.View.{View}
 use Rattle.msg_cache.specs.declared.view.View.TheVariants.{Keeper}
-use Rattle.msg_cache.specs.Layout.{header_at, base, probes, probe_at}
+use Rattle.msg_cache.specs.Layout.{header_at, base, stamp_at, probes, probe_at}
+use Rattle.msg_core.specs.Stamps.{last_affected}
 use Rattle.msg_cache.specs.Rule.{HasNoEntry, named, live_in, word_in, in_word, shown, IsCopied, IsKept, Ruled, shown_by, GoesBy, Stays}
 use Rattle.msg_cache.specs.Plays.{stored, retire, flushed, installed, committed, looked}
-use Rattle.msg_cache.proofs.LayoutLemmas.{inside, header_inside}
+use Rattle.msg_cache.proofs.LayoutLemmas.{inside, header_inside, stamp_inside, stamp_same, stamp_no_header, stamp_no_bucket, stamp_no_count}
+use Rattle.msg_core.proofs.StampLemmas.{last-next}
 use Rattle.msg_core.proofs.LegalSteps.{may_fill, may_install, may_flush, may_look, may_clear}
 use Rattle.msg_tables.proofs.BeginsLemmas.{begins_refl, begins_trans, begins_next}
 use Rattle.msg_cache.proofs.PastLemmas.{accepted_next}
 use Rattle.msg_cache.proofs.SeatLemmas.{keeper_goes}
-use Rattle.msg_cache.proofs.ShownLemmas.{live_is, word_is, live_set, word_set, word_header, live_bucket, live_version, word_version, set_as_at, standings_looked}
+use Rattle.msg_cache.proofs.ShownLemmas.{live_is, word_is, live_set, word_set, word_header, live_bucket, live_version, word_version, live_stamp, word_stamp, set_as_at, standings_looked}
 
 -- a number that is below an entry of a list: there is that entry
 below_entry : (l : List ℕ) (a p : ℕ) → p < slice_index l a → a < length l
@@ -62,12 +65,13 @@ copies_same z k whereabouts words i s = subst (IsCopied z k whereabouts) (sym (s
 
 -- the keeper's view, with words and standings of the same number, and other stores
 kept_as : (z : Layout) (origin : OriginView) (k : KeeperView) (words : List ℕ) (standings : List Standing) (stores : List (ℕ × ℕ)) → IsKept z origin k → length words ≡ length k.words → length standings ≡ length k.standings
-    → slice_index words 0 ≡ slice_index k.words 0 → IsKept z origin (record k { words = words; standings = standings; stores = stores })
-kept_as z origin k words standings stores s count same version = record {
+    → slice_index words 0 ≡ slice_index k.words 0 → ((c : ClassRef) → c.class < z.classes → last_affected k.history c ≤ slice_index words (stamp_at z c)) → IsKept z origin (record k { words = words; standings = standings; stores = stores })
+kept_as z origin k words standings stores s count same version stamps = record {
   words = count ∙ s.words;
   standings = same ∙ s.standings;
   given = s.given;
   version = version ∙ s.version;
+  stamps = stamps;
   begins = s.begins;
   accepted = s.accepted;
   told = s.told;
@@ -76,6 +80,11 @@ kept_as z origin k words standings stores s count same version = record {
   some_sender = s.some_sender;
 }
 
+-- stamps stay where another word is stored
+stamps_else : (z : Layout) (h : History) (words : List ℕ) (i w : ℕ) → ((c : ClassRef) → c.class < z.classes → last_affected h c ≤ slice_index words (stamp_at z c)) → ((c : ClassRef) → c.class < z.classes → stamp_at z c ≢ i)
+    → (c : ClassRef) → c.class < z.classes → last_affected h c ≤ slice_index (slice_set words i w) (stamp_at z c)
+stamps_else z h words i w stamps apart c lt = let e = get_or-set_other words i (stamp_at z c) w 0 (apart c lt) in let t = stamps c lt in omega arith
+
 -- and once a sender number was looked at
 kept_looked : (z : Layout) (origin : OriginView) (k : KeeperView) (n : ℕ) (out : Bool) → IsKept z origin k → IsKept z origin (looked n out k)
 kept_looked z origin k n out s = record {
@@ -83,6 +92,7 @@ kept_looked z origin k n out s = record {
   standings = as_many out ∙ s.standings;
   given = s.given;
   version = s.version;
+  stamps = s.stamps;
   begins = s.begins;
   accepted = s.accepted;
   told = s.told;
@@ -145,7 +155,7 @@ module _ (look : History → ClassRef → ℕ → ℕ) (z : Layout) (origin : Or
       let live : m.live c ≡ Some a = r.sound.lawful.stands_live c a lives in
       let words_are = word_set z k.words a p w lt r.kept.words ∙ sym (ap (λ o. stored_at m.word o p w) live) in
       by_event (slice_set words i w) (stored i w k) (Fill c p w)
-      (kept_as z origin k (slice_set k.words i w) k.standings (stored i w k).stores r.kept (length-set k.words i w) refl (get_or-set_other k.words i 0 w 0 (λ e. omega arith)))
+      (kept_as z origin k (slice_set k.words i w) k.standings (stored i w k).stores r.kept (length-set k.words i w) refl (get_or-set_other k.words i 0 w 0 (λ e. omega arith)) (stamps_else z k.history k.words i w r.kept.stamps (λ d dl. stamp_no_bucket z d a p lt)))
       (copies_store z k (stored i w k) r.whereabouts words i w il r.kept.words refl r.copies)
       (may_fill look z m c a p w (r.sound.in_range.live_class c a lives) live lt (word_is z k.words a p lt ∙ clear) sel imp)
       (λ j. state_from k.history (live_bucket z k.words a p w j) (words_are j) (standing_at k.standings) r.whereabouts)
@@ -158,16 +168,18 @@ module _ (look : History → ClassRef → ℕ → ℕ) (z : Layout) (origin : Or
       let k = r.keeper in
       let i : ℕ = base z a + p in
       by_event (slice_set words i 0) (stored i 0 k) (Clear a p)
-      (kept_as z origin k (slice_set k.words i 0) k.standings (stored i 0 k).stores r.kept (length-set k.words i 0) refl (get_or-set_other k.words i 0 0 0 (λ e. omega arith)))
+      (kept_as z origin k (slice_set k.words i 0) k.standings (stored i 0 k).stores r.kept (length-set k.words i 0) refl (get_or-set_other k.words i 0 0 0 (λ e. omega arith)) (stamps_else z k.history k.words i 0 r.kept.stamps (λ d dl. stamp_no_bucket z d a p lt)))
       (copies_store z k (stored i 0 k) r.whereabouts words i 0 (inside z a p lt) r.kept.words refl r.copies)
       (may_clear look z (shown_by look z origin r) a p (below_entry z.capacities a p lt) lt free)
       (λ j. state_from k.history (live_bucket z k.words a p 0 j) (word_set z k.words a p 0 lt r.kept.words j) (standing_at k.standings) r.whereabouts)
       refl (begins_refl k.history) (λ d b n aw e. inl (aw, e)) (inl (refl, refl))
 
   -- the version word is stored, with the turn at home
-  pub commit_step : (x : List Change) (g : History) → 0 < length x → r.keeper.turn ≡ Home g → Legal look z (shown_by look z origin r) (Commit x)
+  pub commit_step : (x : List Change) (g : History) → 0 < length x → r.keeper.turn ≡ Home g
+      → ((c : ClassRef) → c.class < z.classes → is_affected_by_all (log r.keeper.history) x c ≡ true → size r.keeper.history < slice_index r.keeper.words (stamp_at z c))
+      → Legal look z (shown_by look z origin r) (Commit x)
       → GoesBy look z origin r (Commit x) (slice_set words 0 (size r.keeper.history + 1)) (slice_set views id (Keeper (committed x r.keeper)))
-  commit_step x g filled home legal =
+  commit_step x g filled home closed legal =
       let k = r.keeper in
       let w : ℕ = size k.history + 1 in
       let k' = committed x k in
@@ -178,6 +190,7 @@ module _ (look : History → ClassRef → ℕ → ℕ) (z : Layout) (origin : Or
         standings = r.kept.standings;
         given = r.kept.given;
         version = get_or-set_same k.words 0 w 0 (let t = r.kept.words in omega arith) ∙ sym (length-append k.history.changes (x ∷ []));
+        stamps = stamps_else z k'.history k.words 0 w (λ c lt. stamps_after c lt (is_affected_by_all (log k.history) x c) refl) (λ c lt. stamp_no_count z c);
         begins = begins_trans k'.history k.history (empty origin) more r.kept.begins;
         accepted = accepted_next k.history x r.kept.accepted filled (accepted-all (log k.history) x (legal_commit look z (shown_by look z origin r) x legal).0);
         told = begins_trans k'.history k.history k.told more r.kept.told;
@@ -191,6 +204,14 @@ module _ (look : History → ClassRef → ℕ → ℕ) (z : Layout) (origin : Or
     where
       home_is : (g' g : History) → Home g ≡ Home g' → g' ≡ g
       home_is g' g e = cc
+
+      stamps_after : (c : ClassRef) → c.class < z.classes → (b : Bool) → is_affected_by_all (log r.keeper.history) x c ≡ b → last_affected (and_then r.keeper.history x) c ≤ slice_index r.keeper.words (stamp_at z c)
+      stamps_after c lt true is =
+          let n : last_affected (and_then r.keeper.history x) c ≡ suc (size r.keeper.history) = last-next r.keeper.history x c ∙ ap (λ b. if b then suc (size r.keeper.history) else last_affected r.keeper.history c) is in
+          omega (arith, n, closed c lt is)
+      stamps_after c lt false is =
+          let n : last_affected (and_then r.keeper.history x) c ≡ last_affected r.keeper.history c = last-next r.keeper.history x c ∙ ap (λ b. if b then suc (size r.keeper.history) else last_affected r.keeper.history c) is in
+          omega (arith, n, r.kept.stamps c lt)
 
       not_both : (g : History) → Home g ≡ Away → ⊥
       not_both g e = cc
@@ -211,7 +232,7 @@ module _ (look : History → ClassRef → ℕ → ℕ) (z : Layout) (origin : Or
       let is : m.live c ≡ o = live_is z k.words c lt in
       let stands = retire_is z k r.whereabouts c o r.kept.given (listed c lt) ∙ sym (ap (retired z m c) is) in
       by_event (slice_set words i 0) (flushed c k) (Flush c)
-      (kept_as z origin k (slice_set k.words i 0) (retire c o k) (flushed c k).stores r.kept (length-set k.words i 0) (retire_length z k r.whereabouts c o) (get_or-set_other k.words i 0 0 0 (λ e. omega arith)))
+      (kept_as z origin k (slice_set k.words i 0) (retire c o k) (flushed c k).stores r.kept (length-set k.words i 0) (retire_length z k r.whereabouts c o) (get_or-set_other k.words i 0 0 0 (λ e. omega arith)) (stamps_else z k.history k.words i 0 r.kept.stamps (λ d dl. stamp_no_header z d c lt)))
       (copies_store z k (flushed c k) r.whereabouts words i 0 (header_inside z c lt) r.kept.words refl r.copies)
       (may_flush look z m c a lt (is ∙ ap named here))
       (λ j. state_from k.history (live_set z k.words c 0 lt r.kept.words j) (word_header z k.words c 0 lt j) (stands j) r.whereabouts)
@@ -230,7 +251,7 @@ module _ (look : History → ClassRef → ℕ → ℕ) (z : Layout) (origin : Or
       ∙ ap (λ f. at f a (Live c)) (retire_is z k r.whereabouts c o r.kept.given (listed c lt) ∙ sym (ap (retired z m c) is)) in
       by_event (slice_set words i (suc a)) (installed c a k) (Install c a)
       (kept_as z origin k (slice_set k.words i (suc a)) (slice_set (retire c o k) a (Live c)) (installed c a k).stores r.kept (length-set k.words i (suc a)) (length-set (retire c o k) a (Live c) ∙ retire_length z k r.whereabouts c o)
-      (get_or-set_other k.words i 0 (suc a) 0 (λ e. omega arith)))
+      (get_or-set_other k.words i 0 (suc a) 0 (λ e. omega arith)) (stamps_else z k.history k.words i (suc a) r.kept.stamps (λ d dl. stamp_no_header z d c lt)))
       (copies_store z k (installed c a k) r.whereabouts words i (suc a) (header_inside z c lt) r.kept.words refl r.copies)
       (may_install look z m c a lt there free (λ q ql. word_is z k.words a q ql ∙ clear q ql))
       (λ j. state_from k.history (live_set z k.words c (suc a) lt r.kept.words j) (word_header z k.words c (suc a) lt j) (stands j) r.whereabouts)
@@ -299,3 +320,22 @@ module _ (look : History → ClassRef → ℕ → ℕ) (z : Layout) (origin : Or
   pub idle_step : (i : ℕ) → Stays look z origin r (slice_set words i (slice_index words i)) (slice_set views id (Keeper r.keeper))
   idle_step i = keeper_goes look z origin words (slice_set words i (slice_index words i)) views r id r.keeper at_id r.kept (copies_same z r.keeper r.whereabouts words i r.copies) r.sound
       refl (begins_refl r.keeper.history) (λ d b m aw e. inl (aw, e)) (inl (refl, refl))
+
+  -- a stamp is stored, of at least the number of the last change that affects its class reference
+  pub stamp_step : (c : ClassRef) (w : ℕ) → c.class < z.classes → last_affected r.keeper.history c ≤ w
+      → Stays look z origin r (slice_set words (stamp_at z c) w) (slice_set views id (Keeper (stored (stamp_at z c) w r.keeper)))
+  stamp_step c w lt le =
+      let k = r.keeper in
+      let i : ℕ = stamp_at z c in
+      let il = stamp_inside z c lt in
+      let there : i < length k.words = let s = r.kept.words in omega arith in
+      let same : shown z (stored i w k) r.whereabouts ≡ shown z k r.whereabouts = λ j. state_from k.history (live_stamp z k.words c w j) (word_stamp z k.words c w j) (standing_at k.standings) r.whereabouts in
+      let next = keeper_goes look z origin words (slice_set words i w) views r id (stored i w k) at_id
+      (kept_as z origin k (slice_set k.words i w) k.standings (stored i w k).stores r.kept (length-set k.words i w) refl (get_or-set_other k.words i 0 w 0 (λ e. omega arith))
+      (λ d dl. ⊎_elim
+      (λ (eq : d ≡ c). subst (λ (x : ClassRef). last_affected k.history x ≤ slice_index (slice_set k.words i w) (stamp_at z x)) (sym eq) (let g = get_or-set_same k.words i w 0 there in omega arith))
+      (λ (ne : d ≢ c). let g = get_or-set_other k.words i (stamp_at z d) w 0 (λ e. ne (stamp_same z d c e)) in let t = r.kept.stamps d dl in omega arith)
+      (class_or d c)))
+      (copies_store z k (stored i w k) r.whereabouts words i w il r.kept.words refl r.copies)
+      (subst (Sound look z) (sym same) r.sound) refl (begins_refl k.history) (λ d b m aw e. inl (aw, e)) (inl (refl, refl)) in
+      (next.0, next.1 ∙ same)

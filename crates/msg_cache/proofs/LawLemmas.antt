@@ -16,13 +16,13 @@ use Rattle.msg_core.specs.State.{Layout, awaits, size}
 use Rattle.msg_cache.specs.declared.view.KeeperView.{KeeperView}
 use Rattle.msg_cache.specs.declared.view.View.{View}
 use Rattle.msg_cache.specs.declared.view.View.TheVariants.{Sender, Keeper}
-use Rattle.msg_cache.specs.Laws.{KeeperFills, KeeperInstalls, KeeperFlushes, KeeperLooks, KeeperRestLooks, KeeperClears, KeeperCommits, KeeperWitnesses, KeeperSplits, KeeperJoins, KeeperSplitsTurn, KeeperJoinsTurn, IsEvent, IsNone, seen_in, shown_at, OneIsShown, ShownIsLawful, ShownIsSound, OpeningIsShown, EnterIsEnter, LeaveIsLeave, HeaderIsHeader, BucketIsRead, VersionIsNone, StoreIsFill, StoreIsInstall, StoreIsFlush, LoadIsLook, LoadIsRest, StoreIsClear, StoreIsCommit, WitnessIsNone, SplitIsNone, JoinIsNone, SplitTurnIsNone, JoinTurnIsNone}
+use Rattle.msg_cache.specs.Laws.{KeeperFills, KeeperInstalls, KeeperFlushes, KeeperLooks, KeeperRestLooks, KeeperClears, KeeperCommits, KeeperWitnesses, KeeperSplits, KeeperJoins, KeeperSplitsTurn, KeeperJoinsTurn, IsEvent, IsNone, seen_in, shown_at, OneIsShown, ShownIsLawful, ShownIsSound, OpeningIsShown, EnterIsEnter, LeaveIsLeave, HeaderIsHeader, BucketIsRead, VersionIsNone, StoreIsFill, StoreIsInstall, StoreIsFlush, LoadIsLook, LoadIsRest, StoreIsClear, StoreIsCommit, WitnessIsNone, SplitIsNone, JoinIsNone, SplitTurnIsNone, JoinTurnIsNone, StampLoadIsNone, StampStoreIsNone, KeeperStamps}
 use Rattle.msg_cache.specs.Layout.{SettingView, layout_of, header_at, base, probe_at, word_count}
 use Rattle.msg_cache.specs.Rule.{in_word, shown, Ruled, shown_by, holds, GoesBy, Stays}
-use Rattle.msg_cache.proofs.KeeperLemmas.{fill_step, clear_step, commit_step, flush_step, install_step, look_step, idle_step}
+use Rattle.msg_cache.proofs.KeeperLemmas.{fill_step, clear_step, stamp_step, commit_step, flush_step, install_step, look_step, idle_step}
 use Rattle.msg_cache.proofs.NobodyLemmas.{rest_step}
 use Rattle.msg_cache.proofs.OpeningLemmas.{opens}
-use Rattle.msg_cache.proofs.SenderLemmas.{header_seen, header_step, bucket_seen, bucket_step, version_step, enter_step, leave_step}
+use Rattle.msg_cache.proofs.SenderLemmas.{header_seen, header_step, bucket_seen, bucket_step, version_step, enter_step, leave_step, stamp_step as sender_stamp_step}
 use Rattle.msg_cache.proofs.TokenLemmas.{give_step, take_step, lend_step, home_step}
 
 module _ (look : History → ClassRef → ℕ → ℕ) (z : Layout) (origin : OriginView) (words : List ℕ) (views : List View) (r r' : Ruled look z origin words views) where
@@ -88,6 +88,14 @@ bucket_is_read key s r id v at a p holds lt sought =
 pub version_is_none : VersionIsNone
 version_is_none key s r id v at free = none key s _ r (version_step lookup (layout_of key) key.origin s.words s.views r id v at _ free refl).0
 
+pub stamp_load_is_none : StampLoadIsNone
+stamp_load_is_none key s r id v at c lt free =
+    let t = sender_stamp_step lookup (layout_of key) key.origin s.words s.views r id v at c _ lt free refl in
+    (none key s _ r t.0, t.2)
+
+pub stamp_store_is_none : StampStoreIsNone
+stamp_store_is_none key s r id k at = of_keeper key s r id (KeeperStamps key s r id) (λ own c w lt le. none key s _ r (stamp_step lookup (layout_of key) key.origin s.words s.views r id own c w lt le)) k at
+
 pub store_is_fill : StoreIsFill
 store_is_fill key s r id k at = of_keeper key s r id (KeeperFills key s r id) (λ own c a p w live lt clear sel imp. event key s _ r _ w refl (fill_step lookup (layout_of key) key.origin s.words s.views r id own c a p w live lt clear sel imp)) k at
 
@@ -124,13 +132,13 @@ pub store_is_clear : StoreIsClear
 store_is_clear key s r id k at = of_keeper key s r id (KeeperClears key s r id) (λ own a p free lt. event key s _ r _ 0 refl (clear_step lookup (layout_of key) key.origin s.words s.views r id own a p free lt)) k at
 
 pub store_is_commit : StoreIsCommit
-store_is_commit key s r id k at = of_keeper key s r id (KeeperCommits key s r id) (λ own x g filled home legal. event key s _ r _ (size r.keeper.history + 1) refl (commit_step lookup (layout_of key) key.origin s.words s.views r id own x g filled home legal)) k at
+store_is_commit key s r id k at = of_keeper key s r id (KeeperCommits key s r id) (λ own x g filled home closed legal. event key s _ r _ (size r.keeper.history + 1) refl (commit_step lookup (layout_of key) key.origin s.words s.views r id own x g filled home closed legal)) k at
 
 pub witness_is_none : WitnessIsNone
 witness_is_none key s r id k at = of_keeper key s r id (KeeperWitnesses key s r id) (λ own. none key s _ r (idle_step lookup (layout_of key) key.origin s.words s.views r id own 0)) k at
 
 pub split_is_none : SplitIsNone
-split_is_none key s r id k at = of_keeper key s r id (KeeperSplits key s r id) (λ own n lt free. none key s _ r (give_step lookup (layout_of key) key.origin s.words s.views r id own n lt free)) k at
+split_is_none key s r id k at = of_keeper key s r id (KeeperSplits key s r id) (λ own n stamps lt free. none key s _ r (give_step lookup (layout_of key) key.origin s.words s.views r id own n stamps lt free)) k at
 
 pub join_is_none : JoinIsNone
 join_is_none key s r id k at = of_keeper key s r id (KeeperJoins key s r id) (λ own other v apart out e. none key s _ r (take_step lookup (layout_of key) key.origin s.words s.views r id own other v apart out e)) k at

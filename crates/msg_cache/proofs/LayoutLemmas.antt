@@ -5,7 +5,7 @@ use Rattle.msg_names.specs.declared.value.ClassRef.{ClassRef}
 use Rattle.msg_names.specs.ClassRef.{slot_of}
 use Rattle.msg_names.proofs.ClassRefLemmas.{slot_of-inside, slot_of-same}
 use Rattle.msg_core.specs.State.{Layout, capacity, awaits}
-use Rattle.msg_cache.specs.Layout.{total, header_at, base, probes}
+use Rattle.msg_cache.specs.Layout.{total, header_at, base, stamp_at, probes}
 
 room : (l : List ℕ) (a p : ℕ) → p < slice_index l a → total (take a l) + p < total l
 room [] a p lt = absurd (omega arith)
@@ -42,6 +42,22 @@ header_same c d e = slot_of-same c d (let n : ℕ = slot_of c in let m : ℕ = s
 
 pub header_apart : (z : Layout) (c : ClassRef) (a p : ℕ) → c.class < z.classes → header_at c ≢ base z a + p
 header_apart z c a p lt e = let t = slot_of-inside c z.classes (2 * z.classes) refl lt in absurd (omega arith)
+
+pub stamp_inside : (z : Layout) (c : ClassRef) → c.class < z.classes → stamp_at z c < probes z
+stamp_inside z c lt = let t = slot_of-inside c z.classes (2 * z.classes) refl lt in omega arith
+
+pub stamp_same : (z : Layout) (c d : ClassRef) → stamp_at z c ≡ stamp_at z d → c ≡ d
+stamp_same z c d e = slot_of-same c d (let n : ℕ = slot_of c in let m : ℕ = slot_of d in let h : 1 + 2 * z.classes + total z.capacities + 8 + n ≡ 1 + 2 * z.classes + total z.capacities + 8 + m = e in omega arith)
+
+-- a stamp is no header, no word of an array, and not the count of changes
+pub stamp_no_header : (z : Layout) (c d : ClassRef) → d.class < z.classes → stamp_at z c ≢ header_at d
+stamp_no_header z c d lt e = let t = slot_of-inside d z.classes (2 * z.classes) refl lt in absurd (omega arith)
+
+pub stamp_no_bucket : (z : Layout) (c : ClassRef) (a p : ℕ) → p < capacity z a → stamp_at z c ≢ base z a + p
+stamp_no_bucket z c a p lt e = let t = room z.capacities a p lt in absurd (omega arith)
+
+pub stamp_no_count : (z : Layout) (c : ClassRef) → stamp_at z c ≢ 0
+stamp_no_count z c e = absurd (omega arith)
 
 pub awaits_length : (xs : List Bool) (n : ℕ) → awaits xs n ≡ true → n < length xs
 awaits_length [] n e = absurd (true≢false (sym e))

@@ -25,6 +25,7 @@ pub mod SeatLemmas
 pub mod SenderLemmas
 pub mod SettledLemmas
 pub mod ShownLemmas
+pub mod ColdLemmas
 pub mod SweepingLemmas
 pub mod TidyLemmas
 pub mod TokenLemmas

@@ -62,6 +62,7 @@ opens look key n sound_image some_sender count =
           standings = length-replicate (length z.capacities) Free;
           given = length-replicate z.senders false;
           version = same_everywhere (probes z) 0 0;
+          stamps = λ c lt. omega arith;
           begins = begins_refl (empty key.origin);
           accepted = accepted_empty key.origin sound_image;
           told = begins_refl (empty key.origin);

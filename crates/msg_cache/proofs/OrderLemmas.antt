@@ -29,10 +29,10 @@ use Rattle.msg_core.specs.State.{Layout, capacity, size}
 use Rattle.msg_core.specs.Steps.{is_free, everyone}
 use Rattle.msg_cache.specs.declared.view.SenderView.{SenderView}
 use Rattle.msg_cache.specs.declared.view.KeeperView.{KeeperView}
-use Rattle.msg_cache.specs.Layout.{SettingView, layout_of, header_at, base, probes}
+use Rattle.msg_cache.specs.Layout.{SettingView, layout_of, header_at, base, stamp_at, probes}
 use Rattle.msg_cache.specs.Rule.{TidyBy, named, first_keeper}
-use Rattle.msg_cache.specs.Plays.{retire, flushed, installed, committed, lent, given_out, taken_in}
-use Rattle.msg_cache.proofs.LayoutLemmas.{one_place}
+use Rattle.msg_cache.specs.Plays.{stored, retire, flushed, installed, committed, lent, given_out, taken_in}
+use Rattle.msg_cache.proofs.LayoutLemmas.{one_place, stamp_no_bucket}
 use Rattle.msg_cache.proofs.OpeningLemmas.{first_tidy}
 use Rattle.msg_cache.proofs.ShownLemmas.{live_is}
 use Rattle.msg_cache.specs.Keeping.{IsGroup, standing_of, array_words, header, lowest_free, looks, CollectsBy, Collects, or_least, remember, way_in, way_by_header, way_of, filled, grown, FillsBy, Fills, InOrder}
@@ -334,6 +334,21 @@ module _ (look : History → ClassRef → ℕ → ℕ) (key : SettingView) (k : 
 
   pub kept_lent : TidyBy look key (lent k) → InOrder look key (lent k) rem has
   kept_lent tidy = record { tidy = tidy; cleared = kept.cleared; counted = kept.counted; counts = kept.counts; within = kept.within; capacities = kept.capacities; classes = kept.classes }
+
+  pub kept_stamped : (c : ClassRef) (w : ℕ) → TidyBy look key (stored (stamp_at (layout_of key) c) w k) → InOrder look key (stored (stamp_at (layout_of key) c) w k) rem has
+  kept_stamped c w tidy =
+      let z = layout_of key in
+      let i : ℕ = stamp_at z c in
+      let j = stored i w k in
+      let other : (a p : ℕ) → p < capacity z a → slice_index j.words (base z a + p) ≡ slice_index k.words (base z a + p) = λ a p lt. get_or-set_other k.words i (base z a + p) w 0 (λ e. stamp_no_bucket z c a p lt (sym e)) in record {
+        tidy = tidy;
+        cleared = λ a p e lt. other a p lt ∙ kept.cleared a p e lt;
+        counted = λ a lt. kept.counted a lt ∙ ap occupied_in (sym (array_same z k j a (length-set k.words i w) (other a)));
+        counts = kept.counts;
+        within = kept.within;
+        capacities = kept.capacities;
+        classes = kept.classes;
+      }
 
   pub kept_committed : (x : List Change) → TidyBy look key (lent (committed x k)) → InOrder look key (lent (committed x k)) rem has
   kept_committed x tidy =

@@ -39,6 +39,7 @@ headed_probes {z} {arrays} {c} {s} {n} {v} {m'} t = subst (Probes z c s v) (sym 
   begins = t.begins;
   accepted = t.accepted;
   counted = refl;
+  stamps = refl;
   class_is = refl;
   sel_is = refl;
   no_array = λ e. refl;
@@ -69,6 +70,7 @@ read_probes {look} {z} {c} {s} {i} {n} {u} {v} {m'} a p t q array none lt here a
   begins = begins_trans t.front v.front u.front t.begins q.begins;
   accepted = t.accepted;
   counted = q.counted;
+  stamps = q.stamps;
   class_is = q.class_is;
   sel_is = q.sel_is;
   no_array = λ e. let x : Some a ≡ None = sym array ∙ e in absurd (cc);

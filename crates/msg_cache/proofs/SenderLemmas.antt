@@ -21,10 +21,11 @@ use Rattle.msg_core.proofs.RunLemmas.{sound_after, holds_seen}
 use Rattle.msg_cache.specs.declared.view.SenderView.{SenderView}
 use Rattle.msg_cache.specs.declared.view.View.{View}
 use Rattle.msg_cache.specs.declared.view.View.TheVariants.{Sender}
-use Rattle.msg_cache.specs.Layout.{header_at, base, probe_at}
+use Rattle.msg_cache.specs.Layout.{header_at, base, stamp_at, probe_at}
+use Rattle.msg_core.specs.Stamps.{last_affected}
 use Rattle.msg_cache.specs.Rule.{named, word_in, in_word, shown, FitsSender, IsCopied, Ruled, shown_by, GoesBy, Stays}
-use Rattle.msg_cache.specs.Plays.{headed, read_on, gone_to}
-use Rattle.msg_cache.proofs.LayoutLemmas.{inside, header_inside}
+use Rattle.msg_cache.specs.Plays.{headed, read_on, gone_to, told_to, stamped_to}
+use Rattle.msg_cache.proofs.LayoutLemmas.{inside, header_inside, stamp_inside}
 use Rattle.msg_core.proofs.LegalSteps.{may_enter, may_load, may_read, may_leave}
 use Rattle.msg_tables.proofs.BeginsLemmas.{begins_refl}
 use Rattle.msg_cache.proofs.PastLemmas.{first_begins, begins_first}
@@ -172,10 +173,20 @@ module _ (look : History → ClassRef → ℕ → ℕ) (z : Layout) (origin : Or
       miss ne = (v.front, goes v.front mine.begins mine.behind, record { same = refl; rest = (begins_refl v.front).rest }, (λ eq. absurd (ne eq)), (λ _. refl))
 
   pub version_step : (n : ℕ) → ((c : ClassRef) (a : ℕ) → v.whereabouts ≢ Holding c a) → n ≡ slice_index words 0
-      → Stays look z origin r (slice_set words 0 n) (slice_set views id (Sender (gone_to v r.keeper.history v.whereabouts))) × BeginsWith r.keeper.history v.front × (size r.keeper.history ≡ n)
+      → Stays look z origin r (slice_set words 0 n) (slice_set views id (Sender (told_to v r.keeper.history))) × BeginsWith r.keeper.history v.front × (size r.keeper.history ≡ n)
   version_step n free found = (
-    sender_goes look z origin words (slice_set words 0 n) views r id v (gone_to v r.keeper.history v.whereabouts) r.whereabouts at_id refl mine.placed (λ m ne. refl) (begins_refl r.keeper.history)
+    sender_goes look z origin words (slice_set words 0 n) views r id v (told_to v r.keeper.history) r.whereabouts at_id refl mine.placed (λ m ne. refl) (begins_refl r.keeper.history)
         (λ c a m aw e. absurd (free c a e)) (copies_load look z origin words views r 0 n v.number r.whereabouts found refl (λ m ne. refl)) r.sound,
     mine.begins,
     sym (found ∙ r.copies.copied 0 (omega arith) ∙ r.kept.version),
+  )
+
+  -- by the load of a stamp the front is the history now too
+  pub stamp_step : (c : ClassRef) (n : ℕ) → c.class < z.classes → ((d : ClassRef) (a : ℕ) → v.whereabouts ≢ Holding d a) → n ≡ slice_index words (stamp_at z c)
+      → Stays look z origin r (slice_set words (stamp_at z c) n) (slice_set views id (Sender (stamped_to v r.keeper.history c n))) × BeginsWith r.keeper.history v.front × (last_affected r.keeper.history c ≤ n)
+  stamp_step c n lt free found = (
+    sender_goes look z origin words (slice_set words (stamp_at z c) n) views r id v (stamped_to v r.keeper.history c n) r.whereabouts at_id refl mine.placed (λ m ne. refl) (begins_refl r.keeper.history)
+        (λ d a m aw e. absurd (free d a e)) (copies_load look z origin words views r (stamp_at z c) n v.number r.whereabouts found refl (λ m ne. refl)) r.sound,
+    mine.begins,
+    (let e = found ∙ r.copies.copied (stamp_at z c) (stamp_inside z c lt) in let t = r.kept.stamps c lt in omega arith),
   )

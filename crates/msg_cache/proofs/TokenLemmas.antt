@@ -18,7 +18,7 @@ use Rattle.msg_cache.specs.declared.view.TurnAt.TheVariants.{Away, Home}
 use Rattle.msg_cache.specs.declared.view.View.{View}
 use Rattle.msg_cache.specs.declared.view.View.TheVariants.{Sender, Keeper, Turn, Spent}
 use Rattle.msg_cache.specs.Rule.{FitsSender, Fits, Ruled, Stays}
-use Rattle.msg_cache.specs.Plays.{given_out, taken_in, newcomer, at_home, lent}
+use Rattle.msg_cache.specs.Plays.{given_out, taken_in, newcomer_with, at_home, lent}
 use Rattle.msg_cache.proofs.LayoutLemmas.{awaits_length}
 use Rattle.msg_tables.proofs.BeginsLemmas.{begins_refl}
 use Rattle.msg_cache.proofs.SeatLemmas.{views_set, at_last_or, at_below, views_apart, not_keeper, not_turn, not_sender}
@@ -32,9 +32,9 @@ module _ (look : History → ClassRef → ℕ → ℕ) (z : Layout) (origin : Or
   id_below = at_below views id (Keeper r.keeper) at_id
 
   -- a seat for the sender n is split off
-  pub give_step : (n : ℕ) → n < z.senders → awaits r.keeper.given n ≡ false
-      → Stays look z origin r words (slice_set views id (Keeper (given_out n r.keeper)) ++ Sender (newcomer n r.keeper.history) ∷ [])
-  give_step n lt free =
+  pub give_step : (n : ℕ) (stamps : List (ClassRef × ℕ)) → n < z.senders → awaits r.keeper.given n ≡ false
+      → Stays look z origin r words (slice_set views id (Keeper (given_out n r.keeper)) ++ Sender (newcomer_with n stamps r.keeper.history) ∷ [])
+  give_step n stamps lt free =
       let k' = given_out n r.keeper in
       let seat' = at r.seat n (length views) in
       let here : r.chair ≡ id = (r.views_fit id (Keeper r.keeper) at_id).0 in
@@ -50,6 +50,7 @@ module _ (look : History → ClassRef → ℕ → ℕ) (z : Layout) (origin : Or
             standings = r.kept.standings;
             given = length-set r.keeper.given n true ∙ r.kept.given;
             version = r.kept.version;
+            stamps = r.kept.stamps;
             begins = r.kept.begins;
             accepted = r.kept.accepted;
             told = r.kept.told;
@@ -66,7 +67,7 @@ module _ (look : History → ClassRef → ℕ → ℕ) (z : Layout) (origin : Or
           views_fit = λ j u e. ⊎_elim
               (λ (t : get_elem? (slice_set views id (Keeper k')) j ≡ some u).
               views_set (Fits r.keeper r.chair r.away r.seat r.whereabouts) (Fits k' id r.away seat' r.whereabouts) views id (Keeper k') r.views_fit (others n free here) (refl, refl) j u t)
-              (λ (t : (Sender (newcomer n r.keeper.history) ≡ u) × (j ≡ length (slice_set views id (Keeper k')))).
+              (λ (t : (Sender (newcomer_with n stamps r.keeper.history) ≡ u) × (j ≡ length (slice_set views id (Keeper k')))).
               subst (λ (y : ℕ × View). Fits k' id r.away seat' r.whereabouts y.0 y.1) (λ i. (sym t.1 i, t.0 i))
               (record {
                 seated = at_same r.seat n (length views) ∙ sym (length-set views id (Keeper k'));
@@ -75,20 +76,20 @@ module _ (look : History → ClassRef → ℕ → ℕ) (z : Layout) (origin : Or
                 begins = begins_refl r.keeper.history;
                 behind = λ c a m aw out. absurd (cc);
               }))
-              (at_last_or (slice_set views id (Keeper k')) (Sender (newcomer n r.keeper.history)) u j e);
+              (at_last_or (slice_set views id (Keeper k')) (Sender (newcomer_with n stamps r.keeper.history)) u j e);
           chair_is = at_longer (slice_set views id (Keeper k')) _ id (Keeper k') (set_here views id (Keeper k') id_below);
           sits = λ m e. ⊎_elim
               (λ (eq : m ≡ n). (
-                newcomer n r.keeper.history,
-                ap (get_elem? (slice_set views id (Keeper k') ++ Sender (newcomer n r.keeper.history) ∷ [])) (ap seat' eq ∙ at_same r.seat n (length views))
-                    ∙ at_last (slice_set views id (Keeper k')) (Sender (newcomer n r.keeper.history)) (length views) (length-set views id (Keeper k')),
+                newcomer_with n stamps r.keeper.history,
+                ap (get_elem? (slice_set views id (Keeper k') ++ Sender (newcomer_with n stamps r.keeper.history) ∷ [])) (ap seat' eq ∙ at_same r.seat n (length views))
+                    ∙ at_last (slice_set views id (Keeper k')) (Sender (newcomer_with n stamps r.keeper.history)) (length views) (length-set views id (Keeper k')),
                 sym eq,
               ))
               (λ (ne : m ≢ n).
               let given : awaits r.keeper.given m ≡ true = sym (get_or-set_other r.keeper.given n m true false ne) ∙ e in
               let old = r.sits m given in (
                 old.0,
-                ap (get_elem? (slice_set views id (Keeper k') ++ Sender (newcomer n r.keeper.history) ∷ [])) (at_other r.seat n (length views) m ne)
+                ap (get_elem? (slice_set views id (Keeper k') ++ Sender (newcomer_with n stamps r.keeper.history) ∷ [])) (at_other r.seat n (length views) m ne)
                     ∙ at_longer (slice_set views id (Keeper k')) _ (r.seat m) (Sender old.0) (set_else views id (r.seat m) (Keeper k') (seat_apart m given) ∙ old.1),
                 old.2,
               ))
@@ -129,6 +130,7 @@ module _ (look : History → ClassRef → ℕ → ℕ) (z : Layout) (origin : Or
             standings = r.kept.standings;
             given = length-set r.keeper.given v.number false ∙ r.kept.given;
             version = r.kept.version;
+            stamps = r.kept.stamps;
             begins = r.kept.begins;
             accepted = r.kept.accepted;
             told = theirs.begins;
@@ -186,6 +188,7 @@ module _ (look : History → ClassRef → ℕ → ℕ) (z : Layout) (origin : Or
             standings = r.kept.standings;
             given = r.kept.given;
             version = r.kept.version;
+            stamps = r.kept.stamps;
             begins = r.kept.begins;
             accepted = r.kept.accepted;
             told = r.kept.told;
@@ -235,6 +238,7 @@ module _ (look : History → ClassRef → ℕ → ℕ) (z : Layout) (origin : Or
             standings = r.kept.standings;
             given = r.kept.given;
             version = r.kept.version;
+            stamps = r.kept.stamps;
             begins = r.kept.begins;
             accepted = r.kept.accepted;
             told = r.kept.told;

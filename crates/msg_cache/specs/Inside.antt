@@ -7,7 +7,7 @@ use Rattle.msg_cache.specs.declared.arena.Span.{Span}
 use Rattle.msg_cache.specs.declared.arena.Arena.TheInside.{Inside as ArenaInside}
 use Rattle.msg_cache.specs.declared.prober.Prober.TheInside.{Inside as ProberInside}
 use Rattle.msg_cache.specs.declared.keeper.Turn.TheInside.{Inside as TurnInside}
-use Rattle.msg_cache.specs.Layout.{layout_of, base, probes, word_count}
+use Rattle.msg_cache.specs.Layout.{layout_of, base, stamps, probes, word_count}
 use Rattle.msg_cache.specs.Keeping.{AreGroups}
 use Rattle.msg_cache.specs.Plays.{sender_in, sender_view, turn_in, turn_view}
 use Rattle.msg_cache.specs.Views.{ArenaView, ProberView, TurnView}
@@ -24,6 +24,7 @@ pub record IsArena (a : ArenaInside) : Type 0 where
   pub firsts : AreGroups a.table.shared.key.capacities a.firsts
   pub senders : a.senders ≡ a.table.shared.key.senders
   pub few_senders : a.senders ≤ MOST_SENDERS
+  pub stamps : a.stamps ≡ stamps (layout_of a.table.shared.key)
   pub probes : a.probes ≡ probes (layout_of a.table.shared.key)
   pub words : a.table.shared.table_id.words ≡ word_count (layout_of a.table.shared.key)
   pub few_words : a.table.shared.table_id.words < 2 ^ 32

@@ -23,9 +23,10 @@ use Rattle.msg_cache.specs.declared.view.TurnAt.TheVariants.{Away, Home}
 use Rattle.msg_cache.specs.declared.view.KeeperView.{KeeperView}
 use Rattle.msg_cache.specs.declared.view.View.{View}
 use Rattle.msg_cache.specs.declared.view.View.TheVariants.{Sender, Keeper, Turn, Spent}
-use Rattle.msg_cache.specs.Layout.{SettingView, layout_of, header_at, base, probe_at, word_count}
-use Rattle.msg_cache.specs.Plays.{headed, read_on, gone_to, newcomer, stored, flushed, installed, committed, looked, rest_looked, given_out, taken_in, at_home, lent}
-use Rattle.msg_cache.specs.Rule.{HasNoEntry, NoneIsGivenFrom, holds, named, shown_by, first_keeper}
+use Rattle.msg_core.specs.Stamps.{last_affected}
+use Rattle.msg_cache.specs.Layout.{SettingView, layout_of, header_at, base, stamp_at, probe_at, word_count}
+use Rattle.msg_cache.specs.Plays.{headed, read_on, gone_to, told_to, stamped_to, newcomer_with, stored, flushed, installed, committed, looked, rest_looked, given_out, taken_in, at_home, lent}
+use Rattle.msg_cache.specs.Rule.{HasNoEntry, NoneIsGivenFrom, StampsAreClosedFor, holds, named, shown_by, first_keeper}
 
 -- the state that a table shows, while the rule holds of it
 abbrev pub shown_at : (key : SettingView) (s : Table ℕ View) → holds lookup key s → State
@@ -118,7 +119,13 @@ BucketIsRead = OfSender (λ key s r id v. (a p : ℕ) → v.whereabouts ≡ Hold
 -- a sender's load of the count of changes is no event, and the sender has then seen the whole history
 abbrev pub VersionIsNone : Type 0
 VersionIsNone = OfSender (λ key s r id v. ((c : ClassRef) (a : ℕ) → v.whereabouts ≢ Holding c a)
-    → IsNone key s r (stepped s 0 (slice_index s.words 0) id [] (Sender (gone_to v (shown_at key s r).history v.whereabouts)) keeps))
+    → IsNone key s r (stepped s 0 (slice_index s.words 0) id [] (Sender (told_to v (shown_at key s r).history)) keeps))
+
+-- Nor is its load of a stamp, with no array held. The sender has then seen the whole history too, and no change of that after so many as the stamp says affects the class reference.
+abbrev pub StampLoadIsNone : Type 0
+StampLoadIsNone = OfSender (λ key s r id v. (c : ClassRef) → c.class < class_total key.origin → ((d : ClassRef) (a : ℕ) → v.whereabouts ≢ Holding d a)
+    → let i = stamp_at (layout_of key) c in
+    IsNone key s r (stepped s i (slice_index s.words i) id [] (Sender (stamped_to v (shown_at key s r).history c (slice_index s.words i))) keeps) × (last_affected (shown_at key s r).history c ≤ slice_index s.words i))
 
 -- ---- the keeper's steps
 
@@ -180,7 +187,7 @@ abbrev pub StoreIsClear : Type 0
 StoreIsClear = OfKeeper KeeperClears
 
 abbrev pub KeeperCommits : OfAKeeper
-KeeperCommits key s r id k = (xs : List Change) (g : History) → 0 < length xs → k.turn ≡ Home g → Legal lookup (layout_of key) (shown_at key s r) (Commit xs)
+KeeperCommits key s r id k = (xs : List Change) (g : History) → 0 < length xs → k.turn ≡ Home g → StampsAreClosedFor key k xs → Legal lookup (layout_of key) (shown_at key s r) (Commit xs)
     → IsEvent key s r (Commit xs) (size k.history + 1) (stepped s 0 (size k.history + 1) id [] (Keeper (committed xs k)) keeps)
 
 -- the store of the count of changes, one higher, while the turn is joined, where no live entry would disagree, is Commit
@@ -188,6 +195,14 @@ abbrev pub StoreIsCommit : Type 0
 StoreIsCommit = OfKeeper KeeperCommits
 
 -- ---- what is no event
+
+abbrev pub KeeperStamps : OfAKeeper
+KeeperStamps key s r id k = (c : ClassRef) (w : ℕ) → c.class < class_total key.origin → last_affected k.history c ≤ w
+    → let i = stamp_at (layout_of key) c in IsNone key s r (stepped s i w id [] (Keeper (stored i w k)) keeps)
+
+-- the store of a stamp, of at least the number of the last change that affects its class reference, is no event
+abbrev pub StampStoreIsNone : Type 0
+StampStoreIsNone = OfKeeper KeeperStamps
 
 abbrev pub KeeperWitnesses : OfAKeeper
 KeeperWitnesses key s r id k = IsNone key s r (stepped s 0 (slice_index s.words 0) id [] (Keeper k) keeps)
@@ -197,10 +212,10 @@ abbrev pub WitnessIsNone : Type 0
 WitnessIsNone = OfKeeper KeeperWitnesses
 
 abbrev pub KeeperSplits : OfAKeeper
-KeeperSplits key s r id k = (n : ℕ) → n < key.senders → awaits k.given n ≡ false
-    → IsNone key s r (record { words = s.words; homes = s.homes; views = slice_set s.views id (Keeper (given_out n k)) ++ Sender (newcomer n k.history) ∷ [] })
+KeeperSplits key s r id k = (n : ℕ) (stamps : List (ClassRef × ℕ)) → n < key.senders → awaits k.given n ≡ false
+    → IsNone key s r (record { words = s.words; homes = s.homes; views = slice_set s.views id (Keeper (given_out n k)) ++ Sender (newcomer_with n stamps k.history) ∷ [] })
 
--- nor is it one that a sender's seat is split off
+-- nor is it one that a sender's seat is split off, whichever stamps it is said to have loaded
 abbrev pub SplitIsNone : Type 0
 SplitIsNone = OfKeeper KeeperSplits
 

@@ -31,11 +31,22 @@ header_at c = 1 + slot_of c
 abbrev pub base : Layout → ℕ → ℕ
 base z a = 1 + 2 * z.classes + total (take a z.capacities)
 
--- where they end, and the senders' probe words begin
-abbrev pub probes : Layout → ℕ
-probes z = 1 + 2 * z.classes + total z.capacities
+-- where they end
+abbrev pub array_end : Layout → ℕ
+array_end z = 1 + 2 * z.classes + total z.capacities
 
--- Probe words stand 8 words apart, and 8 after the last word of an array, so that none shares a line of 64 bytes with another or with an array. What is between is never used.
+-- The stamps, one for each class reference, stand after 8 words that are never used, so that none shares a line of 64 bytes with an array.
+abbrev pub stamps : Layout → ℕ
+stamps z = array_end z + 8
+
+abbrev pub stamp_at : Layout → ClassRef → ℕ
+stamp_at z c = stamps z + slot_of c
+
+-- where those end, and the senders' probe words begin
+abbrev pub probes : Layout → ℕ
+probes z = stamps z + 2 * z.classes
+
+-- Probe words stand 8 words apart, and 8 after the last stamp, so that none shares a line of 64 bytes with another or with a stamp. What is between is never used.
 abbrev pub probe_at : Layout → ℕ → ℕ
 probe_at z n = probes z + 8 * n + 7
 

@@ -1,5 +1,5 @@
 -- The keeper's view, what it is for it to be of an arena, and what its calls do.
-use Rattle.std.specs.Prelude.{◌≡◌, ◌<◌, ◌≤◌, ◌⊎◌, ℕ, List, Bool, true, None, cond, length}
+use Rattle.std.specs.Prelude.{◌≡◌, ◌<◌, ◌≤◌, ◌⊎◌, ℕ, List, [], ◌∷◌, Bool, true, None, ◌==◌, if◌then◌else◌, cond, length, slice_index}
 use Rattle.msg_names.specs.Number.{selector_number, imp_number}
 use Rattle.msg_names.specs.declared.value.ClassRef.{ClassRef}
 use Rattle.msg_names.specs.declared.value.ImpRef.{ImpRef}
@@ -10,17 +10,19 @@ use Rattle.msg_tables.specs.History.{lookup, log}
 use Rattle.msg_tables.specs.Origin.{OriginView}
 use Rattle.msg_tables.specs.Several.{is_affected_by_all}
 use Rattle.msg_tables.specs.declared.change.Change.{Change}
-use Rattle.msg_core.specs.State.{awaits}
+use Rattle.msg_core.specs.State.{Layout, awaits, size}
 use Rattle.msg_cache.specs.declared.answer.Filled.{Filled}
 use Rattle.msg_cache.specs.declared.answer.Report.{Report}
 use Rattle.msg_cache.specs.declared.answer.Way.{Way}
 use Rattle.msg_cache.specs.declared.config.Config.{Config}
 use Rattle.msg_cache.specs.declared.keeper.Keeper.{Keeper}
+use Rattle.msg_cache.specs.declared.keeper.TheConstants.{CLOSED}
 use Rattle.msg_cache.specs.declared.view.KeeperView.{KeeperView}
 use Rattle.msg_cache.specs.Config.{refusal_of, setting_of}
 use Rattle.msg_cache.specs.Counts.{CountsFill}
 use Rattle.msg_cache.specs.Keeping.{CanUse, Fills, InOrder, filled, grown, header, remember, way_of}
-use Rattle.msg_cache.specs.Plays.{keeper_of}
+use Rattle.msg_cache.specs.Layout.{stamp_at}
+use Rattle.msg_cache.specs.Plays.{committed, flushed, keeper_of, lent, stored}
 use Rattle.msg_cache.specs.Rule.{first_keeper, live_in}
 use Rattle.msg_cache.specs.Views.{ArenaView, classes, layout}
 
@@ -85,6 +87,63 @@ AffectedAreFlushed a x k = (c : ClassRef) → c.class < classes a → is_affecte
 -- nor one that some of these changes affect
 abbrev pub AllAffectedAreFlushed : ArenaView → List Change → Keeper → Type 0
 AllAffectedAreFlushed a xs k = (c : ClassRef) → c.class < classes a → is_affected_by_all (log (view k).history) xs c ≡ true → HasNoArray a k c
+
+-- the stamp of a class reference
+abbrev pub stamp_of : ArenaView → Keeper → ClassRef → ℕ
+stamp_of a k c = slice_index (view k).words (stamp_at (layout a) c)
+
+-- a class reference is closed: none of its notes holds
+abbrev pub IsClosed : ArenaView → Keeper → ClassRef → Type 0
+IsClosed a k c = stamp_of a k c ≡ CLOSED
+
+-- its stamp is that of one
+abbrev pub is_closed : Layout → KeeperView → ClassRef → Bool
+is_closed z k c = slice_index k.words (stamp_at z c) == CLOSED
+
+-- it was closed, if it was open
+abbrev pub closed : Layout → ClassRef → KeeperView → KeeperView
+closed z c k = if is_closed z k c then k else stored (stamp_at z c) CLOSED k
+
+-- it was opened at the number of changes, if it was closed
+abbrev pub opened : Layout → ClassRef → KeeperView → KeeperView
+opened z c k = if is_closed z k c then stored (stamp_at z c) (size k.history) k else k
+
+-- an opening leaves the history, the standings of arrays, the numbers that are out, and the turn
+abbrev pub OpenKeeps : Type 0
+OpenKeeps = (z : Layout) (c : ClassRef) (k : KeeperView) → ((opened z c k).history ≡ k.history) × ((opened z c k).standings ≡ k.standings) × ((opened z c k).given ≡ k.given) × ((opened z c k).turn ≡ k.turn)
+
+-- these were closed, the first of them last
+abbrev pub all_closed : Layout → List ClassRef → KeeperView → KeeperView
+all_closed z [] k = k
+all_closed z (c ∷ cs) k = closed z c (all_closed z cs k)
+
+-- some class references were closed, and nothing else was done
+abbrev pub ClosesSome : ArenaView → Keeper → Keeper → Type 0
+ClosesSome a k k' = (cs : List ClassRef) × (view k' ≡ all_closed (layout a) cs (view k))
+
+-- some were closed, and the changes were committed then
+abbrev pub CommitsClosed : ArenaView → List Change → Keeper → Keeper → Type 0
+CommitsClosed a xs k k' = (cs : List ClassRef) × (view k' ≡ lent (committed xs (all_closed (layout a) cs (view k))))
+
+-- the class reference was closed, and flushed, where it had a live array
+abbrev pub Chills : ArenaView → ClassRef → Keeper → Keeper → Type 0
+Chills a c k k' = (had_array : Bool) × (view k' ≡ cond had_array (flushed c (closed (layout a) c (view k))) (closed (layout a) c (view k)))
+
+-- it has no live array, and is closed
+abbrev pub IsCold : ArenaView → Keeper → ClassRef → Type 0
+IsCold a k c = HasNoArray a k c × IsClosed a k c
+
+-- each that was so stays so
+abbrev pub StayCold : ArenaView → Keeper → Keeper → Type 0
+StayCold a k k' = (c : ClassRef) → IsCold a k c → IsCold a k' c
+
+-- each class reference that the change affects is closed
+abbrev pub AffectedAreClosed : ArenaView → Change → Keeper → Type 0
+AffectedAreClosed a x k = (c : ClassRef) → c.class < classes a → is_affected (log (view k).history) x c ≡ true → IsClosed a k c
+
+-- and each that some of these changes affect
+abbrev pub AllAffectedAreClosed : ArenaView → List Change → Keeper → Type 0
+AllAffectedAreClosed a xs k = (c : ClassRef) → c.class < classes a → is_affected_by_all (log (view k).history) xs c ≡ true → IsClosed a k c
 
 -- there may be no sender of this number, or it is given out
 abbrev pub CannotBeGiven : ArenaView → ℕ → Keeper → Type 0

@@ -19,6 +19,7 @@ use Rattle.msg_cache.specs.declared.view.View.{View}
 use Rattle.msg_cache.specs.declared.view.View.TheVariants.{Sender, Keeper, Turn, Spent}
 use Rattle.msg_cache.specs.Layout.{SettingView, header_at}
 use Rattle.msg_cache.specs.Rule.{named, IsAccepted}
+use Rattle.msg_core.specs.Stamps.{last_affected}
 
 abbrev pub Sat : Type 0
 Sat = Me ℕ View
@@ -36,7 +37,7 @@ abbrev pub no_class : ClassRef
 no_class = record { class = 0; meta = false }
 
 abbrev pub nobody : SenderView
-nobody = record { number = 0; front = no_history; whereabouts = Out; count = 0; last = record { class = no_class; sel = 0; array = None; reads = [] } }
+nobody = record { number = 0; front = no_history; whereabouts = Out; count = 0; looks = 0; stamps = []; last = record { class = no_class; sel = 0; array = None; reads = [] } }
 
 abbrev pub no_keeper : KeeperView
 no_keeper = record { history = no_history; words = []; standings = []; given = []; turn = Never; told = no_history; stores = []; looked_at = [] }
@@ -44,6 +45,10 @@ no_keeper = record { history = no_history; words = []; standings = []; given = [
 -- a setting
 abbrev pub no_setting : SettingView
 no_setting = record { origin = no_history.origin; senders = 0; capacities = [] }
+
+-- stamps
+abbrev pub no_stamps : List (ClassRef × ℕ)
+no_stamps = []
 
 -- changes
 abbrev pub no_changes : List Change
@@ -72,23 +77,35 @@ turn_of Spent = no_history
 
 -- it has seen the word n in the header of c, where it seeks s
 abbrev pub headed : ClassRef → ℕ → History → SenderView → ℕ → SenderView
-headed c s g v n = record { number = v.number; front = g; whereabouts = seeing c (named n); count = v.count + 1; last = record { class = c; sel = s; array = named n; reads = [] } }
+headed c s g v n = record { number = v.number; front = g; whereabouts = seeing c (named n); count = v.count + 1; looks = v.looks; stamps = v.stamps; last = record { class = c; sel = s; array = named n; reads = [] } }
 
 -- it has read n in the word i
 abbrev pub read_on : History → SenderView → ℕ → ℕ → SenderView
 read_on g v i n =
-    record { number = v.number; front = g; whereabouts = v.whereabouts; count = v.count; last = record { class = v.last.class; sel = v.last.sel; array = v.last.array; reads = v.last.reads ++ (i, n) ∷ [] } }
+    record { number = v.number; front = g; whereabouts = v.whereabouts; count = v.count; looks = v.looks; stamps = v.stamps; last = record { class = v.last.class; sel = v.last.sel; array = v.last.array; reads = v.last.reads ++ (i, n) ∷ [] } }
 
 abbrev pub gone_to : SenderView → History → Whereabouts → SenderView
-gone_to v g p = record { number = v.number; front = g; whereabouts = p; count = v.count; last = v.last }
+gone_to v g p = record { number = v.number; front = g; whereabouts = p; count = v.count; looks = v.looks; stamps = v.stamps; last = v.last }
 
--- a sender that was just given out
+-- it has loaded the count of changes, and seen this history
+abbrev pub told_to : SenderView → History → SenderView
+told_to v g = record { number = v.number; front = g; whereabouts = v.whereabouts; count = v.count; looks = v.looks + 1; stamps = v.stamps; last = v.last }
+
+-- it has loaded a stamp of the class reference, which was n, and seen this history
+abbrev pub stamped_to : SenderView → History → ClassRef → ℕ → SenderView
+stamped_to v g c n = record { number = v.number; front = g; whereabouts = v.whereabouts; count = v.count; looks = v.looks; stamps = (c, n) ∷ v.stamps; last = v.last }
+
+-- a sender that was just given out, and the stamps that it is said to have loaded
+abbrev pub newcomer_with : ℕ → List (ClassRef × ℕ) → History → SenderView
+newcomer_with n stamps h = record { number = n; front = h; whereabouts = Out; count = 0; looks = 0; stamps = stamps; last = record { class = no_class; sel = 0; array = None; reads = [] } }
+
+-- a sender that was just given out, which has loaded none
 abbrev pub newcomer : ℕ → History → SenderView
-newcomer n h = record { number = n; front = h; whereabouts = Out; count = 0; last = record { class = no_class; sel = 0; array = None; reads = [] } }
+newcomer n h = newcomer_with n [] h
 
--- the same sender, given out again at this history
+-- the same sender, given out again at this history: it still says which stamps it has loaded
 abbrev pub renewed : SenderView → History → SenderView
-renewed v h = newcomer v.number h
+renewed v h = newcomer_with v.number v.stamps h
 
 -- ---- what a sender's steps tell
 
@@ -122,10 +139,22 @@ Reads look st m n m' = SawWord look st.word n (sender_of m.0) m'
 
 pub record SawVersion (n : ℕ) (v : SenderView) (m' : Sat) : Type 0 where
   pub front : History
-  pub seat : m' ≡ seated (gone_to v front v.whereabouts)
+  pub seat : m' ≡ seated (told_to v front)
   pub begins : BeginsWith front v.front
   pub accepted : IsAccepted front
   pub length_is : size front ≡ n
+
+-- the stamp of a class reference was n: no change after so many has affected it
+pub record SawStamp (c : ClassRef) (n : ℕ) (v : SenderView) (m' : Sat) : Type 0 where
+  pub front : History
+  pub seat : m' ≡ seated (stamped_to v front c n)
+  pub begins : BeginsWith front v.front
+  pub accepted : IsAccepted front
+  pub since : last_affected front c ≤ n
+
+-- what a load of a stamp tells
+abbrev pub Stamped : ClassRef → Telling
+Stamped c st m n m' = SawStamp c n (sender_of m.0) m'
 
 -- what a load of the count of changes tells
 abbrev pub Published : Telling
@@ -240,8 +269,8 @@ abbrev pub split_left : ℕ → View → View
 split_left n v = Keeper (given_out n (keeper_of v))
 
 -- and that sender
-abbrev pub split_right : ℕ → View → View
-split_right n v = Sender (newcomer n (keeper_of v).history)
+abbrev pub split_right : ℕ → List (ClassRef × ℕ) → View → View
+split_right n stamps v = Sender (newcomer_with n stamps (keeper_of v).history)
 
 -- the keeper, once the turn was lent
 abbrev pub lent_left : View → View

@@ -35,6 +35,8 @@ pub record Probes (z : Layout) (c : ClassRef) (s : ℕ) (v w : SenderView) : Typ
   pub begins : BeginsWith w.front v.front
   pub accepted : IsAccepted w.front
   pub counted : w.count ≡ v.count + 1
+  -- no stamp is loaded
+  pub stamps : w.stamps ≡ v.stamps
   pub class_is : w.last.class ≡ c
   pub sel_is : w.last.sel ≡ s
   -- where no array was seen nothing is read

@@ -9,6 +9,7 @@ use Rattle.msg_tables.specs.Origin.{IsSound}
 use Rattle.msg_tables.specs.History.{History, BeginsWith, and_then, empty, log}
 use Rattle.msg_tables.specs.declared.change.Change.{Change}
 use Rattle.msg_tables.specs.Refusal.{IsLog}
+use Rattle.msg_tables.specs.Several.{is_affected_by_all}
 use Rattle.msg_core.specs.Event.{Event}
 use Rattle.msg_core.specs.declared.state.Standing.TheVariants.{Free, Live, Retired}
 use Rattle.msg_core.specs.declared.state.Whereabouts.{Whereabouts}
@@ -21,7 +22,8 @@ use Rattle.msg_cache.specs.declared.view.TurnAt.TheVariants.{Never, Away, Home}
 use Rattle.msg_cache.specs.declared.view.KeeperView.{KeeperView}
 use Rattle.msg_cache.specs.declared.view.View.{View}
 use Rattle.msg_cache.specs.declared.view.View.TheVariants.{Sender, Keeper, Turn, Spent}
-use Rattle.msg_cache.specs.Layout.{SettingView, layout_of, header_at, base, probes, probe_at, word_count}
+use Rattle.msg_cache.specs.Layout.{SettingView, layout_of, header_at, base, stamp_at, probes, probe_at, word_count}
+use Rattle.msg_core.specs.Stamps.{last_affected}
 
 -- ---- the state that is shown
 
@@ -50,6 +52,10 @@ NoneIsGivenFrom n given = (m : ℕ) → n ≤ m → awaits given m ≡ false
 abbrev pub LiveWordsAgreeAfter : (History → ClassRef → ℕ → ℕ) → SettingView → KeeperView → List Change → Type 0
 LiveWordsAgreeAfter look key k xs = (c : ClassRef) (b q : ℕ) → b < length key.capacities → standing_at k.standings b ≡ Live c → q < capacity (layout_of key) b
     → Agrees (look (and_then k.history xs)) c (word_in (layout_of key) k.words b q)
+
+-- the stamps of all that these changes affect are closed: above any count that was noted
+abbrev pub StampsAreClosedFor : SettingView → KeeperView → List Change → Type 0
+StampsAreClosedFor key k xs = (c : ClassRef) → c.class < (layout_of key).classes → is_affected_by_all (log k.history) xs c ≡ true → size k.history < slice_index k.words (stamp_at (layout_of key) c)
 
 -- what the keeper's view says, with senders at these places
 abbrev pub shown : Layout → KeeperView → (ℕ → Whereabouts) → State
@@ -99,6 +105,8 @@ pub record IsKept (z : Layout) (origin : OriginView) (k : KeeperView) : Type 0 w
   pub given : length k.given ≡ z.senders
   -- word 0 counts the changes
   pub version : slice_index k.words 0 ≡ size k.history
+  -- since as many changes as a stamp says none has affected its class reference
+  pub stamps : (c : ClassRef) → c.class < z.classes → last_affected k.history c ≤ slice_index k.words (stamp_at z c)
   pub begins : BeginsWith k.history (empty origin)
   pub accepted : IsAccepted k.history
   pub told : BeginsWith k.history k.told

@@ -5,10 +5,10 @@ ghost use Rattle.msg_buckets.specs.Capacity.{IsCapacity};
 ghost use Rattle.msg_core.specs.State.{capacity};
 ghost use Rattle.msg_cache.specs.Config.{IsLeastUnlessMemory, NoneHoldsIfMemory};
 ghost use Rattle.msg_cache.specs.Keeping.{AreGroups, IsGroup};
-ghost use Rattle.msg_cache.specs.Layout.{layout_of, setting_for, total, base as base_of, probes as probes_of, probe_at, word_count};
+ghost use Rattle.msg_cache.specs.Layout.{layout_of, setting_for, total, base as base_of, probes as probes_of, stamp_at, probe_at, word_count};
 ghost use Rattle.msg_cache.specs.Plays.{kept};
 ghost use Rattle.msg_cache.specs.Rule.{first_keeper};
-ghost use Rattle.msg_cache.specs.Views.{layout};
+ghost use Rattle.msg_cache.specs.Views.{classes, layout};
 
 use crate::config::{ArenaFault, Config, capacities_of, firsts_of};
 use crate::keeper::Keeper;
@@ -17,6 +17,7 @@ use crate::setting::Setting;
 use crate::steps::{Seat, Words};
 use crate::view::View;
 use atomic_table::Table;
+use msg_names::ClassRef;
 use msg_tables::{HasOrigin, MOST_SENDERS, Origin};
 use std::alloc::{AllocError, Global};
 use std::marker::Model;
@@ -37,6 +38,7 @@ pub struct Arena {
     // the number of the first array of each capacity, and how many there are
     firsts: [usize; 10],
     senders: u32,
+    stamps: usize,
     probes: usize,
 }
 
@@ -155,6 +157,24 @@ impl Arena {
         (self.firsts[at], self.firsts[at + 1])
     }
 
+    // How many classes there are.
+    pub(crate) fn classes(&self) -> u32
+        ensures { result ≡ classes self.now }
+    {
+        (self.probes - self.stamps) as u32 / 2
+    }
+
+    // Where the stamp of a class reference stands.
+    #[inline(always)]
+    pub(crate) fn stamp_at(&self, class: ClassRef) -> usize
+        requires { class.class < classes self.now }
+        ensures place { result ≡ stamp_at (layout_of self.now.key) class }
+        ensures within { result < probes_of (layout_of self.now.key) }
+        ensures few { probes_of (layout_of self.now.key) ≤ self.now.table.words }
+    {
+        self.stamps + class.slot()
+    }
+
     // Where the probe word of a sender stands.
     #[inline(always)]
     pub(crate) fn probe_at(&self, number: u32) -> usize
@@ -196,6 +216,9 @@ impl Arena {
             })?;
             probes += *capacity as usize;
         }
+        // 8 words before the stamps and 8 before the probe words stay unused: so no line of 64 bytes has words of two of these kinds.
+        let stamps = probes + 8;
+        let probes = stamps + 2 * origin.class_count() as usize;
         let count = probes + 8 * senders as usize;
         let mut words = vec![in alloc; 0u64; count]?;
         let (table, seat) = Table::of_words(alloc, &words, &setting)?;
@@ -205,6 +228,7 @@ impl Arena {
             spans,
             firsts,
             senders,
+            stamps,
             probes,
         };
         Ok((arena, seat, words))

@@ -11,7 +11,9 @@ ghost use Rattle.msg_core.specs.declared.state.Standing.TheVariants.{Free, Live}
 ghost use Rattle.msg_cache.specs.declared.view.TurnAt.TheVariants.{Never};
 ghost use Rattle.msg_cache.specs.Counts.{AreCounts, CountsGrowth, CountsInstall, after_collection, after_entry, after_flush, after_refusal};
 ghost use Rattle.msg_cache.specs.Keeping.{header as header_of, standing_of, EndsAt, IsFreeArray, OnUse, OnTake, TakesOneMore, lowest_free, Collects};
-ghost use Rattle.msg_cache.specs.Plays.{kept, keeper_of, flushed, installed, committed, lent, is_lent, given_out, given_again, taken_in, renewed};
+ghost use Rattle.msg_cache.specs.Layout.{stamp_at};
+ghost use Rattle.msg_core.specs.Stamps.{last_affected};
+ghost use Rattle.msg_cache.specs.Plays.{kept, keeper_of, stored, flushed, installed, committed, lent, is_lent, given_out, given_again, taken_in, renewed};
 ghost use Rattle.msg_cache.specs.Seats.{IsKeeper, keeper_at};
 ghost use Rattle.msg_cache.specs.Uses.{all_free, settled};
 ghost use Rattle.msg_cache.specs.Views.{layout, classes, IsFoundAt, IsNewcomer, IsSenderOf, IsTurnAt};
@@ -24,7 +26,7 @@ use crate::prober::Prober;
 use crate::standings::Standings;
 use crate::steps::{
     Seat, header_at, join_sender, join_turn, split_sender, split_turn, store_array, store_count,
-    store_entry, store_none, witness,
+    store_entry, store_none, store_stamp, witness,
 };
 use crate::view::View;
 use atomic_table::Badge;
@@ -35,6 +37,9 @@ use std::alloc::{AllocError, Global};
 use std::marker::{Brand, Model};
 use std::mem::replace;
 use std::slice::from_ref;
+
+/// The stamp of a class reference that is closed: nothing is noted after so many changes.
+pub const CLOSED: u64 = 18_446_744_073_709_551_615;
 
 /// The keeper, with its own copy of all words but the probe words.
 #[derive(Drop)]
@@ -146,7 +151,7 @@ impl Model for Turn {
 }
 
 impl Keeper {
-    ghost use Rattle.msg_cache.specs.Ours.{AffectedAreFlushed, AllAffectedAreFlushed, CanUseFor, CannotBeGiven, ChangesIf, CountsFillWith, CountsIf, FillsPlace, FillsWith, GrowsInto, IsOf, RemembersCapacity, view, way_for};
+    ghost use Rattle.msg_cache.specs.Ours.{AffectedAreClosed, AffectedAreFlushed, AllAffectedAreClosed, AllAffectedAreFlushed, CanUseFor, CannotBeGiven, ChangesIf, Chills, ClosesSome, CommitsClosed, CountsFillWith, CountsIf, FillsPlace, FillsWith, GrowsInto, IsClosed, IsCold, IsOf, RemembersCapacity, StayCold, closed, is_closed, opened, view, way_for};
 
     // The keeper of an arena that was just made, with these words, which are a copy of the arena's.
     pub(crate) fn first(
@@ -410,12 +415,122 @@ impl Keeper {
         true
     }
 
-    /// Adds a change to the history, and answers how many times changes were made.
+    // Stores the stamp of a class reference: of no less than the number of the last change that affects it.
+    fn stamp(&mut self, arena: &Arena, class: ClassRef, count: u64)
+        requires arena { IsOf arena.now self.old }
+        requires class { class.class < classes arena.now }
+        requires since { last_affected (view self.old).history class ≤ count }
+        ensures arena { IsOf arena.now self.new }
+        ensures remembered { self.new.remembered.items ≡ self.old.remembered.items }
+        ensures report { self.new.report ≡ self.old.report }
+        ensures view { view self.new ≡ stored (stamp_at (layout arena.now) class) count (view self.old) }
+    {
+        let place = arena.stamp_at(class);
+        let shared = arena.shared();
+        store_stamp::<Brand>(shared, &mut self.seat, class, place, count);
+        self.words[place] = count;
+    }
+
+    /// Closes a class reference, so that none of its notes holds until it is opened, and says whether it was open.
+    pub fn close(&mut self, arena: &Arena, class: ClassRef) -> bool
+        requires arena { IsOf arena.now self.old }
+        requires class { class.class < classes arena.now }
+        ensures arena { IsOf arena.now self.new }
+        ensures remembered { self.new.remembered.items ≡ self.old.remembered.items }
+        ensures report { self.new.report ≡ self.old.report }
+        ensures open { result ≡ not (is_closed (layout arena.now) (view self.old) class) }
+        ensures view { view self.new ≡ closed (layout arena.now) class (view self.old) }
+        ensures closed { IsClosed arena.now self.new class }
+    {
+        // no count of changes is above that of a closed one
+        let _count = self.count;
+        let place = arena.stamp_at(class);
+        let stamp = self.words[place];
+        if stamp == CLOSED {
+            return false;
+        }
+        self.stamp(arena, class, CLOSED);
+        true
+    }
+
+    /// Closes a class reference and takes its live array away: so a change may be made that affects it.
+    pub fn chill(&mut self, arena: &Arena, class: ClassRef)
+        requires arena { IsOf arena.now self.old }
+        requires class { class.class < classes arena.now }
+        ensures arena { IsOf arena.now self.new }
+        ensures view { Chills arena.now class self.old self.new }
+        ensures history { (view self.new).history ≡ (view self.old).history }
+        ensures given { (view self.new).given ≡ (view self.old).given }
+        ensures cold { IsCold arena.now self.new class }
+        ensures others { StayCold arena.now self.old self.new }
+    {
+        self.close(arena, class);
+        self.flush(arena, class);
+    }
+
+    /// Opens a class reference, so that what is noted of it from now on holds until it is closed, and says whether it was closed.
+    pub fn open(&mut self, arena: &Arena, class: ClassRef) -> bool
+        requires arena { IsOf arena.now self.old }
+        requires class { class.class < classes arena.now }
+        ensures arena { IsOf arena.now self.new }
+        ensures remembered { self.new.remembered.items ≡ self.old.remembered.items }
+        ensures report { self.new.report ≡ self.old.report }
+        ensures closed { result ≡ is_closed (layout arena.now) (view self.old) class }
+        ensures view { view self.new ≡ opened (layout arena.now) class (view self.old) }
+        ensures history { (view self.new).history ≡ (view self.old).history }
+        ensures given { (view self.new).given ≡ (view self.old).given }
+    {
+        let place = arena.stamp_at(class);
+        let stamp = self.words[place];
+        if stamp == CLOSED {
+            self.stamp(arena, class, self.count);
+            return true;
+        }
+        false
+    }
+
+    // Closes each class reference that is open.
+    fn close_all(&mut self, arena: &Arena)
+        requires arena { IsOf arena.now self.old }
+        ensures arena { IsOf arena.now self.new }
+        ensures remembered { self.new.remembered.items ≡ self.old.remembered.items }
+        ensures report { self.new.report ≡ self.old.report }
+        ensures view { ClosesSome arena.now self.old self.new }
+        ensures closed { (c : ClassRef) → c.class < classes arena.now → IsClosed arena.now self.new c }
+    {
+        for class in 0..arena.classes() {
+            self.close(arena, ClassRef { class, meta: false });
+            self.close(arena, ClassRef { class, meta: true });
+        }
+    }
+
+    /// Adds a change to the history, and answers how many times changes were made. Each class reference that is open is closed before. Who has closed those that the change affects calls
+    /// `commit_closed`, which closes no other.
     pub fn commit(&mut self, arena: &Arena, turn: &mut Turn, change: &Change) -> u64
         requires arena { IsOf arena.now self.old }
         requires turn { turn.old.table ≡ arena.now.table }
         requires accepted { refusal (log (view self.old).history) change.now ≡ None }
         requires flushed { AffectedAreFlushed arena.now change.now self.old }
+        ensures arena { IsOf arena.now self.new }
+        ensures remembered { self.new.remembered.items ≡ self.old.remembered.items }
+        ensures report { self.new.report ≡ self.old.report }
+        ensures turn { turn.new.table ≡ turn.old.table }
+        ensures committed { CommitsClosed arena.now (change.now ∷ []) self.old self.new }
+        ensures turn_was { turn.old.history ≡ (view self.old).history }
+        ensures turn_is { turn.new.history ≡ (view self.new).history }
+        ensures count { result ≡ size (view self.new).history }
+    {
+        self.close_all(arena);
+        self.commit_closed(arena, turn, change)
+    }
+
+    /// The same, where each class reference that the change affects is closed. No other is.
+    pub fn commit_closed(&mut self, arena: &Arena, turn: &mut Turn, change: &Change) -> u64
+        requires arena { IsOf arena.now self.old }
+        requires turn { turn.old.table ≡ arena.now.table }
+        requires accepted { refusal (log (view self.old).history) change.now ≡ None }
+        requires flushed { AffectedAreFlushed arena.now change.now self.old }
+        requires closed { AffectedAreClosed arena.now change.now self.old }
         ensures arena { IsOf arena.now self.new }
         ensures remembered { self.new.remembered.items ≡ self.old.remembered.items }
         ensures report { self.new.report ≡ self.old.report }
@@ -428,13 +543,15 @@ impl Keeper {
         self.commit_all(arena, turn, &from_ref(change))
     }
 
-    /// Adds changes to the history that are made as one, and answers how many times changes were made. The count is stored once: no sender sees some of them alone.
+    /// Adds changes to the history that are made as one, where each class reference that one of them affects is closed, and answers how many times changes were made. The count is stored once: no
+    /// sender sees some of them alone.
     pub fn commit_all<L: ChangeList>(&mut self, arena: &Arena, turn: &mut Turn, changes: &L) -> u64
         requires arena { IsOf arena.now self.old }
         requires turn { turn.old.table ≡ arena.now.table }
         requires some { 0 < length (L.changes changes.now) }
         requires accepted { refusal_of_all (log (view self.old).history) (L.changes changes.now) ≡ None }
         requires flushed { AllAffectedAreFlushed arena.now (L.changes changes.now) self.old }
+        requires closed { AllAffectedAreClosed arena.now (L.changes changes.now) self.old }
         ensures arena { IsOf arena.now self.new }
         ensures remembered { self.new.remembered.items ≡ self.old.remembered.items }
         ensures report { self.new.report ≡ self.old.report }

@@ -3,7 +3,7 @@
 ghost use Rattle.std.specs.Prelude.{ℕ};
 ghost use Rattle.msg_tables.specs.History.{lookup};
 ghost use Rattle.msg_core.specs.declared.state.Whereabouts.TheVariants.{In, Out};
-ghost use Rattle.msg_cache.specs.Plays.{keeper_of, Headed, Reads, Published, Goes, Stores, Flushes, Installs, Commits, Looks, RestLooks, Witnesses, joined, split_left, split_right, lent_left, lent_right};
+ghost use Rattle.msg_cache.specs.Plays.{keeper_of, Headed, Reads, Published, Stamped, Goes, Stores, Flushes, Installs, Commits, Looks, RestLooks, Witnesses, joined, split_left, split_right, lent_left, lent_right};
 ghost use Rattle.msg_cache.specs.Rule.{TidyBy};
 
 use crate::view::View;
@@ -51,6 +51,14 @@ pub(crate) struct Version;
 
 impl Play<u8, View> for Version {
     ghost then = { Published };
+}
+
+pub(crate) struct Stamp<Q> {
+    of: PhantomData<Q>,
+}
+
+impl<Q: Asks> Play<u8, View> for Stamp<Q> {
+    ghost then = { Stamped Q.class };
 }
 
 pub(crate) struct Enter;
@@ -148,15 +156,33 @@ impl Play<u8, View> for Witness {
     ghost then = { Witnesses };
 }
 
+/// Which sender number is given out, and which stamps its sender says that it has loaded.
+pub(crate) trait Gives {
+    ghost use Rattle.std.specs.Prelude.{List};
+    ghost use Rattle.msg_names.specs.declared.value.ClassRef.{ClassRef};
+
+    ghost number: { ℕ };
+
+    ghost stamps: { List (ClassRef × ℕ) };
+}
+
+impl Gives for Brand {
+    ghost use Rattle.msg_cache.specs.Plays.{no_stamps};
+
+    ghost number = { 0 };
+
+    ghost stamps = { no_stamps };
+}
+
 /// The seat of a sender number is split off.
 pub(crate) struct Give<Q> {
     of: PhantomData<Q>,
 }
 
-impl<Q: About> Split<View> for Give<Q> {
+impl<Q: Gives> Split<View> for Give<Q> {
     ghost left = { split_left Q.number };
 
-    ghost right = { split_right Q.number };
+    ghost right = { split_right Q.number Q.stamps };
 }
 
 /// The turn's seat is split off.

@@ -1,19 +1,20 @@
 //! Senders, who read caches without a lock.
 
-ghost use Rattle.std.specs.Prelude.{◌≡◌, ◌≢◌, ◌<◌, [], length, IfSome, IfNone};
+ghost use Rattle.std.specs.Prelude.{◌≡◌, ◌≢◌, ◌<◌, ◌+◌, ◌≤◌, [], length, IfSome, IfNone};
 ghost use Rattle.msg_tables.specs.History.{BeginsWith, lookup};
 ghost use Rattle.msg_core.specs.State.{size};
 ghost use Rattle.msg_core.specs.declared.state.Whereabouts.TheVariants.{In, Out};
-ghost use Rattle.msg_cache.specs.Plays.{seated, given_again, taken_in, renewed};
+ghost use Rattle.msg_cache.specs.Plays.{seated, given_again, taken_in, renewed, stamped_to};
 ghost use Rattle.msg_cache.specs.Record.{MadeNoProbe, Misses};
 ghost use Rattle.msg_cache.specs.Rule.{IsAccepted, TidyBy};
+ghost use Rattle.msg_core.specs.Stamps.{last_affected};
 ghost use Rattle.msg_cache.specs.Seats.{CanReach, IsKeeper, IsSameSeat, IsSender, KnowsNow, keeper_at, prober_at, sender_at};
 ghost use Rattle.msg_cache.specs.Views.{HitsAndIsFound, IsSenderOf, ProbesFor, classes, layout};
 
 use crate::arena::Arena;
 use crate::steps::{
-    Seat, Words, enter, join_sender, leave, load_bucket, load_header, load_version, split_sender,
-    witness,
+    Seat, Words, enter, join_sender, leave, load_bucket, load_header, load_stamp, load_version,
+    split_again, witness,
 };
 use crate::view::View;
 use atomic_table::Badge;
@@ -21,6 +22,7 @@ use msg_buckets::{Look, first_place, look_at, next_place};
 use msg_names::{ClassRef, ImpRef, Selector};
 use std::marker::{Brand, Model};
 use std::mem::replace;
+use std::snapshot::Snapshot;
 
 /// What is called between the loads of a probe.
 pub trait Pause {
@@ -132,7 +134,7 @@ impl Prober {
         }
     }
 
-    // Is joined to the keeper's seat, and split off again with the same number, at the keeper's history.
+    // Is joined to the keeper's seat, and split off again with the same number, at the keeper's history. It still says which stamps it has loaded.
     pub(crate) fn renew(&mut self, words: &Words, keeper: &mut Seat)
         requires own { self.old.table ≡ words.now.table_id }
         requires table { CanReach words.now.table_id keeper.old 0 }
@@ -146,10 +148,11 @@ impl Prober {
         ensures sender { self.new.sender ≡ renewed self.old.sender (keeper_at keeper.old).history }
         ensures begins { BeginsWith (keeper_at keeper.old).history self.old.sender.front }
     {
+        let before = Snapshot::of(&*self);
         let seat = replace(&mut self.badge, Badge::blank()).into_seat();
         join_sender(words, keeper, seat);
         witness::<Brand>(words, keeper);
-        let seat = split_sender::<Brand>(words, keeper, self.number);
+        let seat = split_again::<Brand>(words, keeper, self.number, &before);
         self.badge = seat.into_badge();
         self.loads = 0;
     }
@@ -209,10 +212,31 @@ impl Prober {
         ensures begins { BeginsWith self.new.sender.front self.old.sender.front }
         ensures accepted { IsAccepted self.new.sender.front }
         ensures length { result ≡ size self.new.sender.front }
+        ensures looked { self.new.sender.looks ≡ self.old.sender.looks + 1 }
+        ensures stamps { self.new.sender.stamps ≡ self.old.sender.stamps }
     {
         let mut seat = replace(&mut self.badge, Badge::blank()).into_seat();
         let shared = arena.shared();
         let count = load_version(shared, &mut seat);
+        self.badge = seat.into_badge();
+        count
+    }
+
+    /// The stamp of a class reference: no change after so many has affected it. The sender has then seen all changes.
+    #[inline]
+    pub fn stamp(&mut self, arena: &Arena, class: ClassRef) -> u64
+        requires arena { IsSenderOf arena.now self.old }
+        requires class { class.class < classes arena.now }
+        ensures arena { IsSenderOf arena.now self.new }
+        ensures loaded { self.new.sender ≡ stamped_to self.old.sender self.new.sender.front class result }
+        ensures begins { BeginsWith self.new.sender.front self.old.sender.front }
+        ensures accepted { IsAccepted self.new.sender.front }
+        ensures since { last_affected self.new.sender.front class ≤ result }
+    {
+        let mut seat = replace(&mut self.badge, Badge::blank()).into_seat();
+        let shared = arena.shared();
+        let place = arena.stamp_at(class);
+        let count = load_stamp::<Brand>(shared, &mut seat, class, place);
         self.badge = seat.into_badge();
         count
     }

@@ -11,22 +11,25 @@ ghost use Rattle.msg_core.specs.declared.state.Whereabouts.TheVariants.{In, Out,
 ghost use Rattle.msg_core.specs.State.{size, awaits};
 ghost use Rattle.msg_core.specs.View.{standing_at};
 ghost use Rattle.msg_cache.specs.declared.view.TurnAt.TheVariants.{Away, Home};
-ghost use Rattle.msg_cache.specs.Layout.{IsPlace, IsProbeWord, layout_of, header_at, probe_at};
-ghost use Rattle.msg_cache.specs.Plays.{SawVersion, SawWord, IsTold, seated, turn_of, stored, flushed, installed, committed, looked, rest_looked, given_out, taken_in, newcomer, lent, at_home, turn_view};
-ghost use Rattle.msg_cache.specs.Rule.{HasNoEntry, LiveWordsAgreeAfter, NoneIsGivenFrom, TidyBy};
+ghost use Rattle.msg_cache.specs.Layout.{IsPlace, IsProbeWord, layout_of, header_at, stamp_at, probe_at};
+ghost use Rattle.msg_cache.specs.Plays.{SawStamp, SawVersion, SawWord, IsTold, seated, turn_of, stored, flushed, installed, committed, looked, rest_looked, given_out, taken_in, newcomer, newcomer_with, lent, at_home, turn_view};
+ghost use Rattle.msg_cache.specs.Rule.{HasNoEntry, LiveWordsAgreeAfter, NoneIsGivenFrom, StampsAreClosedFor, TidyBy};
+ghost use Rattle.msg_core.specs.Stamps.{last_affected};
 ghost use Rattle.msg_cache.specs.Seats.{CanReach, FoundHeader, IsKeeper, IsSameSeat, IsSender, KnowsNow, WentTo, keeper_at, sender_at};
 ghost use Rattle.msg_cache.specs.Views.{IsEntryFor};
 
 use crate::plays::{
-    About, Asks, Bucket, Commit, Enter, Flush, Gather, Give, Header, Install, Leave, Lend, Look,
-    LookAtRest, Store, Tidied, Version, Witness,
+    About, Asks, Bucket, Commit, Enter, Flush, Gather, Give, Gives, Header, Install, Leave, Lend,
+    Look, LookAtRest, Stamp, Store, Tidied, Version, Witness,
 };
+use crate::prober::Prober;
 use crate::rule::Rule;
 use crate::setting::Setting;
 use crate::view::View;
 use atomic_table::Shared;
 use msg_names::{ClassRef, Selector};
 use msg_tables::ChangeList;
+use std::snapshot::Snapshot;
 
 pub(crate) type Words = Shared<u8, View, Setting, Rule>;
 
@@ -89,6 +92,25 @@ pub(crate) fn load_version(words: &Words, seat: &mut Seat) -> u64
     ensures told { SawVersion result (sender_at seat.old) seat.new.me }
 {
     words.load::<Version>(seat, 0)
+}
+
+// No event: a sender loads the stamp of a class reference.
+pub(crate) fn load_stamp<Q: Asks>(
+    words: &Words,
+    seat: &mut Seat,
+    _class: ClassRef,
+    place: usize,
+) -> u64
+    requires table { CanReach words.now.table_id seat.old place }
+    requires class_asked { Q.class ≡ _class }
+    requires sender { IsSender seat.old }
+    requires free { (c : ClassRef) (a : ℕ) → (sender_at seat.old).whereabouts ≢ Holding c a }
+    requires class { _class.class < class_total words.now.key.origin }
+    requires place { place ≡ stamp_at (layout_of words.now.key) _class }
+    ensures seat { IsSameSeat seat.old seat.new }
+    ensures told { SawStamp _class result (sender_at seat.old) seat.new.me }
+{
+    words.load::<Stamp<Q>>(seat, place)
 }
 
 // Enter: a sender sets its probe word.
@@ -191,6 +213,27 @@ pub(crate) fn store_array<Q: About>(words: &Words, seat: &mut Seat, class: Class
     words.store::<Tidied<Install, Q>>(seat, header_at(class), array as u64 + 1);
 }
 
+// No event: a stamp is stored, of no less than the number of the last change that affects its class reference.
+pub(crate) fn store_stamp<Q: About>(
+    words: &Words,
+    seat: &mut Seat,
+    _class: ClassRef,
+    place: usize,
+    count: u64,
+)
+    requires table { CanReach words.now.table_id seat.old place }
+    requires about { Q.key ≡ words.now.key }
+    requires keeper { IsKeeper seat.old }
+    requires class { _class.class < class_total words.now.key.origin }
+    requires place { place ≡ stamp_at (layout_of words.now.key) _class }
+    requires since { last_affected (keeper_at seat.old).history _class ≤ count }
+    ensures seat { IsSameSeat seat.old seat.new }
+    ensures told { KnowsNow (stored place count) seat.old seat.new }
+    ensures tidy { TidyBy lookup words.now.key (keeper_at seat.new) }
+{
+    words.store::<Tidied<Store, Q>>(seat, place, count);
+}
+
 // Commit: the count of changes is stored, while the turn is joined.
 pub(crate) fn store_count<Q: About, L: ChangeList>(
     words: &Words,
@@ -205,6 +248,7 @@ pub(crate) fn store_count<Q: About, L: ChangeList>(
     requires count { count ≡ size (keeper_at seat.old).history + 1 }
     requires some { 0 < length (L.changes changes.now) }
     requires accepted { refusal_of_all (log (keeper_at seat.old).history) (L.changes changes.now) ≡ None }
+    requires closed { StampsAreClosedFor words.now.key (keeper_at seat.old) (L.changes changes.now) }
     requires agrees { LiveWordsAgreeAfter lookup words.now.key (keeper_at seat.old) (L.changes changes.now) }
     ensures seat { IsSameSeat seat.old seat.new }
     ensures told { KnowsNow (committed (L.changes changes.now)) seat.old seat.new }
@@ -254,9 +298,10 @@ pub(crate) fn witness<Q: About>(words: &Words, seat: &mut Seat)
 }
 
 // No event: a sender's seat is split off, at the keeper's history.
-pub(crate) fn split_sender<Q: About>(words: &Words, seat: &mut Seat, number: u32) -> Seat
+pub(crate) fn split_sender<Q: Gives>(words: &Words, seat: &mut Seat, number: u32) -> Seat
     requires table { CanReach words.now.table_id seat.old 0 }
     requires about { Q.number ≡ number }
+    requires unstamped { Q.stamps ≡ [] }
     requires keeper { IsKeeper seat.old }
     requires number { number < words.now.key.senders }
     requires free { awaits (keeper_at seat.old).given number ≡ false }
@@ -264,6 +309,27 @@ pub(crate) fn split_sender<Q: About>(words: &Words, seat: &mut Seat, number: u32
     ensures told { KnowsNow (given_out number) seat.old seat.new }
     ensures table { result.table_id ≡ seat.old.table_id }
     ensures sender { result.me ≡ seated (newcomer number (keeper_at seat.old).history) }
+{
+    words.split_seat::<Give<Q>>(seat)
+}
+
+// The same, of a sender that was given out before: it still says which stamps it had loaded.
+pub(crate) fn split_again<Q: Gives>(
+    words: &Words,
+    seat: &mut Seat,
+    number: u32,
+    _before: &Snapshot<Prober>,
+) -> Seat
+    requires table { CanReach words.now.table_id seat.old 0 }
+    requires about { Q.number ≡ number }
+    requires stamped { Q.stamps ≡ _before.now.value.sender.stamps }
+    requires keeper { IsKeeper seat.old }
+    requires number { number < words.now.key.senders }
+    requires free { awaits (keeper_at seat.old).given number ≡ false }
+    ensures seat { IsSameSeat seat.old seat.new }
+    ensures told { KnowsNow (given_out number) seat.old seat.new }
+    ensures table { result.table_id ≡ seat.old.table_id }
+    ensures sender { result.me ≡ seated (newcomer_with number _before.now.value.sender.stamps (keeper_at seat.old).history) }
 {
     words.split_seat::<Give<Q>>(seat)
 }

@@ -28,12 +28,16 @@ pub struct Record {
     pub reads: LinkedList<(u64, u64)>,
 }
 
-/// What a sender's seat knows: its number, what it has seen of the history, where it is, how many header loads it made, and the last probe.
+/// What a sender's seat knows: its number, what it has seen of the history, where it is, how many
+/// header loads it made, how often it loaded the count of changes, the stamps that it loaded, the last
+/// one first, each with its class reference, and the last probe.
 pub struct SenderView {
     pub number: u64,
     pub front: Past,
     pub whereabouts: Whereabouts,
     pub count: u64,
+    pub looks: u64,
+    pub stamps: LinkedList<(ClassRef, u64)>,
     pub last: Record,
 }
 

@@ -1,5 +1,6 @@
 pub mod BelowLemmas
 pub mod EffectLemmas
+pub mod FilledLemmas
 pub mod KeepLemmas
 pub mod LegalLemmas
 pub mod LegalSteps
@@ -7,4 +8,5 @@ pub mod OpenLemmas
 pub mod PointLemmas
 pub mod ReadLemmas
 pub mod RunLemmas
+pub mod StampLemmas
 pub mod WholeLemmas

@@ -145,7 +145,7 @@ module _ (look : History → ClassRef → ℕ → ℕ) (z : Layout) (some_sender
 -- ---- who holds an array has loaded a header word
 
 module _ (z : Layout) (n : ℕ) (c : ClassRef) (a : ℕ) where
-  held_before : (m : State) (e : Event) → IsNoHeader n e → (after z m e).whereabouts n ≡ Holding c a → m.whereabouts n ≡ Holding c a
+  pub held_before : (m : State) (e : Event) → IsNoHeader n e → (after z m e).whereabouts n ≡ Holding c a → m.whereabouts n ≡ Holding c a
   held_before m (Enter j) other h = ⊎_elim (λ (t : (n ≡ j) × (In ≡ Holding c a)). let u = t.1 in absurd (cc)) (λ (t : (n ≢ j) × (m.whereabouts n ≡ Holding c a)). t.1) (moved m.whereabouts j In n c a h)
   held_before m (Header j d) other h = sym (at_other m.whereabouts j (seeing d (m.live d)) n (λ eq. other (sym eq))) ∙ h
   held_before m (Read j p) other h = h

@@ -1,13 +1,17 @@
 -- Laws of the machine: of every lookup, every layout with some sender, and every list of events that isn't refused.
-use Rattle.std.specs.Prelude.{◌≡◌, ◌≢◌, ℕ, ◌<◌, List, [], ◌∷◌, ◌++◌, All}
+use Rattle.std.specs.Prelude.{◌≡◌, ◌≢◌, ℕ, suc, ◌<◌, ◌≤◌, List, [], ◌∷◌, ◌++◌, All, if◌then◌else◌}
 use Rattle.msg_names.specs.declared.value.ClassRef.{ClassRef}
 use Rattle.msg_buckets.specs.Word.{sel_of}
-use Rattle.msg_tables.specs.Origin.{OriginView}
-use Rattle.msg_tables.specs.History.{History}
-use Rattle.msg_core.specs.Event.{Event, Header, Read, Install, Clear}
+use Rattle.msg_tables.specs.declared.change.Change.{Change}
+use Rattle.msg_tables.specs.Origin.{OriginView, IsSound}
+use Rattle.msg_tables.specs.History.{History, BeginsWith, and_then, log, lookup}
+use Rattle.msg_tables.specs.Refusal.{IsLog}
+use Rattle.msg_tables.specs.Several.{is_affected_by_all}
+use Rattle.msg_core.specs.Event.{Event, Header, Read, Fill, Install, Clear}
 use Rattle.msg_core.specs.declared.state.Whereabouts.TheVariants.{Holding}
-use Rattle.msg_core.specs.Runs.{opening, after_all, AreLegal, IsNoHeader, HasLoaded, AgreesBetween}
-use Rattle.msg_core.specs.State.{Layout, State, Lawful, Sound, size}
+use Rattle.msg_core.specs.Runs.{opening, after_all, AreLegal, IsNoHeader, LeavesArrayOf, HasLoaded, AgreesBetween}
+use Rattle.msg_core.specs.Stamps.{last_affected}
+use Rattle.msg_core.specs.State.{Layout, State, Lawful, Sound, first, size}
 use Rattle.msg_core.specs.Steps.{after, Legal, held_word}
 
 -- an event that isn't refused keeps a sound state sound
@@ -57,3 +61,28 @@ ReadAgreesSinceHeader = (look : History → ClassRef → ℕ → ℕ) (z : Layou
     → let m = after_all z (opening origin) (before ++ Header n c ∷ mid) in
     held_word m.word (m.whereabouts n) p ≢ 0
     → AgreesBetween look (size (after_all z (opening origin) before).history) m.history c (held_word m.word (m.whereabouts n) p)
+
+-- A word that was filled in is read at its place by each sender whose last header load came before the class reference was flushed or had another array.
+abbrev pub FilledIsRead : Type 0
+FilledIsRead = (look : History → ClassRef → ℕ → ℕ) (z : Layout) (origin : OriginView) (before mid more : List Event) (n : ℕ) (c : ClassRef) (p w : ℕ) → 0 < z.senders
+    → AreLegal look z (opening origin) (before ++ Fill c p w ∷ mid ++ Header n c ∷ more ++ Read n p ∷ []) → All (LeavesArrayOf c) mid → All (IsNoHeader n) more
+    → let m = after_all z (opening origin) (before ++ Fill c p w ∷ mid ++ Header n c ∷ more) in held_word m.word (m.whereabouts n) p ≡ w
+
+-- ---- how long lookups stay
+
+-- After any number of changes since the last that affects a class reference, its lookups are those of all changes.
+abbrev pub LookupStaysSince : Type 0
+LookupStaysSince = (h : History) (c : ClassRef) (s k : ℕ) → IsSound h.origin → IsLog (log h) → last_affected h c ≤ k → k ≤ size h → lookup (first k h) c s ≡ lookup h c s
+
+-- the same of a history and one that begins with it
+abbrev pub LookupStaysInLonger : Type 0
+LookupStaysInLonger = (p h : History) (c : ClassRef) (s : ℕ) → IsSound p.origin → IsLog (log p) → BeginsWith p h → last_affected p c ≤ size h → lookup p c s ≡ lookup h c s
+
+-- one list of changes more is the last that affects a class reference, or is none of those that do
+abbrev pub LastAffectedOfLonger : Type 0
+LastAffectedOfLonger = (h : History) (xs : List Change) (c : ClassRef)
+    → last_affected (and_then h xs) c ≡ (if is_affected_by_all (log h) xs c then suc (size h) else last_affected h c)
+
+-- the last that affects a class reference is one of the history's
+abbrev pub LastAffectedIsReached : Type 0
+LastAffectedIsReached = (h : History) (c : ClassRef) → last_affected h c ≤ size h

@@ -5,6 +5,7 @@ pub mod Inside
 pub mod Laws
 pub mod Runs
 pub mod Spoiled
+pub mod Stamps
 pub mod State
 pub mod Steps
 pub mod View

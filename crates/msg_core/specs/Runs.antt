@@ -43,6 +43,19 @@ IsNoHeader n (Look j) = Unit {0}
 IsNoHeader n (Clear a p) = Unit {0}
 IsNoHeader n (Commit xs) = Unit {0}
 
+-- the event neither flushes the class reference nor gives it another array
+abbrev pub LeavesArrayOf : ClassRef → Event → Type 0
+LeavesArrayOf c (Install d a) = d ≢ c
+LeavesArrayOf c (Flush d) = d ≢ c
+LeavesArrayOf c (Enter n) = Unit {0}
+LeavesArrayOf c (Header n d) = Unit {0}
+LeavesArrayOf c (Read n p) = Unit {0}
+LeavesArrayOf c (Leave n) = Unit {0}
+LeavesArrayOf c (Fill d p word) = Unit {0}
+LeavesArrayOf c (Look n) = Unit {0}
+LeavesArrayOf c (Clear a p) = Unit {0}
+LeavesArrayOf c (Commit xs) = Unit {0}
+
 -- the sender's last header load in a list of events was of this class reference
 abbrev pub HasLoaded : ℕ → ClassRef → List Event → Type 0
 HasLoaded n c es = (before : List Event) × (mid : List Event) × (es ≡ before ++ Header n c ∷ mid) × All (IsNoHeader n) mid

@@ -2,7 +2,7 @@
 //!
 //! They speak of the definitions alone, for every lookup function, so they hold of whatever keeps its words by these events.
 
-ghost use Rattle.msg_core.specs.Laws.{EventsKeepSound, HolderHasLoaded, NobodyHoldsCleared, NobodyHoldsInstalled, ReadAgreesSinceHeader, ReadHasSelector, ReaderHolds, RunsAreLawful, RunsAreSound};
+ghost use Rattle.msg_core.specs.Laws.{EventsKeepSound, FilledIsRead, HolderHasLoaded, LastAffectedIsReached, LastAffectedOfLonger, LookupStaysInLonger, LookupStaysSince, NobodyHoldsCleared, NobodyHoldsInstalled, ReadAgreesSinceHeader, ReadHasSelector, ReaderHolds, RunsAreLawful, RunsAreSound};
 
 /// Every event that isn't refused keeps a sound state sound.
 pub fn an_event_keeps_a_state_sound()
@@ -33,4 +33,23 @@ pub fn a_read_agrees_since_its_header_load()
     ensures holds { ReaderHolds }
     ensures entry { ReadHasSelector }
     ensures agrees { ReadAgreesSinceHeader }
+{}
+
+/// A word that was filled in stays until its class reference is flushed or has another array: each
+/// sender whose last header load came before that reads it at its place.
+pub fn a_filled_word_is_read()
+    ensures { FilledIsRead }
+{}
+
+/// A lookup stays since its class reference was last affected: at any point from there on it finds what
+/// it finds now.
+pub fn a_lookup_stays_since_its_class_was_affected()
+    ensures since { LookupStaysSince }
+    ensures longer { LookupStaysInLonger }
+{}
+
+/// One change more is the last that affects a class reference, or that is the one before.
+pub fn the_last_change_that_affects_is_counted()
+    ensures longer { LastAffectedOfLonger }
+    ensures reached { LastAffectedIsReached }
 {}

@@ -1,6 +1,6 @@
 -- Bytes that a source gave and a sink took in several calls.
 use Rattle.std.proofs.Common.{◌≡◌, ℕ, zero, suc, ◌+◌, ◌-◌, ◌≤◌, Bool, List, [], ◌∷◌, ◌++◌, Result, Ok, Err, take, drop, length, length-append, arith, Option, refl, sym, ap, ◌∙◌, subst}
-use Rattle.std.proofs.KnownBytes.{Appends-trans, Consumes-trans, Consumes-kept}
+use Rattle.std.proofs.KnownBytes.{Appends-trans, Consumes-nil, Consumes-trans, Consumes-kept}
 use Rattle.std.proofs.Math.Seq.{take-add}
 use Rattle.std.proofs.lemmas.List.{take_rest}
 use Rattle.std.specs.Prelude.{OnErr}
@@ -21,6 +21,10 @@ pub record HasTaken (old new : Option (List ℕ)) (was is : Bool) (bytes : List 
   pub within : count ≤ length bytes
   pub taken : Appends old new (take count bytes)
   pub mark : is ≡ was
+
+-- a source that isn't read gives nothing
+pub gives_nothing : (a : Option (List ℕ)) → GivesStart a a
+gives_nothing a = ([], omega arith, Consumes-nil a)
 
 -- one more read, of whatever outcome, after these bytes
 pub gives_start : {E : Type 0} (a b c : Option (List ℕ)) (bytes buffer : List ℕ) (r : Result ℕ E) → length bytes ≤ most_bytes → Consumes a b bytes → length buffer ≤ buffer_bytes → ReadsAtMost r buffer → ReadConsumes b c r buffer → GivesStart a c

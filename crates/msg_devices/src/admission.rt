@@ -2,10 +2,11 @@
 
 ghost use Rattle.std.specs.Prelude.{◌≡◌, ◌≢◌, ◌≤◌, ◌↔◌, ◌⊎◌, length, true, false};
 ghost use Rattle.std.specs.Prelude.{Err, IfOk, IfErr, OnErr, OnOk};
+ghost use Rattle.std.specs.Io.KnownBytes.{IsAtEnd};
 ghost use Rattle.msg_form.specs.declared.faults.DocumentFault.TheVariants as documents;
 ghost use Rattle.msg_image.specs.DocumentParts.{document_parts};
 ghost use Rattle.msg_devices.specs.Admission.{AreNoWorkers, IsNoCut, IsDocumentOf, TellsFaultOf};
-ghost use Rattle.msg_devices.specs.Reading.{IsSoundDocument};
+ghost use Rattle.msg_devices.specs.Reading.{GivesStart, IsSoundDocument};
 ghost use Rattle.msg_devices.specs.Writing.{Writes, Starts};
 
 use crate::device::{Sink, Source};
@@ -27,6 +28,8 @@ fn document<R: Source>(alloc: Global, source: &mut R) -> Result<Document, RunFau
     ensures fault { TellsFaultOf (R.remaining source.old) result }
     ensures memory { result ≢ Err (RunFault.Document documents.Memory) }
     ensures read { (result ≡ Err RunFault.Read) ↔ (R.mark source.new ≡ true) }
+    ensures taken { GivesStart (R.remaining source.old) (R.remaining source.new) }
+    ensures end { OnOk result (IsAtEnd (R.remaining source.new)) }
     ensures write { result ≢ Err RunFault.Write }
     ensures workers { result ≢ Err RunFault.Workers }
     ensures cut { result ≢ Err RunFault.Cut }
@@ -52,7 +55,10 @@ fn judge(workers: u32, cut: u32) -> Result<(), RunFault>
     Ok(())
 }
 
-/// The document of a run by so many workers and with this cut, if there can be one.
+/// The document of a run by so many workers and with this cut, if there can be one. The source is then
+/// read to its end; where there is none because the text is too long, past the limit by one buffer at
+/// most.
+#[tactic(auto, using(crate::proofs::ByteLemmas::gives_nothing))]
 pub fn admit<R: Source>(
     alloc: Global,
     source: &mut R,
@@ -70,6 +76,8 @@ pub fn admit<R: Source>(
     ensures fault { TellsFaultOf (R.remaining source.old) result }
     ensures memory { result ≢ Err (RunFault.Document documents.Memory) }
     ensures read { (result ≡ Err RunFault.Read) ↔ (R.mark source.new ≡ true) }
+    ensures taken { GivesStart (R.remaining source.old) (R.remaining source.new) }
+    ensures end { OnOk result (IsAtEnd (R.remaining source.new)) }
     ensures write { result ≢ Err RunFault.Write }
 {
     judge(workers, cut)?;

@@ -108,7 +108,8 @@ fn say_line<W: Sink>(sink: &mut W, program: Program, fault: Option<&RunFault>) -
 }
 
 fn status(fault: Option<&RunFault>) -> u8
-    ensures { result ≡ spec.status_of (option_copied fault.entry) }
+    ensures value { result ≡ spec.status_of (option_copied fault.entry) }
+    ensures few { (result ≡ 1) ⊎ (result ≡ 2) }
 {
     match fault {
         Some(RunFault::Document(fault)) if wants_memory(*fault) => 1,
@@ -122,6 +123,7 @@ fn status(fault: Option<&RunFault>) -> u8
 /// It takes no memory. A failed write ends the line and leaves the status.
 pub fn complain<W: Sink>(sink: &mut W, program: Program, fault: Option<&RunFault>) -> u8
     ensures status { result ≡ spec.status_of (option_copied fault.entry) }
+    ensures few { (result ≡ 1) ⊎ (result ≡ 2) }
     ensures line { W.mark sink.new ≡ false → Says W.contents sink.old sink.new program fault.entry }
     ensures start { Says W.contents sink.old sink.new program fault.entry
         ⊎ StartsSaying W.contents sink.old sink.new program fault.entry }

@@ -8,6 +8,7 @@ use Rattle.msg_runtime.proofs.CrossingLemmas.{Runtime-send}
 use Rattle.msg_dispatch.specs.declared.name.ArenaName.{Ghosts}
 use Rattle.msg_dispatch.specs.contracts.desk.Desk as Desk
 use Rattle.msg_dispatch.specs.contracts.dispatcher.Dispatcher as Dispatcher
+use Rattle.msg_dispatch.specs.contracts.recalling.Recalling as Recalling
 use Rattle.msg_dispatch.specs.contracts.sender.Sender as Sender
 
 module _ (N : RattleType) (g : Ghosts N.Denot) where
@@ -22,3 +23,6 @@ module _ (N : RattleType) (g : Ghosts N.Denot) where
 
   pub Sender-send : (κ : NamedLft) → IsSend (Sender.the_row κ N g)
   Sender-send κ = let d = Dispatcher-sync in search (Prober-send, sendable, crosses) depth 20
+
+  pub Recalling-send : (κ : NamedLft) → IsSend (Recalling.the_row κ N g)
+  Recalling-send κ = let s = Sender-send κ in search (sendable, crosses) depth 20

@@ -11,7 +11,8 @@ ghost use Rattle.msg_tables.specs.declared.fault.ChangeFault.{ChangeFault};
 ghost use Rattle.msg_cache.specs.Counts.{AreCounts, after_refusal};
 ghost use Rattle.msg_cache.specs.Plays.{taken_in};
 ghost use Rattle.msg_cache.specs.Views.{classes, IsFoundAt, IsSenderOf};
-ghost use Rattle.msg_reader.specs.Notes.{AreNotesOf};
+ghost use Rattle.msg_reader.specs.Kept.{KeepOthers};
+ghost use Rattle.msg_reader.specs.Notes.{AreNotesOf, IsNotedFor};
 ghost use Rattle.msg_runtime.specs.Parts.{AreOut, IsNew};
 ghost use Rattle.msg_runtime.specs.Changed.{IsAccepted, IsMadeAt, IsRefusedAt};
 ghost use Rattle.msg_dispatch.specs.Changed.{MarksAll, MarksTo};
@@ -87,6 +88,9 @@ impl<N: ArenaName> Desk<N> {
         ensures found { IsFoundAt reader.new.sender.front class sel result }
         ensures listed { imp_number result ≤ last_imp N.arena.key.origin.counts }
         ensures notes { AreNotesOf reader.new.sender.front notes.new }
+        ensures noted { IsNotedFor reader.new.sender.front notes.new class sel result }
+        ensures others { KeepOthers notes.old notes.new class sel }
+        ensures stamps { reader.new.sender.stamps ≡ reader.old.sender.stamps }
     {
         self.runtime.answer_noted(arena, reader, notes, class, sel)
     }
@@ -166,7 +170,7 @@ impl<N: ArenaName> Desk<N> {
     // A reader of a sender number that isn't given out.
     pub(crate) fn sender(&mut self, arena: &Arena) -> Option<Reader>
         requires arena { arena.now ≡ N.arena }
-        ensures reader { IfSome result (IsSenderOf N.arena) }
+        ensures reader { IfSome result (λ r. IsSenderOf N.arena r) }
         ensures new { IfSome result (λ r. IsNew r.sender self.old.keeper self.new.keeper) }
         ensures none { IsNone result → AreOut N.arena.key.senders self.old.keeper }
         ensures refused { IsNone result → self.new.report ≡ after_refusal self.old.report }

@@ -1,11 +1,14 @@
 //! A sender with notes of its own.
 
-ghost use Rattle.std.specs.Prelude.{◌≡◌, ◌<◌, length, IfErr, IfOk, IfSome};
+ghost use Rattle.std.specs.Prelude.{◌≡◌, ◌<◌, ◌+◌, length, option_map, IfErr, IfOk, IfSome};
 ghost use Rattle.msg_tables.specs.Origin.{class_total};
 ghost use Rattle.msg_tables.specs.History.{BeginsWith};
 ghost use Rattle.msg_cache.specs.Views.{IsFoundAt};
 ghost use Rattle.msg_reader.specs.Found.{IsListed};
-ghost use Rattle.msg_dispatch.specs.Seen.{TakesOnceAtMost};
+ghost use Rattle.msg_reader.specs.Kept.{KeepOthers, RecallsSince};
+ghost use Rattle.msg_reader.specs.Notes.{AreBlank};
+ghost use Rattle.msg_names.specs.Number.{imp_number, selector_number};
+ghost use Rattle.msg_dispatch.specs.Seen.{FindsRecalled, TakesOnceAtMost};
 
 use crate::changer::Changer;
 use crate::name::ArenaName;
@@ -17,7 +20,7 @@ use std::alloc::Global;
 use std::marker::Model;
 use std::sync::Wait;
 
-/// A sender that notes its lookups. Contracts see it as the sender.
+/// A sender that notes its lookups. Contracts see the sender, and its notes.
 #[derive(Drop)]
 pub struct Recalling<'d, N: ArenaName> {
     sender: Sender<'d, N>,
@@ -25,9 +28,9 @@ pub struct Recalling<'d, N: ArenaName> {
 }
 
 impl<'d, N: ArenaName> Model for Recalling<'d, N> {
-    ghost use Rattle.msg_dispatch.specs.Seen.{SenderView};
+    ghost use Rattle.msg_dispatch.specs.Seen.{RecallingView};
 
-    ghost Value = { SenderView };
+    ghost Value = { RecallingView };
 
     ghost use Rattle.std.specs.Coded.{codes};
 
@@ -35,7 +38,7 @@ impl<'d, N: ArenaName> Model for Recalling<'d, N> {
 
     ghost use Rattle.msg_reader.specs.Notes.{AreNotesOf};
 
-    ghost view = { λ r. r.sender };
+    ghost view = { λ r. record { sender = r.sender; notes = r.notes.value } };
 
     ghost invariant = { λ r. AreNotesOf r.sender.seen.front r.notes.value };
 }
@@ -43,7 +46,7 @@ impl<'d, N: ArenaName> Model for Recalling<'d, N> {
 impl<'d, N: ArenaName> Recalling<'d, N> {
     /// The sender, with nothing noted yet. Notes take 64 KiB: where they can't be had, the sender comes back.
     pub fn new(alloc: Global, sender: Sender<'d, N>) -> Result<Recalling<'d, N>, Sender<'d, N>>
-        ensures ok { IfOk result (λ r. r ≡ sender.entry) }
+        ensures ok { IfOk result (λ r. (r.sender ≡ sender.entry) × AreBlank r.notes) }
         ensures err { IfErr result (λ s. s ≡ sender.entry) }
     {
         match Box::new(alloc, Notes::new()) {
@@ -54,40 +57,47 @@ impl<'d, N: ArenaName> Recalling<'d, N> {
 
     /// The sender without its notes.
     pub fn into_sender(self) -> Sender<'d, N>
-        ensures { result ≡ self.entry }
+        ensures { result ≡ self.entry.sender }
     {
         self.sender
     }
 
-    /// The implementation that a lookup finds at what the sender has then seen. What it has noted of that point it answers with no load of a shared word.
+    /// The implementation that a lookup finds at what the sender has then seen. What it has noted since the stamp of the class reference it answers with no lock, and by that one load of a word that
+    /// threads share, which is stored where a change affects the class reference.
     #[inline(always)]
     pub fn find<R: Wait>(&mut self, rt: &R, class: ClassRef, sel: Selector) -> ImpRef
-        requires class { class.class < class_total self.old.seen.front.origin }
-        ensures begins { BeginsWith self.new.seen.front self.old.seen.front }
-        ensures found { IsFoundAt self.new.seen.front class sel result }
-        ensures listed { IsListed self.new.seen.front result }
-        ensures takings { TakesOnceAtMost self.old self.new }
+        requires class { class.class < class_total self.old.sender.seen.front.origin }
+        ensures begins { BeginsWith self.new.sender.seen.front self.old.sender.seen.front }
+        ensures found { IsFoundAt self.new.sender.seen.front class sel result }
+        ensures listed { IsListed self.new.sender.seen.front result }
+        ensures takings { TakesOnceAtMost self.old.sender self.new.sender }
+        ensures private { FindsRecalled self.old self.new class sel result }
+        ensures others { KeepOthers self.old.notes self.new.notes class sel }
     {
-        match self.sender.recall(&self.notes, class, sel) {
-            Some(imp) => imp,
-            None => self.sender.find_lacking(rt, &mut self.notes, class, sel),
-        }
+        self.sender.find_noted(rt, &mut self.notes, class, sel)
     }
 
-    /// What it has noted of the point at which the sender stands. It waits for nothing, and no shared word is loaded.
+    /// What it has noted of a lookup since the stamp of the class reference, which is loaded: what the lookup finds at all changes, which the sender has then seen. It waits for nothing.
     #[inline]
-    pub fn recall(&self, class: ClassRef, sel: Selector) -> Option<ImpRef>
-        ensures found { IfSome result (IsFoundAt self.now.seen.front class sel) }
-        ensures listed { IfSome result (IsListed self.now.seen.front) }
+    pub fn recall(&mut self, class: ClassRef, sel: Selector) -> Option<ImpRef>
+        requires class { class.class < class_total self.old.sender.seen.front.origin }
+        ensures begins { BeginsWith self.new.sender.seen.front self.old.sender.seen.front }
+        ensures found { IfSome result (IsFoundAt self.new.sender.seen.front class sel) }
+        ensures listed { IfSome result (IsListed self.new.sender.seen.front) }
+        ensures exact { RecallsSince self.old.notes class (selector_number sel) self.old.sender.seen self.new.sender.seen (option_map imp_number result) }
+        ensures notes { self.new.notes ≡ self.old.notes }
+        ensures takings { self.new.sender.takings ≡ self.old.sender.takings }
     {
         self.sender.recall(&self.notes, class, sel)
     }
 
     /// How many changes there are, which the sender has then seen: nothing older is answered from then on. One shared word is loaded, and nothing is forgotten.
     pub fn refresh(&mut self) -> u64
-        ensures begins { BeginsWith self.new.seen.front self.old.seen.front }
-        ensures length { result ≡ length self.new.seen.front.changes }
-        ensures takings { self.new.takings ≡ self.old.takings }
+        ensures begins { BeginsWith self.new.sender.seen.front self.old.sender.seen.front }
+        ensures length { result ≡ length self.new.sender.seen.front.changes }
+        ensures looked { self.new.sender.seen.looks ≡ self.old.sender.seen.looks + 1 }
+        ensures notes { self.new.notes ≡ self.old.notes }
+        ensures takings { self.new.sender.takings ≡ self.old.sender.takings }
     {
         notes_are_of_longer_histories();
         self.sender.published()
@@ -96,9 +106,10 @@ impl<'d, N: ArenaName> Recalling<'d, N> {
     /// As the changer's `meet`.
     pub fn meet<R: Wait>(&mut self, rt: &R, changer: &mut Changer<'_, N>)
         ensures same { changer.new ≡ changer.old }
-        ensures begins { BeginsWith changer.old self.old.seen.front }
-        ensures seen { self.new.seen.front ≡ changer.old }
-        ensures takings { self.new.takings ≡ self.old.takings }
+        ensures begins { BeginsWith changer.old self.old.sender.seen.front }
+        ensures seen { self.new.sender.seen.front ≡ changer.old }
+        ensures notes { self.new.notes ≡ self.old.notes }
+        ensures takings { self.new.sender.takings ≡ self.old.sender.takings }
     {
         notes_are_of_longer_histories();
         changer.meet(rt, &mut self.sender);
@@ -106,7 +117,7 @@ impl<'d, N: ArenaName> Recalling<'d, N> {
 
     /// How often the lock was taken to find.
     pub fn lock_takings(&self) -> u64
-        ensures { result ≡ self.now.takings }
+        ensures { result ≡ self.now.sender.takings }
     {
         self.sender.lock_takings()
     }

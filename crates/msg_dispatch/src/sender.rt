@@ -1,13 +1,15 @@
 //! Senders.
 
-ghost use Rattle.std.specs.Prelude.{◌≡◌, ◌<◌, ◌+◌, ◌-◌, ◌^◌, length, IfSome, IfNone};
+ghost use Rattle.std.specs.Prelude.{◌≡◌, ◌<◌, ◌+◌, ◌-◌, ◌^◌, ◌⊎◌, length, option_map, IfSome, IfNone};
 ghost use Rattle.msg_tables.specs.Origin.{class_total};
 ghost use Rattle.msg_tables.specs.History.{BeginsWith};
 ghost use Rattle.msg_cache.specs.Record.{Misses};
 ghost use Rattle.msg_cache.specs.Views.{HitsAndIsFound, IsFoundAt, ProbesFor, layout};
 ghost use Rattle.msg_reader.specs.Found.{HitsCache, IsListed};
-ghost use Rattle.msg_reader.specs.Notes.{AreNotesOf};
-ghost use Rattle.msg_dispatch.specs.Seen.{TakesOnceAtMost};
+ghost use Rattle.msg_reader.specs.Kept.{IsNotedFound, KeepOthers, RecallsSince};
+ghost use Rattle.msg_reader.specs.Notes.{AreNotesOf, IsNotedFor};
+ghost use Rattle.msg_names.specs.Number.{imp_number, selector_number};
+ghost use Rattle.msg_dispatch.specs.Seen.{FindsNoted, TakesOnceAtMost};
 
 use crate::dispatcher::Dispatcher;
 use crate::name::ArenaName;
@@ -94,6 +96,9 @@ impl<'d, N: ArenaName> Sender<'d, N> {
         ensures found { IsFoundAt self.new.seen.front class sel result }
         ensures listed { IsListed self.new.seen.front result }
         ensures notes { AreNotesOf self.new.seen.front notes.new }
+        ensures noted { IsNotedFor self.new.seen.front notes.new class sel result }
+        ensures others { KeepOthers notes.old notes.new class sel }
+        ensures stamps { self.new.seen.stamps ≡ self.old.seen.stamps }
         ensures takings { TakesOnceAtMost self.old self.new }
     {
         self.count_taking();
@@ -122,20 +127,26 @@ impl<'d, N: ArenaName> Sender<'d, N> {
         }
     }
 
-    /// What the notes have of a lookup at what the sender has seen. It waits for nobody, and reads no word that threads share.
+    /// What the notes have of a lookup at all changes, which the sender has then seen: what was noted since the stamp of the class reference, which is loaded. It waits for nobody.
     #[inline]
-    pub fn recall(&self, notes: &Notes, class: ClassRef, sel: Selector) -> Option<ImpRef>
-        requires notes { AreNotesOf self.now.seen.front notes.now }
-        ensures found { IfSome result (IsFoundAt self.now.seen.front class sel) }
-        ensures listed { IfSome result (IsListed self.now.seen.front) }
+    pub fn recall(&mut self, notes: &Notes, class: ClassRef, sel: Selector) -> Option<ImpRef>
+        requires class { class.class < class_total self.old.seen.front.origin }
+        requires notes { AreNotesOf self.old.seen.front notes.now }
+        ensures begins { BeginsWith self.new.seen.front self.old.seen.front }
+        ensures found { IfSome result (IsFoundAt self.new.seen.front class sel) }
+        ensures listed { IfSome result (IsListed self.new.seen.front) }
+        ensures notes { AreNotesOf self.new.seen.front notes.now }
+        ensures exact { RecallsSince notes.now class (selector_number sel) self.old.seen self.new.seen (option_map imp_number result) }
+        ensures takings { self.new.takings ≡ self.old.takings }
     {
-        self.reader.recall(notes, class, sel)
+        self.reader
+            .recall(&self.dispatcher.arena, notes, class, sel)
     }
 
-    // As `find`, of what the notes lack, which is then noted. Out of line, so that what they have is found on a short way.
-    #[cold]
-    #[inline(never)]
-    pub(crate) fn find_lacking<R: Wait>(
+    // As `find`, by the notes first; what they lack is then noted.
+    #[inline(always)]
+    #[tactic(auto, using(crate::proofs::RecallingLemmas::found_unlocked, crate::proofs::RecallingLemmas::found_locked))]
+    pub(crate) fn find_noted<R: Wait>(
         &mut self,
         rt: &R,
         notes: &mut Notes,
@@ -148,12 +159,12 @@ impl<'d, N: ArenaName> Sender<'d, N> {
         ensures found { IsFoundAt self.new.seen.front class sel result }
         ensures listed { IsListed self.new.seen.front result }
         ensures notes { AreNotesOf self.new.seen.front notes.new }
+        ensures noted { (IsNotedFound notes.new class sel self.new.seen result) ⊎ (IsNotedFor self.new.seen.front notes.new class sel result) }
+        ensures others { KeepOthers notes.old notes.new class sel }
         ensures takings { TakesOnceAtMost self.old self.new }
+        ensures private { FindsNoted self.old self.new notes.old notes.new class sel result }
     {
-        match self
-            .reader
-            .find_lacking(&self.dispatcher.arena, notes, class, sel)
-        {
+        match self.reader.find(&self.dispatcher.arena, notes, class, sel) {
             Some(imp) => imp,
             None => self.find_locked_noted(rt, notes, class, sel),
         }
@@ -163,6 +174,7 @@ impl<'d, N: ArenaName> Sender<'d, N> {
     pub fn published(&mut self) -> u64
         ensures begins { BeginsWith self.new.seen.front self.old.seen.front }
         ensures length { result ≡ length self.new.seen.front.changes }
+        ensures looked { self.new.seen.looks ≡ self.old.seen.looks + 1 }
         ensures takings { self.new.takings ≡ self.old.takings }
     {
         self.reader.refresh(&self.dispatcher.arena)

@@ -16,10 +16,10 @@ use std::alloc::Global;
 use std::process::Abort;
 use std::sync::Wait;
 
-// The change by which `Child` has a `value` of its own.
-fn addition(sel: Selector) -> Change {
+// The change by which a class reference has a method of its own.
+fn addition(class: ClassRef, sel: Selector) -> Change {
     Change::Add {
-        class: CHILD,
+        class,
         sel,
         imp: ImpRef::of(2),
     }
@@ -31,7 +31,7 @@ struct Noting<'d, N: ArenaName> {
     sender: Recalling<'d, N>,
     classes: u32,
     ghost classes_are: { classes ≡ class_total N.arena.key.origin },
-    ghost image: { sender.seen.front.origin ≡ N.arena.key.origin } by { Prim.hlevel codes },
+    ghost image: { sender.sender.seen.front.origin ≡ N.arena.key.origin } by { Prim.hlevel codes },
 }
 
 impl<N: ArenaName> Noting<'_, N> {
@@ -40,7 +40,13 @@ impl<N: ArenaName> Noting<'_, N> {
         self.sender.find(rt, class, sel)
     }
 
-    fn recall(&self, class: ClassRef, sel: Selector) -> Option<ImpRef> {
+    fn recall<R: Wait + Abort>(
+        &mut self,
+        rt: &R,
+        class: ClassRef,
+        sel: Selector,
+    ) -> Option<ImpRef> {
+        assert!(rt; class.class < self.classes);
         self.sender.recall(class, sel)
     }
 
@@ -64,25 +70,25 @@ impl<N: ArenaName> Noting<'_, N> {
 
 // Finds a method that it has noted from then on, in the class that it asked for alone.
 fn asks_twice<N: ArenaName, R: Wait + Abort>(rt: &R, sender: &mut Noting<'_, N>, sel: Selector) {
-    same(rt, sender.recall(GRAND, sel), None);
+    same(rt, sender.recall(rt, GRAND, sel), None);
     same(rt, sender.find(rt, GRAND, sel), ImpRef::of(1));
-    same(rt, sender.recall(GRAND, sel), Some(ImpRef::of(1)));
-    same(rt, sender.recall(CHILD, sel), None);
+    same(rt, sender.recall(rt, GRAND, sel), Some(ImpRef::of(1)));
+    same(rt, sender.recall(rt, CHILD, sel), None);
     same(rt, sender.find(rt, GRAND, sel), ImpRef::of(1));
     same(rt, sender.lock_takings(), 1);
 }
 
-// After a change: what it noted is taken until it sees the change.
+// After a change that affects the class: what it noted isn't taken any more.
 fn asks_anew<N: ArenaName, R: Wait + Abort>(rt: &R, sender: &mut Noting<'_, N>, sel: Selector) {
-    same(rt, sender.recall(GRAND, sel), Some(ImpRef::of(1)));
+    same(rt, sender.recall(rt, GRAND, sel), None);
     same(rt, sender.refresh(), 1);
-    same(rt, sender.recall(GRAND, sel), None);
+    same(rt, sender.recall(rt, GRAND, sel), None);
     same(rt, sender.find(rt, GRAND, sel), ImpRef::of(2));
-    same(rt, sender.recall(GRAND, sel), Some(ImpRef::of(2)));
+    same(rt, sender.recall(rt, GRAND, sel), Some(ImpRef::of(2)));
     same(rt, sender.lock_takings(), 2);
 }
 
-// What is noted is taken until a change is seen.
+// What is noted is taken until a change affects its class, and beside others.
 fn notes_until_a_change<N: ArenaName, R: Wait + Abort>(
     rt: &R,
     sender: &mut Noting<'_, N>,
@@ -90,10 +96,17 @@ fn notes_until_a_change<N: ArenaName, R: Wait + Abort>(
     value: Selector,
 ) {
     asks_twice(rt, sender, value);
-    assert!(rt; changer.change(rt, &addition(value)).is_ok());
+    assert!(rt; changer.change(rt, &addition(CHILD, value)).is_ok());
     asks_anew(rt, sender, value);
+    let meta = ClassRef {
+        meta: true,
+        ..CHILD
+    };
+    assert!(rt; changer.change(rt, &addition(meta, value)).is_ok());
+    same(rt, sender.recall(rt, GRAND, value), Some(ImpRef::of(2)));
     sender.meet(rt, changer);
-    same(rt, sender.recall(GRAND, value), Some(ImpRef::of(2)));
+    same(rt, sender.recall(rt, GRAND, value), Some(ImpRef::of(2)));
+    same(rt, sender.lock_takings(), 2);
 }
 
 pub(crate) fn notes<N: ArenaName, R: Wait + Abort>(
@@ -115,7 +128,7 @@ pub(crate) fn notes<N: ArenaName, R: Wait + Abort>(
 }
 
 #[test]
-fn notes_are_taken_until_a_change_is_seen(rt: HostRuntime) {
+fn notes_are_taken_until_a_change_affects_their_class(rt: HostRuntime) {
     let arrays = [1, 0, 0, 0, 0, 0, 0, 0, 0];
     open(&rt, rt.alloc(), IMAGE, 1, arrays, Steps::Note);
 }

@@ -2,13 +2,18 @@
 
 use crate::{read, run_of};
 use msg_devices::RunFault;
+use msg_samples::{Readings, read_by_both};
 use std::alloc::Global;
 use std::io;
 use std::sync::Wait;
 use std::thread::Threads;
 
-/// The number of the fault that the document is refused with, and `None` where it is accepted.
+/// The number of the fault that the document is refused with, and `None` where it is accepted; 0
+/// where `serde_json` makes something else of it.
 fn fault<T: Threads + Wait + Sync>(rt: &T, alloc: Global, document: &str) -> Option<u32> {
+    if read_by_both(alloc, document.as_bytes()) == Readings::Different {
+        return Some(0);
+    }
     let (written, ended) = run_of(rt, alloc, document.as_bytes(), 1, 64);
     match ended {
         Ok(()) => None,

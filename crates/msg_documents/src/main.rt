@@ -2,6 +2,7 @@
 //!
 //! In `examples` and `answers` a document `NAME.json` stands beside `NAME.out`, which is what a run of it writes, for each number of workers and each cut.
 //! In `edits` each `NAME.edits` has edits of the documents there, and the fault that the edited document is refused with.
+//! Each text is also read by `serde_json`, which has to make the same of it.
 #![tactic(auto)]
 
 mod edits;
@@ -9,6 +10,7 @@ mod edits;
 use edits::Edits;
 use msg_devices::{FromReader, RunFault, ToWriter};
 use msg_runner::{OpenGate, run};
+use msg_samples::{Readings, read_by_both};
 use std::alloc::Global;
 use std::sync::Wait;
 use std::thread::{self, Threads};
@@ -61,13 +63,16 @@ fn read(rt: &HostRuntime, folder: &str, name: &str, end: &str) -> io::Result<Str
     fs::read_to_string(rt, path.as_str())
 }
 
-// Whether each run of the document writes the text, and nothing else.
+// Whether the document is read as serde_json reads it, and each run of it writes the text, and nothing else.
 fn is_answered<T: Threads + Wait + Sync>(
     rt: &T,
     alloc: Global,
     document: &str,
     text: &str,
 ) -> bool {
+    if read_by_both(alloc, document.as_bytes()) != Readings::Same {
+        return false;
+    }
     for (workers, cut) in SPLITS {
         let (written, ended) = run_of(rt, alloc, document.as_bytes(), workers, cut);
         if ended.is_err() || written.as_slice() != text.as_bytes() {

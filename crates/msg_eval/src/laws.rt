@@ -9,7 +9,7 @@ ghost use Rattle.msg_eval.specs.Points.{Rise, last_of, EndsAfter, EndsAsAnswered
 ghost use Rattle.msg_eval.specs.Points.{HasOneReply, IsPlain, TablesReply};
 ghost use Rattle.msg_eval.specs.declared.reply.Reply.{Reply};
 
-use crate::eval::MAX_LOOKUPS;
+use crate::eval::{MAX_BODIES, MAX_LOOKUPS};
 
 /// With every lookup at one history a send has one reply and no other.
 pub fn one_history_is_one_reply()
@@ -36,4 +36,10 @@ pub fn tables_reply_plainly()
 pub fn a_finder_that_stays_replies_plainly()
     ensures { (h : History) (send : Meaning) (points : List History) (reply : Reply) → Rise h points
         → last_of h points ≡ h → EndsAfter send points reply → IsPlain h send reply }
+{}
+
+/// The limits of a send, as the format has them.
+pub fn the_limits_are_the_formats()
+    ensures lookups { MAX_LOOKUPS ≡ 10000 }
+    ensures bodies { MAX_BODIES ≡ 32 }
 {}

@@ -27,4 +27,5 @@ pub use limits::{
     MAX_OBJECTS,
 };
 pub use name_set::NameSet;
+pub use read::{FromValue, change_item, send_item};
 pub use walk::FORWARDING;

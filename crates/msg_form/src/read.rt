@@ -13,12 +13,13 @@ mod parts;
 mod values;
 
 use crate::faults::ReadFault;
+pub use change::{change_item, send_item};
 use msg_json::{Bump, Tree, get};
 use std::alloc::Global;
 use values::{list, value_in};
 
 /// What a JSON value may spell.
-trait FromValue<'v>: Sized + Drop {
+pub trait FromValue<'v>: Sized + Drop {
     // The same as pure data.
     ghost Plain: { Type 0 };
 

@@ -60,7 +60,7 @@ const ARRAYS: [u16; 9] = [32, 32, 32, 32, 0, 0, 0, 0, 0];
 #[derive(Drop)]
 struct Noter<'d, N: ArenaName> {
     sender: Recalling<'d, N>,
-    ghost all: { class_total sender.seen.front.origin ≡ 32 },
+    ghost all: { class_total sender.sender.seen.front.origin ≡ 32 },
 }
 
 impl<N: ArenaName> Noter<'_, N> {

@@ -4,7 +4,7 @@ use Rattle.msg_tables.specs.declared.change.Change.{Change}
 use Rattle.msg_tables.specs.FaultNumber.{change_fault_number}
 use Rattle.msg_tables.specs.History.{and_then, log}
 use Rattle.msg_tables.specs.Refusal.{refusal}
-use Rattle.msg_host.specs.View.{RuntimeView}
+use Rattle.msg_runtime.specs.View.{RuntimeView}
 use Rattle.msg_host.specs.declared.changing.MethodRow.{MethodRow}
 use Rattle.msg_host.specs.declared.fault.AskFault.{AskFault}
 use Rattle.msg_host.specs.declared.fault.AskFault.TheVariants.{NoClass, NoSelector, BadRow}
@@ -42,11 +42,12 @@ LacksSelector v w sel n = sel ≡ 0 → (n ≡ want_of_selector) × (w ≡ v)
 -- A change took a runtime from v to w with the answer n: 0 where it was made, and else its fault's number, and nothing has changed.
 pub record AnswersChange (v w : RuntimeView) (x : Change) (n : ℕ) : Type 0 where
   pub arena : w.arena ≡ v.arena
-  pub made : n ≡ 0 → (refusal (log v.history) x ≡ None) × (w.history ≡ and_then v.history (x ∷ []))
+  pub given : w.keeper.given ≡ v.keeper.given
+  pub made : n ≡ 0 → (refusal (log v.keeper.history) x ≡ None) × (w.keeper.history ≡ and_then v.keeper.history (x ∷ []))
   pub left : n ≢ 0 → w ≡ v
-  pub fault : n ≢ 0 → n ≢ want_of_memory → option_map change_fault_number (refusal (log v.history) x) ≡ Some n
+  pub fault : n ≢ 0 → n ≢ want_of_memory → option_map change_fault_number (refusal (log v.keeper.history) x) ≡ Some n
   -- want of memory is answered only where nothing else speaks against it
-  pub memory : n ≡ want_of_memory → refusal (log v.history) x ≡ None
+  pub memory : n ≡ want_of_memory → refusal (log v.keeper.history) x ≡ None
 
 -- the rows of a method list, as pairs of numbers
 abbrev pub pairs_of : List MethodRow → List (ℕ × ℕ)

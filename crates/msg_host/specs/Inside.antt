@@ -2,19 +2,22 @@
 use Rattle.std.specs.Prelude.{◌≡◌, ◌≤◌}
 use Rattle.std.specs.Arc.{arc_value}
 use Rattle.msg_tables.specs.declared.limits.TheConstants.{MAX_CLASSES}
+use Rattle.msg_cache.specs.declared.view.TurnAt.TheVariants.{Away}
 use Rattle.msg_cache.specs.Views.{IsSenderOf, classes}
-use Rattle.msg_host.specs.View.{RuntimeView, SenderView}
+use Rattle.msg_host.specs.View.{SenderView}
+use Rattle.msg_runtime.specs.View.{RuntimeView}
 use Rattle.msg_host.specs.declared.runtime.HostedRuntime.TheInside.{Inside as RuntimeInside}
 use Rattle.msg_host.specs.declared.sender.HostedSender.TheInside.{Inside as SenderInside}
 
 -- what contracts see of a runtime
 abbrev pub runtime_view : RuntimeInside → RuntimeView
-runtime_view r = record { arena = r.runtime.arena; history = r.runtime.keeper.history }
+runtime_view r = r.runtime
 
 -- the invariant of runtimes
 pub record AreOfOne (r : RuntimeInside) : Type 0 where
   pub arena : arc_value r.arena ≡ r.runtime.arena
   pub turn : r.turn.table ≡ r.runtime.arena.table
+  pub away : r.runtime.keeper.turn ≡ Away
   pub classes : r.classes ≡ classes r.runtime.arena
   pub few_classes : r.classes ≤ MAX_CLASSES
   pub history : r.runtime.keeper.history.origin ≡ r.runtime.arena.key.origin

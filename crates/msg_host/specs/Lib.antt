@@ -1,5 +1,4 @@
 pub mod Asking
-pub mod Calls
 pub mod Config
 pub mod Inside
 pub mod Listing

@@ -1,5 +1,5 @@
 -- Lists of changes in numbers.
-use Rattle.std.specs.Prelude.{◌≡◌, ◌≢◌, ◌<◌, ◌⊎◌, ℕ, ◌==◌, if◌then◌else◌, Bool, true, false, List, map, take, length, slice_get, Option, Some, None, Result, Ok, Err}
+use Rattle.std.specs.Prelude.{◌≡◌, ◌≢◌, ◌<◌, ◌+◌, ◌⊎◌, ℕ, ◌==◌, if◌then◌else◌, Bool, true, false, List, map, take, length, slice_get, Option, Some, None, Result, Ok, Err}
 use Rattle.std.specs.List.{list_all}
 use Rattle.std.specs.Result.{is_ok}
 use Rattle.msg_names.specs.declared.value.ClassRef.{ClassRef}
@@ -21,7 +21,7 @@ use Rattle.msg_tables.specs.Several.{refused_from}
 use Rattle.msg_tables.specs.Journal.{undo_entry}
 use Rattle.msg_tables.specs.Undo.{and_before, undo_all}
 use Rattle.msg_cache.specs.Views.{classes}
-use Rattle.msg_host.specs.View.{RuntimeView}
+use Rattle.msg_runtime.specs.View.{RuntimeView}
 use Rattle.msg_host.specs.Asking.{ask_fault_number, want_of_memory, want_of_room}
 use Rattle.msg_host.specs.Named.{ref_of}
 use Rattle.msg_host.specs.declared.fault.AskFault.{AskFault}
@@ -117,12 +117,21 @@ AreRefusedRows rows h place n = IsBadRow rows place n ⊎ IsRefusedRow rows h pl
 abbrev pub AreRowsRefusedAt : List ChangeRow → History → ℕ → ℕ → Type 0
 AreRowsRefusedAt rows h place n = n ≢ want_of_memory → AreRefusedRows rows h place n
 
+-- where memory was wanting each row means a change, and neither those before this place would be refused nor that at it
+abbrev pub LackMemoryAt : List ChangeRow → History → ℕ → Type 0
+LackMemoryAt rows h place = (xs : List Change) × AreMeant rows xs × (refused_from 0 (log h) (take (place + 1) xs) ≡ None)
+
+-- so it is where that is the number
+abbrev pub LackMemoryIf : List ChangeRow → History → ℕ → ℕ → Type 0
+LackMemoryIf rows h place n = n ≡ want_of_memory → LackMemoryAt rows h place
+
 -- Why the changes of rows aren't made at a history: the number of a fault at the place of a row. But for want of memory, that row means no change, or its change is the first that would be refused.
 pub record IsRowFault (rows : List ChangeRow) (h : History) (r : RowFault) : Type 0 where
   pub some : r.number ≢ 0
   pub room : r.number ≢ want_of_room
   pub place : r.place < length rows
   pub fault : AreRowsRefusedAt rows h r.place r.number
+  pub memory : LackMemoryIf rows h r.place r.number
 
 -- what was written tells the way back from the changes that the rows mean, directly after they are made at a history
 abbrev pub TellsRowsBack : List ChangeRow → History → List Entry → Type 0
@@ -143,7 +152,17 @@ ReachesRows rows h n old new = (xs : List Change) × AreMeant rows xs × (refuse
 
 -- so it is of a runtime
 abbrev pub ReachesRowsOf : RuntimeView → List ChangeRow → List Bool → List Bool → Type 0
-ReachesRowsOf v rows old new = ReachesRows rows v.history (classes v.arena) old new
+ReachesRowsOf v rows old new = ReachesRows rows v.keeper.history (classes v.arena) old new
+
+-- what the changes before a row of this place may alter is marked beside what was
+abbrev pub ReachesRowsBefore : RuntimeView → List ChangeRow → ℕ → List Bool → List Bool → Type 0
+ReachesRowsBefore v rows place old new = (xs : List Change) × AreMeant rows xs × MarksAffectedByAll (classes v.arena) (log v.keeper.history) (take place xs) old new
+
+-- A row that means no change leaves the marks. Where its change is the first that would be refused, what those before it may alter is marked.
+abbrev pub RefusesToReach : RuntimeView → List ChangeRow → ℕ → ℕ → List Bool → List Bool → Type 0
+RefusesToReach v rows place n old new =
+    (IsBadRow rows place n × (new ≡ old))
+    ⊎ (IsRefusedRow rows v.keeper.history place n × ReachesRowsBefore v rows place old new)
 
 -- an entry that has a way back was given back behind the first `count` rows: the rows up to `n` then mean that too
 abbrev pub GivesBack : Entry → ℕ → List ChangeRow → ℕ → List ChangeRow → Type 0

@@ -1,14 +1,16 @@
 -- What numbers name.
 use Rattle.std.specs.Prelude.{◌≡◌, ◌≢◌, ◌<◌, ◌⊎◌, ℕ, Bool, List, Option, IfOk, IfSome, Result}
 use Rattle.msg_names.specs.declared.value.ClassRef.{ClassRef}
+use Rattle.msg_names.specs.declared.value.ImpRef.{ImpRef}
 use Rattle.msg_names.specs.declared.value.Selector.{Selector}
-use Rattle.msg_names.specs.Number.{imp_ref_of, selector_number, selector_of}
+use Rattle.msg_names.specs.Number.{imp_number, imp_ref_of, selector_number, selector_of}
 use Rattle.msg_tables.specs.declared.change.Change.{Change}
 use Rattle.msg_tables.specs.declared.change.Change.TheVariants.{Add, Replace, SetImp, Exchange, Attach}
-use Rattle.msg_reader.specs.Notes.{HaveLacked}
+use Rattle.msg_reader.specs.Kept.{HaveNotedSince}
 use Rattle.msg_reader.specs.declared.notes.Notes.{Notes}
 use Rattle.msg_host.specs.Asking.{AnswersChange, IsListFault, pairs_of}
-use Rattle.msg_host.specs.View.{RuntimeView, SenderView}
+use Rattle.msg_host.specs.View.{SenderView}
+use Rattle.msg_runtime.specs.View.{RuntimeView}
 use Rattle.msg_host.specs.declared.changing.MethodRow.{MethodRow}
 use Rattle.msg_host.specs.declared.fault.AskFault.{AskFault}
 
@@ -53,9 +55,9 @@ abbrev pub TellsAttachFault : RuntimeView → ℕ → List MethodRow → List Me
 TellsAttachFault v class methods class_methods n =
     n ≢ 0 → IsListFault methods n ⊎ IsListFault class_methods n ⊎ AnswersChange v v (attachment class methods class_methods) n
 
--- notes had nothing of a lookup at what a sender had seen, if it has seen no more since
-abbrev pub HaveLackedFor : Notes → SenderView → SenderView → ClassRef → Selector → Type 0
-HaveLackedFor notes v w c s = HaveLacked notes v.seen.front w.seen.front c (selector_number s)
+-- since the stamp that a sender loaded last, notes have this implementation of a lookup
+abbrev pub HaveNotedLast : Notes → SenderView → ClassRef → Selector → ImpRef → Type 0
+HaveNotedLast notes w c s i = HaveNotedSince notes c (selector_number s) w.seen (imp_number i)
 
 -- so it is with the number that a question found, if it found one
 abbrev pub IfFound : Result (Option ℕ) AskFault → (ℕ → Type 0) → Type 0

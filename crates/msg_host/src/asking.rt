@@ -14,8 +14,8 @@ use msg_names::ClassRef;
 impl HostedRuntime {
     /// `class_getMethodImplementation`: the number of the implementation that a lookup finds now, or of forwarding. No cache is looked at or filled.
     pub fn lookup(&self, class: u32, meta: bool, sel: u32) -> Result<u32, AskFault>
-        ensures found { IfOk result (λ i. i ≡ lookup self.now.history (ref_of class meta) sel) }
-        ensures listed { IfOk result (λ i. i ≤ last_imp self.now.history.origin.counts) }
+        ensures found { IfOk result (λ i. i ≡ lookup self.now.keeper.history (ref_of class meta) sel) }
+        ensures listed { IfOk result (λ i. i ≤ last_imp self.now.keeper.history.origin.counts) }
         ensures ok { OnOk result (ask_fault (classes self.now.arena) class sel ≡ None) }
         ensures err { IfErr result (λ f. ask_fault (classes self.now.arena) class sel ≡ Some f) }
     {
@@ -25,7 +25,7 @@ impl HostedRuntime {
 
     /// The class reference at which the method stands that `class_getInstanceMethod` finds.
     pub fn holder(&self, class: u32, meta: bool, sel: u32) -> Result<Option<ClassRef>, AskFault>
-        ensures found { IfOk result (λ p. p ≡ holder self.now.history (ref_of class meta) sel) }
+        ensures found { IfOk result (λ p. p ≡ holder self.now.keeper.history (ref_of class meta) sel) }
         ensures ok { OnOk result (ask_fault (classes self.now.arena) class sel ≡ None) }
         ensures err { IfErr result (λ f. ask_fault (classes self.now.arena) class sel ≡ Some f) }
     {
@@ -35,7 +35,7 @@ impl HostedRuntime {
 
     /// `class_getSuperclass`.
     pub fn superclass(&self, class: u32, meta: bool) -> Result<Option<ClassRef>, AskFault>
-        ensures found { IfOk result (λ above. above ≡ superclass self.now.history (ref_of class meta)) }
+        ensures found { IfOk result (λ above. above ≡ superclass self.now.keeper.history (ref_of class meta)) }
         ensures ok { OnOk result (ask_fault (classes self.now.arena) class 1 ≡ None) }
         ensures err { IfErr result (λ f. ask_fault (classes self.now.arena) class 1 ≡ Some f) }
     {

@@ -121,6 +121,7 @@ impl HostedRuntime {
         class_methods: &[MethodRow],
     ) -> u32
         ensures arena { self.new.arena ≡ self.old.arena }
+        ensures given { self.new.keeper.given ≡ self.old.keeper.given }
         ensures made { TellsAttached self.old self.new class methods.now class_methods.now result }
         ensures left { result ≢ 0 → self.new ≡ self.old }
         ensures fault { TellsAttachFault self.old class methods.now class_methods.now result }

@@ -2,7 +2,7 @@
 
 ghost use Rattle.std.specs.Prelude.{◌≡◌, ◌≢◌, ◌<◌, ◌≤◌, None, Some, IfOk, IfErr, OnOk};
 ghost use Rattle.msg_names.specs.Number.{selector_of};
-ghost use Rattle.msg_host.specs.Asking.{ask_fault, ask_fault_number, want_of_room};
+ghost use Rattle.msg_host.specs.Asking.{ask_fault, ask_fault_number, want_of_memory, want_of_room};
 ghost use Rattle.msg_host.specs.Named.{ref_of};
 ghost use Rattle.msg_host.specs.declared.fault.OpenFault.TheVariants as opening;
 ghost use Rattle.msg_host.specs.declared.fault.SenderFault.TheVariants as sending;
@@ -29,6 +29,7 @@ impl AskFault {
     pub fn number(self) -> u32
         ensures number { result ≡ ask_fault_number self }
         ensures room { result ≢ want_of_room }
+        ensures memory { result ≢ want_of_memory }
     {
         match self {
             AskFault::NoClass => 66,

@@ -2,8 +2,9 @@
 
 ghost use Rattle.std.specs.Prelude.{◌≡◌, ◌≢◌, ◌<◌, ◌⊎◌, true, IfOk, IfErr, OnErr, OnOk, length};
 ghost use Rattle.msg_tables.specs.FaultNumber.{change_fault_number};
+ghost use Rattle.msg_tables.specs.declared.fault.ChangeFault.{ChangeFault};
 ghost use Rattle.msg_host.specs.Asking.{want_of_memory, want_of_room};
-ghost use Rattle.msg_host.specs.Listing.{AreMeant, AreRowsRefusedAt, IsBadRow, IsRowFault, MakesRows, TellsRowsBack};
+ghost use Rattle.msg_host.specs.Listing.{AreMeant, AreRowsRefusedAt, IsBadRow, IsRowFault, LackMemoryIf, MakesRows, TellsRowsBack};
 ghost use Rattle.msg_host.specs.Listing.{are_meant, change_in, changes_in, exchange_in, method_in, read, ref_in};
 ghost use Rattle.msg_host.specs.declared.fault.AskFault.{AskFault};
 
@@ -38,11 +39,12 @@ pub(crate) struct RowFault {
 
 impl RowFault {
     // Of a list of changes that was refused.
-    #[tactic(auto, using(crate::proofs::ListingLemmas::no_want_of_room))]
+    #[tactic(auto, using(crate::proofs::ListingLemmas::no_want_of_room, crate::proofs::ChangingLemmas::memory_of_number))]
     pub(crate) fn of(refused: Refused) -> RowFault
         ensures place { result.place ≡ refused.place }
         ensures number { result.number ≡ change_fault_number refused.fault }
         ensures room { result.number ≢ want_of_room }
+        ensures memory { result.number ≡ want_of_memory → refused.fault ≡ ChangeFault.Memory }
     {
         RowFault {
             place: refused.place,
@@ -165,7 +167,7 @@ pub(crate) fn meant(rows: &[ChangeRow]) -> Result<MeantRows<'_>, RowFault>
     ensures rows { IfOk result (λ list. list.rows.now ≡ rows.now) }
     ensures ok { IfOk result (λ list. AreMeant rows.now (changes_in rows.now)) }
     ensures err { IfErr result (λ r. IsBadRow rows.now r.place r.number) }
-    ensures fault { IfErr result (λ r. (r.number ≢ 0) × (r.number ≢ want_of_room)) }
+    ensures fault { IfErr result (λ r. (r.number ≢ 0) × (r.number ≢ want_of_room) × (r.number ≢ want_of_memory)) }
     ensures place { IfErr result (λ r. r.place < length rows.now) }
 {
     for (place, row) in rows.iter().enumerate() {
@@ -185,10 +187,11 @@ impl HostedRuntime {
         rows: &[ChangeRow],
     ) -> Result<Made, RowFault>
         ensures arena { self.new.arena ≡ self.old.arena }
-        ensures made { OnOk result (MakesRows rows.now self.old.history self.new.history) }
-        ensures back { IfOk result (λ made. TellsRowsBack rows.now self.old.history made.written) }
+        ensures given { self.new.keeper.given ≡ self.old.keeper.given }
+        ensures made { OnOk result (MakesRows rows.now self.old.keeper.history self.new.keeper.history) }
+        ensures back { IfOk result (λ made. TellsRowsBack rows.now self.old.keeper.history made.written) }
         ensures left { OnErr result (self.new ≡ self.old) }
-        ensures fault { IfErr result (IsRowFault rows.now self.old.history) }
+        ensures fault { IfErr result (IsRowFault rows.now self.old.keeper.history) }
     {
         let changes = meant(rows)?;
         match self.change_all(alloc, &changes) {
@@ -201,11 +204,13 @@ impl HostedRuntime {
     /// would be refused, or at which memory was wanting. Rows that mean no change are found before any is made.
     pub fn make_all(&mut self, alloc: Global, rows: &[ChangeRow], place: &mut usize) -> u32
         ensures arena { self.new.arena ≡ self.old.arena }
-        ensures made { result ≡ 0 → MakesRows rows.now self.old.history self.new.history }
+        ensures given { self.new.keeper.given ≡ self.old.keeper.given }
+        ensures made { result ≡ 0 → MakesRows rows.now self.old.keeper.history self.new.keeper.history }
         ensures left { result ≢ 0 → self.new ≡ self.old }
         ensures place { result ≢ 0 → place.new < length rows.now }
         ensures kept { result ≡ 0 → place.new ≡ place.old }
-        ensures fault { result ≢ 0 → AreRowsRefusedAt rows.now self.old.history place.new result }
+        ensures fault { result ≢ 0 → AreRowsRefusedAt rows.now self.old.keeper.history place.new result }
+        ensures memory { LackMemoryIf rows.now self.old.keeper.history place.new result }
     {
         match self.change_rows(alloc, rows) {
             Ok(made) => {

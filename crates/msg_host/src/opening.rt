@@ -1,10 +1,11 @@
 //! What a runtime is opened of.
 
-ghost use Rattle.std.specs.Prelude.{◌≡◌, IfOk, None, false};
+ghost use Rattle.std.specs.Prelude.{◌≡◌, IfOk, None, false, replicate};
 ghost use Rattle.msg_tables.specs.History.{empty};
 ghost use Rattle.msg_runtime.specs.Parts.{IsKeeperOf, keeper_history, keeper_view};
 ghost use Rattle.msg_cache.specs.Config.{refusal_of, setting_of};
 ghost use Rattle.msg_cache.specs.Plays.{is_lent};
+ghost use Rattle.msg_cache.specs.declared.view.TurnAt.TheVariants.{Away};
 ghost use Rattle.std.specs.Arc.{arc_value};
 
 use msg_cache::{Arena, Config, Keeper, Turn};
@@ -20,6 +21,7 @@ fn arena_of(alloc: Global, origin: &Origin, config: Config) -> Result<(Arena, Ke
     ensures keeper { IfOk result (λ r. IsKeeperOf r.0 r.1) }
     ensures history { IfOk result (λ r. keeper_history r.1 ≡ empty origin.now) }
     ensures turn { IfOk result (λ r. is_lent (keeper_view r.1).turn ≡ false) }
+    ensures given { IfOk result (λ r. (keeper_view r.1).given ≡ replicate r.0.key.senders false) }
 {
     match Arena::open(alloc, origin, config) {
         Ok(opened) => Ok(opened),
@@ -47,6 +49,8 @@ pub(crate) fn opened(
     ensures key { IfOk result (λ r. r.1.arena.key ≡ setting_of origin.now config) }
     ensures history { IfOk result (λ r. r.1.keeper.history ≡ empty origin.now) }
     ensures turn { IfOk result (λ r. r.2.table ≡ r.1.arena.table) }
+    ensures away { IfOk result (λ r. r.1.keeper.turn ≡ Away) }
+    ensures given { IfOk result (λ r. r.1.keeper.given ≡ replicate r.1.arena.key.senders false) }
 {
     let (arena, keeper) = arena_of(alloc, origin, config)?;
     let arena = shared(alloc, arena)?;

@@ -3,7 +3,7 @@
 ghost use Rattle.std.specs.Prelude.{◌≡◌, ◌≢◌, ◌<◌, ◌*◌, ◌⊎◌, IfErr, OnOk, length};
 ghost use Rattle.msg_cache.specs.Views.{classes};
 ghost use Rattle.msg_host.specs.Asking.{IsRefusal, want_of_room};
-ghost use Rattle.msg_host.specs.Listing.{AreRefusedRows, IsRowFault, ReachesRowsOf};
+ghost use Rattle.msg_host.specs.Listing.{IsRowFault, LackMemoryIf, ReachesRowsOf, RefusesToReach};
 
 use crate::fault::NO_ROOM;
 use crate::listing::{ChangeRow, RowFault, meant};
@@ -21,7 +21,9 @@ impl HostedRuntime {
         requires { length reached.old ≡ 2 * classes self.old.arena }
         ensures same { self.new ≡ self.old }
         ensures reached { OnOk result (ReachesRowsOf self.old rows.now reached.old reached.new) }
-        ensures fault { IfErr result (IsRowFault rows.now self.old.history) }
+        ensures fault { IfErr result (IsRowFault rows.now self.old.keeper.history) }
+        ensures before { IfErr result (λ r. IsRefusal r.number
+            → RefusesToReach self.old rows.now r.place r.number reached.old reached.new) }
     {
         let changes = meant(rows)?;
         match self.reach_all(alloc, &changes, reached) {
@@ -30,8 +32,13 @@ impl HostedRuntime {
         }
     }
 
-    /// Marks the class references whose lookups the changes of rows may alter if they are made as one, beside those that are marked, and makes none. A class has its place at twice its number,
-    /// and its metaclass the next; there are so many places, or else 76 is answered and nothing marked. 0, or the number of the fault for which they would be refused, with the place of the row.
+    /// Marks the class references whose lookups the changes of rows may alter if they are made as
+    /// one, beside those that are marked, and makes none. A class has its place at twice its
+    /// number, and its metaclass the next; there are so many places, or else 76 is answered and
+    /// nothing marked. 0, or the number of the fault for which they would be refused, with the
+    /// place of the row: of one that means no change, and then nothing is marked, or of the first
+    /// that would be refused, and then what those before it may alter is. Where memory is wanting
+    /// the marks say nothing.
     pub fn reach_rows(
         &mut self,
         alloc: Global,
@@ -46,7 +53,8 @@ impl HostedRuntime {
         ensures unmarked { result ≡ want_of_room → reached.new ≡ reached.old }
         ensures kept { (result ≡ 0) ⊎ (result ≡ want_of_room) → place.new ≡ place.old }
         ensures place { result ≢ 0 → result ≢ want_of_room → place.new < length rows.now }
-        ensures fault { IsRefusal result → AreRefusedRows rows.now self.old.history place.new result }
+        ensures fault { IsRefusal result → RefusesToReach self.old rows.now place.new result reached.old reached.new }
+        ensures memory { LackMemoryIf rows.now self.old.keeper.history place.new result }
     {
         if reached.len() != 2 * self.class_count() as usize {
             return NO_ROOM;

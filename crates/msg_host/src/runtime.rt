@@ -7,19 +7,24 @@ ghost use Rattle.msg_tables.specs.History.{BeginsWith, lookup, log};
 ghost use Rattle.msg_tables.specs.Made.{AreMade, AreRefused, TellsWayBack};
 ghost use Rattle.msg_tables.specs.Several.{refused_from};
 ghost use Rattle.msg_tables.specs.declared.fault.ChangeFault.{ChangeFault};
-ghost use Rattle.msg_cache.specs.Counts.{AreCounts};
+ghost use Rattle.msg_cache.specs.Counts.{AreCounts, after_refusal};
+ghost use Rattle.msg_cache.specs.Plays.{given_again, taken_in};
 ghost use Rattle.msg_cache.specs.Views.{classes};
+ghost use Rattle.msg_reader.specs.Kept.{KeepOthers};
 ghost use Rattle.msg_reader.specs.Notes.{AreNotesOf, HaveNotedFor};
 ghost use Rattle.msg_runtime.specs.Changed.{IsAccepted, IsMadeAt, IsRefusedAt, IsRefusedFor};
-ghost use Rattle.msg_host.specs.Calls.{MarksAllReached, MarksReached};
+ghost use Rattle.msg_runtime.specs.Calls.{AllAreOut, CachesAnswer, MarksAllReached, MarksReached};
+ghost use Rattle.msg_runtime.specs.Parts.{IsNew};
 ghost use Rattle.msg_host.specs.Config.{is_beyond};
 ghost use Rattle.msg_host.specs.Opening.{OpensAs};
 ghost use Rattle.msg_host.specs.declared.fault.OpenFault.{OpenFault};
+ghost use Rattle.msg_host.specs.declared.fault.SenderFault.{SenderFault};
 
 use crate::config::HostConfig;
 use crate::fault::{OpenFault, SenderFault};
 use crate::opening::opened;
 use crate::sender::HostedSender;
+use msg_cache::laws::{a_fill_changes_caches_alone, an_opening_changes_a_stamp_alone};
 use msg_cache::{Arena, Report, Turn};
 use msg_names::{ClassRef, ImpRef, Selector};
 use msg_reader::Notes;
@@ -43,7 +48,7 @@ pub struct HostedRuntime {
 }
 
 impl Model for HostedRuntime {
-    ghost use Rattle.msg_host.specs.View.{RuntimeView};
+    ghost use Rattle.msg_runtime.specs.View.{RuntimeView};
 
     ghost Value = { RuntimeView };
 
@@ -84,7 +89,7 @@ impl HostedRuntime {
     /// How many class numbers are reserved.
     pub fn class_count(&self) -> u32
         ensures count { result ≡ classes self.now.arena }
-        ensures origin { self.now.history.origin ≡ self.now.arena.key.origin }
+        ensures origin { self.now.keeper.history.origin ≡ self.now.arena.key.origin }
     {
         self.classes
     }
@@ -103,7 +108,7 @@ impl HostedRuntime {
         requires { length marks.old ≡ 2 * classes self.now.arena }
         ensures ok { OnOk result (MarksReached self.now change.now marks.old marks.new) }
         ensures err { OnErr result (marks.new ≡ marks.old) }
-        ensures fault { IfErr result (IsRefusedFor self.now.history change.now) }
+        ensures fault { IfErr result (IsRefusedFor self.now.keeper.history change.now) }
         ensures room { length marks.new ≡ length marks.old }
     {
         self.runtime.reach(change, marks)
@@ -119,9 +124,9 @@ impl HostedRuntime {
     ) -> Result<(), Refused>
         requires { length marked.old ≡ 2 * classes self.old.arena }
         ensures same { self.new ≡ self.old }
-        ensures ok { OnOk result (refused_from 0 (log self.old.history) (L.changes changes.now) ≡ None) }
+        ensures ok { OnOk result (refused_from 0 (log self.old.keeper.history) (L.changes changes.now) ≡ None) }
         ensures marks { OnOk result (MarksAllReached self.old (L.changes changes.now) marked.old marked.new) }
-        ensures refused { IfErr result (AreRefused (L.changes changes.now) self.old.history) }
+        ensures refused { IfErr result (AreRefused (L.changes changes.now) self.old.keeper.history) }
         ensures before { IfErr result (λ r. r.fault ≢ ChangeFault.Memory
             → MarksAllReached self.old (take r.place (L.changes changes.now)) marked.old marked.new) }
         ensures length { length marked.new ≡ length marked.old }
@@ -133,10 +138,11 @@ impl HostedRuntime {
     /// Makes a change, flushes the caches that it reaches, and answers how many times changes were made. After an error nothing was changed or flushed.
     pub fn change(&mut self, change: &Change) -> Result<u64, ChangeFault>
         ensures arena { self.new.arena ≡ self.old.arena }
-        ensures ok { IfOk result (IsMadeAt self.old.history change.now self.new.history) }
+        ensures ok { IfOk result (IsMadeAt self.old.keeper.history change.now self.new.keeper.history) }
+        ensures given { self.new.keeper.given ≡ self.old.keeper.given }
         ensures err { OnErr result (self.new ≡ self.old) }
-        ensures fault { IfErr result (IsRefusedAt self.old.history change.now) }
-        ensures memory { IsErrOf result ChangeFault.Memory → IsAccepted self.old.history change.now }
+        ensures fault { IfErr result (IsRefusedAt self.old.keeper.history change.now) }
+        ensures memory { IsErrOf result ChangeFault.Memory → IsAccepted self.old.keeper.history change.now }
     {
         self.runtime.change(&self.arena, &mut self.turn, change)
     }
@@ -145,11 +151,12 @@ impl HostedRuntime {
     /// error nothing was changed or flushed. An empty list changes nothing and isn't counted.
     pub fn change_all<L: ChangeList>(&mut self, alloc: Global, changes: &L) -> Result<Made, Refused>
         ensures arena { self.new.arena ≡ self.old.arena }
-        ensures ok { OnOk result (AreMade (L.changes changes.now) self.old.history self.new.history) }
-        ensures count { IfOk result (λ made. made.count ≡ length self.new.history.changes) }
-        ensures back { IfOk result (λ made. TellsWayBack (L.changes changes.now) self.old.history made.written) }
+        ensures ok { OnOk result (AreMade (L.changes changes.now) self.old.keeper.history self.new.keeper.history) }
+        ensures count { IfOk result (λ made. made.count ≡ length self.new.keeper.history.changes) }
+        ensures back { IfOk result (λ made. TellsWayBack (L.changes changes.now) self.old.keeper.history made.written) }
+        ensures given { self.new.keeper.given ≡ self.old.keeper.given }
         ensures err { OnErr result (self.new ≡ self.old) }
-        ensures refused { IfErr result (AreRefused (L.changes changes.now) self.old.history) }
+        ensures refused { IfErr result (AreRefused (L.changes changes.now) self.old.keeper.history) }
     {
         self.runtime
             .change_all(alloc, &self.arena, &mut self.turn, changes)
@@ -157,23 +164,31 @@ impl HostedRuntime {
 
     /// How many times changes were made: a list of them counts as one.
     pub fn count(&self) -> u64
-        ensures { result ≡ length self.now.history.changes }
+        ensures { result ≡ length self.now.keeper.history.changes }
     {
         self.runtime.count()
     }
 
     /// What was done to caches so far.
     pub fn report(&self) -> Report
-        ensures { AreCounts result }
+        ensures value { result ≡ self.now.report }
+        ensures counts { AreCounts result }
     {
         self.runtime.report()
     }
 
-    /// A sender, which has seen the whole history. There is none where as many are out as the runtime has room for.
+    /// A sender, which has seen the whole history. There is none where as many are out as the
+    /// runtime has room for, and only there is `NoneFree` answered.
     pub fn sender(&mut self) -> Result<HostedSender, SenderFault>
-        ensures same { self.new ≡ self.old }
+        ensures kept { self.new ≡ record self.old { keeper = self.new.keeper; report = self.new.report } }
+        ensures history { self.new.keeper.history ≡ self.old.keeper.history }
         ensures arena { IfOk result (λ s. s.arena ≡ self.old.arena) }
-        ensures front { IfOk result (λ s. s.seen.front ≡ self.old.history) }
+        ensures front { IfOk result (λ s. s.seen.front ≡ self.old.keeper.history) }
+        ensures given { IfOk result (λ s. IsNew s.seen self.old.keeper self.new.keeper) }
+        ensures report { OnOk result (self.new.report ≡ self.old.report) }
+        ensures left { OnErr result (self.new.keeper ≡ self.old.keeper) }
+        ensures none { IsErrOf result SenderFault.NoneFree → AllAreOut self.old × (self.new.report ≡ after_refusal self.old.report) }
+        ensures memory { IsErrOf result SenderFault.Memory → self.new ≡ self.old }
     {
         let arena = Arc::try_clone(&self.arena)?;
         let Some(reader) = self.runtime.sender(&self.arena) else {
@@ -197,16 +212,22 @@ impl HostedRuntime {
         requires sender { sender.old.arena ≡ self.old.arena }
         requires notes { AreNotesOf sender.old.seen.front notes.old }
         requires class { class.class < classes self.old.arena }
-        ensures same { self.new ≡ self.old }
+        ensures same { self.new.arena ≡ self.old.arena }
+        ensures history { self.new.keeper.history ≡ self.old.keeper.history }
+        ensures remembered { self.new.remembered ≡ self.old.remembered }
+        ensures cached { CachesAnswer class sel result sender.old.seen self.old self.new }
         ensures arena { sender.new.arena ≡ sender.old.arena }
-        ensures begins { BeginsWith self.old.history sender.old.seen.front }
-        ensures front { sender.new.seen.front ≡ self.old.history }
-        ensures found { imp_number result ≡ lookup self.old.history class (selector_number sel) }
-        ensures listed { imp_number result ≤ last_imp self.old.history.origin.counts }
-        ensures notes { AreNotesOf self.old.history notes.new }
-        ensures noted { HaveNotedFor notes.new self.old.history class sel result }
+        ensures begins { BeginsWith self.old.keeper.history sender.old.seen.front }
+        ensures front { sender.new.seen.front ≡ self.old.keeper.history }
+        ensures found { imp_number result ≡ lookup self.old.keeper.history class (selector_number sel) }
+        ensures listed { imp_number result ≤ last_imp self.old.keeper.history.origin.counts }
+        ensures notes { AreNotesOf self.old.keeper.history notes.new }
+        ensures noted { HaveNotedFor notes.new self.old.keeper.history class sel result }
+        ensures others { KeepOthers notes.old notes.new class sel }
     {
         a_slot_of_few_classes_is_short();
+        a_fill_changes_caches_alone();
+        an_opening_changes_a_stamp_alone();
         self.runtime
             .answer_noted(&self.arena, &mut sender.reader, notes, class, sel)
     }
@@ -214,19 +235,21 @@ impl HostedRuntime {
     /// A sender has then seen the whole history, which begins with what it had seen.
     pub fn meet(&mut self, sender: &mut HostedSender)
         requires sender { sender.old.arena ≡ self.old.arena }
-        ensures same { self.new ≡ self.old }
+        ensures met { self.new ≡ record self.old { keeper = given_again sender.old.seen self.old.keeper } }
         ensures arena { sender.new.arena ≡ sender.old.arena }
-        ensures begins { BeginsWith self.old.history sender.old.seen.front }
-        ensures front { sender.new.seen.front ≡ self.old.history }
+        ensures number { sender.new.seen.number ≡ sender.old.seen.number }
+        ensures begins { BeginsWith self.old.keeper.history sender.old.seen.front }
+        ensures front { sender.new.seen.front ≡ self.old.keeper.history }
     {
         self.runtime
             .meet(&self.arena, &mut self.turn, &mut sender.reader);
     }
 
-    /// Takes a sender back. The number of one that is dropped stays used.
+    /// Takes a sender back: its number isn't out then. The number of one that is dropped stays
+    /// used.
     pub fn finish(&mut self, sender: HostedSender)
         requires sender { sender.arena ≡ self.old.arena }
-        ensures same { self.new ≡ self.old }
+        ensures { self.new ≡ record self.old { keeper = taken_in sender.seen self.old.keeper } }
     {
         let HostedSender { reader, .. } = sender;
         self.runtime.finish(&self.arena, reader);

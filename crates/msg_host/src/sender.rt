@@ -1,12 +1,15 @@
 //! Senders.
 
-ghost use Rattle.std.specs.Prelude.{◌≡◌, ◌<◌, ◌≤◌, length, IfSome, IfNone};
-ghost use Rattle.msg_names.specs.Number.{imp_number};
+ghost use Rattle.std.specs.Prelude.{◌≡◌, ◌<◌, ◌≤◌, ◌+◌, length, option_map, IfSome, IfNone};
+ghost use Rattle.msg_names.specs.Number.{imp_number, selector_number};
 ghost use Rattle.msg_tables.specs.Origin.{last_imp};
 ghost use Rattle.msg_tables.specs.History.{BeginsWith};
+ghost use Rattle.msg_core.specs.Stamps.{last_affected};
+ghost use Rattle.msg_cache.specs.Rule.{IsAccepted};
 ghost use Rattle.msg_cache.specs.Views.{IsFoundAt, classes};
-ghost use Rattle.msg_reader.specs.Notes.{AreNotesOf, HaveNotedFor};
-ghost use Rattle.msg_host.specs.Named.{HaveLackedFor};
+ghost use Rattle.msg_reader.specs.Kept.{FindsUnprobed, KeepOthers, LoadsStamp, MissesUnlessChanged};
+ghost use Rattle.msg_reader.specs.Notes.{AreNotesOf};
+ghost use Rattle.msg_host.specs.Named.{HaveNotedLast};
 
 use msg_cache::Arena;
 use msg_names::{ClassRef, ImpRef, Selector};
@@ -54,11 +57,24 @@ impl HostedSender {
         ensures arena { self.new.arena ≡ self.old.arena }
         ensures begins { BeginsWith self.new.seen.front self.old.seen.front }
         ensures length { result ≡ length self.new.seen.front.changes }
+        ensures looked { self.new.seen.looks ≡ self.old.seen.looks + 1 }
     {
         self.reader.refresh(&self.arena)
     }
 
-    // The implementation that the notes have, or else that the cache has: what a lookup finds at what the sender has then seen.
+    // The stamp of a class reference: no change after so many has affected it. The sender has then seen all changes.
+    pub(crate) fn load_stamp(&mut self, class: ClassRef) -> u64
+        requires { class.class < classes self.old.arena }
+        ensures arena { self.new.arena ≡ self.old.arena }
+        ensures begins { BeginsWith self.new.seen.front self.old.seen.front }
+        ensures loaded { LoadsStamp class result self.old.seen self.new.seen }
+        ensures accepted { IsAccepted self.new.seen.front }
+        ensures since { last_affected self.new.seen.front class ≤ result }
+    {
+        self.reader.stamp(&self.arena, class)
+    }
+
+    // The implementation that the notes have, or else that the cache has: what a lookup finds at what the sender has then seen. What the notes have is noted again at the number of changes.
     #[inline]
     pub(crate) fn find(
         &mut self,
@@ -73,10 +89,12 @@ impl HostedSender {
         ensures some { IfSome result (IsFoundAt self.new.seen.front class sel) }
         ensures listed { IfSome result (λ i. imp_number i ≤ last_imp self.old.arena.key.origin.counts) }
         ensures notes { AreNotesOf self.new.seen.front notes.new }
-        ensures noted { IfSome result (HaveNotedFor notes.new self.new.seen.front class sel) }
-        ensures recalled { IfNone result (HaveLackedFor notes.old self.old self.new class sel) }
+        ensures noted { IfSome result (HaveNotedLast notes.new self.new class sel) }
+        ensures others { KeepOthers notes.old notes.new class sel }
+        ensures unprobed { FindsUnprobed notes.old class (selector_number sel) self.old.seen self.new.seen (option_map imp_number result) }
+        ensures missed { IfNone result (MissesUnlessChanged self.new.arena class (selector_number sel) self.old.seen self.new.seen) }
     {
         a_slot_of_few_classes_is_short();
-        self.reader.find(&self.arena, notes, class, sel)
+        self.reader.find_counted(&self.arena, notes, class, sel)
     }
 }

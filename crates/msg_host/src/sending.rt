@@ -1,22 +1,27 @@
 //! Sends in numbers.
 
-ghost use Rattle.std.specs.Prelude.{◌≡◌, ◌≤◌, None, Some, IfOk, IfErr, OnOk, IfNone, OnErr};
+ghost use Rattle.std.specs.Prelude.{◌≡◌, ◌<◌, ◌≤◌, None, Some, IfOk, IfErr, OnOk, IfNone, OnErr};
 ghost use Rattle.msg_tables.specs.Origin.{last_imp};
 ghost use Rattle.msg_tables.specs.History.{BeginsWith, lookup};
+ghost use Rattle.msg_core.specs.Stamps.{last_affected};
+ghost use Rattle.msg_cache.specs.Rule.{IsAccepted};
 ghost use Rattle.msg_cache.specs.Views.{classes};
 ghost use Rattle.msg_host.specs.Asking.{ask_fault};
-ghost use Rattle.msg_reader.specs.Notes.{AreNotesOf, HaveLacked, HaveNoted};
+ghost use Rattle.msg_host.specs.declared.fault.AskFault.{AskFault};
+ghost use Rattle.msg_reader.specs.Notes.{AreNotesOf, HaveNoted};
+ghost use Rattle.msg_reader.specs.Kept.{FindsUnprobed, HaveNotedSince, HaveOthersOf, LoadsStamp, MissesUnlessChanged};
+ghost use Rattle.msg_runtime.specs.Calls.{CachesNumber};
 ghost use Rattle.msg_host.specs.Named.{IfFound, ref_of};
 
-use crate::fault::{AskFault, asked};
+use crate::fault::{AskFault, asked, asked_class};
 use crate::runtime::HostedRuntime;
 use crate::sender::HostedSender;
 use msg_reader::Notes;
 
 impl HostedSender {
     /// The number of the implementation that the notes have, or else that the cache has, and then the notes too: what a lookup finds at what the sender has then seen; or
-    /// none. No lock is wanted. Where a change falls into a probe that hits, its answer is left. What the notes have of the point at which the sender stands is found, unless
-    /// it sees a change meanwhile.
+    /// none. No lock is wanted. Where a change that affects the class reference falls into a probe that hits, its answer is left. What the notes have since the stamp of the class reference is found
+    /// without a probe.
     pub fn probe(
         &mut self,
         notes: &mut Notes,
@@ -33,15 +38,33 @@ impl HostedSender {
         ensures err { IfErr result (λ f. ask_fault (classes self.old.arena) class sel ≡ Some f) }
         ensures left { OnErr result ((self.new ≡ self.old) × (notes.new ≡ notes.old)) }
         ensures notes { AreNotesOf self.new.seen.front notes.new }
-        ensures noted { IfFound result (HaveNoted notes.new self.new.seen.front (ref_of class meta) sel) }
-        ensures recalled { IfOk result (λ found.
-            IfNone found (HaveLacked notes.old self.old.seen.front self.new.seen.front (ref_of class meta) sel)) }
+        ensures noted { IfFound result (HaveNotedSince notes.new (ref_of class meta) sel self.new.seen) }
+        ensures others { HaveOthersOf (ref_of class meta) sel notes.old notes.new }
+        ensures unprobed { IfOk result (FindsUnprobed notes.old (ref_of class meta) sel self.old.seen self.new.seen) }
+        ensures missed { IfOk result (λ found.
+            IfNone found (MissesUnlessChanged self.old.arena (ref_of class meta) sel self.old.seen self.new.seen)) }
     {
         let (class, sel) = asked(self.class_count(), class, meta, sel)?;
         match self.find(notes, class, sel) {
             Some(imp) => Ok(Some(imp.number())),
             None => Ok(None),
         }
+    }
+
+    /// The stamp of a class, or of its metaclass: no change after so many has affected it, so what was noted of it after so many or more is what a lookup finds. The sender has then seen all changes.
+    /// No lock is wanted.
+    pub fn stamp(&mut self, class: u32, meta: bool) -> Result<u64, AskFault>
+        ensures arena { self.new.arena ≡ self.old.arena }
+        ensures begins { BeginsWith self.new.seen.front self.old.seen.front }
+        ensures loaded { IfOk result (λ n. LoadsStamp (ref_of class meta) n self.old.seen self.new.seen) }
+        ensures accepted { OnOk result (IsAccepted self.new.seen.front) }
+        ensures since { IfOk result (λ n. last_affected self.new.seen.front (ref_of class meta) ≤ n) }
+        ensures ok { OnOk result (class < classes self.old.arena) }
+        ensures err { IfErr result (λ f. (classes self.old.arena ≤ class) × (f ≡ AskFault.NoClass)) }
+        ensures left { OnErr result (self.new ≡ self.old) }
+    {
+        let class = asked_class(self.class_count(), class, meta)?;
+        Ok(self.load_stamp(class))
     }
 }
 
@@ -57,17 +80,22 @@ impl HostedRuntime {
     ) -> Result<u32, AskFault>
         requires sender { sender.old.arena ≡ self.old.arena }
         requires notes { AreNotesOf sender.old.seen.front notes.old }
-        ensures same { self.new ≡ self.old }
+        ensures same { self.new.arena ≡ self.old.arena }
+        ensures history { self.new.keeper.history ≡ self.old.keeper.history }
+        ensures remembered { self.new.remembered ≡ self.old.remembered }
+        ensures cached { IfOk result (λ i. CachesNumber (ref_of class meta) sel i sender.old.seen self.old self.new) }
+        ensures unfilled { OnErr result (self.new ≡ self.old) }
         ensures arena { sender.new.arena ≡ sender.old.arena }
-        ensures begins { OnOk result (BeginsWith self.old.history sender.old.seen.front) }
-        ensures front { OnOk result (sender.new.seen.front ≡ self.old.history) }
-        ensures found { IfOk result (λ i. i ≡ lookup self.old.history (ref_of class meta) sel) }
-        ensures listed { IfOk result (λ i. i ≤ last_imp self.old.history.origin.counts) }
+        ensures begins { OnOk result (BeginsWith self.old.keeper.history sender.old.seen.front) }
+        ensures front { OnOk result (sender.new.seen.front ≡ self.old.keeper.history) }
+        ensures found { IfOk result (λ i. i ≡ lookup self.old.keeper.history (ref_of class meta) sel) }
+        ensures listed { IfOk result (λ i. i ≤ last_imp self.old.keeper.history.origin.counts) }
         ensures ok { OnOk result (ask_fault (classes self.old.arena) class sel ≡ None) }
         ensures err { IfErr result (λ f. ask_fault (classes self.old.arena) class sel ≡ Some f) }
         ensures left { OnErr result ((sender.new ≡ sender.old) × (notes.new ≡ notes.old)) }
         ensures notes { AreNotesOf sender.new.seen.front notes.new }
-        ensures noted { IfOk result (HaveNoted notes.new self.old.history (ref_of class meta) sel) }
+        ensures noted { IfOk result (HaveNoted notes.new self.old.keeper.history (ref_of class meta) sel) }
+        ensures others { HaveOthersOf (ref_of class meta) sel notes.old notes.new }
     {
         let (class, sel) = asked(self.class_count(), class, meta, sel)?;
         Ok(self.answer(sender, notes, class, sel).number())

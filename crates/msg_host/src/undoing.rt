@@ -5,7 +5,7 @@ ghost use Rattle.msg_names.specs.Number.{selector_number, selector_of};
 ghost use Rattle.msg_tables.specs.Journal.{undo_entry, undo_journal};
 ghost use Rattle.msg_host.specs.Asking.{IsRefusal, want_of_room};
 ghost use Rattle.msg_host.specs.Listing as spec;
-ghost use Rattle.msg_host.specs.Listing.{AreRefusedRows, AreWayBack, GivesBack, MakesRows, UndoesRows};
+ghost use Rattle.msg_host.specs.Listing.{AreRefusedRows, AreWayBack, GivesBack, LackMemoryIf, MakesRows, UndoesRows};
 
 use crate::fault::NO_ROOM;
 use crate::listing::ChangeRow;
@@ -55,6 +55,7 @@ fn give_back(entry: Entry, rows: &mut [ChangeRow], count: usize) -> Option<usize
 fn write_way_back(entries: &[Entry], rows: &mut [ChangeRow]) -> Option<usize>
     requires { length entries.now ≤ length rows.old }
     ensures some { IfSome result (AreWayBack (undo_journal entries.now) rows.new) }
+    ensures within { IfSome result (λ n. n ≤ length rows.new) }
     ensures none { IsNone result → undo_journal entries.now ≡ None }
 {
     let mut count = 0;
@@ -78,15 +79,18 @@ impl HostedRuntime {
         place: &mut usize,
     ) -> u32
         ensures arena { self.new.arena ≡ self.old.arena }
-        ensures made { result ≡ 0 → MakesRows rows.now self.old.history self.new.history }
-        ensures undo { result ≡ 0 → UndoesRows rows.now self.old.history undo.new undone.new }
+        ensures given { self.new.keeper.given ≡ self.old.keeper.given }
+        ensures made { result ≡ 0 → MakesRows rows.now self.old.keeper.history self.new.keeper.history }
+        ensures undo { result ≡ 0 → UndoesRows rows.now self.old.keeper.history undo.new undone.new }
+        ensures within { result ≡ 0 → undone.new ≤ length undo.new }
         ensures left { result ≢ 0 → self.new ≡ self.old }
         ensures room { length undo.old < 2 * length rows.now → result ≡ want_of_room }
         ensures short { result ≡ want_of_room → length undo.old < 2 * length rows.now }
         ensures unwritten { result ≢ 0 → (undo.new ≡ undo.old) × (undone.new ≡ undone.old) }
         ensures kept { (result ≡ 0) ⊎ (result ≡ want_of_room) → place.new ≡ place.old }
         ensures place { result ≢ 0 → result ≢ want_of_room → place.new < length rows.now }
-        ensures fault { IsRefusal result → AreRefusedRows rows.now self.old.history place.new result }
+        ensures fault { IsRefusal result → AreRefusedRows rows.now self.old.keeper.history place.new result }
+        ensures memory { LackMemoryIf rows.now self.old.keeper.history place.new result }
     {
         if undo.len() / 2 < rows.len() {
             return NO_ROOM;

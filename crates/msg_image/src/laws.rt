@@ -1,8 +1,12 @@
 //! Laws of documents: of a form without fault each part has the number of its place, and the last category wins.
 
+ghost use Rattle.std.specs.Prelude.{◌≡◌};
 ghost use Rattle.msg_image.specs.Laws.{ClassHasNumberOfPlace, MadeClassComesAfterListed};
 ghost use Rattle.msg_image.specs.Laws.{ObjectHasNumberOfPlace, ImplementationHasNumberOfPlace};
 ghost use Rattle.msg_image.specs.Laws.{LastCategoryWins, LastCategoryWinsAtMetaclass};
+
+use crate::document::MOST_BYTES;
+use crate::opened::{MAX_CHANGES, MAX_ROWS, MAX_SENDERS, MAX_WORDS};
 
 /// A listed class is numbered as it is listed, from 0.
 pub fn a_class_has_the_number_of_its_place()
@@ -28,4 +32,13 @@ pub fn an_implementation_has_the_number_of_its_place()
 pub fn the_last_category_wins()
     ensures class { LastCategoryWins }
     ensures metaclass { LastCategoryWinsAtMetaclass }
+{}
+
+/// The limits of a document's text and of its tables, as the format has them.
+pub fn the_limits_are_the_formats()
+    ensures bytes { MOST_BYTES ≡ 16777216 }
+    ensures rows { MAX_ROWS ≡ 16384 }
+    ensures changes { MAX_CHANGES ≡ 65536 }
+    ensures senders { MAX_SENDERS ≡ 64 }
+    ensures words { MAX_WORDS ≡ 1048576 }
 {}

@@ -1,5 +1,6 @@
 -- The grammar's loops, a turn at a time, as data.
-use Rattle.std.proofs.Common.{◌≡◌, ℕ, zero, suc, ◌-◌, ◌<◌, ◌≤◌, List, length, Option, Some, None, option_map, option_and_then, refl, ap, ◌∙◌}
+use Rattle.std.proofs.Common.{◌≡◌, ℕ, zero, suc, ◌-◌, ◌<◌, ◌≤◌, List, [], ◌∷◌, length, arith, Option, Some, None, option_map, option_and_then, refl, ap, ◌∙◌}
+use Rattle.json.specs.Lex.{lex, punctuate, tokens}
 use Rattle.json.specs.Token.{Token}
 use Rattle.json.specs.Json as json
 use Rattle.json.specs.Json.{Parse, parse_map, after_end_array, read_key, items_step, items, members}
@@ -92,3 +93,9 @@ module _ (p : Parse json.Json) where
 
     pub members_over : (n : ℕ) (ts r : List Token) → length ts ≤ n → read_key ts ≡ Some (None, r) → converted (λ ms. of_members ms old) (members p n ts) ≡ Some (old, r)
     members_over n ts r enough e = ap (converted (λ ms. of_members ms old)) (members_end p n ts r enough e)
+
+-- a text in which a reader finds a token has bytes
+pub some_text : (text : List ℕ) → 0 < length (tokens text) → 0 < length text
+unfolding lex punctuate
+some_text [] h = h
+some_text (x ∷ xs) h = omega arith

@@ -31,7 +31,8 @@ pub enum JsonFault {
 /// lie in the arena, each in as much room as it takes.
 ///
 /// `NotJson` comes for bytes that aren't UTF-8 or no JSON text (RFC 8259), for lists and objects that nest deeper than 127, for a lone
-/// surrogate and for a number too large for a float; `Memory` wherever a growth is refused.
+/// surrogate and for a number too large for a float; `Memory` wherever a growth is refused, and never
+/// of a text without bytes.
 pub fn read<'t, 'b>(
     alloc: Global,
     bump: &'b Bump,
@@ -40,6 +41,7 @@ pub fn read<'t, 'b>(
 ) -> Result<Tree<'t, 'b>, JsonFault>
     ensures ok { IfOk result (λ v. IsUtf8 bytes.now × (read_text bytes.now ≡ Some (view v))) }
     ensures err { IfErr result (λ e. e ≢ JsonFault.Memory → IsUtf8 bytes.now → read_text bytes.now ≡ None) }
+    ensures memory { IfErr result (λ e. e ≡ JsonFault.Memory → 0 < length bytes.now) }
 {
     match simdutf8::compat::from_utf8(bytes) {
         Ok(text) => read_str(alloc, bump, text, scratch),
@@ -55,6 +57,7 @@ fn read_str<'t, 'b>(
 ) -> Result<Tree<'t, 'b>, JsonFault>
     ensures ok { IfOk result (λ v. read_text text.now ≡ Some (view v)) }
     ensures err { IfErr result (λ e. e ≢ JsonFault.Memory → read_text text.now ≡ None) }
+    ensures memory { IfErr result (λ e. e ≡ JsonFault.Memory → 0 < length text.now) }
 {
     let Ok(mut reader) = Reader::new(text, scratch) else {
         return Err(JsonFault::Memory);
@@ -81,6 +84,7 @@ fn tree<'t, 'b>(
     ensures values { OnOk result (stack.new.values.items ≡ stack.old.values.items) }
     ensures members { OnOk result (stack.new.members.items ≡ stack.old.members.items) }
     ensures err { IfErr result (λ e. e ≢ JsonFault.Memory → data_first depth reader.old ≡ None) }
+    ensures memory { IfErr result (λ e. e ≡ JsonFault.Memory → 0 < length reader.old) }
 {
     let Some(token) = reader.next() else {
         return Err(JsonFault::NotJson);

@@ -4,6 +4,8 @@ ghost use Rattle.std.specs.Prelude.{◌≡◌};
 ghost use Rattle.msg_names.specs.Number.{imp_number};
 ghost use Rattle.msg_names.specs.Laws.{NumbersAreOneToOne, NumberedTextIsItsName, NewNameHasNextNumber, NumbersStay};
 
+use crate::name::{MAX_ARGUMENTS, MAX_NAME_BYTES};
+use crate::names::MAX_NAMES;
 use crate::value::ImpRef;
 
 /// Forwarding has number 0, which no implementation of a document has.
@@ -29,4 +31,11 @@ pub fn a_new_name_has_the_next_number()
 /// A number stays, whatever name is added.
 pub fn a_number_stays()
     ensures { NumbersStay }
+{}
+
+/// The limits of names, as the document format has them.
+pub fn the_limits_are_the_formats()
+    ensures bytes { MAX_NAME_BYTES ≡ 64 }
+    ensures arguments { MAX_ARGUMENTS ≡ 4 }
+    ensures names { MAX_NAMES ≡ 4096 }
 {}

@@ -1,2 +1,3 @@
 mod KeyLemmas
 pub mod NoteLemmas
+pub mod ReaderLemmas

@@ -1,8 +1,9 @@
 -- What is noted stays right where the history grows.
-use Rattle.std.proofs.Common.{◌≡◌, ◌≢◌, ◌<◌, ◌≤◌, ◌+◌, ℕ, List, ◌++◌, ◌^◌, length, get_or, set, refl, sym, ap, subst, ◌∙◌, arith, length-append}
-use Rattle.std.proofs.lemmas.Bool.{ne_eqb}
+use Rattle.std.proofs.Common.{◌≡◌, ◌≢◌, ◌<◌, ◌≤◌, ◌+◌, ℕ, List, ◌⊎◌, inl, inr, ◌++◌, ◌^◌, length, get_or, set, refl, sym, ap, subst, ◌∙◌, arith, length-append, length-set, get_or-set_other}
+use Rattle.std.proofs.lemmas.Bool.{cases_eq, eq-eqb, le-leb, ne_eqb}
 use Rattle.std.proofs.lemmas.List.{take-append-le}
-use Rattle.std.specs.Prelude.{◌==◌, ◌&&◌, Bool, true, false, Option, Some, None, if◌then◌else◌, nat_lt, option_and_then, slice_get}
+use Rattle.std.proofs.lemmas.Grind.{get_or-set_at}
+use Rattle.std.specs.Prelude.{◌&&◌, Bool, true, false, Option, Some, None, if◌then◌else◌, nat_le, nat_lt, option_and_then, slice_get}
 use Rattle.std.proofs.lemmas.List.Elements.{All-set}
 use Rattle.msg_tables.specs.Origin.{OriginView, last_imp}
 use Rattle.msg_tables.specs.declared.change.Change.{Change}
@@ -12,62 +13,67 @@ use Rattle.msg_names.specs.declared.value.ClassRef.{ClassRef}
 use Rattle.msg_tables.specs.History.{History, BeginsWith, lookup}
 use Rattle.msg_tables.proofs.TakeLemmas.{All-at}
 use Rattle.msg_core.specs.State.{first}
-use Rattle.msg_core.proofs.KeepLemmas.{first_all}
 use Rattle.msg_reader.specs.declared.note.Note.{Note}
 use Rattle.msg_reader.specs.declared.notes.Notes.{Notes}
-use Rattle.msg_reader.specs.Key.{key_of, none_bit, place_of}
-use Rattle.msg_reader.specs.Notes.{found_by, recalled, AreBlank, IsNoteOf, AreNotesOf, IsRecalled}
+use Rattle.msg_reader.specs.Key.{IsSealOf, key_of, mark_of, place_of}
+use Rattle.msg_core.specs.Stamps.{last_affected}
+use Rattle.msg_core.proofs.StampLemmas.{since as stays-since}
+use Rattle.msg_cache.specs.Rule.{IsAccepted}
+use Rattle.msg_reader.specs.Notes.{found_by, recalled, AreBlank, IsNoteOf, AreNotesOf, IsRecalled, IsRecalledSince, LiesAt}
 
 -- a blank note is one of each history
-pub unnamed : (h : History) (n : Note) → (n.word ≡ 0) × (n.imp ≡ 0) → IsNoteOf h n
+pub unnamed : (h : History) (n : Note) → (n.seal ≡ 0) × (n.imp ≡ 0) → IsNoteOf h n
 unnamed h n none = record {
   recalled = λ slot sel short few e.
-      let one : none_bit n.imp ≡ 1 = ap none_bit none.1 in
-      absurd (omega (arith, none.0, e, one));
+      let none_of : mark_of n.imp ≡ 65535 = ap mark_of none.1 in
+      absurd (omega (arith, none.0, e, none_of));
 }
 
 pub blank_of : (h : History) (m : Notes) → AreBlank m → AreNotesOf h m
-blank_of h m b = record { notes = λ k d inside. unnamed h (get_or m.notes k d) (b.notes k d inside) }
+blank_of h m b = record {
+  notes = λ k d inside. unnamed h (get_or m.notes k d) (b.notes k d inside);
+  placed = λ p d inside full. absurd (full (b.notes p d inside).0);
+}
 
 -- what isn't at its place isn't noted
-apart : (n : Note) (count slot sel : ℕ) → n.word ≢ key_of slot sel + none_bit n.imp → found_by n count slot sel ≡ None
-apart n count slot sel ne = ap (λ b. if b && n.count == count then Some n.imp else None) (ne_eqb n.word (key_of slot sel + none_bit n.imp) ne)
+apart : (n : Note) (since slot sel : ℕ) → n.seal + mark_of n.imp ≢ key_of slot sel → found_by n since slot sel ≡ None
+apart n since slot sel ne = ap (λ b. if b && nat_le since n.count then Some n.imp else None) (ne_eqb (n.seal + mark_of n.imp) (key_of slot sel) ne)
 
 -- of selector 0 nothing is noted
-pub recalled_none : (m : Notes) (count slot : ℕ) → recalled m count slot 0 ≡ None
-recalled_none m count slot = at (nat_lt slot (2 ^ 26)) (slice_get m.notes (place_of slot 0))
+pub recalled_none : (m : Notes) (since slot : ℕ) → recalled m since slot 0 ≡ None
+recalled_none m since slot = at (nat_lt slot (2 ^ 26)) (slice_get m.notes (place_of slot 0))
   where
-    at : (b : Bool) (o : Option Note) → (if b then option_and_then (λ k. found_by k count slot 0) o else None) ≡ None
+    at : (b : Bool) (o : Option Note) → (if b then option_and_then (λ k. found_by k since slot 0) o else None) ≡ None
     at true None = refl
-    at true (Some n) = apart n count slot 0 (n.spelled.named slot)
+    at true (Some n) = apart n since slot 0 (n.sealed.named slot)
     at false o = refl
 
 -- nor is anything in blank notes
-pub recalled_blank : (m : Notes) (count slot sel : ℕ) → AreBlank m → recalled m count slot sel ≡ None
-recalled_blank m count slot sel blank = at (nat_lt slot (2 ^ 26)) (slice_get m.notes (place_of slot sel)) refl
+pub recalled_blank : (m : Notes) (since slot sel : ℕ) → AreBlank m → recalled m since slot sel ≡ None
+recalled_blank m since slot sel blank = at (nat_lt slot (2 ^ 26)) (slice_get m.notes (place_of slot sel)) refl
   where
-    at : (b : Bool) (o : Option Note) → slice_get m.notes (place_of slot sel) ≡ o → (if b then option_and_then (λ k. found_by k count slot sel) o else None) ≡ None
+    at : (b : Bool) (o : Option Note) → slice_get m.notes (place_of slot sel) ≡ o → (if b then option_and_then (λ k. found_by k since slot sel) o else None) ≡ None
     at true None e = refl
     at true (Some n) e =
-        let none : (n.word ≡ 0) × (n.imp ≡ 0) = All-at (λ (k : Note). (k.word ≡ 0) × (k.imp ≡ 0)) m.notes (place_of slot sel) n blank.notes e in
-        let one : none_bit n.imp ≡ 1 = ap none_bit none.1 in
-        apart n count slot sel (λ same. omega (arith, none.0, same, one))
+        let none : (n.seal ≡ 0) × (n.imp ≡ 0) = All-at (λ (k : Note). (k.seal ≡ 0) × (k.imp ≡ 0)) m.notes (place_of slot sel) n blank.notes e in
+        let none_of : mark_of n.imp ≡ 65535 = ap mark_of none.1 in
+        apart n since slot sel (λ same. omega (arith, none.0, same, none_of))
     at false o e = refl
 
 -- a note answers what it notes
-pub as_noted : (h : History) (n : Note) (count slot sel : ℕ) → slot < 2 ^ 26 → sel < 2 ^ 32 → n.word ≡ key_of slot sel + none_bit n.imp → n.count ≡ count → IsNoteOf h n → IsRecalled h count slot sel n.imp
-as_noted h n count slot sel short few e f is = subst (λ k. IsRecalled h k slot sel n.imp) f (is.recalled slot sel short few e)
+pub as_noted : (h : History) (n : Note) (since slot sel : ℕ) → slot < 2 ^ 26 → sel < 2 ^ 32 → IsSealOf n.seal slot sel n.imp → since ≤ n.count → IsNoteOf h n → IsRecalledSince h since slot sel n.imp
+as_noted h n since slot sel short few e le is = (n.count, le, is.recalled slot sel short few e)
 
--- what is recalled at all changes is the lookup at the history
-pub recalled_whole : (h : History) (c : ClassRef) (n sel imp : ℕ) → n ≡ length h.changes → IsRecalled h n (slot_of c) sel imp → imp ≡ lookup h c sel
-recalled_whole h c n sel imp e is = is.found c refl ∙ ap (λ q. lookup q c sel) (sym (first_all h n (sym e)))
+-- what is recalled since the last change that affects the class reference is the lookup at the history
+pub recalled_still : (h : History) (c : ClassRef) (since sel imp : ℕ) → IsAccepted h → last_affected h c ≤ since → IsRecalledSince h since (slot_of c) sel imp → imp ≡ lookup h c sel
+recalled_still h c since sel imp ok last (k, le, is) = is.found c refl ∙ stays-since h c sel k ok.origin ok.changes (omega arith) is.seen
 
--- what the lookup finds at the history may be noted at all changes
-pub recalled_now : (h : History) (c : ClassRef) (n sel imp : ℕ) → n ≡ length h.changes → imp ≡ lookup h c sel → imp ≤ last_imp h.origin.counts → IsRecalled h n (slot_of c) sel imp
-recalled_now h c n sel imp e found listed = record {
-  seen = omega (arith, e);
+-- what the lookup finds after so many changes may be noted at these
+pub recalled_then : (h : History) (c : ClassRef) (n sel imp : ℕ) → n ≤ length h.changes → imp ≡ lookup (first n h) c sel → imp ≤ last_imp h.origin.counts → IsRecalled h n (slot_of c) sel imp
+recalled_then h c n sel imp le found listed = record {
+  seen = le;
   listed = listed;
-  found = λ d same. found ∙ ap (λ q. lookup q c sel) (first_all h n (sym e)) ∙ ap (λ x. lookup (first n h) x sel) (sym (slot_of-same d c same));
+  found = λ d same. found ∙ ap (λ x. lookup (first n h) x sel) (sym (slot_of-same d c same));
 }
 
 first_same : (h : History) (origin : OriginView) (more : List (List Change)) (n : ℕ) → n ≤ length h.changes → origin ≡ h.origin
@@ -90,11 +96,21 @@ note-begins p h n b is = record { recalled = λ slot sel short few e. recalled-b
 
 -- notes of a history are those of a longer history
 pub notes_begin : (p h : History) (m : Notes) → BeginsWith p h → AreNotesOf h m → AreNotesOf p m
-notes_begin p h m b is = record { notes = λ k d inside. note-begins p h (get_or m.notes k d) b (is.notes k d inside) }
+notes_begin p h m b is = record { notes = λ k d inside. note-begins p h (get_or m.notes k d) b (is.notes k d inside); placed = is.placed }
 
 pub short_slot : (c : ClassRef) → c.class < 2 ^ 25 → slot_of c < 2 ^ 26
 short_slot c few = slot_of-inside c (2 ^ 25) (2 ^ 26) refl few
 
 -- another note of the history in the place of one
-pub notes_keep : (h : History) (m : Notes) (place : ℕ) (n : Note) → AreNotesOf h m → IsNoteOf h n → AreNotesOf h (record { notes = set m.notes place n })
-notes_keep h m place n are is = record { notes = All-set (IsNoteOf h) m.notes place n is are.notes }
+pub notes_keep : (h : History) (m : Notes) (place : ℕ) (n : Note) → AreNotesOf h m → IsNoteOf h n → LiesAt place n → AreNotesOf h (record { notes = set m.notes place n })
+notes_keep h m place n are is lies = record {
+  notes = All-set (IsNoteOf h) m.notes place n is are.notes;
+  placed = λ p d within. at p d within (cases_eq p place);
+}
+  where
+    short : (p : ℕ) → p < length (set m.notes place n) → p < length m.notes
+    short p within = subst (λ q. p < q) (length-set m.notes place n) within
+
+    at : (p : ℕ) (d : Note) → p < length (set m.notes place n) → (p ≡ place) ⊎ (p ≡ place → ⊥) → LiesAt p (get_or (set m.notes place n) p d)
+    at p d within (inl e) = subst (LiesAt p) (sym (get_or-set_at m.notes place p n d e (subst (λ q. q < length m.notes) e (short p within)))) (subst (λ q. LiesAt q n) (sym e) lies)
+    at p d within (inr ne) = subst (LiesAt p) (sym (get_or-set_other m.notes place p n d ne)) (are.placed p d (short p within))

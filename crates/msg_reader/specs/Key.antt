@@ -1,20 +1,23 @@
--- The word of a note: of which lookup it is, and whether that found a method.
-use Rattle.std.specs.Prelude.{◌≡◌, ◌≢◌, ◌<◌, ◌+◌, ◌*◌, ◌%◌, ◌==◌, ℕ, if◌then◌else◌}
+-- The key of a lookup, and the seal of a note: the key and what the lookup found, as one word.
+use Rattle.std.specs.Prelude.{◌≡◌, ◌≢◌, ◌<◌, ◌+◌, ◌*◌, ◌/◌, ◌%◌, ◌^◌, ◌==◌, ℕ, if◌then◌else◌, nat_lt}
 
--- The key of a lookup: one to one, where the slot is below 2^26 and the selector takes 32 bits. It is even, and its low 16 bits are 32 times the place of its note.
+-- The key of a lookup: one to one, where the slot is below 2^26 and the selector takes 32 bits. Its low 16 bits are where its note lies.
 abbrev pub key_of : ℕ → ℕ → ℕ
-key_of slot sel = slot * 137438954496 + sel * 32
-
--- what the word of a note has beside the key: 1 where no method was found
-abbrev pub none_bit : ℕ → ℕ
-none_bit imp = if imp == 0 then 1 else 0
+key_of slot sel = (slot + 1) * 137438954496 + sel * 32
 
 -- the place of a lookup among the notes
 abbrev pub place_of : ℕ → ℕ → ℕ
-place_of slot sel = (slot * 32 + sel) % 2048
+place_of slot sel = key_of slot sel / 32 % 2048
 
--- A word is spelled for an implementation: where it is a lookup's key, there is a method, and where it is 1 more, there is none. It is of no lookup of selector 0, which is nobody's.
-pub record IsSpelled (word imp : ℕ) : Type 0 where
-  pub method : (slot sel : ℕ) → 0 < sel → word ≡ key_of slot sel → imp ≢ 0
-  pub none : (slot sel : ℕ) → word ≡ key_of slot sel + 1 → imp ≡ 0
-  pub named : (slot : ℕ) → word ≢ key_of slot 0 + none_bit imp
+-- what a seal says of an implementation: its number, where that takes 16 bits at most and is below 65,534; 65,534 of a longer one; and 65,535 of none
+abbrev pub mark_of : ℕ → ℕ
+mark_of imp = if imp == 0 then 65535 else if nat_lt imp 65534 then imp else 65534
+
+-- a word is the seal of a lookup that found this implementation: the mark below its key
+abbrev pub IsSealOf : ℕ → ℕ → ℕ → ℕ → Type 0
+IsSealOf seal slot sel imp = seal + mark_of imp ≡ key_of slot sel
+
+-- a word and an implementation are a seal of no lookup of selector 0, which is nobody's
+pub record IsSealed (seal imp : ℕ) : Type 0 where
+  pub fits : seal + mark_of imp < 2 ^ 64
+  pub named : (slot : ℕ) → seal + mark_of imp ≢ key_of slot 0

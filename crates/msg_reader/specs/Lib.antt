@@ -1,3 +1,4 @@
 pub mod Found
 pub mod Key
+pub mod Kept
 pub mod Notes

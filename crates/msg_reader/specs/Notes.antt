@@ -1,15 +1,17 @@
 -- What is noted of lookups.
-use Rattle.std.specs.Prelude.{◌≡◌, ◌<◌, ◌≤◌, ◌+◌, ◌^◌, ◌==◌, ◌&&◌, ℕ, Option, Some, None, if◌then◌else◌, length, nat_lt, option_and_then, slice_get, All}
+use Rattle.std.specs.Prelude.{◌≡◌, ◌≢◌, ◌<◌, ◌≤◌, ◌+◌, ◌*◌, ◌%◌, ◌^◌, ◌==◌, ◌&&◌, ℕ, Option, Some, None, if◌then◌else◌, length, nat_le, nat_lt, option_and_then, slice_get, get_or, All}
 use Rattle.msg_names.specs.ClassRef.{slot_of}
 use Rattle.msg_names.specs.Number.{selector_number, imp_number}
 use Rattle.msg_names.specs.declared.value.ClassRef.{ClassRef}
 use Rattle.msg_names.specs.declared.value.ImpRef.{ImpRef}
 use Rattle.msg_names.specs.declared.value.Selector.{Selector}
-use Rattle.msg_reader.specs.Key.{key_of, none_bit, place_of}
+use Rattle.msg_reader.specs.Key.{IsSealOf, key_of, mark_of, place_of}
 use Rattle.msg_tables.specs.Origin.{last_imp}
 use Rattle.msg_tables.specs.History.{History, lookup}
 use Rattle.msg_core.specs.State.{first}
-use Rattle.msg_cache.specs.Views.{IsFoundAt, ProberView}
+use Rattle.msg_core.specs.Stamps.{last_affected}
+use Rattle.msg_cache.specs.Rule.{IsAccepted}
+use Rattle.msg_cache.specs.Views.{IsFoundAt}
 use Rattle.msg_reader.specs.Found.{IsListed}
 use Rattle.msg_reader.specs.declared.note.Note.{Note}
 use Rattle.msg_reader.specs.declared.notes.Notes.{Notes}
@@ -22,25 +24,30 @@ pub record IsRecalled (h : History) (n slot sel imp : ℕ) : Type 0 where
 
 -- A note is what a lookup found at a point of the history, or blank.
 pub record IsNoteOf (h : History) (n : Note) : Type 0 where
-  pub recalled : (slot sel : ℕ) → slot < 2 ^ 26 → sel < 2 ^ 32 → n.word ≡ key_of slot sel + none_bit n.imp → IsRecalled h n.count slot sel n.imp
+  pub recalled : (slot sel : ℕ) → slot < 2 ^ 26 → sel < 2 ^ 32 → IsSealOf n.seal slot sel n.imp → IsRecalled h n.count slot sel n.imp
 
--- each of the notes is
+-- a note lies at the place of its key, if it isn't blank
+abbrev pub LiesAt : ℕ → Note → Type 0
+LiesAt place n = n.seal ≢ 0 → (n.seal + mark_of n.imp) % 65536 ≡ place * 32
+
+-- each of the notes is, and lies at its place
 pub record AreNotesOf (h : History) (n : Notes) : Type 0 where
   pub notes : All (IsNoteOf h) n.notes
+  pub placed : (p : ℕ) (d : Note) → p < length n.notes → LiesAt p (get_or n.notes p d)
 
 -- nothing is noted: each note is blank
 pub record AreBlank (n : Notes) : Type 0 where
-  pub notes : All (λ (n : Note). (n.word ≡ 0) × (n.imp ≡ 0)) n.notes
+  pub notes : All (λ (n : Note). (n.seal ≡ 0) × (n.imp ≡ 0)) n.notes
 
--- what a note has of a lookup: the implementation's number, 0 where it found no method
+-- what a note has of a lookup after so many changes or more: the implementation's number, 0 where it found no method
 abbrev pub found_by : Note → ℕ → ℕ → ℕ → Option ℕ
-found_by n count slot sel = if n.word == key_of slot sel + none_bit n.imp && n.count == count then Some n.imp else None
+found_by n since slot sel = if n.seal + mark_of n.imp == key_of slot sel && nat_le since n.count then Some n.imp else None
 
 -- what notes have of a lookup: that which stands at its place. Of slots from 2^26 on nothing is noted.
 abbrev pub recalled : Notes → ℕ → ℕ → ℕ → Option ℕ
-recalled n count slot sel = if nat_lt slot (2 ^ 26) then option_and_then (λ k. found_by k count slot sel) (slice_get n.notes (place_of slot sel)) else None
+recalled n since slot sel = if nat_lt slot (2 ^ 26) then option_and_then (λ k. found_by k since slot sel) (slice_get n.notes (place_of slot sel)) else None
 
--- what notes have of a lookup at a history
+-- what notes of a history have of a lookup at all its changes
 abbrev pub noted_at : Notes → History → ClassRef → ℕ → Option ℕ
 noted_at n h c sel = recalled n (length h.changes) (slot_of c) sel
 
@@ -52,39 +59,47 @@ HaveNoted n h c sel imp = noted_at n h c sel ≡ Some imp
 abbrev pub IsNoted : History → Notes → ClassRef → ℕ → ℕ → Type 0
 IsNoted h n c sel imp = slot_of c < 2 ^ 26 → HaveNoted n h c sel imp
 
--- they had nothing of it at what a sender had seen, if it has seen no more since
-abbrev pub HaveLacked : Notes → History → History → ClassRef → ℕ → Type 0
-HaveLacked n before now c sel = now ≡ before → noted_at n before c sel ≡ None
-
 -- ---- what notes say
 
 -- no two lookups of slots and selectors in 32 bits have one key
 abbrev pub KeysAreOneToOne : Type 0
 KeysAreOneToOne = (slot sel other next : ℕ) → sel < 2 ^ 32 → next < 2 ^ 32 → key_of slot sel ≡ key_of other next → (slot ≡ other) × (sel ≡ next)
 
--- of whatever history this is a note, there the lookup found this implementation after so many changes
+-- a word that the seal of a note is less than a key, by no more than 16 bits, says that the note is of that lookup, and what it found
+abbrev pub SealTells : Note → ℕ → ℕ → Type 0
+SealTells n slot sel = (said : ℕ) → 0 < said → said < 65536 → n.seal + said ≡ key_of slot sel → IsSealOf n.seal slot sel n.imp × (said ≡ mark_of n.imp)
+
+-- of whatever history these are notes, each seal tells of the lookups that have its place
+abbrev pub SealsTell : Type 0
+SealsTell = (h : History) (n : Notes) (slot sel : ℕ) (k : Note) → AreNotesOf h n → slice_get n.notes (place_of slot sel) ≡ Some k → SealTells k slot sel
+
+-- at some point of the history, after so many changes or more, the lookup found this implementation
+abbrev pub IsRecalledSince : History → ℕ → ℕ → ℕ → ℕ → Type 0
+IsRecalledSince h since slot sel imp = (k : ℕ) × (since ≤ k) × IsRecalled h k slot sel imp
+
+-- so it is of whatever history this is a note
 abbrev pub Tells : Note → ℕ → ℕ → ℕ → ℕ → Type 0
-Tells n count slot sel i = (h : History) → IsNoteOf h n → IsRecalled h count slot sel i
+Tells n since slot sel i = (h : History) → IsNoteOf h n → IsRecalledSince h since slot sel i
 
 -- of whatever history these are notes
 abbrev pub Tell : Notes → ℕ → ℕ → ℕ → ℕ → Type 0
-Tell n count slot sel i = (h : History) → AreNotesOf h n → IsRecalled h count slot sel i
+Tell n since slot sel i = (h : History) → AreNotesOf h n → IsRecalledSince h since slot sel i
 
--- of whatever history of so many changes these are notes, there the lookup finds this implementation
+-- of whatever history of changes that were accepted these are notes, where none after so many affects the class reference: there the lookup finds this implementation
 abbrev pub TellFound : Notes → ℕ → ClassRef → Selector → ImpRef → Type 0
-TellFound n count c s i = (h : History) → AreNotesOf h n → count ≡ length h.changes → IsFoundAt h c s i × IsListed h i
+TellFound n since c s i = (h : History) → AreNotesOf h n → IsAccepted h → last_affected h c ≤ since → IsFoundAt h c s i × IsListed h i
 
--- of each history of so many changes at which the lookup finds this implementation, what were notes still are
+-- of each history where the lookup finds this implementation after the first so many changes, what were notes still are
 abbrev pub StayNotes : Notes → Notes → ℕ → ClassRef → Selector → ImpRef → Type 0
-StayNotes old new count c s i = (h : History) → AreNotesOf h old → count ≡ length h.changes → IsFoundAt h c s i → IsListed h i → AreNotesOf h new
+StayNotes old new count c s i = (h : History) → AreNotesOf h old → count ≤ length h.changes → IsFoundAt (first count h) c s i → IsListed h i → AreNotesOf h new
 
 -- what notes have of a lookup
 abbrev pub recalled_of : Notes → ℕ → ClassRef → Selector → Option ℕ
-recalled_of n count c s = recalled n count (slot_of c) (selector_number s)
+recalled_of n since c s = recalled n since (slot_of c) (selector_number s)
 
 -- they have this implementation of it, where the slot is below 2^26
 abbrev pub HaveKept : Notes → ℕ → ClassRef → Selector → ImpRef → Type 0
-HaveKept n count c s i = slot_of c < 2 ^ 26 → recalled_of n count c s ≡ Some (imp_number i)
+HaveKept n since c s i = slot_of c < 2 ^ 26 → recalled_of n since c s ≡ Some (imp_number i)
 
 -- they have it at a history
 abbrev pub HaveNotedFor : Notes → History → ClassRef → Selector → ImpRef → Type 0
@@ -93,7 +108,3 @@ HaveNotedFor n h c s i = HaveNoted n h c (selector_number s) (imp_number i)
 -- so it is where the slot is below 2^26
 abbrev pub IsNotedFor : History → Notes → ClassRef → Selector → ImpRef → Type 0
 IsNotedFor h n c s i = IsNoted h n c (selector_number s) (imp_number i)
-
--- they had nothing of the lookup at what a prober had seen, if it has seen no more since
-abbrev pub LackedUnlessMoved : Notes → ClassRef → Selector → ProberView → ProberView → Type 0
-LackedUnlessMoved n c s old new = HaveLacked n old.sender.front new.sender.front c (selector_number s)

@@ -4,7 +4,7 @@ ghost use Rattle.std.specs.Prelude.{◌≡◌, ◌<◌, ◌^◌, length};
 ghost use Rattle.msg_names.specs.ClassRef.{slot_of};
 ghost use Rattle.msg_names.specs.declared.value.ClassRef.{ClassRef};
 ghost use Rattle.msg_tables.specs.History.{History, BeginsWith};
-ghost use Rattle.msg_reader.specs.Notes.{AreBlank, AreNotesOf, KeysAreOneToOne};
+ghost use Rattle.msg_reader.specs.Notes.{AreBlank, AreNotesOf, KeysAreOneToOne, SealsTell};
 ghost use Rattle.msg_reader.specs.declared.notes.Notes.{Notes};
 
 /// Notes of a history are notes of each longer history.
@@ -34,4 +34,12 @@ pub fn a_slot_of_few_classes_is_short()
 #[tactic(auto, using(crate::proofs::KeyLemmas::keys_differ))]
 pub fn keys_are_one_to_one()
     ensures { KeysAreOneToOne }
+{}
+
+/// The seal of a note tells of which lookup it is and what that found, of those that have its place: a
+/// host that loads it once, takes it from the key of its lookup and has 1 to 65,535 has the mark of what
+/// was found. So one load tells what `Notes::recall_method` does.
+#[tactic(auto, using(crate::proofs::KeyLemmas::seals_tell))]
+pub fn a_seal_says_key_and_number()
+    ensures { SealsTell }
 {}

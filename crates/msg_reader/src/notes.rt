@@ -1,8 +1,9 @@
 //! What a sender notes of its lookups. No thread but its own sees it, and no call here takes a lock or reads a shared word.
 
-ghost use Rattle.std.specs.Prelude.{◌≡◌, ◌<◌, option_map, IfSome, None};
+ghost use Rattle.std.specs.Prelude.{◌≡◌, ◌<◌, ◌≤◌, ℕ, option_map, IfSome, None};
 ghost use Rattle.msg_names.specs.Number.{imp_number};
 ghost use Rattle.msg_tables.specs.History.{History};
+ghost use Rattle.msg_reader.specs.Kept.{KeepOthers};
 ghost use Rattle.msg_reader.specs.Notes.{AreBlank, AreNotesOf, HaveKept, StayNotes};
 ghost use Rattle.msg_reader.specs.Notes.{Tell, TellFound, recalled, recalled_of};
 
@@ -37,14 +38,13 @@ impl Notes {
         *self = Notes::new();
     }
 
-    /// The implementation that a lookup found after so many changes, where it is noted.
+    /// The implementation that a lookup found after so many changes or more, where it is noted: it finds that still, where no later change affects the class reference.
     #[inline]
-    #[tactic(auto, using(crate::proofs::NoteLemmas::recalled_whole))]
-    pub fn recall(&self, count: u64, class: ClassRef, sel: Selector) -> Option<ImpRef>
-        ensures found { IfSome result (TellFound self.now count class sel) }
-        ensures noted { option_map imp_number result ≡ recalled_of self.now count class sel }
+    pub fn recall(&self, since: u64, class: ClassRef, sel: Selector) -> Option<ImpRef>
+        ensures found { IfSome result (TellFound self.now since class sel) }
+        ensures noted { option_map imp_number result ≡ recalled_of self.now since class sel }
     {
-        match self.recall_named(count, class.slot(), sel.number()) {
+        match self.recall_named(since, class.slot(), sel.number()) {
             Some(imp) => Some(ImpRef::of(imp)),
             None => None,
         }
@@ -52,46 +52,44 @@ impl Notes {
 
     /// As `recall`, in numbers: of the slot of a class reference and a selector's number the number of the implementation, 0 for forwarding.
     #[inline]
-    pub fn recall_method(&self, count: u64, slot: usize, sel: u32) -> Option<u32>
-        ensures found { IfSome result (Tell self.now count slot sel) }
-        ensures noted { result ≡ recalled self.now count slot sel }
+    pub fn recall_method(&self, since: u64, slot: usize, sel: u32) -> Option<u32>
+        ensures found { IfSome result (Tell self.now since slot sel) }
+        ensures noted { result ≡ recalled self.now since slot sel }
         ensures blank { AreBlank self.now → result ≡ None }
     {
         if sel == 0 {
             return None;
         }
-        self.recall_named(count, slot, sel)
+        self.recall_named(since, slot, sel)
     }
 
     // The same of a selector's number, which isn't 0.
     #[inline(always)]
-    fn recall_named(&self, count: u64, slot: usize, sel: u32) -> Option<u32>
+    fn recall_named(&self, since: u64, slot: usize, sel: u32) -> Option<u32>
         requires { 0 < sel }
-        ensures found { IfSome result (Tell self.now count slot sel) }
-        ensures noted { result ≡ recalled self.now count slot sel }
+        ensures found { IfSome result (Tell self.now since slot sel) }
+        ensures noted { result ≡ recalled self.now since slot sel }
     {
         if slot < SLOTS {
-            self.notes[place(slot, sel)].answer(count, slot, sel)
+            self.notes[place(slot, sel)].answer(since, slot, sel)
         } else {
             None
         }
     }
 
-    /// Notes what a lookup found after so many changes. Of a class reference whose slot is 2^26 or more, which no arena has a word for, it notes nothing.
+    /// Notes what a lookup found after so many changes, and forgets no note but the one at its
+    /// place. Of a class reference whose slot is 2^26 or more, which no arena has a word for, it
+    /// notes nothing.
     #[inline]
-    #[tactic(auto, using(crate::proofs::NoteLemmas::recalled_now))]
     pub fn keep(&mut self, count: u64, class: ClassRef, sel: Selector, imp: ImpRef)
         ensures notes { StayNotes self.old self.new count class sel imp }
-        ensures kept { HaveKept self.new count class sel imp }
+        ensures kept { (since : ℕ) → since ≤ count → HaveKept self.new since class sel imp }
+        ensures others { KeepOthers self.old self.new class sel }
     {
         let slot = class.slot();
+        let named = sel.number();
         if slot < SLOTS {
-            self.notes[place(slot, sel.number())] = Note::of(
-                count,
-                slot,
-                sel.number(),
-                imp.number(),
-            );
+            self.notes[place(slot, named)] = Note::of(count, slot, named, imp.number());
         }
     }
 }

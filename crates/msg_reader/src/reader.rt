@@ -1,18 +1,23 @@
-//! The sender's protocol: recall; else probe, count again, and note.
+//! The sender's protocol: load the stamp, recall; else probe, load the stamp again, and note.
 //!
-//! A lookup is answered from the notes where it was noted after as many changes as the reader has seen: then it is the lookup at what the reader has seen, and no word
-//! that threads share is read. What the notes lack is probed for, and is then noted. No lock is taken: what a cache lacks is the runtime's to answer.
+//! A lookup is answered from the notes where it was noted after as many changes as the stamp of its class reference says, or more: since then no change has affected that, so it is the lookup
+//! now. What the notes lack is probed for. A hit is right at some moment between the load of the count of changes before it and that of the stamp after it; where the stamp isn't above that count,
+//! no change in between affects the class reference, so the hit is right at both, and is noted at that count. No lock is taken: what a cache lacks is the runtime's to answer.
 
-ghost use Rattle.std.specs.Prelude.{◌≡◌, ◌<◌, length, IfSome, IfNone};
+ghost use Rattle.std.specs.Prelude.{◌≡◌, ◌<◌, ◌≤◌, ◌+◌, length, option_map, IfSome, IfNone};
 ghost use Rattle.msg_tables.specs.History.{BeginsWith};
+ghost use Rattle.msg_core.specs.Stamps.{last_affected};
 ghost use Rattle.msg_cache.specs.Ours.{IsOf, view};
-ghost use Rattle.msg_cache.specs.Record.{Misses};
+ghost use Rattle.msg_cache.specs.Record.{MadeNoProbe, Misses};
+ghost use Rattle.msg_cache.specs.Rule.{IsAccepted};
 ghost use Rattle.msg_cache.specs.Views.{HitsAndIsFound, IsFoundAt, IsSenderOf, ProbesFor, classes, layout};
 ghost use Rattle.msg_cache.specs.Plays.{given_again, renewed};
+ghost use Rattle.msg_names.specs.Number.{imp_number, selector_number};
 ghost use Rattle.msg_reader.specs.Found.{IsListed};
-ghost use Rattle.msg_reader.specs.Notes.{AreNotesOf, IsNotedFor, LackedUnlessMoved};
+ghost use Rattle.msg_reader.specs.Kept.{FindsRecalled, FindsUnprobed, HasLoaded, IsNotedFound, KeepOthers, LoadsMore, LoadsStamp, MissesAfter, MissesUnlessChanged, RecallsSince};
+ghost use Rattle.msg_reader.specs.Notes.{AreNotesOf};
 
-use crate::laws::{a_history_no_longer_is_the_same, notes_are_of_longer_histories};
+use crate::laws::notes_are_of_longer_histories;
 use crate::notes::Notes;
 use msg_cache::{Arena, Keeper, Prober};
 use msg_names::{ClassRef, ImpRef, Selector};
@@ -23,12 +28,9 @@ use std::marker::Model;
 #[derive(Drop)]
 pub struct Reader {
     prober: Prober,
-    // how many changes it has seen, where it knows
-    count: Option<u64>,
 }
 
 impl Model for Reader {
-    ghost use Rattle.std.specs.Prelude.{◌≡◌, length, IfSome};
     ghost use Rattle.msg_cache.specs.Views.{ProberView};
 
     ghost Value = { ProberView };
@@ -39,20 +41,14 @@ impl Model for Reader {
     ghost coded = { Prim.hlevel (codes, table_id_coded) };
 
     ghost view = { λ r. r.prober };
-
-    ghost invariant = { λ r. IfSome r.count (λ n. n ≡ length r.prober.sender.front.changes) };
 }
 
 impl Reader {
-    /// A reader that has seen so many changes.
-    pub fn new(prober: Prober, count: u64) -> Reader
-        requires { count ≡ length prober.sender.front.changes }
+    /// A reader that has seen what its prober has.
+    pub fn new(prober: Prober) -> Reader
         ensures { result ≡ prober }
     {
-        Reader {
-            prober,
-            count: Some(count),
-        }
+        Reader { prober }
     }
 
     /// What probes, for the keeper to take back.
@@ -75,7 +71,6 @@ impl Reader {
         ensures begins { BeginsWith (view keeper.old).history self.old.sender.front }
     {
         keeper.renew(arena, &mut self.prober);
-        self.count = Some(keeper.count());
     }
 
     /// `cache_getImp`: the implementation that the cache of a class reference has, which is the lookup's at what the reader has then seen. The notes aren't asked.
@@ -88,7 +83,6 @@ impl Reader {
         ensures some { IfSome result (HitsAndIsFound self.new.sender class sel) }
         ensures none { IfNone result (Misses (layout arena.now) self.new.sender.last) }
     {
-        self.count = None;
         self.prober.probe(arena, class, sel)
     }
 
@@ -99,54 +93,53 @@ impl Reader {
         ensures reader { IsSenderOf arena.now self.new }
         ensures begins { BeginsWith self.new.sender.front self.old.sender.front }
         ensures length { result ≡ length self.new.sender.front.changes }
+        ensures looked { self.new.sender.looks ≡ self.old.sender.looks + 1 }
+        ensures no_probe { MadeNoProbe self.old.sender self.new.sender }
+        ensures stamps { self.new.sender.stamps ≡ self.old.sender.stamps }
     {
-        let count = self.prober.published(arena);
-        self.count = Some(count);
-        count
+        self.prober.published(arena)
     }
 
-    // How many changes the reader has seen. Where it doesn't know, it loads how many there are.
+    /// The stamp of a class reference: no change after so many has affected it. The reader has then seen all changes. One shared word is loaded.
     #[inline(always)]
-    fn seen(&mut self, arena: &Arena) -> u64
+    pub fn stamp(&mut self, arena: &Arena, class: ClassRef) -> u64
         requires reader { IsSenderOf arena.now self.old }
+        requires class { class.class < classes arena.now }
         ensures reader { IsSenderOf arena.now self.new }
+        ensures loaded { LoadsStamp class result self.old.sender self.new.sender }
         ensures begins { BeginsWith self.new.sender.front self.old.sender.front }
-        ensures length { result ≡ length self.new.sender.front.changes }
+        ensures accepted { IsAccepted self.new.sender.front }
+        ensures since { last_affected self.new.sender.front class ≤ result }
     {
-        match self.count {
-            Some(count) => count,
-            None => self.seen_anew(arena),
-        }
+        self.prober.stamp(arena, class)
     }
 
-    // The same, where it doesn't know. Out of line, so that `find` is short where the notes have what is asked.
-    #[cold]
-    #[inline(never)]
-    fn seen_anew(&mut self, arena: &Arena) -> u64
-        requires reader { IsSenderOf arena.now self.old }
-        ensures reader { IsSenderOf arena.now self.new }
-        ensures begins { BeginsWith self.new.sender.front self.old.sender.front }
-        ensures length { result ≡ length self.new.sender.front.changes }
-    {
-        self.refresh(arena)
-    }
-
-    /// What the notes have of a lookup at what the reader has seen, where it knows how many changes that are. No shared word is loaded.
+    /// What the notes have of a lookup at all changes, which the reader has then seen: what was noted since the stamp of the class reference. That is loaded, and no other word that threads share.
     #[inline]
-    pub fn recall(&self, notes: &Notes, class: ClassRef, sel: Selector) -> Option<ImpRef>
-        requires notes { AreNotesOf self.now.sender.front notes.now }
-        ensures found { IfSome result (IsFoundAt self.now.sender.front class sel) }
-        ensures listed { IfSome result (IsListed self.now.sender.front) }
+    pub fn recall(
+        &mut self,
+        arena: &Arena,
+        notes: &Notes,
+        class: ClassRef,
+        sel: Selector,
+    ) -> Option<ImpRef>
+        requires reader { IsSenderOf arena.now self.old }
+        requires class { class.class < classes arena.now }
+        requires notes { AreNotesOf self.old.sender.front notes.now }
+        ensures reader { IsSenderOf arena.now self.new }
+        ensures begins { BeginsWith self.new.sender.front self.old.sender.front }
+        ensures found { IfSome result (IsFoundAt self.new.sender.front class sel) }
+        ensures listed { IfSome result (IsListed self.new.sender.front) }
+        ensures notes { AreNotesOf self.new.sender.front notes.now }
+        ensures exact { RecallsSince notes.now class (selector_number sel) self.old.sender self.new.sender (option_map imp_number result) }
     {
-        match self.count {
-            Some(count) => notes.recall(count, class, sel),
-            None => None,
-        }
+        notes_are_of_longer_histories();
+        let since = self.stamp(arena, class);
+        notes.recall(since, class, sel)
     }
 
-    /// The implementation that the notes have, or else that the cache has, and then the notes too: what a lookup finds at what the reader has then seen. Where a
-    /// change falls into a probe that hits, its answer is left. The notes are asked once, and what they have of the point at which the reader stands is found, unless it
-    /// sees a change meanwhile.
+    /// The implementation that the notes have, or else that the cache has, and then the notes too: what a lookup finds at what the reader has then seen, all changes. Where a change that affects the
+    /// class reference falls into a probe that hits, its answer is left. A class reference that is closed isn't probed.
     #[inline(always)]
     pub fn find(
         &mut self,
@@ -163,95 +156,117 @@ impl Reader {
         ensures some { IfSome result (IsFoundAt self.new.sender.front class sel) }
         ensures listed { IfSome result (IsListed self.new.sender.front) }
         ensures notes { AreNotesOf self.new.sender.front notes.new }
-        ensures noted { IfSome result (IsNotedFor self.new.sender.front notes.new class sel) }
-        ensures recalled { IfNone result (LackedUnlessMoved notes.old class sel self.old self.new) }
+        ensures noted { IfSome result (IsNotedFound notes.new class sel self.new.sender) }
+        ensures others { KeepOthers notes.old notes.new class sel }
+        ensures private { FindsRecalled notes.old notes.new class (selector_number sel) self.old.sender self.new.sender (option_map imp_number result) }
+        ensures missed { IfNone result (MissesUnlessChanged arena.now class (selector_number sel) self.old.sender self.new.sender) }
     {
         notes_are_of_longer_histories();
-        a_history_no_longer_is_the_same();
-        let count = self.seen(arena);
-        match notes.recall(count, class, sel) {
+        let since = self.stamp(arena, class);
+        match notes.recall(since, class, sel) {
             Some(imp) => Some(imp),
-            None => self.find_cached(arena, notes, count, class, sel),
+            None => self.find_cached(arena, notes, since, class, sel),
         }
     }
 
-    /// As `find`, of what `recall` didn't have: the notes are asked again only where the reader didn't know how many changes there are. So a caller that recalls first
-    /// has in its way what the notes know and nothing more.
-    #[inline(always)]
-    pub fn find_lacking(
-        &mut self,
-        arena: &Arena,
-        notes: &mut Notes,
-        class: ClassRef,
-        sel: Selector,
-    ) -> Option<ImpRef>
-        requires reader { IsSenderOf arena.now self.old }
-        requires class { class.class < classes arena.now }
-        requires notes { AreNotesOf self.old.sender.front notes.old }
-        ensures reader { IsSenderOf arena.now self.new }
-        ensures begins { BeginsWith self.new.sender.front self.old.sender.front }
-        ensures some { IfSome result (IsFoundAt self.new.sender.front class sel) }
-        ensures listed { IfSome result (IsListed self.new.sender.front) }
-        ensures notes { AreNotesOf self.new.sender.front notes.new }
-        ensures noted { IfSome result (IsNotedFor self.new.sender.front notes.new class sel) }
-    {
-        match self.count {
-            Some(count) => self.find_cached(arena, notes, count, class, sel),
-            None => self.find_anew(arena, notes, class, sel),
-        }
-    }
-
-    // As `find`, where the reader doesn't know how many changes there are.
-    #[cold]
-    #[inline(never)]
-    fn find_anew(
-        &mut self,
-        arena: &Arena,
-        notes: &mut Notes,
-        class: ClassRef,
-        sel: Selector,
-    ) -> Option<ImpRef>
-        requires reader { IsSenderOf arena.now self.old }
-        requires class { class.class < classes arena.now }
-        requires notes { AreNotesOf self.old.sender.front notes.old }
-        ensures reader { IsSenderOf arena.now self.new }
-        ensures begins { BeginsWith self.new.sender.front self.old.sender.front }
-        ensures some { IfSome result (IsFoundAt self.new.sender.front class sel) }
-        ensures listed { IfSome result (IsListed self.new.sender.front) }
-        ensures notes { AreNotesOf self.new.sender.front notes.new }
-        ensures noted { IfSome result (IsNotedFor self.new.sender.front notes.new class sel) }
-    {
-        self.find(arena, notes, class, sel)
-    }
-
-    // As `find`, of what the notes lack after so many changes.
+    // As `find`, of what the notes lack since the stamp that was loaded.
     #[cold]
     #[inline(never)]
     fn find_cached(
         &mut self,
         arena: &Arena,
         notes: &mut Notes,
-        before: u64,
+        since: u64,
         class: ClassRef,
         sel: Selector,
     ) -> Option<ImpRef>
         requires reader { IsSenderOf arena.now self.old }
         requires class { class.class < classes arena.now }
         requires notes { AreNotesOf self.old.sender.front notes.old }
-        requires before { before ≡ length self.old.sender.front.changes }
+        requires loaded { HasLoaded class since self.old.sender }
         ensures reader { IsSenderOf arena.now self.new }
         ensures begins { BeginsWith self.new.sender.front self.old.sender.front }
         ensures some { IfSome result (IsFoundAt self.new.sender.front class sel) }
         ensures listed { IfSome result (IsListed self.new.sender.front) }
         ensures notes { AreNotesOf self.new.sender.front notes.new }
-        ensures noted { IfSome result (IsNotedFor self.new.sender.front notes.new class sel) }
+        ensures noted { IfSome result (IsNotedFound notes.new class sel self.new.sender) }
+        ensures others { KeepOthers notes.old notes.new class sel }
+        ensures stamps { LoadsMore self.old.sender self.new.sender }
+        ensures missed { IfNone result (MissesUnlessChanged arena.now class (selector_number sel) self.old.sender self.new.sender) }
     {
         notes_are_of_longer_histories();
-        a_history_no_longer_is_the_same();
+        let count = self.refresh(arena);
+        if count < since {
+            return None;
+        }
+        self.find_at(arena, notes, count, class, sel)
+    }
+
+    /// As `find`, for who asks the notes by the number of changes: what the notes have is noted again at that number, which is loaded first.
+    pub fn find_counted(
+        &mut self,
+        arena: &Arena,
+        notes: &mut Notes,
+        class: ClassRef,
+        sel: Selector,
+    ) -> Option<ImpRef>
+        requires reader { IsSenderOf arena.now self.old }
+        requires class { class.class < classes arena.now }
+        requires notes { AreNotesOf self.old.sender.front notes.old }
+        ensures reader { IsSenderOf arena.now self.new }
+        ensures begins { BeginsWith self.new.sender.front self.old.sender.front }
+        ensures some { IfSome result (IsFoundAt self.new.sender.front class sel) }
+        ensures listed { IfSome result (IsListed self.new.sender.front) }
+        ensures notes { AreNotesOf self.new.sender.front notes.new }
+        ensures noted { IfSome result (IsNotedFound notes.new class sel self.new.sender) }
+        ensures others { KeepOthers notes.old notes.new class sel }
+        ensures unprobed { FindsUnprobed notes.old class (selector_number sel) self.old.sender self.new.sender (option_map imp_number result) }
+        ensures missed { IfNone result (MissesUnlessChanged arena.now class (selector_number sel) self.old.sender self.new.sender) }
+    {
+        notes_are_of_longer_histories();
+        let count = self.refresh(arena);
+        let since = self.stamp(arena, class);
+        match notes.recall(since, class, sel) {
+            Some(imp) => {
+                if since <= count {
+                    notes.keep(count, class, sel, imp);
+                }
+                Some(imp)
+            }
+            None if count < since => None,
+            None => self.find_at(arena, notes, count, class, sel),
+        }
+    }
+
+    // As `find`, of what the notes lack, where so many changes were counted: a hit is noted at that count.
+    #[inline(always)]
+    fn find_at(
+        &mut self,
+        arena: &Arena,
+        notes: &mut Notes,
+        count: u64,
+        class: ClassRef,
+        sel: Selector,
+    ) -> Option<ImpRef>
+        requires reader { IsSenderOf arena.now self.old }
+        requires class { class.class < classes arena.now }
+        requires notes { AreNotesOf self.old.sender.front notes.old }
+        requires count { count ≤ length self.old.sender.front.changes }
+        ensures reader { IsSenderOf arena.now self.new }
+        ensures begins { BeginsWith self.new.sender.front self.old.sender.front }
+        ensures some { IfSome result (IsFoundAt self.new.sender.front class sel) }
+        ensures listed { IfSome result (IsListed self.new.sender.front) }
+        ensures notes { AreNotesOf self.new.sender.front notes.new }
+        ensures noted { IfSome result (IsNotedFound notes.new class sel self.new.sender) }
+        ensures others { KeepOthers notes.old notes.new class sel }
+        ensures stamps { LoadsMore self.old.sender self.new.sender }
+        ensures missed { IfNone result (MissesAfter arena.now class (selector_number sel) count self.new.sender) }
+    {
+        notes_are_of_longer_histories();
         a_found_implementation_is_listed();
         let imp = self.probe(arena, class, sel)?;
-        let count = self.refresh(arena);
-        if count != before {
+        let after = self.stamp(arena, class);
+        if count < after {
             return None;
         }
         notes.keep(count, class, sel, imp);

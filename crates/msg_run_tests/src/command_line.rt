@@ -1,19 +1,27 @@
 //! The words of the command line, and what is said of a fault.
 
 use crate::same::{same, same_at};
-use msg_devices::{Program, RunFault, ToWriter, arguments, complain};
 use msg_form::DocumentFault;
+use msg_runner::{FromReader, Program, RunFault, ToWriter, arguments, complain, run_words};
+use msg_samples::SMALL;
 use std::alloc::Global;
-use std::io;
+use std::io::{self, ErrorKind, Read};
 use std::process::Abort;
+use std::sync::Wait;
+use std::thread::Threads;
 
-// The words of the command line are read so.
-fn words_are(rt: &impl Abort, alloc: Global, texts: &[&str], want: Option<(u32, u32)>) {
+fn words_of(rt: &impl Abort, alloc: Global, texts: &[&str]) -> Vec<String> {
     let mut words = Vec::new(alloc);
     for text in texts {
         let word = text.to_string(alloc).expect(rt, "memory");
         words.push(word).expect(rt, "memory");
     }
+    words
+}
+
+// The words of the command line are read so.
+fn words_are(rt: &impl Abort, alloc: Global, texts: &[&str], want: Option<(u32, u32)>) {
+    let words = words_of(rt, alloc, texts);
     same_at(rt, &texts, arguments(&words), want);
 }
 
@@ -195,6 +203,99 @@ fn a_failed_write_leaves_the_status(rt: HostRuntime) {
         // room for the name, and for a front of what is said
         for size in [3, 12] {
             write_fails(&rt, size, fault.as_ref(), status);
+        }
+    }
+}
+
+// A reader of a text, or one whose first read fails.
+#[derive(Drop)]
+struct Input<'a> {
+    text: &'a [u8],
+    is_broken: bool,
+}
+
+impl Read for Input<'_> {
+    fn read(&mut self, buf: &mut [u8]) -> io::Result<usize> {
+        if self.is_broken {
+            return Err(io::Error::from(ErrorKind::BrokenPipe));
+        }
+        self.text.read(buf)
+    }
+}
+
+// What a program is started with: its words, a document, or none where no read succeeds, and room
+// for so many bytes.
+type Start = (&'static [&'static str], Option<&'static str>, usize);
+
+// And how it ends: its status, what it says after its name, and what it has written.
+type End = (u8, &'static str, [u8; 4]);
+
+const NOTHING: [u8; 4] = [0; 4];
+
+const ENDS: [(Start, End); 8] = [
+    ((&["2"], Some(SMALL), 4), (0, "", *b"7\n\0\0")),
+    (
+        (&["0", "1"], Some(SMALL), 4),
+        (2, "workers must be 1 to 64\n", NOTHING),
+    ),
+    (
+        (&["1", "0"], Some(SMALL), 4),
+        (2, "cut must be at least 1\n", NOTHING),
+    ),
+    (
+        (&["x"], Some(SMALL), 4),
+        (2, "usage: PROGRAM [workers [cut]]\n", NOTHING),
+    ),
+    (
+        (&[], Some("x"), 4),
+        (2, "document fault 1: not json\n", NOTHING),
+    ),
+    (
+        (&[], Some("{}"), 4),
+        (2, "document fault 2: shape\n", NOTHING),
+    ),
+    ((&[], None, 4), (1, "read failed\n", NOTHING)),
+    ((&[], Some(SMALL), 1), (1, "write failed\n", *b"7\0\0\0")),
+];
+
+fn ends_so<T: Threads + Wait + Abort + Sync>(
+    rt: &T,
+    alloc: Global,
+    (program, name): (Program, &str),
+    (texts, document, size): Start,
+    (status, said, written): End,
+) {
+    let words = words_of(rt, alloc, texts);
+    let mut source = FromReader::new(Input {
+        text: document.unwrap_or("").as_bytes(),
+        is_broken: document.is_none(),
+    });
+    let mut room = NOTHING;
+    let mut sink = ToWriter::new(io::Cursor::new(&mut room[..size.min(4)]));
+    let mut errors = ToWriter::new(Vec::new(alloc));
+    let found = run_words(
+        rt,
+        alloc,
+        program,
+        &words,
+        &mut source,
+        &mut sink,
+        &mut errors,
+    );
+    same_at(rt, &said, found, status);
+    same_at(rt, &said, room, written);
+    let prefix = if status == 0 { "" } else { ": " };
+    let name = if status == 0 { "" } else { name };
+    let said = said.replace(alloc, "PROGRAM", name).expect(rt, "memory");
+    let line = format!(in alloc; "{name}{prefix}{said}").expect(rt, "memory");
+    same(rt, errors.writer.as_slice(), line.as_bytes());
+}
+
+#[test]
+fn a_program_says_why_it_ended(rt: HostRuntime) {
+    for program in PROGRAMS {
+        for (start, end) in ENDS {
+            ends_so(&rt, rt.alloc(), program, start, end);
         }
     }
 }

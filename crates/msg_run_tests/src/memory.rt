@@ -6,7 +6,7 @@ ghost use Rattle.msg_eval.specs.Finder.{sizes_of, table_sizes};
 use crate::images::with_items;
 use crate::runs::Way;
 use crate::same::{same, same_at};
-use msg_core::{Event, EventFault, Machine};
+use msg_core::{Event, EventFault, Machine, Seen};
 use msg_devices::{FromReader, Program, RunFault, ToWriter, complain};
 use msg_eval::{Args, Reply, SendFault, Tabled, send};
 use msg_image::{Change, DocumentFault, Image, read_document};
@@ -19,6 +19,17 @@ use std::io;
 use std::process::Abort;
 use std::sync::Wait;
 use std::thread::Threads;
+
+// The class of the first method.
+const ROOT: ClassRef = ClassRef {
+    class: 0,
+    meta: false,
+};
+
+// Selector 2 with implementation 1, and its place among four.
+const WORD: u64 = 0x0000_0002_0000_0001;
+
+const PLACE: usize = 2;
 
 // A class without methods.
 const GRAND: ClassRef = ClassRef {
@@ -60,12 +71,34 @@ fn tables_of(rt: &impl Abort, alloc: Global, image: &Image) -> Box<Tables>
     Box::new(alloc, tables).expect(rt, "memory")
 }
 
+fn happens(rt: &impl Abort, machine: &mut Machine, event: Event, seen: Seen) {
+    same(rt, machine.step(event), Ok(seen));
+}
+
+// The root class has its array, with its one word, and nobody is at it.
+fn is_left(rt: &impl Abort, machine: &mut Machine) {
+    happens(rt, machine, Event::Enter(0), Seen::Nothing);
+    happens(rt, machine, Event::Header(0, GRAND), Seen::Array(None));
+    happens(rt, machine, Event::Leave(0), Seen::Nothing);
+    happens(rt, machine, Event::Enter(0), Seen::Nothing);
+    happens(rt, machine, Event::Header(0, ROOT), Seen::Array(Some(0)));
+    happens(rt, machine, Event::Read(0, PLACE), Seen::Word(WORD));
+    happens(rt, machine, Event::Leave(0), Seen::Nothing);
+}
+
 fn opened(rt: &impl Abort, alloc: Global) -> Box<Bed> {
     let image = read_document(alloc, IMAGE.as_bytes())
         .expect(rt, "a document")
         .image;
     let tables = Tables::open(alloc, &image).expect(rt, "memory");
-    let machine = Machine::open(alloc, &image, 1, &[4]).expect(rt, "memory");
+    let mut machine = Machine::open(alloc, &image, 1, &[4]).expect(rt, "memory");
+    happens(rt, &mut machine, Event::Install(ROOT, 0), Seen::Nothing);
+    happens(
+        rt,
+        &mut machine,
+        Event::Fill(ROOT, PLACE, WORD),
+        Seen::Nothing,
+    );
     let bed = Bed {
         image,
         names: Names::new(alloc),
@@ -157,6 +190,7 @@ fn commits(rt: &impl Abort, machine: &mut Machine) -> bool {
         }
         Err(fault) => {
             same(rt, fault, EventFault::Memory);
+            is_left(rt, machine);
             false
         }
     }

@@ -6,7 +6,7 @@ use Rattle.msg_tables.specs.History.{History, BeginsWith}
 use Rattle.msg_eval.specs.declared.reply.Reply.{Reply}
 use Rattle.msg_answers.specs.Serving.{IsServed, Served, at_worker, sends_of, share_of, worker_of}
 use Rattle.msg_answers.specs.declared.part.Part.{Part}
-use Rattle.msg_runner.specs.declared.beside.Batch.{Batch}
+use Rattle.msg_runner.specs.declared.workers.Batch.{Batch}
 
 -- the batch has the replies and outcomes of a part, whose changes led from one history to another
 abbrev pub HasServed : Part → History → Batch → History → Type 0

@@ -7,9 +7,8 @@ ghost use Rattle.msg_tables.specs.History.{History, BeginsWith};
 ghost use Rattle.msg_eval.specs.Evaluation.{send_of};
 ghost use Rattle.msg_eval.specs.Points.{Rise, EndsAfter, last_of};
 
-use crate::asker::Asker;
 use crate::gate::Gate;
-use msg_dispatch::ArenaName;
+use msg_dispatch::{ArenaName, Recalling};
 use msg_eval::{Args, Finder, Reply, send};
 use msg_image::Image;
 use msg_names::{ClassRef, ImpRef, Selector, Value};
@@ -20,7 +19,7 @@ use std::sync::Wait;
 pub(crate) struct Asking<'r, 'd, N: ArenaName, G: Gate, R: Wait> {
     pub(crate) rt: &'r R,
     pub(crate) gate: &'r G,
-    pub(crate) sender: Asker<'d, N>,
+    pub(crate) sender: Recalling<'d, N>,
 }
 
 impl<'r, 'd, N: ArenaName, G: Gate, R: Wait> Finder for Asking<'r, 'd, N, G, R> {
@@ -30,17 +29,14 @@ impl<'r, 'd, N: ArenaName, G: Gate, R: Wait> Finder for Asking<'r, 'd, N, G, R> 
 
     ghost Kept = { OriginView };
 
-    ghost kept = { λ s. s.sender.seen.front.origin };
+    ghost kept = { λ s. s.sender.sender.seen.front.origin };
 
     ghost sizes = { sizes_at };
 
-    ghost stands = { λ s h. s.sender.seen.front ≡ h };
+    ghost stands = { λ s h. s.sender.sender.seen.front ≡ h };
 
     fn find(&mut self, class: ClassRef, sel: Selector) -> ImpRef {
-        match self.sender.recall(class, sel) {
-            Some(imp) => imp,
-            None => self.sender.find(self.rt, class, sel),
-        }
+        self.sender.find(self.rt, class, sel)
     }
 }
 
@@ -53,13 +49,13 @@ impl<'r, 'd, N: ArenaName, G: Gate, R: Wait> Asking<'r, 'd, N, G, R> {
         sel: Selector,
         args: &Args,
     ) -> Reply
-        requires image { self.old.sender.seen.front.origin ≡ origin_of image.now }
+        requires image { self.old.sender.sender.seen.front.origin ≡ origin_of image.now }
         requires receiver { IsOf image.now receiver }
         requires args { All (IsOf image.now) args.now.items }
-        ensures image { self.new.sender.seen.front.origin ≡ origin_of image.now }
-        ensures points { (points : List History) × Rise self.old.sender.seen.front points
+        ensures image { self.new.sender.sender.seen.front.origin ≡ origin_of image.now }
+        ensures points { (points : List History) × Rise self.old.sender.sender.seen.front points
             × EndsAfter (send_of image.now receiver sel args.now.items) points result
-            × (self.new.sender.seen.front ≡ last_of self.old.sender.seen.front points) }
+            × (self.new.sender.sender.seen.front ≡ last_of self.old.sender.sender.seen.front points) }
     {
         send(self, image, receiver, sel, args)
     }
@@ -72,13 +68,13 @@ impl<'r, 'd, N: ArenaName, G: Gate, R: Wait> Asking<'r, 'd, N, G, R> {
         sel: Selector,
         args: &Args,
     ) -> Reply
-        requires image { self.old.sender.seen.front.origin ≡ origin_of image.now }
+        requires image { self.old.sender.sender.seen.front.origin ≡ origin_of image.now }
         requires receiver { IsOf image.now receiver }
         requires args { All (IsOf image.now) args.now.items }
-        ensures image { self.new.sender.seen.front.origin ≡ origin_of image.now }
-        ensures points { (points : List History) × Rise self.old.sender.seen.front points
+        ensures image { self.new.sender.sender.seen.front.origin ≡ origin_of image.now }
+        ensures points { (points : List History) × Rise self.old.sender.sender.seen.front points
             × EndsAfter (send_of image.now receiver sel args.now.items) points result
-            × BeginsWith self.new.sender.seen.front (last_of self.old.sender.seen.front points) }
+            × BeginsWith self.new.sender.sender.seen.front (last_of self.old.sender.sender.seen.front points) }
     {
         let _changes = self.sender.refresh();
         self.reply(image, receiver, sel, args)

@@ -7,11 +7,11 @@ ghost use Rattle.msg_answers.specs.Parts.{history_past, IsAnsweredBeside, IsSoun
 ghost use Rattle.msg_answers.specs.Parts.{PartChanges, PartPieces};
 ghost use Rattle.msg_runner.specs.Batch.{HasServed};
 
-use crate::beside::{Batch, answer_beside, answer_by};
 use crate::changes::make_changes;
 use crate::context::Run;
 use crate::crew::Crew;
 use crate::gate::Gate;
+use crate::workers::{Batch, work_beside, work_share};
 use msg_answers::{Counts, Part, Share, gather, sends_in};
 use msg_dispatch::ArenaName;
 use std::alloc::AllocError;
@@ -20,7 +20,7 @@ use std::thread::{Scope, Threads};
 
 impl<'r, G: Gate, R: Wait> Run<'r, G, R> {
     // One worker, on the calling thread, and then the changes.
-    fn answer_alone<'d, N: ArenaName>(
+    fn work_alone<'d, N: ArenaName>(
         &self,
         crew: &mut Crew<'d, N>,
         part: Part<'_>,
@@ -42,7 +42,7 @@ impl<'r, G: Gate, R: Wait> Run<'r, G, R> {
             worker: 0,
             sends,
         };
-        let done = answer_by(self.rt, self.alloc, self.gate, sender, share);
+        let done = work_share(self.rt, self.alloc, self.gate, sender, share);
         let changed = make_changes(
             self.alloc,
             self.rt,
@@ -78,7 +78,7 @@ fn used_for(workers: u32, pieces: usize) -> u32
 
 impl<'s, G: Gate, R: Threads + Wait + Sync> Run<'s, G, R> {
     // The workers, in threads where they aren't one alone.
-    fn answer_by_workers<'e: 's, 'd: 's, N: ArenaName + Send + Sync + 's>(
+    fn work<'e: 's, 'd: 's, N: ArenaName + Send + Sync + 's>(
         &self,
         scope: &'s Scope<'s, &'e ()>,
         crew: &mut Crew<'d, N>,
@@ -98,16 +98,16 @@ impl<'s, G: Gate, R: Threads + Wait + Sync> Run<'s, G, R> {
         ensures senders { OnOk result (vec_len crew.new.senders ≡ vec_len crew.old.senders) }
     {
         if alone {
-            self.answer_alone(crew, part, sends, batch)
+            self.work_alone(crew, part, sends, batch)
         } else {
             let workers = part.deal.workers;
-            answer_beside(self, scope, crew, workers, part, sends, batch)
+            work_beside(self, scope, crew, workers, part, sends, batch)
         }
     }
 
-    // Answers items, a line for each, and says how many pieces and changes there were. No more threads are started
-    // than there are pieces, and where there is one piece and no change none is.
-    pub(crate) fn answer_batch<'e: 's, 'd: 's, N: ArenaName + Send + Sync + 's>(
+    // Answers items, a line for each, and says how many pieces and changes there were. No more
+    // threads are started than there are pieces, and where there is one piece and no change none is.
+    pub(crate) fn share_out<'e: 's, 'd: 's, N: ArenaName + Send + Sync + 's>(
         &self,
         scope: &'s Scope<'s, &'e ()>,
         crew: &mut Crew<'d, N>,
@@ -140,7 +140,7 @@ impl<'s, G: Gate, R: Threads + Wait + Sync> Run<'s, G, R> {
             shares: Vec::new(self.alloc),
             outcomes: Vec::new(self.alloc),
         };
-        self.answer_by_workers(scope, crew, part, alone, sends, &mut batch)?;
+        self.work(scope, crew, part, alone, sends, &mut batch)?;
         gather(self.alloc, text, part, &batch.shares, &batch.outcomes)?;
         Ok(Counts {
             pieces: pieces as u32,

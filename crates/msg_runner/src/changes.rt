@@ -8,22 +8,36 @@ ghost use Rattle.msg_tables.specs.Several.{refused_from};
 ghost use Rattle.msg_answers.specs.Serial.{history_after, longer_by};
 ghost use Rattle.msg_answers.specs.Serial.{outcome_at, outcome_of, outcome_of_first};
 ghost use Rattle.msg_answers.specs.Serving.{history_of, outcomes_of};
+ghost use Rattle.msg_runner.specs.Program.{changes_of};
 
 use crate::gate::Gate;
 use msg_answers::{Outcome, is_send};
+use msg_devices::Program;
 use msg_dispatch::{ArenaName, Changer};
 use msg_image::{Change, Item};
 use msg_tables::ChangeFault;
 use std::alloc::{AllocError, Global};
 use std::sync::Wait;
 
-// When a run makes them.
-#[derive(Clone, Copy)]
-pub(crate) enum Changes {
-    // Each between the sends before it and those after it.
+/// When a run makes the changes of its document.
+#[derive(Clone, Copy, Debug, PartialEq, Eq)]
+pub enum Changes {
+    /// Each after the sends before it and before those after it.
     Between,
-    // In their order, beside the sends.
+    /// In their order, while the sends are answered.
     Beside,
+}
+
+impl Changes {
+    // When a program makes them.
+    pub(crate) fn of(program: Program) -> Changes
+        ensures { result ≡ changes_of program }
+    {
+        match program {
+            Program::Msgrun => Changes::Between,
+            Program::Msgbeside => Changes::Beside,
+        }
+    }
 }
 
 // Makes a change.

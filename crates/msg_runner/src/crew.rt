@@ -1,38 +1,77 @@
 //! The changer and the senders of a run.
 
 ghost use Rattle.std.specs.Prelude.{◌≡◌, ◌+◌, ◌++◌, ◌∷◌, [], vec_len, IfOk, OnOk, MatchResult};
-ghost use Rattle.msg_tables.specs.History.{BeginsWith};
+ghost use Rattle.msg_tables.specs.History.{BeginsWith, empty};
 
-use msg_dispatch::{ArenaName, Changer, Sender};
+use msg_dispatch::{ArenaName, Changer, Dispatcher, Recalling};
 use msg_eval::Reply;
-use std::alloc::AllocError;
+use std::alloc::{AllocError, Global};
 use std::sync::Wait;
 
-// The changer and the senders.
+// The changer, and the senders with what each has noted.
 #[derive(Drop)]
 pub(crate) struct Crew<'d, N: ArenaName> {
     pub(crate) changer: Changer<'d, N>,
-    pub(crate) senders: Vec<Sender<'d, N>>,
+    pub(crate) senders: Vec<Recalling<'d, N>>,
 }
 
 // A sender after a batch, with its replies, where there was memory for them.
 #[derive(Drop)]
 pub(crate) struct Done<'d, N: ArenaName> {
-    pub(crate) sender: Sender<'d, N>,
+    pub(crate) sender: Recalling<'d, N>,
     pub(crate) replies: Result<Vec<Reply>, AllocError>,
 }
 
+// So many senders.
+fn senders_of<'d, N: ArenaName, R: Wait>(
+    rt: &R,
+    alloc: Global,
+    dispatcher: &'d Dispatcher<N>,
+    count: u32,
+) -> Result<Vec<Recalling<'d, N>>, AllocError>
+    ensures { IfOk result (λ senders. vec_len senders ≡ count) }
+{
+    let mut senders = Vec::new(alloc);
+    for _number in 0..count {
+        let Ok(sender) = dispatcher.sender(rt) else {
+            return Err(AllocError);
+        };
+        let Ok(recalling) = Recalling::new(alloc, sender) else {
+            return Err(AllocError);
+        };
+        senders.push(recalling)?;
+    }
+    Ok(senders)
+}
+
 impl<'d, N: ArenaName> Crew<'d, N> {
+    // A changer, and so many senders.
+    pub(crate) fn of<R: Wait>(
+        rt: &R,
+        alloc: Global,
+        dispatcher: &'d Dispatcher<N>,
+        workers: u32,
+    ) -> Result<Crew<'d, N>, AllocError>
+        ensures changer { IfOk result (λ crew. crew.changer ≡ empty N.arena.key.origin) }
+        ensures senders { IfOk result (λ crew. vec_len crew.senders ≡ workers) }
+    {
+        let senders = senders_of(rt, alloc, dispatcher, workers)?;
+        match dispatcher.changer(rt) {
+            Ok(changer) => Ok(Crew { changer, senders }),
+            Err(_) => Err(AllocError),
+        }
+    }
+
     // A sender, which meets the changer before its work.
-    pub(crate) fn send_out<R: Wait>(&mut self, rt: &R) -> Result<Sender<'d, N>, AllocError>
+    pub(crate) fn send_out<R: Wait>(&mut self, rt: &R) -> Result<Recalling<'d, N>, AllocError>
         ensures same { self.new.changer ≡ self.old.changer }
-        ensures seen { IfOk result (λ s. s.seen.front ≡ self.old.changer) }
+        ensures seen { IfOk result (λ s. s.sender.seen.front ≡ self.old.changer) }
         ensures senders { OnOk result (vec_len self.new.senders + 1 ≡ vec_len self.old.senders) }
     {
         let Some(mut sender) = self.senders.pop() else {
             return Err(AllocError);
         };
-        self.changer.meet(rt, &mut sender);
+        sender.meet(rt, &mut self.changer);
         Ok(sender)
     }
 
@@ -44,13 +83,13 @@ impl<'d, N: ArenaName> Crew<'d, N> {
         shares: &mut Vec<Vec<Reply>>,
     ) -> Result<(), AllocError>
         ensures same { self.new.changer ≡ self.old.changer }
-        ensures begins { BeginsWith self.old.changer done.entry.sender.seen.front }
+        ensures begins { BeginsWith self.old.changer done.entry.sender.sender.seen.front }
         ensures senders { OnOk result (vec_len self.new.senders ≡ vec_len self.old.senders + 1) }
         ensures share { OnOk result (MatchResult done.entry.replies
             (λ rs. shares.new.items ≡ shares.old.items ++ rs ∷ []) (λ _. ⊥)) }
     {
         let mut done = done;
-        self.changer.meet(rt, &mut done.sender);
+        done.sender.meet(rt, &mut self.changer);
         self.senders.push(done.sender)?;
         shares.push(done.replies?)?;
         Ok(())

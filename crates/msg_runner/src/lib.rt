@@ -1,21 +1,25 @@
 //! What the programs `msgrun` and `msgbeside` do: runs, from bytes to bytes.
 #![tactic(auto)]
 
-mod alone;
-mod answering;
-mod arrays;
-mod asker;
+mod arena;
 mod asking;
 mod batch;
-mod beside;
 mod changes;
 mod context;
 mod crew;
+mod document;
 mod gate;
+mod program;
 mod running;
-mod serving;
-mod work;
+mod share;
+mod workers;
+mod writing;
 
-pub use answering::{answer, answer_words};
+pub use changes::Changes;
+pub use document::answer_document;
 pub use gate::{Gate, LastGate, OpenGate};
+pub use msg_devices::{
+    Failed, FromReader, Program, RunFault, Sink, Source, ToWriter, arguments, complain,
+};
+pub use program::{run_program, run_words};
 pub use running::{run, run_beside};

@@ -8,22 +8,22 @@ use Rattle.msg_tables.specs.Preorder.{is_in}
 use Rattle.msg_tables.specs.Several.{is_below}
 use Rattle.msg_tables.specs.Stands.{StandsAt}
 use Rattle.msg_tables.specs.View.{TablesView}
-use Rattle.msg_cache.specs.Ours.{HasNoArray}
+use Rattle.msg_cache.specs.Ours.{IsCold}
 use Rattle.msg_cache.specs.Views.{ArenaView}
 use Rattle.msg_cache.specs.declared.keeper.Keeper.{Keeper}
 use Rattle.msg_runtime.specs.Reach.{are_reached}
 
--- each class reference of which this is true at the tables' log has no live array
+-- each class reference of which this is true at the tables' log is cold: it has no live array, and is closed
 abbrev pub AreFlushed : ArenaView → TablesView → Keeper → (Log → ClassRef → Bool) → Type 0
-AreFlushed a t k is_meant = (h : Log) → StandsAt t h → (c : ClassRef) → is_meant h c ≡ true → HasNoArray a k c
+AreFlushed a t k is_meant = (h : Log) → StandsAt t h → (c : ClassRef) → is_meant h c ≡ true → IsCold a k c
 
--- a class reference and all below it have no live array
+-- a class reference and all below it are cold
 abbrev pub IsFlushedBelow : ArenaView → TablesView → Keeper → ClassRef → Type 0
 IsFlushedBelow a t k place = AreFlushed a t k (λ h c. is_member place (chain_at h c))
 
 -- the same of those of the first classes
 abbrev pub FirstAreFlushed : ℕ → ArenaView → TablesView → Keeper → (Log → ClassRef → Bool) → Type 0
-FirstAreFlushed classes a t k is_meant = (h : Log) → StandsAt t h → (c : ClassRef) → c.class < classes → is_meant h c ≡ true → HasNoArray a k c
+FirstAreFlushed classes a t k is_meant = (h : Log) → StandsAt t h → (c : ClassRef) → c.class < classes → is_meant h c ≡ true → IsCold a k c
 
 -- the same of the class references at these places and below one
 abbrev pub PlacesAreFlushed : ArenaView → TablesView → Keeper → (Log → List ClassRef) → Type 0
@@ -33,13 +33,13 @@ PlacesAreFlushed a t k places = AreFlushed a t k (λ h. is_below h (places h))
 abbrev pub ReachedAreFlushed : ℕ → ArenaView → TablesView → Keeper → (Log → Option (List ClassRef)) → Type 0
 ReachedAreFlushed classes a t k places = FirstAreFlushed classes a t k (λ h c. are_reached h c (places h))
 
--- a class has no live array if own is true, and its metaclass has none if meta is
+-- a class is cold if own is true, and its metaclass is if meta is
 abbrev pub ClassIsFlushed : ArenaView → Keeper → ℕ → Bool → Bool → Type 0
-ClassIsFlushed a k class own meta = (c : ClassRef) → c.class ≡ class → (if c.meta then meta else own) ≡ true → HasNoArray a k c
+ClassIsFlushed a k class own meta = (c : ClassRef) → c.class ≡ class → (if c.meta then meta else own) ≡ true → IsCold a k c
 
--- who had no live array has none
+-- who was cold is
 abbrev pub StayFlushed : ArenaView → Keeper → Keeper → Type 0
-StayFlushed a k k' = (c : ClassRef) → HasNoArray a k c → HasNoArray a k' c
+StayFlushed a k k' = (c : ClassRef) → IsCold a k c → IsCold a k' c
 
 -- they are numbers of classes
 abbrev pub AreClasses : List ℕ → OriginView → Type 0

@@ -1,5 +1,5 @@
 -- What a runtime needs to know of its keeper.
-use Rattle.std.specs.Prelude.{◌≡◌, ◌≢◌, ◌<◌, ℕ, List, true}
+use Rattle.std.specs.Prelude.{◌≡◌, ◌≢◌, ◌<◌, ℕ, Bool, List, true}
 use Rattle.msg_names.specs.Number.{selector_number, imp_number}
 use Rattle.msg_names.specs.declared.value.ClassRef.{ClassRef}
 use Rattle.msg_names.specs.declared.value.ImpRef.{ImpRef}
@@ -29,6 +29,10 @@ keeper_history k = (cache.view k).history
 abbrev pub keeper_view : Keeper → KeeperView
 keeper_view k = cache.view k
 
+-- which sender numbers it has given out
+abbrev pub keeper_given : Keeper → List Bool
+keeper_given k = (cache.view k).given
+
 -- the capacities that it remembers
 abbrev pub keeper_remembered : Keeper → List ℕ
 keeper_remembered k = k.remembered.items
@@ -45,9 +49,9 @@ IsFilled z remembered c s i k k' r r' = (answer : Filled) × Fills z remembered 
 abbrev pub CachesFound : ArenaView → ClassRef → Selector → ImpRef → Keeper → Keeper → Type 0
 CachesFound a c s i k k' = IsFilled (layout a) (keeper_remembered k) c (selector_number s) (imp_number i) (keeper_view k) (keeper_view k') (keeper_report k) (keeper_report k')
 
--- what was found was filled in, and the sender of the view v was then shown the history
+-- what was found was filled in, its class reference was opened, if it was closed, and the sender of the view v was then shown the history
 abbrev pub AnswersMiss : Layout → List ℕ → ClassRef → ℕ → ℕ → SenderView → KeeperView → KeeperView → Report → Report → Type 0
-AnswersMiss z remembered c s i v k k' r r' = (j : KeeperView) × IsFilled z remembered c s i k j r r' × (k' ≡ given_again v j)
+AnswersMiss z remembered c s i v k k' r r' = (j : KeeperView) × IsFilled z remembered c s i k j r r' × (k' ≡ given_again v (cache.opened z c j))
 
 -- each of the first n sender numbers is given out
 abbrev pub AreOut : ℕ → KeeperView → Type 0

@@ -8,9 +8,9 @@ ghost use Rattle.msg_tables.specs.Below.{covers};
 ghost use Rattle.msg_tables.specs.Log.{Log, and_then};
 ghost use Rattle.msg_tables.specs.Refusal.{refusal};
 ghost use Rattle.msg_tables.specs.Stands.{StandsAt};
-ghost use Rattle.msg_cache.specs.Ours.{HasNoArray};
+ghost use Rattle.msg_cache.specs.Ours.{IsCold};
 ghost use Rattle.msg_runtime.specs.Flushed.{AreClasses, ClassIsFlushed, FirstAreFlushed, IsFlushedBelow, PlacesAreFlushed, ReachedAreFlushed, StayFlushed};
-ghost use Rattle.msg_runtime.specs.Parts.{IsKeeperOf, keeper_history};
+ghost use Rattle.msg_runtime.specs.Parts.{IsKeeperOf, keeper_given, keeper_history};
 ghost use Rattle.msg_runtime.specs.Reach.{exchanged_places, is_flushed, holders_of, set_places};
 
 use msg_cache::{Arena, Keeper};
@@ -24,14 +24,15 @@ pub(crate) fn flush_class(keeper: &mut Keeper, arena: &Arena, class: u32, own: b
     requires class { class < class_total (keeper_history keeper.old).origin }
     ensures arena { IsKeeperOf arena.now keeper.new }
     ensures history { keeper_history keeper.new ≡ keeper_history keeper.old }
+    ensures given { keeper_given keeper.new ≡ keeper_given keeper.old }
     ensures flushed { ClassIsFlushed arena.now keeper.new class own meta }
     ensures others { StayFlushed arena.now keeper.old keeper.new }
 {
     if own {
-        let _had_array = keeper.flush(arena, ClassRef { class, meta: false });
+        keeper.chill(arena, ClassRef { class, meta: false });
     }
     if meta {
-        let _had_array = keeper.flush(arena, ClassRef { class, meta: true });
+        keeper.chill(arena, ClassRef { class, meta: true });
     }
 }
 
@@ -41,7 +42,8 @@ fn flush_each(keeper: &mut Keeper, arena: &Arena, below: &Below)
     requires classes { AreClasses below.now.classes (keeper_history keeper.old).origin }
     ensures arena { IsKeeperOf arena.now keeper.new }
     ensures history { keeper_history keeper.new ≡ keeper_history keeper.old }
-    ensures flushed { (c : ClassRef) → covers below.now c ≡ true → HasNoArray arena.now keeper.new c }
+    ensures given { keeper_given keeper.new ≡ keeper_given keeper.old }
+    ensures flushed { (c : ClassRef) → covers below.now c ≡ true → IsCold arena.now keeper.new c }
     ensures others { StayFlushed arena.now keeper.old keeper.new }
 {
     for class in below.classes() {
@@ -69,6 +71,7 @@ pub(crate) fn flush_below(
     requires room { length tables.now.supers ≤ below.old.room }
     ensures arena { IsKeeperOf arena.now keeper.new }
     ensures history { keeper_history keeper.new ≡ keeper_history keeper.old }
+    ensures given { keeper_given keeper.new ≡ keeper_given keeper.old }
     ensures flushed { IsFlushedBelow arena.now tables.now keeper.new class }
     ensures others { StayFlushed arena.now keeper.old keeper.new }
     ensures room { length tables.now.supers ≤ below.new.room }
@@ -92,6 +95,7 @@ fn flush_methods(
     requires room { length tables.now.supers ≤ below.old.room }
     ensures arena { IsKeeperOf arena.now keeper.new }
     ensures history { keeper_history keeper.new ≡ keeper_history keeper.old }
+    ensures given { keeper_given keeper.new ≡ keeper_given keeper.old }
     ensures flushed { PlacesAreFlushed arena.now tables.now keeper.new (λ h. if_any methods.now class) }
     ensures others { StayFlushed arena.now keeper.old keeper.new }
     ensures room { length tables.now.supers ≤ below.new.room }
@@ -107,7 +111,8 @@ fn flush_all(keeper: &mut Keeper, arena: &Arena, classes: u32)
     requires classes { classes ≡ class_total (keeper_history keeper.old).origin }
     ensures arena { IsKeeperOf arena.now keeper.new }
     ensures history { keeper_history keeper.new ≡ keeper_history keeper.old }
-    ensures flushed { (c : ClassRef) → c.class < classes → HasNoArray arena.now keeper.new c }
+    ensures given { keeper_given keeper.new ≡ keeper_given keeper.old }
+    ensures flushed { (c : ClassRef) → c.class < classes → IsCold arena.now keeper.new c }
 {
     for class in 0..classes {
         flush_class(keeper, arena, class, true, true);
@@ -129,6 +134,7 @@ fn flush_holder(
     requires room { length tables.now.supers ≤ below.old.room }
     ensures arena { IsKeeperOf arena.now keeper.new }
     ensures history { keeper_history keeper.new ≡ keeper_history keeper.old }
+    ensures given { keeper_given keeper.new ≡ keeper_given keeper.old }
     ensures flushed { PlacesAreFlushed arena.now tables.now keeper.new (λ h. holders_of h class sel) }
     ensures others { StayFlushed arena.now keeper.old keeper.new }
     ensures room { length tables.now.supers ≤ below.new.room }
@@ -155,6 +161,7 @@ fn flush_set(
     requires room { classes ≤ below.old.room }
     ensures arena { IsKeeperOf arena.now keeper.new }
     ensures history { keeper_history keeper.new ≡ keeper_history keeper.old }
+    ensures given { keeper_given keeper.new ≡ keeper_given keeper.old }
     ensures flushed { ReachedAreFlushed classes arena.now tables.now keeper.new (λ h. set_places h class sel) }
     ensures room { classes ≤ below.new.room }
 {
@@ -183,6 +190,7 @@ fn flush_exchanged(
     requires room { classes ≤ below.old.room }
     ensures arena { IsKeeperOf arena.now keeper.new }
     ensures history { keeper_history keeper.new ≡ keeper_history keeper.old }
+    ensures given { keeper_given keeper.new ≡ keeper_given keeper.old }
     ensures flushed { ReachedAreFlushed classes arena.now tables.now keeper.new (λ h. exchanged_places h first second) }
     ensures room { classes ≤ below.new.room }
 {
@@ -214,6 +222,7 @@ pub(crate) fn flush_reached(
     requires room { classes ≤ below.old.room }
     ensures arena { IsKeeperOf arena.now keeper.new }
     ensures history { keeper_history keeper.new ≡ keeper_history keeper.old }
+    ensures given { keeper_given keeper.new ≡ keeper_given keeper.old }
     ensures flushed { FirstAreFlushed classes arena.now tables.now keeper.new (λ h. is_flushed h change.now) }
     ensures room { classes ≤ below.new.room }
 {

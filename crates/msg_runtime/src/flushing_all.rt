@@ -5,7 +5,7 @@ ghost use Rattle.msg_tables.specs.Journal.{NamesListed};
 ghost use Rattle.msg_tables.specs.Making.{is_told};
 ghost use Rattle.msg_tables.specs.Origin.{class_total};
 ghost use Rattle.msg_runtime.specs.Flushed.{AreFlushed, IsFlushedBelow, StayFlushed};
-ghost use Rattle.msg_runtime.specs.Parts.{IsKeeperOf, keeper_history};
+ghost use Rattle.msg_runtime.specs.Parts.{IsKeeperOf, keeper_given, keeper_history};
 
 use crate::flushing::{flush_below, flush_class};
 use msg_cache::{Arena, Keeper};
@@ -28,6 +28,7 @@ fn flush_entry(
     requires room { length tables.now.supers ≤ below.old.room }
     ensures arena { IsKeeperOf arena.now keeper.new }
     ensures history { keeper_history keeper.new ≡ keeper_history keeper.old }
+    ensures given { keeper_given keeper.new ≡ keeper_given keeper.old }
     ensures flushed { AreFlushed arena.now tables.now keeper.new (λ h. is_told h (entry ∷ [])) }
     ensures last { IfSome result (IsFlushedBelow arena.now tables.now keeper.new) }
     ensures others { StayFlushed arena.now keeper.old keeper.new }
@@ -61,6 +62,7 @@ pub(crate) fn flush_written(
     requires room { length tables.now.supers ≤ below.old.room }
     ensures arena { IsKeeperOf arena.now keeper.new }
     ensures history { keeper_history keeper.new ≡ keeper_history keeper.old }
+    ensures given { keeper_given keeper.new ≡ keeper_given keeper.old }
     ensures flushed { AreFlushed arena.now tables.now keeper.new (λ h. is_told h written.now) }
     ensures room { length tables.now.supers ≤ below.new.room }
 {

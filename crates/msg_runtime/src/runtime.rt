@@ -1,6 +1,6 @@
 //! The runtime behind a lock.
 
-ghost use Rattle.std.specs.Prelude.{◌≡◌, ◌≢◌, ◌<◌, ◌≤◌, ◌*◌, length, take, not, is_some, replicate, false, IfOk, IfErr, IfSome, IsErrOf, IsNone, OnErr, OnOk, None};
+ghost use Rattle.std.specs.Prelude.{◌≡◌, ◌≢◌, ◌<◌, ◌≤◌, ◌*◌, length, take, not, is_some, replicate, false, true, IfOk, IfErr, IfSome, IsErrOf, IsNone, OnErr, OnOk, None};
 ghost use Rattle.msg_names.specs.Number.{selector_number, imp_number};
 ghost use Rattle.msg_tables.specs.Origin.{last_imp};
 ghost use Rattle.msg_tables.specs.History.{BeginsWith, empty, holder, log, superclass};
@@ -9,7 +9,9 @@ ghost use Rattle.msg_tables.specs.Several.{refused_from};
 ghost use Rattle.msg_tables.specs.declared.fault.ChangeFault.{ChangeFault};
 ghost use Rattle.msg_cache.specs.Counts.{AreCounts};
 ghost use Rattle.msg_cache.specs.Plays.{given_again, taken_in, lent, is_lent};
+ghost use Rattle.msg_cache.specs.declared.view.TurnAt.TheVariants.{Away};
 ghost use Rattle.msg_cache.specs.Views.{IsFoundAt, IsSenderOf, classes};
+ghost use Rattle.msg_reader.specs.Kept.{KeepOthers};
 ghost use Rattle.msg_reader.specs.Notes.{AreNotesOf, IsNoted};
 ghost use Rattle.msg_runtime.specs.Calls.{AllAreOut, CachesAnswer, CountsRefusalUnless, HasKeeper, KeepsCaches, LendsTurnIf, MarksAllReached, MarksReached};
 ghost use Rattle.msg_runtime.specs.Changed.{IsAccepted, IsMadeAt, IsRefusedAt, IsRefusedFor};
@@ -117,7 +119,8 @@ impl Runtime {
         })
     }
 
-    /// Answers a lookup that a reader missed, from the tables, and caches the answer. The reader has then seen the whole history.
+    /// Answers a lookup that a reader missed, from the tables, and caches the answer. Its class reference is then open: what is noted of it counts until a change affects it. The reader has then seen
+    /// the whole history.
     pub fn answer(
         &mut self,
         arena: &Arena,
@@ -136,6 +139,7 @@ impl Runtime {
         ensures number { reader.new.sender.number ≡ reader.old.sender.number }
         ensures begins { BeginsWith self.old.keeper.history reader.old.sender.front }
         ensures front { reader.new.sender.front ≡ self.old.keeper.history }
+        ensures stamps { reader.new.sender.stamps ≡ reader.old.sender.stamps }
         ensures origin { self.old.keeper.history.origin ≡ self.old.arena.key.origin }
         ensures found { IsFoundAt self.old.keeper.history class sel result }
         ensures listed { imp_number result ≤ last_imp self.old.arena.key.origin.counts }
@@ -143,6 +147,7 @@ impl Runtime {
         tables_are_of_their_origin();
         let imp = self.tables.lookup(class, sel);
         cache_found(&mut self.keeper, arena, class, sel, imp);
+        self.keeper.open(arena, class);
         reader.renew(arena, &mut self.keeper);
         imp
     }
@@ -168,11 +173,13 @@ impl Runtime {
         ensures number { reader.new.sender.number ≡ reader.old.sender.number }
         ensures begins { BeginsWith self.old.keeper.history reader.old.sender.front }
         ensures front { reader.new.sender.front ≡ self.old.keeper.history }
+        ensures stamps { reader.new.sender.stamps ≡ reader.old.sender.stamps }
         ensures origin { self.old.keeper.history.origin ≡ self.old.arena.key.origin }
         ensures found { IsFoundAt self.old.keeper.history class sel result }
         ensures listed { imp_number result ≤ last_imp self.old.arena.key.origin.counts }
         ensures notes { AreNotesOf self.old.keeper.history notes.new }
         ensures noted { IsNoted self.old.keeper.history notes.new class (selector_number sel) (imp_number result) }
+        ensures others { KeepOthers notes.old notes.new class sel }
     {
         notes_are_of_longer_histories();
         let imp = self.answer(arena, reader, class, sel);
@@ -262,7 +269,7 @@ impl Runtime {
             .reach_all(alloc, changes, marked, &mut self.below)
     }
 
-    /// Makes a change, flushes the caches that it reaches, and answers how many times changes were made. After an error nothing was changed or flushed.
+    /// Makes a change, closes what it reaches and flushes its caches, and answers how many times changes were made. After an error nothing was changed or flushed.
     ///
     /// The turn's history is the runtime's, before and after.
     pub fn change(
@@ -281,6 +288,8 @@ impl Runtime {
         ensures err { OnErr result (self.new.keeper.history ≡ self.old.keeper.history) }
         ensures caches { OnErr result (KeepsCaches self.old self.new) }
         ensures report { OnErr result (self.new.report ≡ self.old.report) }
+        ensures given { self.new.keeper.given ≡ self.old.keeper.given }
+        ensures away { self.new.keeper.turn ≡ Away }
         ensures fault { IfErr result (IsRefusedAt self.old.keeper.history change.now) }
         ensures memory { IsErrOf result ChangeFault.Memory → IsAccepted self.old.keeper.history change.now }
     {
@@ -296,10 +305,10 @@ impl Runtime {
             change,
             &mut self.below,
         );
-        Ok(self.keeper.commit(arena, turn, change))
+        Ok(self.keeper.commit_closed(arena, turn, change))
     }
 
-    /// Makes a list of changes as one, flushes the caches that it reaches, and answers how many times changes were made and what was written; or says which of them would be refused. After an
+    /// Makes a list of changes as one, closes what it reaches and flushes its caches, and answers how many times changes were made and what was written; or says which of them would be refused. After an
     /// error nothing was changed or flushed. An empty list changes nothing and isn't counted.
     ///
     /// The turn's history is the runtime's, before and after. It costs what its changes cost but for one count that is stored, and room for what they write, which is that of an earlier list where
@@ -323,6 +332,8 @@ impl Runtime {
         ensures err { OnErr result (self.new.keeper.history ≡ self.old.keeper.history) }
         ensures caches { OnErr result (KeepsCaches self.old self.new) }
         ensures report { OnErr result (self.new.report ≡ self.old.report) }
+        ensures given { self.new.keeper.given ≡ self.old.keeper.given }
+        ensures away { self.new.keeper.turn ≡ Away }
         ensures refused { IfErr result (AreRefused (L.changes changes.now) self.old.keeper.history) }
     {
         tables_are_of_their_origin();
@@ -361,7 +372,7 @@ impl Runtime {
         ensures arena { self.new.arena ≡ self.old.arena }
         ensures remembered { self.new.remembered ≡ self.old.remembered }
         ensures report { CountsRefusalUnless (is_some result) self.old self.new }
-        ensures reader { IfSome result (IsSenderOf self.old.arena) }
+        ensures reader { IfSome result (λ r. IsSenderOf self.old.arena r) }
         ensures some { IfSome result (λ r. IsNew r.sender self.old.keeper self.new.keeper) }
         ensures front { IfSome result (λ r. r.sender.front ≡ self.old.keeper.history) }
         ensures none { IsNone result → AllAreOut self.old × (self.new.keeper ≡ self.old.keeper) }
@@ -369,7 +380,7 @@ impl Runtime {
     {
         for number in 0..arena.senders() {
             if let Some(prober) = self.keeper.give_out(arena, number) {
-                return Some(Reader::new(prober, self.keeper.count()));
+                return Some(Reader::new(prober));
             }
         }
         self.keeper.refuse(arena);

@@ -1,12 +1,31 @@
 //! Laws of lists of changes, which are made as one or undone.
 
 ghost use Rattle.std.specs.Prelude.{◌≡◌, List};
+ghost use Rattle.msg_tables.specs.History.{History, BeginsWith, log};
 ghost use Rattle.msg_tables.specs.ListLaws.{AcceptedWhereNoneIsRefused, AffectedIsAtItsPlaces, ListAffectsNoMore};
 ghost use Rattle.msg_tables.specs.ListLaws.{NoneIsRefusedWhereAccepted, OneIsRefusedAsItself, RefusedIsFirst};
 ghost use Rattle.msg_tables.specs.ListLaws.{UndoneLookupsAreAsBefore, UndoneTablesAreAsBefore, WhatIsBelowStays};
 ghost use Rattle.msg_tables.specs.Log.{Log, table, table_after_all};
+ghost use Rattle.msg_tables.specs.Refusal.{IsLog};
 ghost use Rattle.msg_tables.specs.Several.{and_all};
 ghost use Rattle.msg_tables.specs.declared.change.Change.{Change};
+
+use crate::limits::{MAX_CLASSES, MAX_IMP, MOST_CHANGES, MOST_SENDERS, MOST_WORDS};
+
+/// What a history of accepted changes begins with is one, too: each earlier point of a history is a
+/// history.
+pub fn an_earlier_point_is_a_history()
+    ensures { (h g : History) → BeginsWith h g → IsLog (log h) → IsLog (log g) }
+{}
+
+/// The limits that an origin may have.
+pub fn the_limits_are_these()
+    ensures classes { MAX_CLASSES ≡ 16777216 }
+    ensures implementations { MAX_IMP ≡ 4294967295 }
+    ensures changes { MOST_CHANGES ≡ 281474976710656 }
+    ensures senders { MOST_SENDERS ≡ 16384 }
+    ensures words { MOST_WORDS ≡ 268435456 }
+{}
 
 /// The tables after a change are those after its parts, one after another.
 pub fn parts_come_one_after_another()

@@ -20,6 +20,8 @@ mod names;
 #[cfg(test)]
 mod reaching;
 #[cfg(test)]
+mod readers;
+#[cfg(test)]
 mod readings;
 #[cfg(test)]
 mod same;

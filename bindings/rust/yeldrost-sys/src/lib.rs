@@ -13,7 +13,7 @@ pub const NOTED_NONE: usize = 1 << 32;
 #[repr(C)]
 #[derive(Clone, Copy)]
 pub struct msg_note {
-    pub word: u64,
+    pub seal: u64,
     pub count: u64,
     pub imp: u32,
     pub spare: u32,
@@ -234,6 +234,7 @@ extern "C" {
         imp: *mut u32,
     ) -> u32;
     pub fn msg_refresh(sender: *mut msg_sender, count: *mut u64) -> u32;
+    pub fn msg_stamp(sender: *mut msg_sender, number: u32, meta: bool, stamp: *mut u64) -> u32;
     pub fn msg_texts_open(texts: *mut msg_texts) -> u32;
     pub fn msg_texts_close(texts: *mut msg_texts) -> u32;
     pub fn msg_texts_intern(
@@ -293,10 +294,27 @@ pub unsafe fn msg_report(runtime: *mut msg_runtime, report: *mut msg_report_row)
 // How far the keys of two slots are apart.
 const KEY_OF_SLOT: u64 = 137_438_954_496;
 
+/// Of `msg_said`: the number is longer, and is the note's `imp`.
+pub const SAID_LONG: u64 = 65_534;
+/// Of `msg_said`: it is noted that there is no method.
+pub const SAID_NONE: u64 = 65_535;
+
+/// The slot of a class, or of its metaclass; and `SLOTS` of a number that is too great for one.
+#[inline]
+pub const fn msg_slot(number: u32, meta: bool) -> u32 {
+    if number < SLOTS / 2 {
+        2 * number + meta as u32
+    } else {
+        SLOTS
+    }
+}
+
 /// The key of a lookup, one to one where the slot is below `SLOTS`.
 #[inline]
 pub const fn msg_key(slot: u32, sel: u32) -> u64 {
-    (slot as u64).wrapping_mul(KEY_OF_SLOT).wrapping_add(sel as u64 * 32)
+    (slot as u64 + 1)
+        .wrapping_mul(KEY_OF_SLOT)
+        .wrapping_add(sel as u64 * 32)
 }
 
 // Where what is noted of a key lies.
@@ -305,17 +323,28 @@ unsafe fn note_of(sender: *const msg_sender, key: u64) -> *const msg_note {
     &(*sender).notes[(key / 32) as usize % MSG_NOTES]
 }
 
+/// What the note at the one place of a key says of its lookup: a number below `SAID_LONG`, `SAID_LONG`,
+/// `SAID_NONE`, or anything else, which is nothing.
+///
+/// # Safety
+/// The note is of a sender that is in no call.
+#[inline]
+pub unsafe fn msg_said(note: *const msg_note, key: u64) -> u64 {
+    key.wrapping_sub((*note).seal)
+}
+
 /// What is noted of a key after so many changes, without a call; 0 where nothing is, or forwarding.
 ///
 /// # Safety
 /// The sender is one, and in no call.
 #[inline]
 pub unsafe fn msg_recall_key(sender: *const msg_sender, key: u64, count: u64) -> u32 {
-    let note = &*note_of(sender, key);
-    if note.word == key && note.count == count {
-        note.imp
-    } else {
-        0
+    let note = note_of(sender, key);
+    match msg_said(note, key) {
+        _ if (*note).count != count => 0,
+        SAID_LONG => (*note).imp,
+        said if said < SAID_LONG => said as u32,
+        _ => 0,
     }
 }
 
@@ -325,8 +354,8 @@ pub unsafe fn msg_recall_key(sender: *const msg_sender, key: u64, count: u64) ->
 /// The sender is one, and in no call.
 #[inline]
 pub unsafe fn msg_recall_none_key(sender: *const msg_sender, key: u64, count: u64) -> bool {
-    let note = &*note_of(sender, key);
-    note.word == key + 1 && note.count == count
+    let note = note_of(sender, key);
+    (*note).count == count && msg_said(note, key) == SAID_NONE
 }
 
 /// The same, of a slot and a selector.

@@ -112,6 +112,13 @@ impl Sender {
         Ok(count)
     }
 
+    /// Since how many changes none has affected the class reference; the sender has then seen all.
+    pub fn stamp(&mut self, of: ClassRef) -> Result<u64, Fault> {
+        let mut count = 0;
+        Fault::of(unsafe { sys::msg_stamp(&mut *self.raw, of.number, of.meta, &mut count) })?;
+        Ok(count)
+    }
+
     /// Its handle, where it is of this runtime.
     pub(crate) fn raw_of(&mut self, shared: &Arc<Shared>) -> Result<*mut sys::msg_sender, Fault> {
         if Arc::ptr_eq(shared, &self.shared) {

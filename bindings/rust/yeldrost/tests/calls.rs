@@ -266,7 +266,7 @@ fn senders() {
     assert_eq!(Ok(Some(i(4))), sender.find(CHILD_ITSELF, s(NEW)));
     assert_eq!(Ok(None), sender.find(CHILDREN, s(TAKE)));
     runtime.lock().replace(CHILDREN, s(VALUE), i(5)).unwrap();
-    assert_eq!(Ok(Some(i(1))), sender.find_seen(CHILDREN, s(VALUE)));
+    assert_eq!(Ok(Some(i(5))), sender.find_seen(CHILDREN, s(VALUE)));
     assert_eq!(Ok(Some(i(5))), sender.find(CHILDREN, s(VALUE)));
     runtime.lock().replace(CHILDREN, s(VALUE), i(6)).unwrap();
     assert_eq!(Ok(6), sender.refresh());

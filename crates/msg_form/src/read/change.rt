@@ -165,8 +165,9 @@ fn all<'v>(
     each(alloc, bump, &values[1..])
 }
 
+/// The item that changes what the value says.
 #[tactic(auto, unfolding(crate::specs::Shape::change_item_of))]
-fn change_item<'v>(
+pub fn change_item<'v>(
     alloc: Global,
     bump: &'v Bump,
     value: &Tree<'v, '_>,
@@ -185,8 +186,13 @@ fn change_item<'v>(
     Ok(Item::Change(worded_change(alloc, bump, word, values)?))
 }
 
+/// The item that sends what the value says.
 #[tactic(auto, unfolding(crate::specs::Shape::send_item_of))]
-fn send_item<'v>(alloc: Global, bump: &'v Bump, value: &Tree<'v, '_>) -> Result<Item<'v>, ReadFault>
+pub fn send_item<'v>(
+    alloc: Global,
+    bump: &'v Bump,
+    value: &Tree<'v, '_>,
+) -> Result<Item<'v>, ReadFault>
     ensures { Gives item_view result (spec.send_item_of (view value.now)) }
 {
     let Some(values) = list(value) else {

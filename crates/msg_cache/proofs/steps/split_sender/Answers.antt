@@ -1,3 +1,4 @@
+use Rattle.std.proofs.Common.{[]}
 use Rattle.msg_tables.specs.History.{lookup}
 use Rattle.msg_cache.proofs.AllowedKeeper.{give_allowed}
 use Rattle.msg_cache.proofs.steps.split_sender.Goals as goal
@@ -5,4 +6,4 @@ use Rattle.msg_cache.proofs.steps.split_sender.Goals as goal
 pub split_seat-requires : goal.split_seat-requires
 split_seat-requires g c =
     let seat = c.args.seat.now in
-    (c.requires.table.0, c.requires.table.1, rw c.requires.about (give_allowed lookup c.args.words.now.key 0 seat.id seat.me c.requires.keeper c.args.number c.requires.number c.requires.free))
+    (c.requires.table.0, c.requires.table.1, rw (c.requires.about, c.requires.unstamped) (give_allowed lookup c.args.words.now.key 0 seat.id seat.me c.requires.keeper c.args.number [] c.requires.number c.requires.free))

@@ -14,6 +14,6 @@ store-requires g c =
       c.requires.table.1,
       rw (c.requires.about.0, c.requires.about.1)
           (tidied lookup key n seat.id seat.me c.requires.keeper 0 (λ _. c.args.count) (λ _. Commits (g.L.ChangeList.changes c.args.changes.now) (step n 0 c.args.count 0 none) seat.me c.args.count)
-          (commit_allowed lookup key n seat.id seat.me c.requires.keeper (g.L.ChangeList.changes c.args.changes.now) c.requires.turn.0 c.requires.some c.requires.turn.1 c.requires.accepted c.requires.agrees c.args.count c.requires.count)
+          (commit_allowed lookup key n seat.id seat.me c.requires.keeper (g.L.ChangeList.changes c.args.changes.now) c.requires.turn.0 c.requires.some c.requires.turn.1 c.requires.accepted c.requires.closed c.requires.agrees c.args.count c.requires.count)
           (λ x m' t. kept_is _ m' t.0)),
     )

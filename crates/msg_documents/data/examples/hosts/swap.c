@@ -39,13 +39,13 @@ static void *work(void *sender)
 
 int main(void)
 {
-    static msg_sender senders[THREADS];                      /* one for each thread; zero bytes are closed */
+    static struct { _Alignas(64) msg_sender sender; } seats[THREADS]; /* zero bytes are closed */
     pthread_t threads[THREADS];
     must(msg_open(&runtime, NULL));
     must(msg_make_root_class(&runtime, SQUARE));
     must(msg_add(&runtime, SQUARE, false, AREA, OLD));
-    for (int i = 0; i < THREADS; i++) must(msg_sender_open(&runtime, &senders[i]));
-    for (int i = 0; i < THREADS; i++) pthread_create(&threads[i], NULL, work, &senders[i]);
+    for (int i = 0; i < THREADS; i++) must(msg_sender_open(&runtime, &seats[i].sender));
+    for (int i = 0; i < THREADS; i++) pthread_create(&threads[i], NULL, work, &seats[i].sender);
     for (int i = 0; i < SWAPS; i++) {
         pthread_mutex_lock(&lock);
         must(msg_replace(&runtime, SQUARE, false, AREA, i % 2 ? OLD : NEW));
@@ -57,7 +57,7 @@ int main(void)
         void *more;
         pthread_join(threads[i], &more);
         wrong += (size_t)more;
-        must(msg_sender_close(&runtime, &senders[i]));
+        must(msg_sender_close(&runtime, &seats[i].sender));
     }
     printf("%d swaps beside %d threads: %zu wrong answers\n", SWAPS, THREADS, wrong);
     return 0;

@@ -59,15 +59,15 @@ static void *work(void *sender)
 
 int main(void)
 {
-    static msg_sender senders[THREADS];
+    static struct { _Alignas(64) msg_sender sender; } seats[THREADS];
     pthread_t threads[THREADS];
     size_t place, wrong = 0;
     must(msg_open(&runtime, NULL));
     must(msg_make_root_class(&runtime, CLOCK));
     must(msg_make_root_class(&runtime, STORE));
     must(swap(TRUE_ONES, MSG_ADDS, &place));
-    for (int i = 0; i < THREADS; i++) must(msg_sender_open(&runtime, &senders[i]));
-    for (int i = 0; i < THREADS; i++) pthread_create(&threads[i], NULL, work, &senders[i]);
+    for (int i = 0; i < THREADS; i++) must(msg_sender_open(&runtime, &seats[i].sender));
+    for (int i = 0; i < THREADS; i++) pthread_create(&threads[i], NULL, work, &seats[i].sender);
     while (sending < THREADS) {}
     for (int i = 0; i < SWAPS; i++) must(swap(i % 2 ? TRUE_ONES : FAKES, MSG_REPLACES, &place));
     is_over = true;
@@ -79,7 +79,7 @@ int main(void)
     printf("%d swaps of three methods beside %d threads: %zu wrong answers\n", SWAPS, THREADS, wrong);
 
     uint32_t fault = swap(TRUE_ONES, MSG_ADDS, &place);
-    printf("part %zu is refused: %s\n%d of 3 are fakes still\n", place, msg_fault_text(fault), fakes(&senders[0]));
-    for (int i = 0; i < THREADS; i++) must(msg_sender_close(&runtime, &senders[i]));
+    printf("part %zu is refused: %s\n%d of 3 are fakes still\n", place, msg_fault_text(fault), fakes(&seats[0].sender));
+    for (int i = 0; i < THREADS; i++) must(msg_sender_close(&runtime, &seats[i].sender));
     return 0;
 }

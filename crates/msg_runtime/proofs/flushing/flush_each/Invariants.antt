@@ -1,8 +1,8 @@
 use Rattle.std.proofs.Common.{◌≡◌, take, true}
 use Rattle.msg_names.specs.declared.value.ClassRef.{ClassRef}
 use Rattle.msg_tables.specs.Below.{covers}
-use Rattle.msg_cache.specs.Ours.{HasNoArray}
-use Rattle.msg_runtime.specs.Parts.{IsKeeperOf, keeper_history}
+use Rattle.msg_cache.specs.Ours.{IsCold}
+use Rattle.msg_runtime.specs.Parts.{IsKeeperOf, keeper_given, keeper_history}
 use Rattle.msg_runtime.proofs.flushing.flush_each.Given as goal
 
 -- the caches of the first classes are flushed
@@ -10,6 +10,7 @@ abbrev pub invariant-loop-class : goal.invariant-loop-class
 invariant-loop-class l = record {
   arena : IsKeeperOf l.arena l.keeper;
   history : keeper_history l.keeper ≡ keeper_history l.fn.keeper;
-  flushed : (c : ClassRef) → covers (record l.below { classes = take l.class-index l.class-items }) c ≡ true → HasNoArray l.arena l.keeper c;
-  others : (c : ClassRef) → HasNoArray l.arena l.fn.keeper c → HasNoArray l.arena l.keeper c;
+  given : keeper_given l.keeper ≡ keeper_given l.fn.keeper;
+  flushed : (c : ClassRef) → covers (record l.below { classes = take l.class-index l.class-items }) c ≡ true → IsCold l.arena l.keeper c;
+  others : (c : ClassRef) → IsCold l.arena l.fn.keeper c → IsCold l.arena l.keeper c;
 }

@@ -2,13 +2,12 @@ use Rattle.std.proofs.Common.{◌≡◌, ℕ, suc, ◌+◌, ◌*◌, ◌<◌, �
 use borrow.Author.Count.{below_more}
 use Rattle.std.specs.Prelude.{slice_index, slice_index_or, replicate}
 use Rattle.std.proofs.lemmas.List.{take-replicate, length-replicate, length_push, get_or_append_left, get_or_push}
-use Rattle.msg_tables.specs.Origin.{class_total}
 use Rattle.msg_buckets.specs.Capacity.{IsCapacity}
 use Rattle.atomic_table.specs.Table.{opening as opened}
 use Rattle.msg_tables.specs.History.{lookup}
 use Rattle.msg_cache.specs.declared.arena.Span.{Span}
 use Rattle.msg_cache.specs.declared.view.View.TheVariants.{Keeper}
-use Rattle.msg_cache.specs.Layout.{SettingView, layout_of, total, base, probes, word_count}
+use Rattle.msg_cache.specs.Layout.{SettingView, layout_of, total, base, stamps, probes, word_count}
 use Rattle.msg_cache.specs.Keeping.{AreGroups}
 use Rattle.msg_cache.specs.Rule.{holds, first_keeper}
 use Rattle.msg_cache.proofs.OpeningLemmas.{opens, total_more, total_part}
@@ -50,7 +49,7 @@ loop-capacity-preserved c =
 pub of_words-requires : goal.of_words-requires
 of_words-requires c =
     let key : SettingView = record { origin = c.args.origin.now; senders = c.args.senders; capacities = c.args.capacities.items } in
-    let n : ℕ = c.loop-capacity.probes + 8 * c.args.senders in
+    let n : ℕ = c.loop-capacity.probes + 8 + 2 * c.class_count-2.result + 8 * c.args.senders in
     let ends : length c.args.capacities.items ≤ c.loop-capacity.capacity-index = subst (λ (xs : List ℕ). length xs ≤ c.loop-capacity.capacity-index) c.deref-capacity-items.ensures.value c.loop-capacity-test.false in
     let whole : take c.loop-capacity.capacity-index c.args.capacities.items ≡ c.args.capacities.items = take_all c.loop-capacity.capacity-index c.args.capacities.items ends in
     let same : total (take c.loop-capacity.capacity-index c.args.capacities.items) ≡ total c.args.capacities.items = ap total whole in
@@ -70,8 +69,9 @@ invariant_of-arena c =
     let ends : length l ≤ k = subst (λ (xs : List ℕ). length xs ≤ k) c.deref-capacity-items.ensures.value c.loop-capacity-test.false in
     let all : k ≡ length l = search rules in
     let same : total (take k l) ≡ total l = ap total (take_all k l ends) in
-    let n : ℕ = c.loop-capacity.probes + 8 * c.args.senders in
-    let next : c.loop-capacity.probes ≡ probes (layout_of setting) = c.loop-capacity.invariant.next ∙ ap (λ (x : ℕ). 1 + 2 * class_total c.args.origin.now + x) same in
+    let n : ℕ = c.loop-capacity.probes + 8 + 2 * c.class_count-2.result + 8 * c.args.senders in
+    let end : c.loop-capacity.probes + 8 ≡ stamps (layout_of setting) = omega (arith, c.loop-capacity.invariant.next, same) in
+    let next : c.loop-capacity.probes + 8 + 2 * c.class_count-2.result ≡ probes (layout_of setting) = omega (arith, end, c.class_count-2.ensures) in
     let zeros : c.in_ok-words.words.items ≡ replicate n 0 = search rules in
     let count : c.in_ok-table.table.shared.table_id.words ≡ n = c.in_ok-table.ensures.0 ∙ ap length (c.deref.ensures.value ∙ zeros) ∙ length-replicate n 0 in
     let words : c.in_ok-table.table.shared.table_id.words ≡ word_count (layout_of setting) = count ∙ ap (λ (x : ℕ). x + 8 * c.args.senders) next in
@@ -83,6 +83,7 @@ invariant_of-arena c =
       firsts = subst (λ (x : SettingView). AreGroups x.capacities c.args.firsts) (sym key) c.requires.firsts;
       senders = ap (λ (x : SettingView). x.senders) (sym key);
       few_senders = c.requires.senders.1;
+      stamps = end ∙ ap (λ (x : SettingView). stamps (layout_of x)) (sym key);
       probes = next ∙ ap (λ (x : SettingView). probes (layout_of x)) (sym key);
       words = words ∙ ap (λ (x : SettingView). word_count (layout_of x)) (sym key);
       few_words = let r = c.requires.room in let f = c.class_count.ensures.sound.few_classes in let s = c.requires.senders.1 in omega arith;
@@ -96,8 +97,8 @@ returns-clause-words c =
     let key : c.in_ok-table.table.shared.key ≡ setting = c.in_ok-table.ensures.5 ∙ (λ j. record { origin = c.of.ensures j; senders = c.args.senders; capacities = (c.of-2.ensures j).items }) in
     let ends : length l ≤ k = subst (λ (xs : List ℕ). length xs ≤ k) c.deref-capacity-items.ensures.value c.loop-capacity-test.false in
     let same : total (take k l) ≡ total l = ap total (take_all k l ends) in
-    let n : ℕ = c.loop-capacity.probes in
-    let next : n ≡ probes (layout_of setting) = c.loop-capacity.invariant.next ∙ ap (λ (x : ℕ). 1 + 2 * class_total c.args.origin.now + x) same in
+    let n : ℕ = c.loop-capacity.probes + 8 + 2 * c.class_count-2.result in
+    let next : n ≡ probes (layout_of setting) = omega (arith, c.loop-capacity.invariant.next, same, c.class_count-2.ensures) in
     let zeros : c.in_ok-words.words.items ≡ replicate (n + 8 * c.args.senders) 0 = search rules in
     c.truncate.ensures.items ∙ ap (take n) zeros ∙ take-replicate n (n + 8 * c.args.senders) 0 (omega arith)
     ∙ ap (λ (x : ℕ). replicate x 0) (next ∙ ap (λ (x : SettingView). probes (layout_of x)) (sym key))

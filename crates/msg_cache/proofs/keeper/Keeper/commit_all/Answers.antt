@@ -1,7 +1,7 @@
 use Rattle.std.proofs.Common.{◌≡◌, sym, ap, ◌∙◌, subst, arith}
 use Rattle.msg_cache.specs.declared.view.KeeperView.{KeeperView}
 use Rattle.msg_cache.specs.Layout.{SettingView}
-use Rattle.msg_cache.specs.Rule.{LiveWordsAgreeAfter, TidyBy}
+use Rattle.msg_cache.specs.Rule.{LiveWordsAgreeAfter, StampsAreClosedFor, TidyBy}
 use Rattle.msg_cache.specs.Plays.{committed, lent}
 use Rattle.msg_cache.specs.Keeping.{InOrder}
 use Rattle.msg_tables.specs.History.{lookup}
@@ -21,6 +21,18 @@ overflow_add-count g c =
 
 pub store_count-requires-clause-turn : goal.store_count-requires-clause-turn
 store_count-requires-clause-turn g c = (turn_of c.into_seat.result.me.0, ap (λ (x : Sat). (keeper_of x.0).turn) c.join_turn.ensures.told)
+
+pub store_count-requires-clause-closed : goal.store_count-requires-clause-closed
+store_count-requires-clause-closed g c =
+    let key = c.args.arena.now.key in
+    let me = c.args.self.now in
+    let k = keeper_of me.seat.me.0 in
+    let xs = g.L.ChangeList.changes c.args.changes.now in
+    let few = few_more k.history xs c.requires.arena.1.tidy.kept.accepted c.requires.some c.requires.accepted in
+    let most = c.requires.arena.1.tidy.kept.accepted.origin.few_changes in
+    rw c.shared-shared.ensures.key (
+    subst (λ (k : KeeperView). StampsAreClosedFor key k xs)
+    (sym (ap (λ (x : Sat). keeper_of x.0) c.join_turn.ensures.told)) (λ d lt e. let is = c.requires.closed d lt e in omega arith))
 
 pub store_count-requires-clause-agrees : goal.store_count-requires-clause-agrees
 store_count-requires-clause-agrees g c =

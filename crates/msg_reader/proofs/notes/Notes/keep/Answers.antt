@@ -1,14 +1,15 @@
 use Rattle.msg_names.specs.ClassRef.{slot_of}
 use Rattle.msg_names.specs.Number.{selector_number, imp_number}
-use Rattle.msg_reader.specs.Notes.{IsRecalled}
-use Rattle.msg_reader.proofs.NoteLemmas.{recalled_now, notes_keep}
+use Rattle.msg_reader.specs.Notes.{IsRecalled, LiesAt}
+use Rattle.msg_reader.proofs.NoteLemmas.{recalled_then, notes_keep}
 use Rattle.msg_reader.proofs.notes.Notes.keep.Goals as goal
 
 pub returns-then-slot-lt-SLOTS-clause-notes : goal.returns-then-slot-lt-SLOTS-clause-notes
-returns-then-slot-lt-SLOTS-clause-notes c = λ h are now found listed.
+returns-then-slot-lt-SLOTS-clause-notes c = λ h are le found listed.
     let slot = c.slot-slot.ensures in
-    let named = c.number.ensures.number in
-    let imp = c.number-then-slot-lt-SLOTS.ensures in
-    let is : IsRecalled h c.args.count (slot_of c.args.class) (selector_number c.args.sel) (imp_number c.args.imp) = recalled_now h c.args.class c.args.count (selector_number c.args.sel) (imp_number c.args.imp) now found listed in
-    let told : IsRecalled h c.args.count c.slot-slot.result c.number.result c.number-then-slot-lt-SLOTS.result = rw (slot, named, imp) is in
-    notes_keep h c.args.self.now c.place.result c.of.result are (c.of.ensures.note h told)
+    let named = c.number-named.ensures.number in
+    let imp = c.number.ensures in
+    let is : IsRecalled h c.args.count (slot_of c.args.class) (selector_number c.args.sel) (imp_number c.args.imp) = recalled_then h c.args.class c.args.count (selector_number c.args.sel) (imp_number c.args.imp) le found listed in
+    let told : IsRecalled h c.args.count c.slot-slot.result c.number-named.result c.number.result = rw (slot, named, imp) is in
+    let lies : LiesAt c.place.result c.of.result = rw (c.place.ensures.place) c.of.ensures.placed in
+    notes_keep h c.args.self.now c.place.result c.of.result are (c.of.ensures.note h told) lies

@@ -1,34 +1,39 @@
-use Rattle.std.proofs.Common.{rules, ◌≡◌, ◌≤◌, ap, sym, subst, length, arith, length-append}
-use Rattle.msg_names.specs.Number.{selector_number, imp_number}
-use Rattle.msg_tables.specs.Origin.{last_imp}
-use Rattle.msg_tables.specs.History.{BeginsWith, lookup}
+use Rattle.std.proofs.Common.{[], length, ◌∙◌, inr, arith}
+use Rattle.msg_names.specs.Number.{selector_number}
+use Rattle.msg_reader.specs.Kept.{MissesAfter, MissesUnlessChanged}
+use Rattle.msg_reader.proofs.ReaderLemmas.{as_long, if_none, loads_more, missed_before}
 use Rattle.msg_reader.proofs.reader.Reader.find_cached.Goals as goal
 
--- no change fell into the probe, so the history that it saw is that of which the count is
-pub returns-clause-notes : goal.returns-clause-notes
-returns-clause-notes c =
-    let grows = c.notes_are_of_longer_histories.ensures in
-    let saw = c.args.self.now.sender.front in
-    let probed = c.probe.new.self.sender.front in
-    let sees = c.refresh-count.new.self.sender.front in
-    let onward = c.refresh-count.ensures.begins in
-    let on : BeginsWith probed saw = search rules in
-    let along : length probed.changes ≡ length sees.changes = omega (arith, ap length on.rest.1, length-append saw.changes on.rest.0, ap length onward.rest.1, length-append probed.changes onward.rest.0, c.requires.before, c.refresh-count.ensures.length, c.if-count-before.false) in
-    let same : sees ≡ probed = c.a_history_no_longer_is_the_same.ensures sees probed onward (sym along) in
-    let found : imp_number c.in_ok-imp.imp ≡ lookup sees c.args.class (selector_number c.args.sel) = subst (λ h. imp_number c.in_ok-imp.imp ≡ lookup h c.args.class (selector_number c.args.sel)) (sym same) (search rules) in
-    let listed : imp_number c.in_ok-imp.imp ≤ last_imp sees.origin.counts = search rules in
-    c.keep.ensures.notes sees (grows sees probed c.args.notes.now onward (grows probed saw c.args.notes.now on c.requires.notes)) c.refresh-count.ensures.length found listed
+pub find_at-requires-clause-notes : goal.find_at-requires-clause-notes
+find_at-requires-clause-notes c =
+    c.notes_are_of_longer_histories.ensures c.refresh-count.new.self.sender.front c.args.self.now.sender.front c.args.notes.now c.refresh-count.ensures.begins c.requires.notes
 
-pub returns-in_err-imp-clause-notes : goal.returns-in_err-imp-clause-notes
-returns-in_err-imp-clause-notes c =
-    let on : BeginsWith c.probe.new.self.sender.front c.args.self.now.sender.front = search rules in
-    c.notes_are_of_longer_histories.ensures c.probe.new.self.sender.front c.args.self.now.sender.front c.args.notes.now on c.requires.notes
+pub returns-then-count-since-clause-notes : goal.returns-then-count-since-clause-notes
+returns-then-count-since-clause-notes c =
+    c.notes_are_of_longer_histories.ensures c.refresh-count.new.self.sender.front c.args.self.now.sender.front c.args.notes.now c.refresh-count.ensures.begins c.requires.notes
 
-pub returns-then-count-before-clause-notes : goal.returns-then-count-before-clause-notes
-returns-then-count-before-clause-notes c =
-    let grows = c.notes_are_of_longer_histories.ensures in
-    let saw = c.args.self.now.sender.front in
-    let probed = c.probe.new.self.sender.front in
-    let sees = c.refresh-count.new.self.sender.front in
-    let on : BeginsWith probed saw = search rules in
-    grows sees probed c.args.notes.now c.refresh-count.ensures.begins (grows probed saw c.args.notes.now on c.requires.notes)
+pub returns-then-count-since-clause-stamps : goal.returns-then-count-since-clause-stamps
+returns-then-count-since-clause-stamps c = ([], c.refresh-count.ensures.stamps)
+
+pub returns-then-count-since-clause-missed : goal.returns-then-count-since-clause-missed
+returns-then-count-since-clause-missed c =
+    let has = c.requires.loaded in
+    inr (
+      c.args.since,
+      (has.0, c.refresh-count.ensures.stamps ∙ has.1),
+      omega (arith, as_long c.refresh-count.new.self.sender.front c.args.self.now.sender.front c.refresh-count.ensures.begins, c.refresh-count.ensures.length, c.if-count-since.true),
+    )
+
+pub returns-clause-stamps : goal.returns-clause-stamps
+returns-clause-stamps c =
+    loads_more c.args.self.now.sender c.refresh-count.new.self.sender c.find_at.new.self.sender c.refresh-count.ensures.stamps c.find_at.ensures.stamps
+
+pub returns-clause-missed : goal.returns-clause-missed
+returns-clause-missed c =
+    let a = c.args.arena.now in
+    let sel = selector_number c.args.sel in
+    let was = c.args.self.now.sender in
+    let saw = c.refresh-count.new.self.sender in
+    let is = c.find_at.new.self.sender in
+    if_none (MissesAfter a c.args.class sel c.refresh-count.result is) (MissesUnlessChanged a c.args.class sel was is) c.find_at.result
+    (missed_before a c.args.class sel (length was.front.changes) c.refresh-count.result is (omega (arith, as_long saw.front was.front c.refresh-count.ensures.begins, c.refresh-count.ensures.length))) c.find_at.ensures.missed

@@ -1,0 +1,18 @@
+-- What is said of a document.
+use Rattle.std.specs.Prelude.{◌⊎◌, ℕ, List, Option, Some, Ok}
+use Rattle.msg_devices.specs.Complaint.{complaint_line}
+use Rattle.msg_devices.specs.Writing.{Starts, Writes}
+use Rattle.msg_devices.specs.declared.complaint.Program.TheVariants.{Msgrun}
+use Rattle.msg_devices.specs.declared.fault.RunFault.TheVariants.{Document}
+use Rattle.msg_form.specs.declared.faults.DocumentFault.{DocumentFault}
+use Rattle.msg_image.specs.Answer.{IsAnswer}
+use Rattle.msg_image.specs.Items.{DocumentParts}
+
+-- bytes that spell a document without fault
+abbrev pub IsAnswered : List ℕ → Type 0
+IsAnswered bytes = (d : DocumentParts) × IsAnswer bytes (Ok d)
+
+-- the line of a fault was written to a sink, or the start of it where a write failed
+abbrev pub SaysFault : {S : Type 0} → (S → Option (List ℕ)) → S → S → DocumentFault → Type 0
+SaysFault contents old new f =
+    Writes contents old new (complaint_line Msgrun (Some (Document f))) ⊎ Starts contents old new (complaint_line Msgrun (Some (Document f)))

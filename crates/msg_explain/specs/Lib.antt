@@ -1,0 +1,5 @@
+pub mod Fitting
+pub mod Tables
+pub mod Places
+pub mod Telling
+pub mod Explaining

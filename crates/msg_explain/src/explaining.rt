@@ -1,0 +1,136 @@
+//! What is said of a document that is refused.
+
+ghost use Rattle.std.specs.Prelude.{◌≡◌, ◌≢◌, ◌⊎◌, false, Err, IfSome};
+ghost use Rattle.msg_form.specs.declared.faults.DocumentFault.{DocumentFault};
+ghost use Rattle.msg_form.specs.declared.faults.DocumentFault.TheVariants as documents;
+ghost use Rattle.msg_image.specs.Answer.{IsAnswer};
+ghost use Rattle.msg_explain.specs.Explaining.{IsAnswered, SaysFault};
+
+use crate::position::{Position, end_of_json, position_of};
+use crate::search::misplaced;
+use crate::telling::{push_path, push_reason};
+use msg_devices::{
+    Program, RunFault, Sink, Source, complain, push_digits, read_whole, write_whole,
+};
+use msg_form::DocumentFault;
+use msg_image::read_document;
+use msg_json::{Bump, Scratch, read};
+use std::alloc::{AllocError, Global};
+use std::str;
+
+// So many places are told at most.
+const MOST_PLACES: usize = 100;
+
+/// Says of a document why it is refused, as a run of it does, and then where: a line for each
+/// place. Answers the exit status: 0 for a document without fault, 2 for one that is refused.
+pub fn explain<R: Source, W: Sink, E: Sink>(
+    alloc: Global,
+    source: &mut R,
+    sink: &mut W,
+    errors: &mut E,
+) -> u8
+    requires { R.mark source.old ≡ false }
+    ensures status { (result ≡ 0) ⊎ ((result ≡ 1) ⊎ (result ≡ 2)) }
+    ensures answered { result ≡ 0 → IfSome (R.remaining source.old) IsAnswered }
+{
+    let bytes = match read_whole(alloc, source) {
+        Ok(bytes) => bytes,
+        Err(fault) => return complain(errors, Program::Msgrun, Some(&RunFault::from(fault))),
+    };
+    explain_bytes(alloc, &bytes, sink, errors)
+}
+
+fn explain_bytes<W: Sink, E: Sink>(alloc: Global, bytes: &[u8], sink: &mut W, errors: &mut E) -> u8
+    ensures status { (result ≡ 0) ⊎ ((result ≡ 1) ⊎ (result ≡ 2)) }
+    ensures answered { result ≡ 0 → IsAnswered bytes.now }
+    ensures refused { result ≡ 2 → (f : DocumentFault) × IsAnswer bytes.now (Err f)
+        × SaysFault E.contents errors.old errors.new f }
+{
+    match read_document(alloc, bytes) {
+        Ok(_) => say(sink, errors, b"no fault\n", 0),
+        Err(fault) => refuse(alloc, bytes, fault, sink, errors),
+    }
+}
+
+/// Says the fault, and where it is.
+fn refuse<W: Sink, E: Sink>(
+    alloc: Global,
+    bytes: &[u8],
+    fault: DocumentFault,
+    sink: &mut W,
+    errors: &mut E,
+) -> u8
+    ensures status { (result ≡ 1) ⊎ (result ≡ 2) }
+    ensures said { result ≡ 2 → (fault ≢ documents.Memory)
+        × SaysFault E.contents errors.old errors.new fault }
+{
+    let status = complain(errors, Program::Msgrun, Some(&RunFault::from(fault)));
+    match places_text(alloc, bytes, fault) {
+        Ok(text) => say(sink, errors, &text, status),
+        Err(AllocError) => complain(errors, Program::Msgrun, Some(&RunFault::Memory)),
+    }
+}
+
+/// Writes a text, and answers the status if it is written.
+fn say<W: Sink, E: Sink>(sink: &mut W, errors: &mut E, text: &[u8], status: u8) -> u8
+    ensures status { (result ≡ status) ⊎ (result ≡ 1) }
+    ensures same { result ≢ 1 → errors.new ≡ errors.old }
+{
+    match write_whole(sink, text) {
+        Ok(()) => status,
+        Err(_) => complain(errors, Program::Msgrun, Some(&RunFault::Write)),
+    }
+}
+
+/// Where the JSON ends to be JSON, or the places of a fault of form, a line for each. Of another
+/// fault no place is told.
+fn places_text(alloc: Global, bytes: &[u8], fault: DocumentFault) -> Result<Vec<u8>, AllocError> {
+    let mut text = Vec::new(alloc);
+    match fault {
+        DocumentFault::NotJson => push_end_of_json(alloc, &mut text, bytes)?,
+        DocumentFault::Shape => push_places(alloc, &mut text, bytes)?,
+        _ => (),
+    }
+    Ok(text)
+}
+
+fn push_end_of_json(alloc: Global, text: &mut Vec<u8>, bytes: &[u8]) -> Result<(), AllocError> {
+    let mut scratch = Scratch::new(alloc);
+    if let Some(position) = end_of_json(bytes, &mut scratch) {
+        push_position(text, position)?;
+        text.extend_from_slice(b": wanted JSON\n")?;
+    }
+    Ok(())
+}
+
+fn push_places(alloc: Global, text: &mut Vec<u8>, bytes: &[u8]) -> Result<(), AllocError> {
+    let mut scratch = Scratch::new(alloc);
+    let mut room = Scratch::new(alloc);
+    let bump = Bump::new(alloc);
+    let Ok(document) = read(alloc, &bump, bytes, &mut scratch) else {
+        return Ok(());
+    };
+    let places = misplaced(alloc, &bump, &document)?;
+    for place in places.iter().take(MOST_PLACES) {
+        let words = str::from_utf8(bytes).unwrap_or("");
+        if let Some(position) = position_of(words, &mut room, &document, &place.path) {
+            push_position(text, position)?;
+            text.extend_from_slice(b", ")?;
+        }
+        push_path(text, &place.path)?;
+        text.extend_from_slice(b": ")?;
+        push_reason(text, place)?;
+        text.push(b'\n')?;
+    }
+    if places.len() > MOST_PLACES {
+        text.extend_from_slice(b"and more\n")?;
+    }
+    Ok(())
+}
+
+fn push_position(text: &mut Vec<u8>, position: Position) -> Result<(), AllocError> {
+    text.extend_from_slice(b"line ")?;
+    push_digits(text, position.line)?;
+    text.extend_from_slice(b", column ")?;
+    push_digits(text, position.column)
+}

@@ -1,0 +1,23 @@
+//! Where the fault of a document is.
+//!
+//! [`misplaced`] goes down a JSON value as the format's table tells, and finds the places whose
+//! value isn't what the format wants there, though each of its parts is.
+#![tactic(auto)]
+
+mod explaining;
+mod fitting;
+mod part;
+mod place;
+mod position;
+mod search;
+mod tables;
+mod telling;
+
+pub use explaining::explain;
+pub use fitting::fits;
+pub use part::{Edition, Part, Wanted};
+pub use place::{Place, Step};
+pub use position::{Position, end_of_json, position_of};
+pub use search::misplaced;
+pub use tables::{Key, at_place, edition, keys};
+pub use telling::push_path;

@@ -1,0 +1,48 @@
+//! What may stand in a document.
+
+/// Whose form a document has: that of a version other than 2 and 3 has the form of the first.
+#[derive(Clone, Copy, Debug, PartialEq, Eq)]
+pub enum Edition {
+    First,
+    Second,
+    Third,
+}
+
+/// A part of a document, by its row in the format's table.
+#[derive(Clone, Copy, Debug, PartialEq, Eq)]
+pub enum Part {
+    Document(Edition),
+    Version,
+    Class,
+    Category,
+    Object,
+    Imp,
+    Item(Edition),
+    Name,
+    /// A name, or null.
+    Superclass,
+    /// An entry of a method list.
+    Pair,
+    Truth,
+    /// How many arguments an implementation takes.
+    Args,
+    Body,
+    /// What stands behind `send`.
+    Send,
+    /// What stands behind `change`.
+    Changes(Edition),
+    /// A change among those that are made as one.
+    Change,
+    Constant,
+    Selector,
+    /// The number of an argument.
+    Index,
+}
+
+/// What is wanted at a place.
+#[derive(Clone, Copy, Debug, PartialEq, Eq)]
+pub enum Wanted {
+    One(Part),
+    /// A list of them.
+    Many(Part),
+}

@@ -1,0 +1,223 @@
+/* What CBMC checks of the inline lines of include/msg_runtime.h: for ALL inputs (no loop in them,
+ * so no bound). The definitions below are written from crates/msg_reader/specs/Key.antt and
+ * Notes.antt and crates/msg_c/specs/Answers.antt, in 128 bits, where nothing wraps: they share no
+ * line with the header. */
+int cv_lock(int *lock), cv_unlock(int *lock);
+#define MSG_LOCK_TYPE int
+#define MSG_LOCK(lock) cv_lock(lock)
+#define MSG_UNLOCK(lock) cv_unlock(lock)
+#include "msg_runtime.h"
+
+typedef unsigned __int128 nat;
+#define ANY(type, name) type name /* uninitialized is any value in cbmc */
+
+/* ---- the definitions, as in Key.antt and Notes.antt ---- */
+static nat key_of(nat slot, nat sel) { return (slot + 1) * 137438954496u + sel * 32u; }
+static nat mark_of(nat imp) { return imp == 0 ? 65535 : imp < 65534 ? imp : 65534; }
+static size_t place_of(nat slot, nat sel) { return (size_t)(key_of(slot, sel) / 32u % 2048u); }
+
+/* A handle of just its size, as bytes, since cbmc loads from a place that isn't constant more
+ * cheaply there; --nondet-static: of any values. */
+static _Alignas(64) unsigned char bytes[sizeof(msg_sender)];
+#define SENDER ((msg_sender *)(void *)bytes)
+
+/* The note at a place of the spec: as repr(C) lays out Note, behind the 16 bytes of SenderHandle's
+ * first fields. */
+#define LOAD(type, from) (*(const type *)(const void *)&bytes[from])
+static msg_note note_at(size_t at)
+{
+    size_t from = 16 + 32 * at;
+    return (msg_note){LOAD(uint64_t, from), LOAD(uint64_t, from + 8), LOAD(uint32_t, from + 16), 0, 0};
+}
+
+/* `recalled` of Notes.antt, of a slot below 2^26, in terms of its key: keys_are_the_spec shows that
+ * msg_key is key_of, and that place_of is of its low 16 bits. */
+#define NOTHING (~(nat)0) /* None */
+static msg_note noted(uint64_t key) { return note_at((key & 65535) / 32); }
+static nat recalled(uint64_t count, uint64_t key)
+{
+    msg_note n = noted(key);
+    return n.seal + mark_of(n.imp) == key && n.count >= count ? (nat)n.imp : NOTHING;
+}
+static nat number_of_recalled(nat r) { return r == NOTHING ? 0 : r == 0 ? 4294967296u : r; }
+
+/* What the proved code keeps of a note at the place of a key: IsSealed, and LiesAt of
+ * AreNotesOf. */
+static bool is_sealed(msg_note n, uint64_t key)
+{
+    nat sum = n.seal + mark_of(n.imp);
+    bool fits = sum < (nat)1 << 64;
+    bool lies = n.seal == 0 || sum % 65536u == (key & 65535);
+    return fits && lies;
+}
+
+/* Keys begin where the slots' first one does: which each msg_key is, and no mark reaches. */
+#define IS_KEY(key) (!((key) & 31) && (key) >= MSG_KEY_OF_SLOT)
+
+/* ---- keys ---- */
+void keys_are_the_spec(void)
+{
+    ANY(uint32_t, slot); ANY(uint32_t, sel);
+    __CPROVER_assume(slot < MSG_SLOTS);
+    uint64_t key = msg_key(slot, sel);
+    __CPROVER_assert((nat)key == key_of(slot, sel), "msg_key is key_of, without wrapping");
+    __CPROVER_assert(IS_KEY(key), "a multiple of 32, and above all marks");
+    __CPROVER_assert((uint16_t)key == 32 * place_of(slot, sel), "its low 16 bits are where its note lies");
+    __CPROVER_assert(slot * MSG_KEY_OF_SLOT + msg_key(0, sel) == key, "it adds up");
+}
+void keys_are_one_to_one(void)
+{
+    ANY(uint32_t, slot); ANY(uint32_t, sel); ANY(uint32_t, other); ANY(uint32_t, next);
+    __CPROVER_assume(slot < MSG_SLOTS && other < MSG_SLOTS);
+    if (msg_key(slot, sel) == msg_key(other, next))
+        __CPROVER_assert(slot == other && sel == next, "one to one");
+}
+void keys_are_taken_apart(void)
+{
+    ANY(uint32_t, slot); ANY(uint32_t, sel);
+    __CPROVER_assume(slot < MSG_SLOTS);
+    uint64_t key = msg_key(slot, sel);
+    __CPROVER_assert(MSG_SLOT_OF(key) == slot, "MSG_SLOT_OF inverts");
+    __CPROVER_assert(MSG_SEL_OF(key) == sel, "MSG_SEL_OF inverts");
+}
+
+/* ---- recalls: what the proved msg_recall answers, by its contract ---- */
+void recall_key_is_msg_recall(void)
+{
+    ANY(uint64_t, key); ANY(uint64_t, count); /* any key that msg_key may make, and more */
+    __CPROVER_assume(IS_KEY(key) && is_sealed(noted(key), key));
+    const unsigned char *place = (const unsigned char *)MSG_NOTE_OF(SENDER, key);
+    __CPROVER_assert(place == bytes + 16 + 32 * ((key & 65535) / 32), "MSG_NOTE_OF is the place");
+    nat said = number_of_recalled(recalled(count, key));
+    uint32_t imp = msg_recall_key(SENDER, key, count);
+    __CPROVER_assert(imp == (said == MSG_NOTED_NONE ? 0 : said), "msg_recall_key is msg_recall");
+    bool is_none = msg_recall_none_key(SENDER, key, count);
+    __CPROVER_assert(is_none == (said == MSG_NOTED_NONE), "msg_recall_none_key is NOTED_NONE");
+}
+/* One load of a seal tells of which lookup it is, and what it says of that. */
+void a_seal_says_key_and_number(void)
+{
+    ANY(uint64_t, key);
+    __CPROVER_assume(IS_KEY(key) && is_sealed(noted(key), key));
+    msg_note n = noted(key);
+    uint64_t said = msg_said(&n, key);
+    bool is_of = n.seal + mark_of(n.imp) == key;
+    __CPROVER_assert((said <= MSG_SAID_NONE) == is_of, "a small number, exactly where it is of the key");
+    if (is_of) __CPROVER_assert(said == mark_of(n.imp), "what it says is the mark");
+}
+void recall_inline_is_by_key(void)
+{
+    /* any slot: of 2^26 and more nothing is noted */
+    ANY(uint32_t, slot); ANY(uint32_t, sel); ANY(uint64_t, count);
+    uint32_t got = msg_recall_inline(SENDER, slot, sel, count);
+    uint32_t want = slot < 1 << 26 ? msg_recall_key(SENDER, msg_key(slot, sel), count) : 0;
+    __CPROVER_assert(got == want, "msg_recall_inline is msg_recall_key, or 0");
+}
+/* A blank note satisfies what is assumed above, of each key, and so does a note that is kept: the
+ * assumption isn't empty. */
+void notes_are_sealed(void)
+{
+    ANY(uint32_t, slot); ANY(uint32_t, sel); ANY(uint32_t, imp);
+    __CPROVER_assume(slot < MSG_SLOTS);
+    uint64_t key = msg_key(slot, sel);
+    __CPROVER_assert(is_sealed((msg_note){0, 0, 0, 0, 0}, key), "a blank note");
+    __CPROVER_assert(is_sealed((msg_note){key - mark_of(imp), 0, imp, 0, 0}, key), "one of the key");
+}
+/* Must fail: a note of another place may be just so much below the key. */
+void a_note_of_any_place(void)
+{
+    ANY(uint64_t, key); ANY(uint64_t, count);
+    __CPROVER_assume(IS_KEY(key));
+    nat said = number_of_recalled(recalled(count, key));
+    uint32_t imp = msg_recall_key(SENDER, key, count);
+    __CPROVER_assert(imp == (said == MSG_NOTED_NONE ? 0 : said), "must fail");
+}
+/* No access outside: of a key that msg_key made, of whatever bytes. */
+void recall_reads_inside(void)
+{
+    ANY(uint32_t, slot); ANY(uint32_t, sel); ANY(uint64_t, count); ANY(bool, none);
+#ifdef ANY_KEY /* must fail: what is no multiple of 32 reads up to 31 bytes beyond */
+    ANY(uint64_t, key);
+#else
+    uint64_t key = msg_key(slot, sel); /* also of slots of 2^26 and more */
+#endif
+    if (none) msg_recall_none_key(SENDER, key, count);
+    else msg_recall_key(SENDER, key, count);
+}
+
+/* ---- msg_open, msg_report: the words that the library is given are the fields ---- */
+static const msg_config *given;
+static struct msg_report_row *row;
+uint32_t msg_open_words(msg_runtime *runtime, const uint32_t *config, size_t words)
+{
+    ANY(size_t, i); ANY(uint32_t, answer);
+    __CPROVER_assert(words == 11, "as many words as fields");
+    __CPROVER_assume(i < words);
+    uint32_t want = !given ? 0 : i == 0 ? given->classes : i == 1 ? given->senders : given->arrays[i - 2];
+    __CPROVER_assert(config[i] == want, "each word is its field");
+    return answer;
+}
+void open_gives_the_words(void)
+{
+    ANY(bool, has); ANY(uint32_t, answer);
+    msg_runtime runtime = MSG_RUNTIME_INIT;
+    msg_config *config = __CPROVER_allocate(sizeof *config, 0);
+    given = has ? config : NULL;
+    msg_open(&runtime, given);
+}
+uint32_t msg_report_words(msg_runtime *runtime, uint64_t *words, size_t count)
+{
+    ANY(size_t, i); ANY(uint32_t, answer); ANY(uint64_t, value);
+    __CPROVER_assert(count == 17, "as many words as fields");
+    __CPROVER_assume(i < count);
+    words[i] = value;
+    uint64_t got = i == 0 ? row->fills : i == 1 ? row->growths : i == 2 ? row->flushes : i == 3 ? row->retired : i == 4 ? row->given_again : i == 5 ? row->collections
+                 : i == 6 ? row->freed : i < 16 ? row->no_array[i - 7] : row->refused_senders;
+    __CPROVER_assert(got == value, "each word is its field");
+    return answer;
+}
+void report_gives_the_words(void)
+{
+    msg_runtime runtime = MSG_RUNTIME_INIT;
+    row = __CPROVER_allocate(sizeof *row, 0);
+    msg_report(&runtime, row);
+}
+
+/* ---- msg_find: by the contracts of msg_probe and msg_fill, of which these are the clauses that
+ * count ---- */
+static int held, probes, fills, locks;
+static uint32_t probed, filled, first_imp;
+uint32_t msg_probe(msg_sender *s, uint32_t number, bool meta, uint32_t sel, uint32_t *imp)
+{
+    ANY(uint32_t, answer); ANY(uint32_t, value);
+    __CPROVER_assume(answer == MSG_DONE || answer == MSG_MISSED || answer == MSG_CLOSED || answer == MSG_NO_CLASS || answer == MSG_NO_SELECTOR);
+    if (answer == MSG_DONE) *imp = value; /* left: else it stays */
+    probes++;
+    probed = answer;
+    return answer;
+}
+uint32_t msg_fill(msg_runtime *runtime, msg_sender *s, uint32_t number, bool meta, uint32_t sel, uint32_t *imp)
+{
+    ANY(uint32_t, answer); ANY(uint32_t, value);
+    __CPROVER_assert(held == 1, "a fill is under the lock");
+    __CPROVER_assume(answer != MSG_MISSED);
+    if (answer == MSG_DONE) *imp = value;
+    fills++;
+    filled = answer;
+    return answer;
+}
+static int lock_word;
+int cv_lock(int *lock) { __CPROVER_assert(lock == &lock_word && !held, "the host's lock, not held"); held = 1; locks++; return 0; }
+int cv_unlock(int *lock) { __CPROVER_assert(lock == &lock_word && held, "held"); held = 0; return 0; }
+void find_asks_in_order(void)
+{
+    ANY(uint32_t, number); ANY(bool, meta); ANY(uint32_t, sel); ANY(uint32_t, imp);
+    msg_runtime runtime; /* as anything opened it */
+    __CPROVER_assume(runtime.open == (runtime.at != 0) && SENDER->open == (SENDER->at != 0));
+    held = probes = fills = locks = 0;
+    uint32_t before = imp, answer = msg_find(&runtime, &lock_word, SENDER, number, meta, sel, &imp);
+    __CPROVER_assert(!held, "the lock is given");
+    __CPROVER_assert(probes == 1 && fills == (probed == MSG_MISSED) && locks == fills, "one probe; a fill after a miss alone");
+    __CPROVER_assert(answer == (fills ? filled : probed) && answer != MSG_MISSED, "its answer");
+    __CPROVER_assert(answer == MSG_DONE || imp == before, "nothing is written after a fault");
+}

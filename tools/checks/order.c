@@ -1,0 +1,310 @@
+/* What is run of process/msg_process.c and the inline finds: one thread, up to SIGNALS handlers of
+ * signals that come before any load or store (each may be interrupted itself, DEPTH deep), and
+ * another thread that changes the tables step by step at any time. Sequentially consistent. The
+ * library is a model: it says no more than its contracts (msg_refresh, msg_probe, msg_fill: what a
+ * lookup finds at a count of changes that the sender has then seen). */
+#include <stdatomic.h>
+#include <stdbool.h>
+#include <stdint.h>
+#include <stddef.h>
+#include <pthread.h>
+#include "every_choice.h"
+static void STEP(void);
+/* What may be refused: memory, a number for a sender, a cached answer. PLAIN: nothing is. */
+#ifdef PLAIN
+#define any_refused() false
+#else
+#define any_refused() any_bool()
+#endif
+static void other(bool all);
+#define cv_store(p, v) ({ __typeof__(*(p)) cv_value = (v); STEP(); *(p) = cv_value; })
+#undef atomic_load
+#undef atomic_store
+#undef atomic_load_explicit
+#undef atomic_store_explicit
+#undef atomic_signal_fence
+#undef atomic_fetch_add
+#undef atomic_fetch_sub
+/* The other thread's steps commute with all but loads and stores of what it shares: the count, the
+ * lock, the library. */
+#define IS_SHARED(p) ((void *)(p) == (void *)&msg_process_changes.begun)
+#define __atomic_load_n(p, order) (STEP(), IS_SHARED(p) ? other(false) : (void)0, *(p))
+#define __atomic_store_n(p, v, order) cv_store(p, v)
+#define __atomic_exchange_n(p, v, order) ({ STEP(); __typeof__(*(p)) cv_old = *(p); *(p) = (v); cv_old; })
+#define atomic_load(p) (STEP(), *(p))
+#define atomic_store(p, v) cv_store(p, v)
+#define atomic_load_explicit(p, order) (STEP(), *(p))
+#define atomic_store_explicit(p, v, order) cv_store(p, v)
+#define atomic_signal_fence(order) ((void)0)
+#define __atomic_signal_fence(order) ((void)0)
+#define atomic_fetch_add(p, v) ({ STEP(); *(p) += (v); })
+#define atomic_fetch_sub(p, v) ({ STEP(); *(p) -= (v); })
+#define _Atomic
+#define atomic_bool _Bool
+#define atomic_uint unsigned
+#ifndef SIGNALS
+#define SIGNALS 1
+#endif
+#ifndef DEPTH
+#define DEPTH 1
+#endif
+#ifndef ROUNDS
+#define ROUNDS 1
+#endif
+
+#include "msg_runtime.h"
+static void cv_loads(const msg_note *note, uint64_t *seal, uint64_t *count, uint32_t *imp);
+#ifdef WEAK /* must fail: a number by a load of its own */
+#define IS_WEAK 1
+#else
+#define IS_WEAK 0
+#endif
+struct seat *cv_seat(void);
+void cv_free(struct seat *);
+#include "msg_process.c"
+#include "shim_note.h"
+
+static struct { const char *what; long a, b; int depth; } trace[512]; static int traced;
+static int depth;
+#define SAY(w, x, y) (traced < 512 ? (void)(trace[traced].what = w, trace[traced].a = (long)(x), trace[traced].b = (long)(y), trace[traced++].depth = depth) : (void)0)
+void cv_show_trace(void) { for (int i = 0; i < traced; i++) printf("   %*s%s %ld %ld\n", 4 * trace[i].depth, "", trace[i].what, trace[i].a, trace[i].b); }
+/* ---- the model of the library ---- */
+enum { A, B };
+#define KEY(i) msg_key(2, 1 + 2048 * (i)) /* of one place */
+static uint64_t made;     /* changes that are made */
+static uint64_t finished; /* the count of them at the last unlock, in the order of all */
+static int holder;        /* of the lock: 0, 1 this thread, 2 the other */
+static uint64_t seen_by[3]; static bool opened[3], inside[3];
+static uint32_t answer_of(uint32_t key, uint64_t count) { return key == B && count == 1 ? 0 : 1 + key * 8 + (uint32_t)count; }
+static uint32_t index_of(uint32_t number, bool meta, uint32_t sel) { __CPROVER_assert(number == 1 && !meta && (sel == 1 || sel == 2049), "the parts of the key"); return sel / 2048; }
+
+enum { SEATS = 3 };
+static struct seat pool[SEATS]; static int taken;
+#define WHICH(s) ((int)((struct seat *)(s) - pool))
+struct seat *cv_seat(void) { return taken == SEATS || any_refused() ? NULL : &pool[taken++]; }
+void cv_free(struct seat *seat) { __CPROVER_assert(!inside[seat - pool] && !opened[seat - pool], "freed when closed"); }
+
+static void enter(const msg_sender *s)
+{
+    other(false);
+    __CPROVER_assert((struct seat *)s >= pool && (struct seat *)s < pool + SEATS, "a sender of a seat");
+    __CPROVER_assert(opened[WHICH(s)], "that is open");
+    __CPROVER_assert(!inside[WHICH(s)], "RULE 3: a sender is in one call at a time");
+    inside[WHICH(s)] = true;
+    SAY("in a call on sender", WHICH(s), 0);
+    STEP();
+}
+static void leave(const msg_sender *s) { STEP(); other(false); inside[WHICH(s)] = false; }
+
+#ifdef LONG /* each number is taken for a long one */
+static uint64_t mark_of(uint32_t imp) { return imp ? MSG_SAID_LONG : MSG_SAID_NONE; }
+#else
+static uint64_t mark_of(uint32_t imp) { return imp ? imp : MSG_SAID_NONE; }
+#endif
+
+static void keep(msg_sender *s, uint32_t key, uint64_t count, uint32_t imp)
+{
+    STEP(); s->notes[0].imp = imp;
+    STEP(); s->notes[0].seal = KEY(key) - mark_of(imp);
+    STEP(); s->notes[0].count = count;
+    SAY("noted: key, imp", key, imp);
+}
+uint32_t msg_change_count(msg_runtime *r, uint64_t *count) { __CPROVER_assert(holder == 1, "under the lock"); *count = made; return 0; }
+uint32_t msg_sender_open(msg_runtime *r, msg_sender *s)
+{
+    __CPROVER_assert(holder == 1, "under the lock");
+    if (any_refused()) return MSG_NO_SENDER;
+    opened[WHICH(s)] = true; seen_by[WHICH(s)] = made;
+    SAY("sender opened", WHICH(s), made);
+    return 0;
+}
+uint32_t msg_sender_close(msg_runtime *r, msg_sender *s)
+{
+    __CPROVER_assert(holder == 1, "under the lock");
+    __CPROVER_assert(!inside[WHICH(s)], "RULE 3: closed in no call");
+    opened[WHICH(s)] = false; s->notes[0].seal = 0; s->notes[0].count = 0; s->notes[0].imp = 0;
+    return 0;
+}
+uint32_t msg_refresh(msg_sender *s, uint64_t *count) { enter(s); seen_by[WHICH(s)] = made; leave(s); *count = seen_by[WHICH(s)]; return 0; }
+uint32_t msg_probe(msg_sender *s, uint32_t number, bool meta, uint32_t sel, uint32_t *imp)
+{
+    uint32_t answer = MSG_MISSED, key = index_of(number, meta, sel);
+    enter(s);
+    if (any_refused()) seen_by[WHICH(s)] = made; /* it may see more, too */
+    if (!any_refused()) { *imp = answer_of(key, seen_by[WHICH(s)]); keep(s, key, seen_by[WHICH(s)], *imp); answer = 0; }
+    leave(s);
+    return answer;
+}
+uint32_t msg_fill(msg_runtime *r, msg_sender *s, uint32_t number, bool meta, uint32_t sel, uint32_t *imp)
+{
+    uint32_t key = index_of(number, meta, sel);
+    __CPROVER_assert(holder == 1, "under the lock");
+    enter(s); seen_by[WHICH(s)] = made; *imp = answer_of(key, made); keep(s, key, made, *imp); leave(s);
+    return 0;
+}
+uint32_t msg_lookup(msg_runtime *r, uint32_t number, bool meta, uint32_t sel, uint32_t *imp)
+{
+    __CPROVER_assert(holder == 1, "under the lock");
+    *imp = answer_of(index_of(number, meta, sel), made);
+    return 0;
+}
+uint32_t msg_open_words(msg_runtime *r, const uint32_t *c, size_t n) { return 0; }
+
+/* ---- the other thread: takes the lock to change, and each of its stores may come at any time
+ * ---- */
+static int state, rounds;
+static void other(bool all)
+{
+    if (state == 0 && holder == 0 && rounds < ROUNDS && !all && any_bool()) { holder = 2; msg_process_changes.begun = BEGUN; state = 1; }
+    /* made, or refused */
+    if (state == 1 && (all || any_bool())) { if (any_bool()) made++; state = 2; SAY("changes made by another thread", made, 0); }
+    if (state == 2 && (all || any_bool())) { msg_process_changes.begun = made; state = 3; }
+    if (state == 3 && (all || any_bool())) { holder = 0; finished = made; rounds++; state = 0; }
+}
+int pthread_mutex_lock(pthread_mutex_t *l)
+{
+    STEP();
+    other(false);
+    other(true); /* it goes on until it gives the lock */
+    __CPROVER_assert(holder == 0, "RULE 4: no thread waits for itself");
+    holder = 1;
+    return 0;
+}
+int pthread_mutex_timedlock(pthread_mutex_t *l, const struct timespec *t) { return pthread_mutex_trylock(l); }
+int pthread_mutex_trylock(pthread_mutex_t *l) { STEP(); other(false); if (holder) return 16; holder = 1; return 0; }
+int pthread_mutex_unlock(pthread_mutex_t *l) { STEP(); __CPROVER_assert(holder == 1, "given by who has it"); holder = 0; finished = made; return 0; }
+int pthread_setspecific(pthread_key_t k, const void *v) { return any_refused(); }
+int pthread_key_create(pthread_key_t *k, void (*f)(void *)) { return 0; }
+int pthread_atfork(void (*a)(void), void (*b)(void), void (*c)(void)) { return 0; }
+int sched_yield(void) { return 0; }
+
+/* Plain loads, between two fences: in any order, as the compiler likes. */
+static void cv_loads(const msg_note *note, uint64_t *seal, uint64_t *count, uint32_t *imp)
+{
+    bool has_seal = false, has_count = false, has_imp = false;
+    for (int i = 0; i < 3; i++) {
+        STEP();
+        if (!has_seal && (i == 2 || any_bool())) *seal = note->seal, has_seal = true;
+        else if (!has_count && (has_imp || i == 2 || any_bool())) *count = note->count, has_count = true;
+        else if (!has_imp) *imp = note->imp, has_imp = true;
+        else *count = note->count, has_count = true;
+    }
+    if (!has_seal) *seal = note->seal;
+    if (!has_count) *count = note->count;
+    if (!has_imp) *imp = note->imp;
+}
+
+/* ---- what is claimed ---- */
+static void is_right(uint32_t key, uint64_t least, uint32_t imp, const char *unused)
+{
+    bool is_so = false;
+    for (uint64_t c = 0; c <= ROUNDS + 1; c++) is_so = is_so || (least <= c && c <= made && imp == answer_of(key, c));
+    __CPROVER_assert(is_so, "RIGHT: an answer of a count that had been reached, and of no finished change before the call");
+}
+#ifdef ONE_KEY
+#define any_key() A
+#else
+#define any_key() (any_bool() ? A : B)
+#endif
+static void finds(bool in_handler)
+{
+    uint32_t imp = 77, key = any_key();
+    uint64_t least = finished;
+#ifdef NO_WAIT
+    bool waits = !in_handler;
+#else
+    bool waits = true;
+#endif
+    other(false);
+    SAY("find of key: waits", key, waits);
+    uint32_t fault = waits ? msg_process_find_key(KEY(key), &imp) : msg_process_find_slowly(KEY(key), MSG_WAITS_NOT, &imp);
+    __CPROVER_assert(fault == MSG_DONE || (fault == MSG_LOCK_HELD && (in_handler || holder == 1)), "it answers");
+    SAY("found: fault, imp", fault, imp);
+    if (!fault) is_right(key, least, imp, "");
+}
+/* The way of a send in the shim (objc/seat.h). */
+static bool cv_finds;
+static void shim_sends(void)
+{
+    uint32_t imp = 77, key = any_key();
+    uint64_t least = finished;
+    other(false);
+    SAY("send of key", key, 0);
+    uint32_t said = shim_note_at(__atomic_load_n(&msg_process_changes.begun, __ATOMIC_ACQUIRE), KEY(key), &imp);
+    SAY("note says (0 method, 1 none), imp", said, imp);
+    if (said == METHOD || said == NO_METHOD) is_right(key, least, said == METHOD ? imp : 0, "");
+    /* shim_find of objc/runtime.c: a handler that interrupts it doesn't wait, and where the lock
+     * is held it asks the rows, which aren't in this model */
+    else {
+        STEP();
+        bool waits = !cv_finds;
+        STEP(); cv_finds = true;
+        uint32_t fault = msg_process_find_slowly(KEY(key), waits ? MSG_WAITS_A_WHILE : MSG_WAITS_NOT, &imp);
+        STEP(); cv_finds = !waits;
+        if (!fault) is_right(key, least, imp, "");
+        else __CPROVER_assert(fault == MSG_LOCK_HELD, "it answers");
+    }
+}
+
+static int depth, signals;
+static void STEP(void)
+{
+#if SIGNALS
+    if (depth < DEPTH && signals < SIGNALS && any_bool()) {
+        depth++; signals++;
+        SAY("a signal", depth, signals);
+#ifdef SHIM
+        shim_sends();
+#else
+        finds(true);
+#endif
+        depth--;
+    }
+#endif
+}
+
+static int one_run(void)
+{
+    started = true;
+    made = finished = 0;
+    msg_process_changes.begun = 0;
+#if defined SHIM
+    if (any_bool()) msg_process_spare();
+    shim_sends(); shim_sends();
+#elif defined CHANGES /* the thread changes the tables itself, with msg_process_cache */
+    msg_runtime *r; uint32_t imp = 77;
+    finds(false);
+    if (!msg_process_lock_to_change(&r)) {
+        STEP(); if (any_bool()) made++;
+        msg_process_cache(KEY(A));
+        STEP();
+        msg_process_unlock();
+    }
+    finds(false);
+#elif defined ENDS /* the thread ends, and finds after it */
+    finds(false);
+    at_thread_end(NULL);
+    __CPROVER_assert(!opened[0] && !opened[1] && !opened[2], "its seat is given back");
+    finds(false);
+#else
+    finds(false); finds(false);
+#endif
+    __CPROVER_assert(seats == own && (!own || !own->next), "a thread has one sender");
+    __CPROVER_assert(taken <= 1 + spare_most, "and opens no more than one, and spare ones");
+    __CPROVER_assert(!own || msg_process_own.sender == &own->sender, "a thread goes on to use its sender");
+    __CPROVER_assert(!inside[0] && !inside[1] && !inside[2] && !holds && holder != 1, "at the end nothing is held");
+    return 0;
+}
+
+/* All that a run writes, put back before the next. */
+static void afresh(void)
+{
+    msg_process_changes = (struct msg_process_count){.begun = BEGUN};
+    nobody = (msg_sender){0};
+    msg_process_own = (struct msg_process_thread){.sender = &nobody};
+    runtime = (msg_runtime){0}; seats = spares = NULL; own = NULL;
+    forks = spare_count = spare_most = stood = 0; holds = tried = kept = still = cv_finds = false;
+    made = finished = 0; holder = 0; taken = state = rounds = depth = signals = 0;
+    memset(seen_by, 0, sizeof seen_by); memset(opened, 0, sizeof opened); memset(inside, 0, sizeof inside); memset(pool, 0, sizeof pool); traced = 0;
+}
+int main(int argc, char **argv) { return every_choice(argc, argv, afresh, one_run); }
