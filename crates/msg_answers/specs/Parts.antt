@@ -57,7 +57,8 @@ PartChanges p changes = HasChanges (map item_parts p.items.now) changes
 
 -- ---- a share
 
--- its sends end with these replies at points that rise from one history on, and that another begins with
+-- its sends end with these replies at points that rise from one history on, and that another begins
+-- with
 abbrev pub Serves : Share → History → List Reply → History → Type 0
 Serves s h rs last = Served h (share_of (worker_of s.part.deal.cut s.part.deal.workers) s.worker 0 (sends_of s.part.image.now (map item_parts s.part.items.now))) rs last
 

@@ -40,14 +40,16 @@ woven (SendItem r s args ∷ items) (reply ∷ rs) os = Replied reply ∷ woven 
 woven (changes ∷ items) rs [] = woven items rs []
 woven (changes ∷ items) rs (o ∷ os) = Changed o ∷ woven items rs os
 
--- sends end with these replies at points that rise from one history on, and that another begins with
+-- sends end with these replies at points that rise from one history on, and that another begins
+-- with
 abbrev pub Served : History → List Meaning → List Reply → History → Type 0
 Served h [] [] last = BeginsWith last h
 Served h [] (r ∷ rs) last = ⊥
 Served h (m ∷ ms) [] last = ⊥
 Served h (m ∷ ms) (r ∷ rs) last = (points : List History) × Rise h points × EndsAfter m points r × Served (last_of h points) ms rs last
 
--- a worker comes to a send: where it is the worker's own a reply was added, and what the sender has seen begins with the last of its points
+-- a worker comes to a send: where it is the worker's own a reply was added, and what the sender has
+-- seen begins with the last of its points
 abbrev pub Goes : Bool → History → Meaning → List Reply → List Reply → History → Type 0
 Goes true h m old new now = (r : Reply) × (points : List History) × Rise h points × EndsAfter m points r × BeginsWith now (last_of h points) × (new ≡ old ++ r ∷ [])
 Goes false h m old new now = (now ≡ h) × (new ≡ old)
@@ -81,14 +83,16 @@ count_of who me i (suc n) = if who i == me then suc (count_of who me (i + 1) n) 
 abbrev pub at_worker : List (List Reply) → ℕ → List Reply
 at_worker lists w = slice_index_or lists w []
 
--- The lines of items were written after what was there, with replies of which each worker's are its share.
+-- The lines of items were written after what was there, with replies of which each worker's are its
+-- share.
 pub record IsGathered (image : ImageParts) (who : ℕ → ℕ) (workers : ℕ) (items : List ItemParts) (lists : List (List Reply)) (outcomes : List Outcome) (old new : List ℕ) : Type 0 where
   pub replies : List Reply
   pub count : length replies ≡ length (sends_of image items)
   pub shares : (w : ℕ) → w < workers → share_of who w 0 replies ≡ at_worker lists w
   pub text : new ≡ old ++ text_of image (woven items replies outcomes)
 
--- The sends among items were shared out and served, from this history on, while the changes among them were made. Now it's the history after them.
+-- The sends among items were shared out and served, from this history on, while the changes among
+-- them were made. Now it's the history after them.
 pub record IsServed (image : ImageParts) (who : ℕ → ℕ) (workers : ℕ) (h : History) (items : List ItemParts) (lists : List (List Reply)) (outcomes : List Outcome) (now : History) : Type 0 where
   pub history : now ≡ history_of h items
   pub outcomes_are : outcomes ≡ outcomes_of h items
@@ -107,14 +111,16 @@ IsOneChange [] = ⊥
 IsOneChange (SendItem r s args ∷ items) = ⊥
 IsOneChange (changes ∷ items) = items ≡ []
 
--- Items were answered, and the lines written after what was there. The changes have the answers that they have one after another. The sends that one worker took
--- were answered, in their order, at points that rise from the first history, and are all earlier points of the last.
+-- Items were answered, and the lines written after what was there. The changes have the answers
+-- that they have one after another. The sends that one worker took were answered, in their order,
+-- at points that rise from the first history, and are all earlier points of the last.
 pub record IsAnswered (image : ImageParts) (who : ℕ → ℕ) (workers : ℕ) (h : History) (items : List ItemParts) (old new : List ℕ) : Type 0 where
   pub replies : List Reply
   pub count : length replies ≡ length (sends_of image items)
   pub text : new ≡ old ++ text_of image (woven items replies (outcomes_of h items))
   pub points : (w : ℕ) → w < workers → (last : History) × Served h (share_of who w 0 (sends_of image items)) (share_of who w 0 replies) last × BeginsWith (history_of h items) last
 
--- so many workers answered the items: the piece k of `cut` sends is that of the worker k mod workers
+-- so many workers answered the items: the piece k of `cut` sends is that of the worker k mod
+-- workers
 abbrev pub AreAnswered : ImageParts → ℕ → ℕ → History → List ItemParts → List ℕ → List ℕ → Type 0
 AreAnswered image workers cut h items old new = IsAnswered image (worker_of cut workers) workers h items old new

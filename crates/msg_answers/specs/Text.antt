@@ -40,7 +40,8 @@ value_text image (Class k) = codes "class " ++ class_name image k
 value_text image (Sel s) = codes "selector " ++ selector_name image s
 value_text image Nil = codes "nil"
 
--- a method as the Objective-C tools write it: `-[Class selector]`, or `+[Class selector]` where it's the metaclass's
+-- a method as the Objective-C tools write it: `-[Class selector]`, or `+[Class selector]` where
+-- it's the metaclass's
 abbrev pub method_text : ImageParts → ClassRef → Selector → List ℕ
 method_text image c s = (if c.meta then codes "+[" else codes "-[") ++ class_name image c.class ++ codes " " ++ selector_name image s ++ codes "]"
 
@@ -69,7 +70,8 @@ refusal_text refusals.Limit = codes "limit"
 refusal_text refusals.Memory = codes "out of memory"
 refusal_text refusals.DuplicateClass = codes "duplicate class"
 
--- where several were to be made as one, the place of the first that would be refused is told, from 0
+-- where several were to be made as one, the place of the first that would be refused is told, from
+-- 0
 abbrev pub outcome_text : Outcome → List ℕ
 outcome_text outcomes.Made = codes "ok"
 outcome_text (outcomes.Refused f) = codes "refused: " ++ refusal_text f

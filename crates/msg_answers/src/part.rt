@@ -5,7 +5,8 @@ ghost use Rattle.std.specs.Prelude.{◌≡◌, ◌≤◌, ◌<◌, ◌+◌, ◌^
 use crate::deal::Deal;
 use msg_image::{Image, Item};
 
-/// Items that are answered together, how their sends are shared out, and the number of the first change among them.
+/// Items that are answered together, how their sends are shared out, and the number of the first
+/// change among them.
 #[derive(Clone, Copy)]
 pub struct Part<'a> {
     pub image: &'a Image,

@@ -1,6 +1,7 @@
 //! The lines of answers.
 //!
-//! Each part is appended in place: a line takes no memory beside the text's own growth, and that doubles.
+//! Each part is appended in place: a line takes no memory beside the text's own growth, and that
+//! doubles.
 
 ghost use Rattle.std.specs.Prelude.{◌≡◌, OnOk};
 ghost use Rattle.msg_answers.specs.Text as spec;

@@ -72,6 +72,7 @@ occupied_in words = count_by (λ word. not (word == 0)) words
 abbrev pub EndsAt : List ℕ → ℕ → ℕ → Type 0
 EndsAt words sel place = end_of sel (reads_of words sel) ≡ Some (read_at words place)
 
--- each entry is where a probe of its selector ends: none is hidden behind an empty bucket or behind another entry of its selector
+-- each entry is where a probe of its selector ends: none is hidden behind an empty bucket or behind
+-- another entry of its selector
 pub record IsReachable (words : List ℕ) : Type 0 where
   pub reached : (place : ℕ) → slice_index words place ≢ 0 → EndsAt words (sel_of (slice_index words place)) place

@@ -25,7 +25,8 @@ fill_limit capacity = capacity / 4 * 3
 abbrev pub next_capacity : ℕ → ℕ
 next_capacity capacity = if capacity == 0 then MIN_CAPACITY else min (capacity * 2) MAX_CAPACITY
 
--- one more entry goes into the array while it stays within its limit, else into an empty array of the next capacity
+-- one more entry goes into the array while it stays within its limit, else into an empty array of
+-- the next capacity
 abbrev pub plan_of : ℕ → ℕ → Plan
 plan_of capacity occupied = if nat_le (occupied + 1) (fill_limit capacity) then Use else Take (next_capacity capacity)
 

@@ -3,8 +3,8 @@ use Rattle.std.specs.Prelude.{ℕ, ◌+◌, ◌%◌, List, map, find, Bool, ◌=
 use Rattle.std.specs.List.{range_with_len}
 use Rattle.msg_buckets.specs.Word.{sel_of, imp_of}
 
--- the place that a probe of the selector comes to after k others: from the selector's own place on, and round.
--- A capacity is a power of two, so this is the mask `& (capacity - 1)`.
+-- the place that a probe of the selector comes to after k others: from the selector's own place on,
+-- and round. A capacity is a power of two, so this is the mask `& (capacity - 1)`.
 abbrev pub probe_place : ℕ → ℕ → ℕ → ℕ
 probe_place sel capacity k = (sel + k) % capacity
 

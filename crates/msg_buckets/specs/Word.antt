@@ -1,4 +1,5 @@
--- A bucket is one word: a selector's number in its high 32 bits, an implementation's in the low 32. 0 is an empty bucket.
+-- A bucket is one word: a selector's number in its high 32 bits, an implementation's in the low 32.
+-- 0 is an empty bucket.
 use Rattle.std.specs.Prelude.{◌≡◌, ◌≢◌, ℕ, ◌+◌, ◌*◌, ◌/◌, ◌%◌, ◌^◌}
 use Rattle.msg_names.specs.Number.{imp_number}
 use Rattle.msg_buckets.specs.declared.word.Look.{Look}

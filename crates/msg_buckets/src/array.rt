@@ -1,8 +1,9 @@
 //! Arrays of buckets: a probe, and an entry put where it ends.
 //!
-//! A selector that stands at its first place is hit after one load and one compare. A step that goes on to the next
-//! place costs one load and three compares with a branch each (the selector, 0, the way round), in eleven instructions
-//! of x86-64, as LLVM builds it. No bounds test and no division is left.
+//! A selector that stands at its first place is hit after one load and one compare. A step that
+//! goes on to the next place costs one load and three compares with a branch each (the selector, 0,
+//! the way round), in eleven instructions of x86-64, as LLVM builds it. No bounds test and no
+//! division is left.
 
 ghost use Rattle.std.specs.Prelude.{◌≡◌, ◌≢◌, ℕ, ◌+◌, ◌<◌, length, slice_index};
 ghost use Rattle.msg_names.specs.Number.{selector_number, imp_number};

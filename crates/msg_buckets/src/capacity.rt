@@ -3,7 +3,8 @@
 ghost use Rattle.std.specs.Prelude.{◌≡◌, ◌≤◌, ◌⊎◌};
 ghost use Rattle.msg_buckets.specs.Capacity.{IsCapacity, IfTake, is_capacity, fill_limit, plan_of};
 
-/// Where a new entry goes: into the array that is there, or into an empty one of this capacity, which then has that entry alone.
+/// Where a new entry goes: into the array that is there, or into an empty one of this capacity,
+/// which then has that entry alone.
 #[derive(Clone, Copy, Debug, PartialEq, Eq)]
 pub enum Plan {
     Use,

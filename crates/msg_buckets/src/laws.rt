@@ -39,7 +39,8 @@ pub fn a_probe_comes_to_each_place_once()
         → probe_place sel capacity j ≡ probe_place sel capacity k → j ≡ k }
 {}
 
-/// One word more, read where none before it has ended the probe: it ends the probe or leaves it as it was.
+/// One word more, read where none before it has ended the probe: it ends the probe or leaves it as
+/// it was.
 pub fn a_probe_goes_on_by_one_word()
     ensures hit { (sel : ℕ) (reads : List (ℕ × ℕ)) (place word : ℕ) → 0 < sel → end_of sel reads ≡ None
         → sel_of word ≡ sel → found_at (end_of sel (reads ++ (place, word) ∷ [])) ≡ hit (imp_of word) }

@@ -1,5 +1,6 @@
-//! The order in which a probe comes to the places of an array: from `selector & mask` on, round by `(place + 1) & mask`.
-//! A capacity is a power of two, so `mask`, which is one less, takes the remainder by the capacity.
+//! The order in which a probe comes to the places of an array: from `selector & mask` on, round by
+//! `(place + 1) & mask`. A capacity is a power of two, so `mask`, which is one less, takes the
+//! remainder by the capacity.
 
 ghost use Rattle.std.specs.Prelude.{◌≡◌, ℕ, ◌+◌, ◌-◌, ◌<◌, bit_and};
 ghost use Rattle.msg_names.specs.Number.{selector_number};

@@ -1,5 +1,5 @@
-//! One bucket: a selector's number in the high 32 bits of a word, an implementation's in the low 32.
-//! The word 0 is an empty bucket.
+//! One bucket: a selector's number in the high 32 bits of a word, an implementation's in the low
+//! 32. The word 0 is an empty bucket.
 
 ghost use Rattle.std.specs.Prelude.{◌≡◌, ◌↔◌, IsNone, IfSome};
 ghost use Rattle.msg_names.specs.Number.{selector_number, imp_number};

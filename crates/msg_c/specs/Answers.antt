@@ -17,7 +17,8 @@ abbrev pub number_of_fault : Option AskFault → ℕ
 number_of_fault None = 0
 number_of_fault (Some f) = ask_fault_number f
 
--- what a sender noted of a lookup, as one number: 0 for nothing, and 2^32, which is no implementation's number, where no method was found
+-- what a sender noted of a lookup, as one number: 0 for nothing, and 2^32, which is no
+-- implementation's number, where no method was found
 abbrev pub number_of_recalled : Option ℕ → ℕ
 number_of_recalled None = 0
 number_of_recalled (Some imp) = if imp == 0 then 4294967296 else imp

@@ -124,7 +124,8 @@ RefusesRowsIn r rows place n = IfOpen r (λ v. AreRefusedRows rows v.keeper.hist
 abbrev pub LacksMemoryIn : RuntimeHandle → List ChangeRow → ℕ → ℕ → Type 0
 LacksMemoryIn r rows place n = IfOpen r (λ v. LackMemoryIf rows v.keeper.history place n)
 
--- the runtime in a handle says why it doesn't tell what rows would reach, and marks what those before would, or nothing
+-- the runtime in a handle says why it doesn't tell what rows would reach, and marks what those
+-- before would, or nothing
 abbrev pub RefusesReachIn : RuntimeHandle → List ChangeRow → ℕ → ℕ → List Bool → List Bool → Type 0
 RefusesReachIn r rows place n old new = IfOpen r (λ v. RefusesToReach v rows place n old new)
 
@@ -180,7 +181,8 @@ IsListedIn s imp = IfOfArena s (λ a. imp ≤ last_imp a.key.origin.counts)
 abbrev pub TellsFaultIn : SenderHandle → ℕ → ℕ → ℕ → Type 0
 TellsFaultIn s class sel n = IfOfArena s (λ a. n ≢ 0 → n ≢ MISSED → n ≡ fault_in a class sel)
 
--- what is answered as noted, NOTED_NONE for no method, the lookup found at some point of what its sender has seen, after so many changes or more
+-- what is answered as noted, NOTED_NONE for no method, the lookup found at some point of what its
+-- sender has seen, after so many changes or more
 abbrev pub Recalls : SenderHandle → ℕ → ℕ → ℕ → ℕ → Type 0
 Recalls s since slot sel n = n ≢ NOT_NOTED → IfSeen s (λ h. IsRecalledSince h since slot sel (n % NOTED_NONE))
 

@@ -6,7 +6,8 @@ use Rattle.msg_reader.specs.declared.notes.Notes.{Notes}
 use Rattle.msg_host.specs.View.{SenderView}
 use Rattle.msg_c.specs.Answers.{sender_front}
 
--- A closed handle's notes are blank. An open one's are of lookups at points of the history that its sender has seen.
+-- A closed handle's notes are blank. An open one's are of lookups at points of the history that its
+-- sender has seen.
 pub record AreNotesIn (state : Option SenderView) (notes : Notes) : Type 0 where
   pub closed : state ≡ None → AreBlank notes
   pub seen : (h : History) → sender_front state ≡ Some h → AreNotesOf h notes

@@ -1,4 +1,5 @@
--- What a `HeldRuntime` owns: nothing while it is closed, and else the same as a `Box<HostedRuntime>`.
+-- What a `HeldRuntime` owns: nothing while it is closed, and else the same as a
+-- `Box<HostedRuntime>`.
 use base.Fml.{Fml, ftrue}
 use base.Stored.{Coded}
 use denote.RawPtr.{Ptr}

@@ -1,4 +1,5 @@
-//! What calls answer, beside the numbers of the faults of changes (1 to 8) and of questions (66 and 67).
+//! What calls answer, beside the numbers of the faults of changes (1 to 8) and of questions (66 and
+//! 67).
 
 /// It was done.
 pub const DONE: u32 = 0;

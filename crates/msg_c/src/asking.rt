@@ -63,7 +63,8 @@ pub extern "C" fn msg_change_count(
     DONE
 }
 
-/// `class_getMethodImplementation`: the implementation's number, 0 for forwarding. No cache is looked at or filled.
+/// `class_getMethodImplementation`: the implementation's number, 0 for forwarding. No cache is
+/// looked at or filled.
 #[unsafe(no_mangle)]
 pub extern "C" fn msg_lookup(
     alloc: Global,
@@ -111,7 +112,8 @@ fn put(found: Option<ClassRef>, out: &mut MsgClass) -> u32
     }
 }
 
-/// `class_getSuperclass`: of a metaclass the superclass's metaclass, and of a root metaclass the root class itself.
+/// `class_getSuperclass`: of a metaclass the superclass's metaclass, and of a root metaclass the
+/// root class itself.
 #[unsafe(no_mangle)]
 pub extern "C" fn msg_superclass(
     alloc: Global,
@@ -139,7 +141,8 @@ pub extern "C" fn msg_superclass(
     }
 }
 
-/// The class of the method that `class_getInstanceMethod` finds: the class reference at which it stands.
+/// The class of the method that `class_getInstanceMethod` finds: the class reference at which it
+/// stands.
 #[unsafe(no_mangle)]
 pub extern "C" fn msg_holder(
     alloc: Global,

@@ -13,7 +13,8 @@ use msg_host::MethodRow;
 use msg_names::ClassRef;
 use std::alloc::Global;
 
-/// `class_addMethod`. 0, or the number of the change's fault, after which nothing has changed; 67 where the selector is 0.
+/// `class_addMethod`. 0, or the number of the change's fault, after which nothing has changed; 67
+/// where the selector is 0.
 #[unsafe(no_mangle)]
 pub extern "C" fn msg_add(
     alloc: Global,
@@ -116,8 +117,8 @@ pub extern "C" fn msg_exchange(
     answer
 }
 
-/// `attachCategories` at run time: methods for the class, and others for its metaclass, alike. Of one selector's methods the earlier is found. 7 may also say that
-/// the list of them wanted memory.
+/// `attachCategories` at run time: methods for the class, and others for its metaclass, alike. Of
+/// one selector's methods the earlier is found. 7 may also say that the list of them wanted memory.
 #[unsafe(no_mangle)]
 pub extern "C" fn msg_attach(
     alloc: Global,
@@ -140,7 +141,8 @@ pub extern "C" fn msg_attach(
     answer
 }
 
-/// `objc_allocateClassPair` with `objc_registerClassPair`, alike: makes a class, without methods, under a superclass that is there.
+/// `objc_allocateClassPair` with `objc_registerClassPair`, alike: makes a class, without methods,
+/// under a superclass that is there.
 #[unsafe(no_mangle)]
 pub extern "C" fn msg_make_class(
     alloc: Global,

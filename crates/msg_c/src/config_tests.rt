@@ -126,7 +126,8 @@ fn fills<R: Abort>(
     answers(rt, imp, 0);
 }
 
-// One array of four entries, of which three are used, and no other: where it is full nothing more is cached, nor for another class.
+// One array of four entries, of which three are used, and no other: where it is full nothing more
+// is cached, nor for another class.
 #[test]
 fn arrays_that_are_asked_for_are_all_there_is(rt: HostRuntime) -> Result<(), Fail> {
     let alloc = rt.alloc();

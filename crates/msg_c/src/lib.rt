@@ -1,7 +1,8 @@
-//! The runtime's calls for C, after the functions of the Objective-C Runtime Reference that are named at each. `include/msg_runtime.h` declares them.
+//! The runtime's calls for C, after the functions of the Objective-C Runtime Reference that are
+//! named at each. `include/msg_runtime.h` declares them.
 //!
-//! A call answers 0, or the number of a fault, after which nothing has changed. A handle that isn't open is such a fault. Every call but those of a sender alone
-//! is made under the host's lock.
+//! A call answers 0, or the number of a fault, after which nothing has changed. A handle that isn't
+//! open is such a fault. Every call but those of a sender alone is made under the host's lock.
 #![tactic(auto)]
 
 mod answer;

@@ -13,9 +13,12 @@ use crate::runtime_handle::RuntimeHandle;
 use msg_host::ChangeRow;
 use std::alloc::Global;
 
-/// Makes changes as one: each lookup, by whatever sender, answers from before all of them or from after all, and the count of changes is one more. 0, or the number of the fault of the
-/// first that would be refused where those before it were made, and then its place is written, from 0, and nothing has changed; so too where a row means no change (67, 75), which is
-/// found before any is made, and where memory is wanting (7). Of no rows nothing is made, and the count stays. The room for what the changes write is taken first.
+/// Makes changes as one: each lookup, by whatever sender, answers from before all of them or from
+/// after all, and the count of changes is one more. 0, or the number of the fault of the first that
+/// would be refused where those before it were made, and then its place is written, from 0, and
+/// nothing has changed; so too where a row means no change (67, 75), which is found before any is
+/// made, and where memory is wanting (7). Of no rows nothing is made, and the count stays. The room
+/// for what the changes write is taken first.
 #[unsafe(no_mangle)]
 pub extern "C" fn msg_change_all(
     alloc: Global,
@@ -41,8 +44,9 @@ pub extern "C" fn msg_change_all(
     answer
 }
 
-/// As `msg_change_all`, and writes the changes that take these back directly after them, made as one too; their count is written, and is 0 where there is no way back: a method was added, or
-/// a class made. `undo` has two places for each change, or else 76 is answered and nothing done.
+/// As `msg_change_all`, and writes the changes that take these back directly after them, made as
+/// one too; their count is written, and is 0 where there is no way back: a method was added, or a
+/// class made. `undo` has two places for each change, or else 76 is answered and nothing done.
 #[unsafe(no_mangle)]
 pub extern "C" fn msg_change_all_with_undo(
     alloc: Global,

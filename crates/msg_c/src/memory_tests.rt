@@ -1,4 +1,5 @@
-//! What wants memory is done once there is some. `rt try --test --fail-alloc N` refuses the Nth allocation.
+//! What wants memory is done once there is some. `rt try --test --fail-alloc N` refuses the Nth
+//! allocation.
 
 use crate::answer::{CLOSED, DONE, NO_MEMORY};
 use crate::asking::{msg_change_count, msg_lookup};

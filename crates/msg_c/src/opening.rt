@@ -40,9 +40,11 @@ fn opened_of(alloc: Global, words: &[u32]) -> Result<RuntimeHandle, OpenFault>
     }
 }
 
-/// Opens a runtime without classes, with no change made. The words are the fields of `msg_config` of C, one after another; those that lack are the default.
+/// Opens a runtime without classes, with no change made. The words are the fields of `msg_config`
+/// of C, one after another; those that lack are the default.
 ///
-/// 73 says that a field is beyond its most, or that there are more fields than are known and one of those isn't 0. 69, want of memory, may come wherever a growth is refused.
+/// 73 says that a field is beyond its most, or that there are more fields than are known and one of
+/// those isn't 0. 69, want of memory, may come wherever a growth is refused.
 #[unsafe(no_mangle)]
 pub extern "C" fn msg_open_words(alloc: Global, runtime: &mut RuntimeHandle, config: &[u32]) -> u32
     ensures already { HasRuntime runtime.old → result ≡ ALREADY_OPEN }

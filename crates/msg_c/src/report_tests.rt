@@ -77,7 +77,8 @@ fn a_closed_runtime_reports_nothing(rt: HostRuntime) -> Result<(), Fail> {
     Ok(())
 }
 
-// A sender too many, and an entry for which there is no array of four, once with a look at all senders; the rest stays 0, and what is beyond.
+// A sender too many, and an entry for which there is no array of four, once with a look at all
+// senders; the rest stays 0, and what is beyond.
 #[test]
 fn a_report_counts_what_was_wanted(rt: HostRuntime) -> Result<(), Fail> {
     let alloc = rt.alloc();

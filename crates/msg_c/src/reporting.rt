@@ -57,8 +57,9 @@ fn write(counts: &[u64; COUNTS], words: &mut [u64])
     }
 }
 
-/// What was done to caches since the runtime was opened: the fields of `struct msg_report_row` of C, one after another, as many as there is room for. What is beyond the
-/// fields that are known is 0.
+/// What was done to caches since the runtime was opened: the fields of `struct msg_report_row` of
+/// C, one after another, as many as there is room for. What is beyond the fields that are known is
+/// 0.
 #[unsafe(no_mangle)]
 pub extern "C" fn msg_report_words(
     alloc: Global,

@@ -1,4 +1,5 @@
-//! What tests compare by. In functions of their own comparisons are proved once, and not at each place of a test.
+//! What tests compare by. In functions of their own comparisons are proved once, and not at each
+//! place of a test.
 
 use std::fmt::Debug;
 use std::process::Abort;

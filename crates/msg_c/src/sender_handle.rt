@@ -97,7 +97,8 @@ impl HeldSender {
 
 /// `msg_sender` of C. Zero bytes are a closed one.
 ///
-/// A sender's notes lie in its handle, so that what it has noted is found without taking the sender out.
+/// A sender's notes lie in its handle, so that what it has noted is found without taking the sender
+/// out.
 #[repr(C)]
 #[derive(Drop)]
 pub struct SenderHandle {

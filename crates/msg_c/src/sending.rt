@@ -37,7 +37,8 @@ pub extern "C" fn msg_sender_size() -> usize
     SENDER_BYTES
 }
 
-/// A sender of the runtime, which has seen all changes that were made. As many may be out at a time as the runtime was opened for.
+/// A sender of the runtime, which has seen all changes that were made. As many may be out at a time
+/// as the runtime was opened for.
 #[unsafe(no_mangle)]
 pub extern "C" fn msg_sender_open(
     alloc: Global,
@@ -108,8 +109,9 @@ pub extern "C" fn msg_sender_close(
     DONE
 }
 
-/// `cache_getImp`: the implementation's number that the sender noted, or that the class reference's cache has for the selector; or 71 where neither has it. No
-/// lock is wanted. A hit is the lookup at a point of the history not before the one that the sender had seen.
+/// `cache_getImp`: the implementation's number that the sender noted, or that the class reference's
+/// cache has for the selector; or 71 where neither has it. No lock is wanted. A hit is the lookup
+/// at a point of the history not before the one that the sender had seen.
 #[unsafe(no_mangle)]
 pub extern "C" fn msg_probe(
     alloc: Global,
@@ -150,10 +152,13 @@ pub extern "C" fn msg_probe(
     }
 }
 
-/// The number of the implementation that the sender noted after so many changes or more for a slot (twice a class's number, and 1 more for its metaclass) and a selector, where it has that still;
-/// `NOTED_NONE` where it noted that no method is found, and 0 where it noted nothing. Since the stamp of the class reference it is what a lookup finds still.
+/// The number of the implementation that the sender noted after so many changes or more for a slot
+/// (twice a class's number, and 1 more for its metaclass) and a selector, where it has that still;
+/// `NOTED_NONE` where it noted that no method is found, and 0 where it noted nothing. Since the
+/// stamp of the class reference it is what a lookup finds still.
 ///
-/// It takes no lock, loads no word that threads share, and writes nothing: a few loads from the handle.
+/// It takes no lock, loads no word that threads share, and writes nothing: a few loads from the
+/// handle.
 #[unsafe(no_mangle)]
 pub extern "C" fn msg_recall(sender: &SenderHandle, slot: usize, sel: u32, since: u64) -> usize
     ensures found { Recalls sender.now since slot sel result }
@@ -167,8 +172,9 @@ pub extern "C" fn msg_recall(sender: &SenderHandle, slot: usize, sel: u32, since
     }
 }
 
-/// The stamp of a class or of its metaclass: no change after so many has affected it, so what was noted of it after so many or more is what a lookup finds. The sender has then seen all changes. No
-/// lock is wanted: one shared word is loaded.
+/// The stamp of a class or of its metaclass: no change after so many has affected it, so what was
+/// noted of it after so many or more is what a lookup finds. The sender has then seen all changes.
+/// No lock is wanted: one shared word is loaded.
 #[unsafe(no_mangle)]
 pub extern "C" fn msg_stamp(
     alloc: Global,
@@ -203,7 +209,8 @@ pub extern "C" fn msg_stamp(
     }
 }
 
-/// `lookUpImpOrForward`: looks up what a probe missed, and caches it. The sender has then seen all changes that were made.
+/// `lookUpImpOrForward`: looks up what a probe missed, and caches it. The sender has then seen all
+/// changes that were made.
 #[unsafe(no_mangle)]
 pub extern "C" fn msg_fill(
     alloc: Global,
@@ -286,7 +293,8 @@ pub extern "C" fn msg_meet(
     DONE
 }
 
-/// How many changes there are, which the sender has then seen. No lock is wanted: one shared word is loaded.
+/// How many changes there are, which the sender has then seen. No lock is wanted: one shared word
+/// is loaded.
 #[unsafe(no_mangle)]
 pub extern "C" fn msg_refresh(alloc: Global, sender: &mut SenderHandle, count: &mut u64) -> u32
     ensures arena { sender_arena sender.new.held.state ≡ sender_arena sender.old.held.state }

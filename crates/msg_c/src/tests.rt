@@ -25,8 +25,9 @@ use std::test::Fail;
 // Class numbers 0 to 3, three senders, and two arrays of each capacity.
 const CONFIG: &[u32] = &[4, 3, 2, 2, 2, 2, 2, 2, 2, 2, 2];
 
-// Root (0), with `value` (selector 2) by implementation 1 and `name` (3) by 2, and the class method `new` (4) by 4; Child (1) below it, with `name` by 3.
-// `take:` (5) has no method. Made (2) and Other (3) aren't made.
+// Root (0), with `value` (selector 2) by implementation 1 and `name` (3) by 2, and the class method
+// `new` (4) by 4; Child (1) below it, with `name` by 3. `take:` (5) has no method. Made (2) and
+// Other (3) aren't made.
 const ROOT_METHODS: &[MethodRow] = &[
     MethodRow { sel: VALUE, imp: 1 },
     MethodRow { sel: NAME, imp: 2 },

@@ -47,7 +47,8 @@ pub extern "C" fn msg_texts_close(alloc: Global, texts: &mut TextsHandle) -> u32
     }
 }
 
-/// The number of a text, as of `sel_registerName`. One that is new gets the next, from 1, and only then is memory wanted (69), or are there as many as there may be (6).
+/// The number of a text, as of `sel_registerName`. One that is new gets the next, from 1, and only
+/// then is memory wanted (69), or are there as many as there may be (6).
 #[unsafe(no_mangle)]
 pub extern "C" fn msg_texts_intern(
     alloc: Global,
@@ -145,7 +146,8 @@ pub extern "C" fn msg_texts_text(
     answer
 }
 
-/// How many colons the text of a number has: as many arguments as a selector takes whose name it is.
+/// How many colons the text of a number has: as many arguments as a selector takes whose name it
+/// is.
 #[unsafe(no_mangle)]
 pub extern "C" fn msg_texts_colons(
     alloc: Global,

@@ -1,4 +1,5 @@
-//! Texts: each call once on its happy path, and each fault once. `rt try --test --fail-alloc N` refuses the Nth allocation.
+//! Texts: each call once on its happy path, and each fault once. `rt try --test --fail-alloc N`
+//! refuses the Nth allocation.
 
 use crate::answer::{ALREADY_OPEN, CLOSED, DONE, NO_MEMORY, NONE};
 use crate::same::{answers, same};

@@ -29,7 +29,8 @@ open_keeps z c k = at (is_closed z k c)
     at true = (refl, refl, refl, refl)
     at false = (refl, refl, refl, refl)
 
--- what holds of a view whether or not a stamp is stored there holds of it once a class reference is closed
+-- what holds of a view whether or not a stamp is stored there holds of it once a class reference is
+-- closed
 by_stamp : (P : KeeperView → Type 0) (z : Layout) (c : ClassRef) (k : KeeperView) → P k → P (stored (stamp_at z c) CLOSED k) → P (closed z c k)
 by_stamp P z c k one other = at (is_closed z k c)
   where

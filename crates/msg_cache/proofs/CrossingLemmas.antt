@@ -1,4 +1,5 @@
--- That a keeper and a prober may go to another thread, and an arena be seen by several. Said once: what holds one of them is shown by it, and not through all its fields anew.
+-- That a keeper and a prober may go to another thread, and an arena be seen by several. Said once:
+-- what holds one of them is shown by it, and not through all its fields anew.
 use denote.RattleType.{RattleType}
 use denote.Param.Send.{IsSend, IsSync, Frees, sendable, part_keyless}
 use denote.Struct.Struct.{Struct}

@@ -238,7 +238,8 @@ module _ (look : History → ClassRef → ℕ → ℕ) (z : Layout) (origin : Or
       (λ j. state_from k.history (live_set z k.words c 0 lt r.kept.words j) (word_header z k.words c 0 lt j) (stands j) r.whereabouts)
       refl (begins_refl k.history) (λ d b n aw e. retired_or z k r.whereabouts c (m.live c) b d n aw (sym (ap (λ f. f b) stands) ∙ e)) (inl (refl, refl))
 
-  -- an empty array that is free becomes the live one of a class reference; the one before is retired
+  -- an empty array that is free becomes the live one of a class reference; the one before is
+  -- retired
   pub install_step : (c : ClassRef) (a : ℕ) → c.class < z.classes → a < length z.capacities → standing_at r.keeper.standings a ≡ Free → HasNoEntry z r.keeper a
       → GoesBy look z origin r (Install c a) (slice_set words (header_at c) (suc a)) (slice_set views id (Keeper (installed c a r.keeper)))
   install_step c a lt there free clear =

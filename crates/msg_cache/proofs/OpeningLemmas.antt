@@ -1,4 +1,5 @@
--- The rule holds when the table is made, and the state that is shown is the machine's before the first event.
+-- The rule holds when the table is made, and the state that is shown is the machine's before the
+-- first event.
 use Rattle.std.proofs.Common.{◌≡◌, ℕ, zero, suc, ◌+◌, ◌<◌, ◌≤◌, List, [], ◌∷◌, length, take, Bool, true, false, true≢false, None, cond, refl, sym, ap, ◌∙◌, subst, arith}
 use Rattle.msg_tables.specs.Origin.{class_total}
 use Rattle.std.specs.Prelude.{slice_index, slice_index_or, replicate, nat_lt}

@@ -113,7 +113,8 @@ module _ {look : History → ClassRef → ℕ → ℕ} {z : Layout} {c : ClassRe
   pub next_count : length (sender_of m'.0).last.reads ≡ step + 1
   next_count = ap (λ (w : SenderView). length w.last.reads) (read_is t) ∙ length-append v.last.reads ((b + p, n) ∷ []) ∙ ap (λ (x : ℕ). x + 1) count
 
--- A probe of c and s has read k words of the array a. None before the last ends it, and the last is n, in the word i of the table.
+-- A probe of c and s has read k words of the array a. None before the last ends it, and the last is
+-- n, in the word i of the table.
 pub record Reading (look : History → ClassRef → ℕ → ℕ) (z : Layout) (c : ClassRef) (s a k i n : ℕ) (v w : SenderView) : Type 0 where
   pub probes : Probes z c s v w
   pub holding : w.whereabouts ≡ Holding c a

@@ -23,7 +23,8 @@ weigh (n ∷ ns) (c ∷ cs) = n * c + weigh ns cs
 abbrev pub setting_of : OriginView → Config → SettingView
 setting_of origin config = setting_for origin config.senders (spread config.arrays capacities)
 
--- The words in use: the count of changes, the headers, the buckets, and a probe word for each sender. The padding of probe words isn't counted.
+-- The words in use: the count of changes, the headers, the buckets, and a probe word for each
+-- sender. The padding of probe words isn't counted.
 abbrev pub words_of : OriginView → Config → ℕ
 words_of origin config = 2 * class_total origin + weigh config.arrays capacities + config.senders + 1
 

@@ -3,7 +3,8 @@ use Rattle.std.specs.Prelude.{◌≡◌, ℕ, ◌+◌, ◌<◌, ◌≤◌, List,
 use Rattle.std.specs.List.{range_with_len}
 use Rattle.msg_cache.specs.declared.cursors.Cursors.TheInside.{Inside}
 
--- a sender's cursor: its own below the number of those that are known, and else the one that all others have
+-- a sender's cursor: its own below the number of those that are known, and else the one that all
+-- others have
 abbrev pub cursor : List ℕ → ℕ → ℕ → ℕ → ℕ
 cursor own known rest n = if nat_lt n known then slice_index own n else rest
 

@@ -33,7 +33,8 @@ pub record IsArena (a : ArenaInside) : Type 0 where
 abbrev pub prober_view : ProberInside → ProberView
 prober_view p = record { table = p.badge.table_id; place = p.place; sender = sender_in p.badge.views }
 
--- the badge is that of one sender's seat, which is out, and the fields say its number and how many words its last probe loaded
+-- the badge is that of one sender's seat, which is out, and the fields say its number and how many
+-- words its last probe loaded
 pub record IsProber (p : ProberInside) : Type 0 where
   pub views : p.badge.views ≡ sender_view (sender_in p.badge.views) ∷ []
   pub number : (sender_in p.badge.views).number ≡ p.number

@@ -62,7 +62,8 @@ lowest_free z n k = find (λ a. is_free (standing_of k a) && (capacity z a == n)
 
 -- ---- a collection
 
--- one Look at each of the first n sender numbers; outs says of each sender number whether it was seen out
+-- one Look at each of the first n sender numbers; outs says of each sender number whether it was
+-- seen out
 abbrev pub looks : ℕ → List Bool → KeeperView → KeeperView
 looks zero outs k = k
 looks (suc n) outs k = looked n (awaits outs n) (looks n outs k)
@@ -98,8 +99,9 @@ newly_free z k j = filter (λ a. is_free (standing_of j a) && not (is_free (stan
 abbrev pub freed : Layout → List Bool → KeeperView → List ℕ
 freed z outs k = newly_free z k (looks z.senders outs k)
 
--- A collection whose looks see these senders out took the view k to k': one Look at each sender number, then a Clear of each word that isn't 0 of each array that became free, of one array after another. The order
--- of the arrays is any.
+-- A collection whose looks see these senders out took the view k to k': one Look at each sender
+-- number, then a Clear of each word that isn't 0 of each array that became free, of one array after
+-- another. The order of the arrays is any.
 pub record CollectsBy (z : Layout) (outs : List Bool) (k k' : KeeperView) : Type 0 where
   pub order : List ℕ
   pub are_freed : IsPermutation order (freed z outs k)
@@ -143,7 +145,8 @@ abbrev pub way_by_header : Layout → List ℕ → KeeperView → ClassRef → �
 way_by_header z remembered k c s zero = Take (remembered_capacity remembered c)
 way_by_header z remembered k c s (suc a) = way_in a (find_in (array_words z k a) s) (plan_of (capacity z a) (occupied_in (array_words z k a)))
 
--- what an entry needs: nothing where the selector is in the live array, else the place of it where the array has room, else an array
+-- what an entry needs: nothing where the selector is in the live array, else the place of it where
+-- the array has room, else an array
 abbrev pub way_of : Layout → List ℕ → KeeperView → ClassRef → ℕ → Way
 way_of z remembered k c s = way_by_header z remembered k c s (header k c)
 
@@ -184,7 +187,8 @@ filled z a p w k = stored (base z a + p) w k
 abbrev pub grown : Layout → ClassRef → ℕ → ℕ → ℕ → KeeperView → KeeperView
 grown z c s i a k = filled z a (probe_place s (capacity z a) 0) (word_of s i) (installed c a k)
 
--- An entry that needs an array of capacity n: the lowest that is free, at entry or after one collection. Which one that is depends on what the looks saw, and not on the order of the clears.
+-- An entry that needs an array of capacity n: the lowest that is free, at entry or after one
+-- collection. Which one that is depends on what the looks saw, and not on the order of the clears.
 abbrev pub Grows : Layout → ClassRef → ℕ → ℕ → ℕ → KeeperView → KeeperView → Filled → Type 0
 Grows z c s i n k k' answer = MatchOption (lowest_free z n k)
     ((outs : List Bool) × (j : KeeperView) × CollectsBy z outs k j × MatchOption (lowest_free z n (looks z.senders outs k))
@@ -197,7 +201,8 @@ FillsBy z c s i k k' answer Present = (answer ≡ DidNothing) × (k' ≡ k)
 FillsBy z c s i k k' answer (Use a p) = (answer ≡ Used) × (k' ≡ filled z a p (word_of s i) k)
 FillsBy z c s i k k' answer (Take n) = Grows z c s i n k k' answer
 
--- a fill of the class reference c with the selector s and the implementation i took the view k to k', while these capacities were remembered
+-- a fill of the class reference c with the selector s and the implementation i took the view k to
+-- k', while these capacities were remembered
 abbrev pub Fills : Layout → List ℕ → ClassRef → ℕ → ℕ → KeeperView → KeeperView → Filled → Type 0
 Fills z remembered c s i k k' answer = FillsBy z c s i k k' answer (way_of z remembered k c s)
 
@@ -211,23 +216,27 @@ IsPresent z k c s = (a : ℕ) × (header k c ≡ suc a) × ((i : ℕ) × (find_i
 abbrev pub HasRoom : Layout → KeeperView → ClassRef → Type 0
 HasRoom z k c = (a : ℕ) × (header k c ≡ suc a) × (plan_of (capacity z a) (occupied_in (array_words z k a)) ≡ PlanUse)
 
--- no array of the capacity that is wanted was free, nor after one collection, which alone has changed the view
+-- no array of the capacity that is wanted was free, nor after one collection, which alone has
+-- changed the view
 abbrev pub NoneIsFree : Layout → KeeperView → KeeperView → Type 0
 NoneIsFree z k k' = (n : ℕ) × (lowest_free z n k ≡ None) × (outs : List Bool) × CollectsBy z outs k k' × (lowest_free z n k' ≡ None)
 
--- which answer of a fill comes when: nothing was done where the selector is there, the live array is used where it has room, and only then is an array needed
+-- which answer of a fill comes when: nothing was done where the selector is there, the live array
+-- is used where it has room, and only then is an array needed
 abbrev pub FillLaw : Type 0
 FillLaw = (z : Layout) (remembered : List ℕ) (c : ClassRef) (s i : ℕ) (k k' : KeeperView) (answer : Filled) → Fills z remembered c s i k k' answer
     → ((answer ≡ DidNothing) ↔ IsPresent z k c s) × ((answer ≡ Used) ↔ ((IsPresent z k c s → ⊥) × HasRoom z k c)) × ((answer ≡ DidNothing) → k' ≡ k) × ((answer ≡ NoArray) → NoneIsFree z k k')
 
--- A fill changes caches alone: not the history, nor which sender numbers are given out, nor where the turn is.
+-- A fill changes caches alone: not the history, nor which sender numbers are given out, nor where
+-- the turn is.
 abbrev pub FillKeeps : Type 0
 FillKeeps = (z : Layout) (remembered : List ℕ) (c : ClassRef) (s i : ℕ) (k k' : KeeperView) (answer : Filled) → Fills z remembered c s i k k' answer
     → (k'.history ≡ k.history) × (k'.given ≡ k.given) × (k'.turn ≡ k.turn)
 
 -- ---- between calls
 
--- what holds of the keeper's view between its calls, with the capacities that are remembered, and how many entries each array has
+-- what holds of the keeper's view between its calls, with the capacities that are remembered, and
+-- how many entries each array has
 pub record InOrder (look : History → ClassRef → ℕ → ℕ) (key : SettingView) (k : KeeperView) (remembered occupied : List ℕ) : Type 0 where
   pub tidy : TidyBy look key k
   pub cleared : (a p : ℕ) → standing_of k a ≡ Free → p < capacity (layout_of key) a → slice_index k.words (base (layout_of key) a + p) ≡ 0

@@ -45,8 +45,9 @@ seen_in (Flush c) word = Nothing
 seen_in (Clear a p) word = Nothing
 seen_in (Commit x) word = Nothing
 
--- From one state of the table to the next is this event, by a step that loads or stores this word: at the state that was shown it isn't refused, what is seen is what that state shows, the rule holds
--- of the next one, and that shows the state after the event.
+-- From one state of the table to the next is this event, by a step that loads or stores this word:
+-- at the state that was shown it isn't refused, what is seen is what that state shows, the rule
+-- holds of the next one, and that shows the state after the event.
 pub record IsEvent (key : SettingView) (s : Table ℕ View) (r : holds lookup key s) (e : Event) (word : ℕ) (s' : Table ℕ View) : Type 0 where
   pub legal : Legal lookup (layout_of key) (shown_at key s r) e
   pub sees : seen_in e word ≡ shown_to (shown_at key s r) e
@@ -58,15 +59,17 @@ abbrev pub after_looks : Layout → ℕ → ℕ → State → State
 after_looks z n zero m = m
 after_looks z n (suc d) m = after z (after_looks z n d m) (Look (n + d))
 
--- From one state of the table to the next is a Look at each of so many sender numbers, from one on, one after another: none is refused, each sees its sender out, the rule holds of the next state, and that shows the state
--- after the last of them.
+-- From one state of the table to the next is a Look at each of so many sender numbers, from one on,
+-- one after another: none is refused, each sees its sender out, the rule holds of the next state,
+-- and that shows the state after the last of them.
 pub record AreLooks (key : SettingView) (s : Table ℕ View) (r : holds lookup key s) (n d : ℕ) (s' : Table ℕ View) : Type 0 where
   pub legal : (e : ℕ) → e < d → Legal lookup (layout_of key) (after_looks (layout_of key) n e (shown_at key s r)) (Look (n + e))
   pub sees : (e : ℕ) → e < d → SeenOut true ≡ shown_to (after_looks (layout_of key) n e (shown_at key s r)) (Look (n + e))
   pub keeps_rule : holds lookup key s'
   pub shows : (r' : holds lookup key s') → shown_at key s' r' ≡ after_looks (layout_of key) n d (shown_at key s r)
 
--- From one state of the table to the next is no event: the rule holds of the next one, and that shows the same.
+-- From one state of the table to the next is no event: the rule holds of the next one, and that
+-- shows the same.
 pub record IsNone (key : SettingView) (s : Table ℕ View) (r : holds lookup key s) (s' : Table ℕ View) : Type 0 where
   pub keeps_rule : holds lookup key s'
   pub shows : (r' : holds lookup key s') → shown_at key s' r' ≡ shown_at key s r
@@ -116,12 +119,14 @@ BucketIsRead = OfSender (λ key s r id v. (a p : ℕ) → v.whereabouts ≡ Hold
     → let i = base (layout_of key) a + p in let n = slice_index s.words i in
     (front : History) × IsEvent key s r (Read v.number p) n (stepped s i n id [] (Sender (read_on front v i n)) keeps))
 
--- a sender's load of the count of changes is no event, and the sender has then seen the whole history
+-- a sender's load of the count of changes is no event, and the sender has then seen the whole
+-- history
 abbrev pub VersionIsNone : Type 0
 VersionIsNone = OfSender (λ key s r id v. ((c : ClassRef) (a : ℕ) → v.whereabouts ≢ Holding c a)
     → IsNone key s r (stepped s 0 (slice_index s.words 0) id [] (Sender (told_to v (shown_at key s r).history)) keeps))
 
--- Nor is its load of a stamp, with no array held. The sender has then seen the whole history too, and no change of that after so many as the stamp says affects the class reference.
+-- Nor is its load of a stamp, with no array held. The sender has then seen the whole history too,
+-- and no change of that after so many as the stamp says affects the class reference.
 abbrev pub StampLoadIsNone : Type 0
 StampLoadIsNone = OfSender (λ key s r id v. (c : ClassRef) → c.class < class_total key.origin → ((d : ClassRef) (a : ℕ) → v.whereabouts ≢ Holding d a)
     → let i = stamp_at (layout_of key) c in
@@ -140,7 +145,8 @@ KeeperFills key s r id k = (c : ClassRef) (a p w : ℕ) → standing_at k.standi
     → let i = base (layout_of key) a + p in slice_index k.words i ≡ 0 → 0 < sel_of w → imp_of w ≡ lookup k.history c (sel_of w)
     → IsEvent key s r (Fill c p w) w (stepped s i w id [] (Keeper (stored i w k)) keeps)
 
--- a store over a word that is 0, of an entry that agrees with the lookup now, in a live array is Fill
+-- a store over a word that is 0, of an entry that agrees with the lookup now, in a live array is
+-- Fill
 abbrev pub StoreIsFill : Type 0
 StoreIsFill = OfKeeper KeeperFills
 
@@ -149,7 +155,8 @@ KeeperInstalls key s r id k = (c : ClassRef) (a : ℕ) → c.class < class_total
     → HasNoEntry (layout_of key) k a
     → IsEvent key s r (Install c a) (suc a) (stepped s (header_at c) (suc a) id [] (Keeper (installed c a k)) keeps)
 
--- a store of an array's number and one in a header word, where the array is free and its words are 0, is Install
+-- a store of an array's number and one in a header word, where the array is free and its words are
+-- 0, is Install
 abbrev pub StoreIsInstall : Type 0
 StoreIsInstall = OfKeeper KeeperInstalls
 
@@ -174,7 +181,8 @@ abbrev pub KeeperRestLooks : OfAKeeper
 KeeperRestLooks key s r id k = (n : ℕ) → n ≤ key.senders → NoneIsGivenFrom n k.given
     → AreLooks key s r n (key.senders - n) (stepped s 0 (slice_index s.words 0) id [] (Keeper (rest_looked n (key.senders - n) k)) keeps)
 
--- the keeper's load of the count of changes, by which it sees out all sender numbers from one on, of which nobody has any, is a Look at each of them
+-- the keeper's load of the count of changes, by which it sees out all sender numbers from one on,
+-- of which nobody has any, is a Look at each of them
 abbrev pub LoadIsRest : Type 0
 LoadIsRest = OfKeeper KeeperRestLooks
 
@@ -190,7 +198,8 @@ abbrev pub KeeperCommits : OfAKeeper
 KeeperCommits key s r id k = (xs : List Change) (g : History) → 0 < length xs → k.turn ≡ Home g → StampsAreClosedFor key k xs → Legal lookup (layout_of key) (shown_at key s r) (Commit xs)
     → IsEvent key s r (Commit xs) (size k.history + 1) (stepped s 0 (size k.history + 1) id [] (Keeper (committed xs k)) keeps)
 
--- the store of the count of changes, one higher, while the turn is joined, where no live entry would disagree, is Commit
+-- the store of the count of changes, one higher, while the turn is joined, where no live entry
+-- would disagree, is Commit
 abbrev pub StoreIsCommit : Type 0
 StoreIsCommit = OfKeeper KeeperCommits
 
@@ -200,7 +209,8 @@ abbrev pub KeeperStamps : OfAKeeper
 KeeperStamps key s r id k = (c : ClassRef) (w : ℕ) → c.class < class_total key.origin → last_affected k.history c ≤ w
     → let i = stamp_at (layout_of key) c in IsNone key s r (stepped s i w id [] (Keeper (stored i w k)) keeps)
 
--- the store of a stamp, of at least the number of the last change that affects its class reference, is no event
+-- the store of a stamp, of at least the number of the last change that affects its class reference,
+-- is no event
 abbrev pub StampStoreIsNone : Type 0
 StampStoreIsNone = OfKeeper KeeperStamps
 

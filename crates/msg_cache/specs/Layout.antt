@@ -23,7 +23,8 @@ abbrev pub total : List ℕ → ℕ
 total [] = 0
 total (x ∷ xs) = x + total xs
 
--- Word 0 counts the changes. Then comes the header word of each class reference, then the words of one array after another.
+-- Word 0 counts the changes. Then comes the header word of each class reference, then the words of
+-- one array after another.
 abbrev pub header_at : ClassRef → ℕ
 header_at c = 1 + slot_of c
 
@@ -35,7 +36,8 @@ base z a = 1 + 2 * z.classes + total (take a z.capacities)
 abbrev pub array_end : Layout → ℕ
 array_end z = 1 + 2 * z.classes + total z.capacities
 
--- The stamps, one for each class reference, stand after 8 words that are never used, so that none shares a line of 64 bytes with an array.
+-- The stamps, one for each class reference, stand after 8 words that are never used, so that none
+-- shares a line of 64 bytes with an array.
 abbrev pub stamps : Layout → ℕ
 stamps z = array_end z + 8
 
@@ -46,7 +48,8 @@ stamp_at z c = stamps z + slot_of c
 abbrev pub probes : Layout → ℕ
 probes z = stamps z + 2 * z.classes
 
--- Probe words stand 8 words apart, and 8 after the last stamp, so that none shares a line of 64 bytes with another or with a stamp. What is between is never used.
+-- Probe words stand 8 words apart, and 8 after the last stamp, so that none shares a line of 64
+-- bytes with another or with a stamp. What is between is never used.
 abbrev pub probe_at : Layout → ℕ → ℕ
 probe_at z n = probes z + 8 * n + 7
 

@@ -220,7 +220,8 @@ lent k = record k { turn = Away }
 abbrev pub kept : KeeperView → Sat
 kept k = (Keeper k, [])
 
--- what a joined sender had seen is a beginning of the history, and a joined turn's history is the history
+-- what a joined sender had seen is a beginning of the history, and a joined turn's history is the
+-- history
 abbrev pub IsTold : KeeperView → Type 0
 IsTold k = BeginsWith k.history k.told × ((g : History) → k.turn ≡ Home g → g ≡ k.history)
 

@@ -1,4 +1,5 @@
--- The rule of a table: what its words, the keeper's view and the senders' views have to do with one another, and the state that it shows.
+-- The rule of a table: what its words, the keeper's view and the senders' views have to do with one
+-- another, and the state that it shows.
 use Rattle.std.specs.Prelude.{◌≡◌, ℕ, zero, suc, ◌+◌, ◌<◌, ◌≤◌, List, [], length, Bool, true, false, nat_lt, Option, Some, None, slice_index, replicate, if◌then◌else◌, All}
 use mathlib.Core.Option.{some}
 use lib.ListN.{get_elem?}
@@ -161,7 +162,8 @@ TidyBy look key k = IsTidy look (layout_of key) key.origin k
 abbrev pub holds : (History → ClassRef → ℕ → ℕ) → SettingView → Table ℕ View → Type 0
 holds look key s = RuledBy look key s.words s.views
 
--- the keeper's view when the table is made: no class reference has a live array, no number is given out, and nothing was stored or looked at
+-- the keeper's view when the table is made: no class reference has a live array, no number is given
+-- out, and nothing was stored or looked at
 abbrev pub first_keeper : SettingView → KeeperView
 first_keeper key =
     let z = layout_of key in

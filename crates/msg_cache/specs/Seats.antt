@@ -1,4 +1,5 @@
--- What contracts see of the seats of a table: who sits there, what is known there, and how a step changes that.
+-- What contracts see of the seats of a table: who sits there, what is known there, and how a step
+-- changes that.
 use Rattle.std.specs.Prelude.{◌≡◌, ◌<◌, ℕ, List, length}
 use Rattle.atomic_table.specs.Seated.{TableId}
 use Rattle.atomic_table.specs.declared.shared.Seat.{Seat}
@@ -54,7 +55,8 @@ KnowsNow f old new = new.me ≡ kept (f (keeper_at old))
 
 -- ---- what fields beside a seat say
 
--- what holds of the keeper between its calls, with the capacities that are remembered, and how many entries each array has
+-- what holds of the keeper between its calls, with the capacities that are remembered, and how many
+-- entries each array has
 abbrev pub IsInOrder : SettingView → Seat ℕ View → List ℕ → List ℕ → Type 0
 IsInOrder key s remembered occupied = InOrder lookup key (keeper_at s) remembered occupied
 

@@ -14,7 +14,8 @@ pub data ArrayUse : Type 0 where
   -- it is retired, and awaits these senders
   waiting : List Bool → ArrayUse
 
--- how many senders there may be, what each array is used for, and the free arrays that are still to be taken out of the queue
+-- how many senders there may be, what each array is used for, and the free arrays that are still to
+-- be taken out of the queue
 pub record StandingsView : Type 0 where
   pub senders : ℕ
   pub uses : List ArrayUse
@@ -67,7 +68,8 @@ header_retired header v = record v { uses = retired_in header (everyone v.sender
 abbrev pub array_retired : ℕ → StandingsView → StandingsView
 array_retired a v = record v { uses = slice_set v.uses a (waiting (everyone v.senders)) }
 
--- of whatever standings the first uses are, the second are of the same after one look at each sender
+-- of whatever standings the first uses are, the second are of the same after one look at each
+-- sender
 abbrev pub AreLookedAt : ℕ → List Bool → List ArrayUse → List ArrayUse → Type 0
 AreLookedAt senders outs old new = (l : List Standing) → old ≡ map use_of l → new ≡ map use_of (map (looked_by senders outs) l)
 

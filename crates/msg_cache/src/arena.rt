@@ -185,7 +185,8 @@ impl Arena {
         self.probes + 8 * number as usize + 7
     }
 
-    // An arena of these arrays, all empty, the seat of its keeper, and the keeper's copy of all words but the probe words.
+    // An arena of these arrays, all empty, the seat of its keeper, and the keeper's copy of all
+    // words but the probe words.
     pub(crate) fn of(
         alloc: Global,
         origin: &Origin,
@@ -216,7 +217,8 @@ impl Arena {
             })?;
             probes += *capacity as usize;
         }
-        // 8 words before the stamps and 8 before the probe words stay unused: so no line of 64 bytes has words of two of these kinds.
+        // 8 words before the stamps and 8 before the probe words stay unused: so no line of 64
+        // bytes has words of two of these kinds.
         let stamps = probes + 8;
         let probes = stamps + 2 * origin.class_count() as usize;
         let count = probes + 8 * senders as usize;

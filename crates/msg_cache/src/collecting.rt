@@ -137,7 +137,8 @@ fn clear_array(arena: &Arena, seat: &mut Seat, words: &mut Vec<u64>, array: usiz
     }
 }
 
-// A collection, with the keeper's copies of words and standings and its count of each array's entries.
+// A collection, with the keeper's copies of words and standings and its count of each array's
+// entries.
 pub(crate) fn collect_into(
     arena: &Arena,
     seat: &mut Seat,

@@ -8,7 +8,8 @@ use std::marker::Model;
 
 /// How many places of a queue each sender has passed.
 ///
-/// Senders whose numbers were never given out pass together, so that no pass costs by how many there could be.
+/// Senders whose numbers were never given out pass together, so that no pass costs by how many
+/// there could be.
 #[derive(Drop)]
 pub(crate) struct Cursors {
     // of each sender, which counts for those below the number `known`
@@ -37,7 +38,8 @@ fn passed(cursor: usize, is_out: bool, end: usize) -> usize
     if is_out { end } else { cursor }
 }
 
-// Senders that were seen out pass a queue of this length. Answers how many of its places all have passed.
+// Senders that were seen out pass a queue of this length. Answers how many of its places all have
+// passed.
 fn pass(cursors: &mut Vec<usize>, outs: &Vec<bool>, senders: usize, end: usize) -> usize
     requires senders { (senders ≤ length cursors.old.items) × (senders ≤ length outs.now.items) }
     requires within { (n : ℕ) → n < senders → slice_index cursors.old.items n ≤ end }
@@ -94,7 +96,8 @@ impl Cursors {
         })
     }
 
-    // Senders that were seen out, as all those from the number `known` on, pass a queue of this length. Answers how many of its places all have passed.
+    // Senders that were seen out, as all those from the number `known` on, pass a queue of this
+    // length. Answers how many of its places all have passed.
     pub(crate) fn pass(&mut self, outs: &Vec<bool>, known: usize, end: usize) -> usize
         requires known { known ≤ length self.old }
         requires outs { length self.old ≤ length outs.now.items }

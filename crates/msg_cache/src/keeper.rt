@@ -70,7 +70,8 @@ pub struct Keeper {
     pub ghost counts: { AreCounts report },
 }
 
-// What a keeper keeps of arrays: a part of it that is made by itself, as is the other, since where memory is wanted each function gives back what it has made.
+// What a keeper keeps of arrays: a part of it that is made by itself, as is the other, since where
+// memory is wanted each function gives back what it has made.
 #[derive(Drop)]
 struct ArrayCopies {
     standings: Standings,
@@ -311,7 +312,8 @@ impl Keeper {
         self.put(arena, class, array, place, selector, implementation);
     }
 
-    /// Looks at each sender, and makes the arrays free that nobody holds any more. Answers how many. It loads as many words as there are numbers up to the highest that was ever given out.
+    /// Looks at each sender, and makes the arrays free that nobody holds any more. Answers how
+    /// many. It loads as many words as there are numbers up to the highest that was ever given out.
     pub fn collect(&mut self, arena: &Arena) -> u32
         requires arena { IsOf arena.now self.old }
         ensures arena { IsOf arena.now self.new }
@@ -415,7 +417,8 @@ impl Keeper {
         true
     }
 
-    // Stores the stamp of a class reference: of no less than the number of the last change that affects it.
+    // Stores the stamp of a class reference: of no less than the number of the last change that
+    // affects it.
     fn stamp(&mut self, arena: &Arena, class: ClassRef, count: u64)
         requires arena { IsOf arena.now self.old }
         requires class { class.class < classes arena.now }
@@ -431,7 +434,8 @@ impl Keeper {
         self.words[place] = count;
     }
 
-    /// Closes a class reference, so that none of its notes holds until it is opened, and says whether it was open.
+    /// Closes a class reference, so that none of its notes holds until it is opened, and says
+    /// whether it was open.
     pub fn close(&mut self, arena: &Arena, class: ClassRef) -> bool
         requires arena { IsOf arena.now self.old }
         requires class { class.class < classes arena.now }
@@ -453,7 +457,8 @@ impl Keeper {
         true
     }
 
-    /// Closes a class reference and takes its live array away: so a change may be made that affects it.
+    /// Closes a class reference and takes its live array away: so a change may be made that affects
+    /// it.
     pub fn chill(&mut self, arena: &Arena, class: ClassRef)
         requires arena { IsOf arena.now self.old }
         requires class { class.class < classes arena.now }
@@ -468,7 +473,8 @@ impl Keeper {
         self.flush(arena, class);
     }
 
-    /// Opens a class reference, so that what is noted of it from now on holds until it is closed, and says whether it was closed.
+    /// Opens a class reference, so that what is noted of it from now on holds until it is closed,
+    /// and says whether it was closed.
     pub fn open(&mut self, arena: &Arena, class: ClassRef) -> bool
         requires arena { IsOf arena.now self.old }
         requires class { class.class < classes arena.now }
@@ -504,7 +510,8 @@ impl Keeper {
         }
     }
 
-    /// Adds a change to the history, and answers how many times changes were made. Each class reference that is open is closed before. Who has closed those that the change affects calls
+    /// Adds a change to the history, and answers how many times changes were made. Each class
+    /// reference that is open is closed before. Who has closed those that the change affects calls
     /// `commit_closed`, which closes no other.
     pub fn commit(&mut self, arena: &Arena, turn: &mut Turn, change: &Change) -> u64
         requires arena { IsOf arena.now self.old }
@@ -543,8 +550,9 @@ impl Keeper {
         self.commit_all(arena, turn, &from_ref(change))
     }
 
-    /// Adds changes to the history that are made as one, where each class reference that one of them affects is closed, and answers how many times changes were made. The count is stored once: no
-    /// sender sees some of them alone.
+    /// Adds changes to the history that are made as one, where each class reference that one of
+    /// them affects is closed, and answers how many times changes were made. The count is stored
+    /// once: no sender sees some of them alone.
     pub fn commit_all<L: ChangeList>(&mut self, arena: &Arena, turn: &mut Turn, changes: &L) -> u64
         requires arena { IsOf arena.now self.old }
         requires turn { turn.old.table ≡ arena.now.table }
@@ -662,7 +670,8 @@ impl Keeper {
         self.given[place] = false;
     }
 
-    /// A sender has then seen all that the keeper has, which begins with what it had seen. It has the number that it had, and its last probe is forgotten.
+    /// A sender has then seen all that the keeper has, which begins with what it had seen. It has
+    /// the number that it had, and its last probe is forgotten.
     pub fn renew(&mut self, arena: &Arena, prober: &mut Prober)
         requires arena { IsOf arena.now self.old }
         requires prober { IsSenderOf arena.now prober.old }

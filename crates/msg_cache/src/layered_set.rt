@@ -1,4 +1,5 @@
-//! A set of numbers in layers: over it stands which of its words have some, and over that the same again.
+//! A set of numbers in layers: over it stands which of its words have some, and over that the same
+//! again.
 
 ghost use Rattle.std.specs.Prelude.{◌≡◌, ◌/◌, ◌+◌, ◌*◌, ◌^◌, ◌<◌, ◌≤◌, length, replicate, slice_set, true, false, IsTrue, IfOk, IfSome, IfNone};
 ghost use Rattle.msg_cache.specs.BitSet.{HasNone, HasSomeInWord, IsFirst};
@@ -8,7 +9,8 @@ use crate::bit_set::BitSet;
 use std::alloc::{AllocError, Global};
 use std::marker::Model;
 
-/// A set of numbers below a limit. To find its lowest from one on takes at most five loads, as long as there are no more than 262,144: so many arrays no arena has. A number comes in by three
+/// A set of numbers below a limit. To find its lowest from one on takes at most five loads, as long
+/// as there are no more than 262,144: so many arrays no arena has. A number comes in by three
 /// words, and goes out by as many.
 #[derive(Drop)]
 pub(crate) struct LayeredSet {

@@ -26,7 +26,8 @@ use std::snapshot::Snapshot;
 
 /// What is called between the loads of a probe.
 pub trait Pause {
-    /// Is called before each load of a header or bucket word, with the number of such loads made before in this probe.
+    /// Is called before each load of a header or bucket word, with the number of such loads made
+    /// before in this probe.
     fn at(&mut self, loads: u32);
 }
 
@@ -70,7 +71,8 @@ pub(crate) fn search<P: Pause>(
     let base = arena.base(array);
     let capacity = arena.capacity(array);
     let mut place = first_place(sel, capacity);
-    // Most probes end at the first word, so nothing that further words need is reckoned before it is looked at.
+    // Most probes end at the first word, so nothing that further words need is reckoned before it
+    // is looked at.
     pause.at(1);
     let mut word = load_bucket(shared, seat, array, base, place);
     let mut loads = 1;
@@ -134,7 +136,8 @@ impl Prober {
         }
     }
 
-    // Is joined to the keeper's seat, and split off again with the same number, at the keeper's history. It still says which stamps it has loaded.
+    // Is joined to the keeper's seat, and split off again with the same number, at the keeper's
+    // history. It still says which stamps it has loaded.
     pub(crate) fn renew(&mut self, words: &Words, keeper: &mut Seat)
         requires own { self.old.table ≡ words.now.table_id }
         requires table { CanReach words.now.table_id keeper.old 0 }
@@ -165,7 +168,8 @@ impl Prober {
         self.badge.into_seat()
     }
 
-    /// The implementation that the class reference's cache has for the selector, if it has one. No lock is taken.
+    /// The implementation that the class reference's cache has for the selector, if it has one. No
+    /// lock is taken.
     pub fn probe(&mut self, arena: &Arena, class: ClassRef, sel: Selector) -> Option<ImpRef>
         requires arena { IsSenderOf arena.now self.old }
         requires class { class.class < classes arena.now }
@@ -222,7 +226,8 @@ impl Prober {
         count
     }
 
-    /// The stamp of a class reference: no change after so many has affected it. The sender has then seen all changes.
+    /// The stamp of a class reference: no change after so many has affected it. The sender has then
+    /// seen all changes.
     #[inline]
     pub fn stamp(&mut self, arena: &Arena, class: ClassRef) -> u64
         requires arena { IsSenderOf arena.now self.old }

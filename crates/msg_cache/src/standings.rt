@@ -14,7 +14,8 @@ use std::marker::Model;
 
 /// Which arrays are free, and whom each retired one awaits.
 ///
-/// Retired arrays wait in a queue, in which each sender has a cursor. A sender that is seen out passes the whole queue: nothing that was retired before awaits it any more. What all senders
+/// Retired arrays wait in a queue, in which each sender has a cursor. A sender that is seen out
+/// passes the whole queue: nothing that was retired before awaits it any more. What all senders
 /// have passed is free.
 #[derive(Drop)]
 pub(crate) struct Standings {
@@ -81,7 +82,8 @@ impl Standings {
         self.queue.push_back_reserved(array);
     }
 
-    // These senders were seen out, all those from the number `known` on among them. What awaits nobody then is free, and ready to be taken out. Answers how many.
+    // These senders were seen out, all those from the number `known` on among them. What awaits
+    // nobody then is free, and ready to be taken out. Answers how many.
     pub(crate) fn see_out(&mut self, outs: &Vec<bool>, known: usize) -> u32
         requires senders { 0 < self.old.senders }
         requires outs { length outs.now.items ≡ self.old.senders }

@@ -1,4 +1,5 @@
-//! Every step that is made on the table: each is one call of it. Beside each stands the event that it is, if it is one.
+//! Every step that is made on the table: each is one call of it. Beside each stands the event that
+//! it is, if it is one.
 
 ghost use Rattle.std.specs.Prelude.{◌≡◌, ◌≢◌, ℕ, suc, ◌+◌, ◌-◌, ◌^◌, ◌<◌, ◌≤◌, [], None, length, slice_index, false};
 ghost use Rattle.msg_names.specs.Number.{selector_number};
@@ -43,7 +44,8 @@ pub(crate) fn header_at(class: ClassRef) -> usize
     1 + class.slot()
 }
 
-// Header: the header word of a class reference is loaded, to seek a selector in the array that it names.
+// Header: the header word of a class reference is loaded, to seek a selector in the array that it
+// names.
 pub(crate) fn load_header<Q: Asks>(
     words: &Words,
     seat: &mut Seat,
@@ -197,7 +199,8 @@ pub(crate) fn store_none<Q: About>(words: &Words, seat: &mut Seat, class: ClassR
     words.store::<Tidied<Flush, Q>>(seat, header_at(class), 0);
 }
 
-// Install: an empty array that is free becomes the live one of a class reference, and the one before is retired.
+// Install: an empty array that is free becomes the live one of a class reference, and the one
+// before is retired.
 pub(crate) fn store_array<Q: About>(words: &Words, seat: &mut Seat, class: ClassRef, array: u32)
     requires table { CanReach words.now.table_id seat.old (header_at class) }
     requires about { Q.key ≡ words.now.key }
@@ -213,7 +216,8 @@ pub(crate) fn store_array<Q: About>(words: &Words, seat: &mut Seat, class: Class
     words.store::<Tidied<Install, Q>>(seat, header_at(class), array as u64 + 1);
 }
 
-// No event: a stamp is stored, of no less than the number of the last change that affects its class reference.
+// No event: a stamp is stored, of no less than the number of the last change that affects its class
+// reference.
 pub(crate) fn store_stamp<Q: About>(
     words: &Words,
     seat: &mut Seat,
@@ -258,7 +262,8 @@ pub(crate) fn store_count<Q: About, L: ChangeList>(
     words.store::<Tidied<Commit<Q>, Q>>(seat, 0, count);
 }
 
-// Look: a sender's probe word is loaded. Answers whether the sender was out, and is awaited no more.
+// Look: a sender's probe word is loaded. Answers whether the sender was out, and is awaited no
+// more.
 pub(crate) fn load_probe<Q: About>(words: &Words, seat: &mut Seat, word: usize, number: u32) -> bool
     requires table { CanReach words.now.table_id seat.old word }
     requires about { (Q.key ≡ words.now.key) × (Q.number ≡ number) }
@@ -271,7 +276,8 @@ pub(crate) fn load_probe<Q: About>(words: &Words, seat: &mut Seat, word: usize, 
     words.load::<Tidied<Look<Q>, Q>>(seat, word) == 0
 }
 
-// Look, once for each sender number from one on, none of which is given out: that its sender is out needs no load of its probe word. They are one step, by a load of the count of changes.
+// Look, once for each sender number from one on, none of which is given out: that its sender is out
+// needs no load of its probe word. They are one step, by a load of the count of changes.
 pub(crate) fn look_at_rest<Q: About>(words: &Words, seat: &mut Seat, _number: u32)
     requires table { CanReach words.now.table_id seat.old 0 }
     requires about { (Q.key ≡ words.now.key) × (Q.number ≡ _number) }
@@ -285,7 +291,8 @@ pub(crate) fn look_at_rest<Q: About>(words: &Words, seat: &mut Seat, _number: u3
     words.load::<Tidied<LookAtRest<Q>, Q>>(seat, 0);
 }
 
-// No event: the keeper loads the count of changes, and learns that what a joined seat knew is a beginning of the history.
+// No event: the keeper loads the count of changes, and learns that what a joined seat knew is a
+// beginning of the history.
 pub(crate) fn witness<Q: About>(words: &Words, seat: &mut Seat)
     requires table { CanReach words.now.table_id seat.old 0 }
     requires about { Q.key ≡ words.now.key }

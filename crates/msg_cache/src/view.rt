@@ -20,7 +20,8 @@ impl Model for Past {
     ghost view = { λ p. record { origin = p.origin; changes = p.changes } };
 }
 
-/// The last probe: what was sought, the array that the header word named, and the words then read, each with its place in the table.
+/// The last probe: what was sought, the array that the header word named, and the words then read,
+/// each with its place in the table.
 pub struct Record {
     pub class: ClassRef,
     pub sel: u64,
@@ -29,8 +30,8 @@ pub struct Record {
 }
 
 /// What a sender's seat knows: its number, what it has seen of the history, where it is, how many
-/// header loads it made, how often it loaded the count of changes, the stamps that it loaded, the last
-/// one first, each with its class reference, and the last probe.
+/// header loads it made, how often it loaded the count of changes, the stamps that it loaded, the
+/// last one first, each with its class reference, and the last probe.
 pub struct SenderView {
     pub number: u64,
     pub front: Past,
@@ -48,9 +49,10 @@ pub enum TurnAt {
     Home(Past),
 }
 
-/// What the keeper's seat knows: the history, a copy of all words but the probe words, what each array is for, which sender numbers are
-/// given out, where the turn is, what a joined sender had seen, each word that was stored, with its place in the table, and each sender
-/// number that was looked at.
+/// What the keeper's seat knows: the history, a copy of all words but the probe words, what each
+/// array is for, which sender numbers are given out, where the turn is, what a joined sender had
+/// seen, each word that was stored, with its place in the table, and each sender number that was
+/// looked at.
 pub struct KeeperView {
     pub history: Past,
     pub words: LinkedList<u64>,

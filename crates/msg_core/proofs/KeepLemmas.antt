@@ -1,4 +1,5 @@
--- What keeps a state sound, over any lookup. What is changed is given point by point, so that each fact serves any way of keeping the words.
+-- What keeps a state sound, over any lookup. What is changed is given point by point, so that each
+-- fact serves any way of keeping the words.
 use Rattle.std.proofs.Common.{◌≡◌, ◌≢◌, ℕ, ◌<◌, ◌≤◌, ◌⊎◌, List, length, take, Bool, cond, true, false, true≢false, Option, Some, None, refl, sym, ap, ◌∙◌, subst, inl, inr, ⊎_elim, arith}
 use Rattle.std.proofs.Math.Seq.{take-length}
 use Rattle.std.proofs.lemmas.List.{get_or-set_other}

@@ -18,7 +18,8 @@ use Rattle.msg_core.proofs.LegalLemmas.{legal_header, legal_read, legal_install,
 use Rattle.msg_core.proofs.PointLemmas.{number_or, at_same, at_other}
 use Rattle.msg_core.proofs.RunLemmas.{moved, holds_seen, sound_run, legal_append, after_append}
 
--- Since the history had g changes a sender can hold arrays of one class reference alone, and what it holds was not retired earlier.
+-- Since the history had g changes a sender can hold arrays of one class reference alone, and what
+-- it holds was not retired earlier.
 pub record Since (g n : ℕ) (c : ClassRef) (m : State) : Type 0 where
   pub past : g ≤ size m.history
   pub class : (d : ClassRef) (a : ℕ) → m.whereabouts n ≡ Holding d a → d ≡ c

@@ -1,4 +1,5 @@
--- Legal events keep a state sound, and what a sender reads agrees with the method lists since its header load.
+-- Legal events keep a state sound, and what a sender reads agrees with the method lists since its
+-- header load.
 use Rattle.std.proofs.Common.{◌≡◌, ◌≢◌, ℕ, zero, suc, ◌<◌, ◌⊎◌, List, [], ◌∷◌, ◌++◌, Option, Some, None, Bool, true, false, true≢false, replicate, refl, sym, ap, ◌∙◌, subst, inl, inr, ⊎_elim, arith, length-append}
 use Rattle.std.specs.Prelude.{if◌then◌else◌}
 use Rattle.std.proofs.lemmas.List.{take-append-le}

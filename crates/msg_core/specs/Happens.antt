@@ -8,7 +8,8 @@ use Rattle.msg_core.specs.State.{State}
 use Rattle.msg_core.specs.Steps.{after, event_refusal, Legal}
 use Rattle.msg_core.specs.View.{MachineView, layout_of, state_of}
 
--- the least fault for which an event is refused, where words have to agree with what is looked up in the class tables
+-- the least fault for which an event is refused, where words have to agree with what is looked up
+-- in the class tables
 abbrev pub refusal_of : MachineView → Event → Option EventFault
 refusal_of v e = event_refusal lookup (layout_of v) (state_of v) e
 

@@ -1,4 +1,5 @@
--- Laws of the machine: of every lookup, every layout with some sender, and every list of events that isn't refused.
+-- Laws of the machine: of every lookup, every layout with some sender, and every list of events
+-- that isn't refused.
 use Rattle.std.specs.Prelude.{◌≡◌, ◌≢◌, ℕ, suc, ◌<◌, ◌≤◌, List, [], ◌∷◌, ◌++◌, All, if◌then◌else◌}
 use Rattle.msg_names.specs.declared.value.ClassRef.{ClassRef}
 use Rattle.msg_buckets.specs.Word.{sel_of}
@@ -43,7 +44,8 @@ abbrev pub HolderHasLoaded : Type 0
 HolderHasLoaded = (z : Layout) (origin : OriginView) (es : List Event) (n : ℕ) (c : ClassRef) (a : ℕ)
     → (after_all z (opening origin) es).whereabouts n ≡ Holding c a → HasLoaded n c es
 
--- who reads next holds an array for a class reference, and has loaded its header word, and none since
+-- who reads next holds an array for a class reference, and has loaded its header word, and none
+-- since
 abbrev pub ReaderHolds : Type 0
 ReaderHolds = (look : History → ClassRef → ℕ → ℕ) (z : Layout) (origin : OriginView) (es : List Event) (n p : ℕ) → AreLegal look z (opening origin) (es ++ Read n p ∷ [])
     → (c : ClassRef) × (a : ℕ) × ((after_all z (opening origin) es).whereabouts n ≡ Holding c a) × HasLoaded n c es
@@ -54,7 +56,8 @@ ReadHasSelector = (look : History → ClassRef → ℕ → ℕ) (z : Layout) (or
     → AreLegal look z (opening origin) (es ++ Read n p ∷ [])
     → let m = after_all z (opening origin) es in held_word m.word (m.whereabouts n) p ≢ 0 → 0 < sel_of (held_word m.word (m.whereabouts n) p)
 
--- and the implementation that was looked up for that, not before the reader's last header load and not after the read
+-- and the implementation that was looked up for that, not before the reader's last header load and
+-- not after the read
 abbrev pub ReadAgreesSinceHeader : Type 0
 ReadAgreesSinceHeader = (look : History → ClassRef → ℕ → ℕ) (z : Layout) (origin : OriginView) (before mid : List Event) (n : ℕ) (c : ClassRef) (p : ℕ) → 0 < z.senders
     → AreLegal look z (opening origin) (before ++ Header n c ∷ mid ++ Read n p ∷ []) → All (IsNoHeader n) mid
@@ -62,7 +65,8 @@ ReadAgreesSinceHeader = (look : History → ClassRef → ℕ → ℕ) (z : Layou
     held_word m.word (m.whereabouts n) p ≢ 0
     → AgreesBetween look (size (after_all z (opening origin) before).history) m.history c (held_word m.word (m.whereabouts n) p)
 
--- A word that was filled in is read at its place by each sender whose last header load came before the class reference was flushed or had another array.
+-- A word that was filled in is read at its place by each sender whose last header load came before
+-- the class reference was flushed or had another array.
 abbrev pub FilledIsRead : Type 0
 FilledIsRead = (look : History → ClassRef → ℕ → ℕ) (z : Layout) (origin : OriginView) (before mid more : List Event) (n : ℕ) (c : ClassRef) (p w : ℕ) → 0 < z.senders
     → AreLegal look z (opening origin) (before ++ Fill c p w ∷ mid ++ Header n c ∷ more ++ Read n p ∷ []) → All (LeavesArrayOf c) mid → All (IsNoHeader n) more
@@ -70,7 +74,8 @@ FilledIsRead = (look : History → ClassRef → ℕ → ℕ) (z : Layout) (origi
 
 -- ---- how long lookups stay
 
--- After any number of changes since the last that affects a class reference, its lookups are those of all changes.
+-- After any number of changes since the last that affects a class reference, its lookups are those
+-- of all changes.
 abbrev pub LookupStaysSince : Type 0
 LookupStaysSince = (h : History) (c : ClassRef) (s k : ℕ) → IsSound h.origin → IsLog (log h) → last_affected h c ≤ k → k ≤ size h → lookup (first k h) c s ≡ lookup h c s
 

@@ -60,6 +60,7 @@ LeavesArrayOf c (Commit xs) = Unit {0}
 abbrev pub HasLoaded : ℕ → ClassRef → List Event → Type 0
 HasLoaded n c es = (before : List Event) × (mid : List Event) × (es ≡ before ++ Header n c ∷ mid) × All (IsNoHeader n) mid
 
--- the word has the implementation that was looked up for its selector at some time since one history and up to another
+-- the word has the implementation that was looked up for its selector at some time since one
+-- history and up to another
 abbrev pub AgreesBetween : (History → ClassRef → ℕ → ℕ) → ℕ → History → ClassRef → ℕ → Type 0
 AgreesBetween look since h c word = (n : ℕ) × (since ≤ n) × (n ≤ size h) × (imp_of word ≡ look (first n h) c (sel_of word))

@@ -6,7 +6,8 @@ use Rattle.msg_tables.specs.History.{History}
 use Rattle.msg_tables.specs.Log.{Log, empty}
 use Rattle.msg_tables.specs.Several.{and_all, is_affected_by_all}
 
--- of changes from a log on, before which there were n, the number up to the last that affects the class reference; or `last`, where none does
+-- of changes from a log on, before which there were n, the number up to the last that affects the
+-- class reference; or `last`, where none does
 abbrev pub last_in : ℕ → ℕ → Log → List (List Change) → ClassRef → ℕ
 last_in last n g [] c = last
 last_in last n g (xs ∷ more) c = last_in (if is_affected_by_all g xs c then suc n else last) (suc n) (and_all g xs) more c

@@ -26,7 +26,8 @@ capacity z a = slice_index z.capacities a
 abbrev pub empty_arrays_of : List ℕ → List (List ℕ)
 empty_arrays_of capacities = map (λ n. replicate n 0) capacities
 
--- the history, and by number what the words say: the live array of each class reference, the words of each array, what it is for, and where each sender is
+-- the history, and by number what the words say: the live array of each class reference, the words
+-- of each array, what it is for, and where each sender is
 pub record State : Type 0 where
   pub history : History
   pub live : ClassRef → Option ℕ
@@ -74,9 +75,11 @@ module _ (look : History → ClassRef → ℕ → ℕ) (z : Layout) where
     pub awaits_some : (c : ClassRef) (r a : ℕ) (awaited : List Bool) → m.standing a ≡ Retired c r awaited → (n : ℕ) × (n < z.senders) × (awaits awaited n ≡ true)
     pub free_unheld : (a : ℕ) → m.standing a ≡ Free → (n : ℕ) (c : ClassRef) → m.whereabouts n ≢ Holding c a
 
-  -- What every event needs beside that: numbers are those of the layout, and arrays were retired in the past.
+  -- What every event needs beside that: numbers are those of the layout, and arrays were retired in
+  -- the past.
   pub record InRange (m : State) : Type 0 where
-    -- else a commit could bring the change that a retired array's length names, and its words would have to agree with it
+    -- else a commit could bring the change that a retired array's length names, and its words would
+    -- have to agree with it
     pub retired_before : (c : ClassRef) (r a : ℕ) (awaited : List Bool) → m.standing a ≡ Retired c r awaited → r ≤ size m.history
     -- else an array could be live where no flush finds it
     pub live_class : (c : ClassRef) (a : ℕ) → m.standing a ≡ Live c → c.class < z.classes

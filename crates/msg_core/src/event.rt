@@ -10,7 +10,8 @@ use msg_tables::Change;
 pub enum Event {
     /// A sender sets its probe word.
     Enter(u32),
-    /// A sender loads the header word of a class reference, and from then on holds the array that it names.
+    /// A sender loads the header word of a class reference, and from then on holds the array that
+    /// it names.
     Header(u32, ClassRef),
     /// A sender loads a word of the array that it holds.
     Read(u32, usize),

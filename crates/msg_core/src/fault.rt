@@ -7,7 +7,8 @@ use msg_tables::ChangeFault;
 use std::alloc::AllocError;
 use thiserror::Error;
 
-/// Why an event did not happen. Where several hold, the first is answered; memory is wanted only after all others were excluded.
+/// Why an event did not happen. Where several hold, the first is answered; memory is wanted only
+/// after all others were excluded.
 #[derive(Clone, Copy, Debug, PartialEq, Eq, Error)]
 pub enum EventFault {
     #[error("no sender")]
@@ -33,7 +34,8 @@ pub enum EventFault {
     NoPlace,
     #[error("array not free")]
     NotFree,
-    /// The word that would be written over isn't 0, or some word of the array that would be installed.
+    /// The word that would be written over isn't 0, or some word of the array that would be
+    /// installed.
     #[error("array not empty")]
     NotEmpty,
     /// The tables refuse the change.

@@ -1,6 +1,7 @@
 //! Laws of the machine, over every layout and every list of events.
 //!
-//! They speak of the definitions alone, for every lookup function, so they hold of whatever keeps its words by these events.
+//! They speak of the definitions alone, for every lookup function, so they hold of whatever keeps
+//! its words by these events.
 
 ghost use Rattle.msg_core.specs.Laws.{EventsKeepSound, FilledIsRead, HolderHasLoaded, LastAffectedIsReached, LastAffectedOfLonger, LookupStaysInLonger, LookupStaysSince, NobodyHoldsCleared, NobodyHoldsInstalled, ReadAgreesSinceHeader, ReadHasSelector, ReaderHolds, RunsAreLawful, RunsAreSound};
 
@@ -26,9 +27,10 @@ pub fn a_holder_has_loaded_the_header()
     ensures { HolderHasLoaded }
 {}
 
-/// A sender whose read isn't refused holds an array of some class reference, whose header word it has loaded, and none since. The word that
-/// it reads, where it isn't 0, has a selector and the implementation that was looked up for it at some point of the history: not before
-/// that sender's last header load, and not after the read.
+/// A sender whose read isn't refused holds an array of some class reference, whose header word it
+/// has loaded, and none since. The word that it reads, where it isn't 0, has a selector and the
+/// implementation that was looked up for it at some point of the history: not before that sender's
+/// last header load, and not after the read.
 pub fn a_read_agrees_since_its_header_load()
     ensures holds { ReaderHolds }
     ensures entry { ReadHasSelector }
@@ -41,8 +43,8 @@ pub fn a_filled_word_is_read()
     ensures { FilledIsRead }
 {}
 
-/// A lookup stays since its class reference was last affected: at any point from there on it finds what
-/// it finds now.
+/// A lookup stays since its class reference was last affected: at any point from there on it finds
+/// what it finds now.
 pub fn a_lookup_stays_since_its_class_was_affected()
     ensures since { LookupStaysSince }
     ensures longer { LookupStaysInLonger }

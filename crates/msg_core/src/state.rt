@@ -10,7 +10,8 @@ pub enum Standing {
     Free,
     /// It is the cache of this class reference.
     Live(ClassRef),
-    /// It was taken from this class reference when the history had so many changes, and awaits each sender whose flag is set.
+    /// It was taken from this class reference when the history had so many changes, and awaits each
+    /// sender whose flag is set.
     Retired(ClassRef, usize, [bool; MOST_SENDERS]),
 }
 

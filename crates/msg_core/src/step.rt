@@ -14,8 +14,9 @@ use crate::machine::Machine;
 impl Machine {
     /// Makes an event happen, or says why not and changes nothing.
     ///
-    /// Each event touches one word, but for `Look`, which goes over the standings of all arrays, `Install`, which looks whether
-    /// the array is empty, and `Commit`, which looks over all live words. Only `Commit` takes memory.
+    /// Each event touches one word, but for `Look`, which goes over the standings of all arrays,
+    /// `Install`, which looks whether the array is empty, and `Commit`, which looks over all live
+    /// words. Only `Commit` takes memory.
     pub fn step(&mut self, event: Event) -> Result<Seen, EventFault>
         ensures legal { IfOk result (λ _. IsLegal self.old (event_of event)) }
         ensures happens { IfOk result (λ _. Happens self.old self.new (event_of event)) }

@@ -55,9 +55,9 @@ fn judge(workers: u32, cut: u32) -> Result<(), RunFault>
     Ok(())
 }
 
-/// The document of a run by so many workers and with this cut, if there can be one. The source is then
-/// read to its end; where there is none because the text is too long, past the limit by one buffer at
-/// most.
+/// The document of a run by so many workers and with this cut, if there can be one. The source is
+/// then read to its end; where there is none because the text is too long, past the limit by one
+/// buffer at most.
 #[tactic(auto, using(crate::proofs::ByteLemmas::gives_nothing))]
 pub fn admit<R: Source>(
     alloc: Global,

@@ -11,7 +11,8 @@ use std::alloc::{Alloc, Global};
 use std::env::{self, Env};
 use std::io::ErrorKind;
 
-/// The words after the program's name. A fault is want of memory; where there is none in the error, a word isn't text, which is wrong use.
+/// The words after the program's name. A fault is want of memory; where there is none in the error,
+/// a word isn't text, which is wrong use.
 ///
 /// No clause says what the words are, since none of the kit says what a program is started with.
 pub fn words<R: Env + Alloc<A = Global>>(rt: &R) -> Result<Vec<String>, Option<RunFault>>

@@ -118,7 +118,8 @@ fn status(fault: Option<&RunFault>) -> u8
     }
 }
 
-/// Writes one line that says why a run of the program ended, or how it is used where there is no fault, and answers the exit status.
+/// Writes one line that says why a run of the program ended, or how it is used where there is no
+/// fault, and answers the exit status.
 ///
 /// It takes no memory. A failed write ends the line and leaves the status.
 pub fn complain<W: Sink>(sink: &mut W, program: Program, fault: Option<&RunFault>) -> u8

@@ -9,8 +9,8 @@ use msg_image::DocumentFault;
 use std::alloc::AllocError;
 use thiserror::Error;
 
-/// Why a run wrote no answers, or not all of them. In order of time: `Workers`, `Cut`, `Read`, `Document`, `Write`; `Memory` may come between any two of them
-/// until the first byte is written.
+/// Why a run wrote no answers, or not all of them. In order of time: `Workers`, `Cut`, `Read`,
+/// `Document`, `Write`; `Memory` may come between any two of them until the first byte is written.
 #[derive(Clone, Copy, Debug, PartialEq, Eq, Error)]
 pub enum RunFault {
     /// A read failed. No kind of error is tried again.

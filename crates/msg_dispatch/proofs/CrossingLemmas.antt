@@ -1,4 +1,5 @@
--- That a dispatcher may be seen by several threads, and a sender go to another one. Said once, for whoever starts threads that send.
+-- That a dispatcher may be seen by several threads, and a sender go to another one. Said once, for
+-- whoever starts threads that send.
 use denote.RattleType.{RattleType}
 use denote.Ref.{NamedLft}
 use denote.Param.Send.{IsSend, IsSync, sendable}

@@ -12,11 +12,13 @@ use Rattle.msg_cache.specs.Views.{ArenaView, TurnView, classes}
 abbrev pub IsTurnAfter : ArenaView → TurnView → ℕ → Type 0
 IsTurnAfter a t count = (t.table ≡ a.table) × (t.history.origin ≡ a.key.origin) × (count ≡ length t.history.changes)
 
--- beside those that were marked, the class references are marked whose lookups the changes may alter
+-- beside those that were marked, the class references are marked whose lookups the changes may
+-- alter
 abbrev pub MarksAllReached : History → List Change → List Bool → List Bool → Type 0
 MarksAllReached h xs old new = MarksAffectedByAll (class_total h.origin) (log h) xs old new
 
--- those that the changes may alter which stand before the one that would be refused, where that isn't for want of memory
+-- those that the changes may alter which stand before the one that would be refused, where that
+-- isn't for want of memory
 abbrev pub MarksBefore : History → List Change → List Bool → List Bool → Refused → Type 0
 MarksBefore h xs old new r = r.fault ≢ Memory → MarksAllReached h (take r.place xs) old new
 

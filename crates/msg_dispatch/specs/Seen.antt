@@ -13,7 +13,8 @@ use Rattle.msg_cache.specs.declared.view.SenderView.{SenderView as Seen}
 
 -- what contracts see of a sender of a dispatcher
 pub record SenderView : Type 0 where
-  -- the history that it has seen, its last probe, how often it loaded the count of changes, and the stamps that it loaded
+  -- the history that it has seen, its last probe, how often it loaded the count of changes, and the
+  -- stamps that it loaded
   pub seen : Seen
   -- how often `find` took the lock
   pub takings : ℕ
@@ -31,7 +32,8 @@ TakesOnceAtMost v w = (v.takings ≤ w.takings) × (w.takings ≤ v.takings + 1)
 abbrev pub IsReaderOf : ArenaView → ProberView → Type 0
 IsReaderOf a r = IsSenderOf a r × (r.sender.front.origin ≡ a.key.origin)
 
--- A stamp is loaded, and what the notes have since then is found. Then nothing else was done: the lock wasn't taken, and no other word that threads share was loaded.
+-- A stamp is loaded, and what the notes have since then is found. Then nothing else was done: the
+-- lock wasn't taken, and no other word that threads share was loaded.
 abbrev pub FindsNoted : SenderView → SenderView → Notes → Notes → ClassRef → Selector → ImpRef → Type 0
 FindsNoted v w was is c s i =
     (since : ℕ) × LoadsFirst c since v.seen w.seen × IfSome (recalled was since (slot_of c) (selector_number s)) (λ n. (imp_number i ≡ n) × LoadsStamp c since v.seen w.seen × (w.takings ≡ v.takings) × (is ≡ was))

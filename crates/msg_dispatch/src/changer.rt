@@ -50,7 +50,8 @@ impl<'d, N: ArenaName> Model for Changer<'d, N> {
 }
 
 impl<'d, N: ArenaName> Changer<'d, N> {
-    /// Makes a change, or says why not. Senders see the change and the flushes of caches that it takes as one.
+    /// Makes a change, or says why not. Senders see the change and the flushes of caches that it
+    /// takes as one.
     pub fn change<R: Wait>(&mut self, rt: &R, change: &Change) -> Result<Receipt, ChangeFault>
         ensures ok { IfOk result (λ r. IsMadeAt self.old change.now self.new r.count) }
         ensures err { OnErr result (self.new ≡ self.old) }
@@ -66,8 +67,9 @@ impl<'d, N: ArenaName> Changer<'d, N> {
         Ok(Receipt { count })
     }
 
-    /// Makes a list of changes as one, or says which of them would be refused, and then none is made. Each lookup, by whatever sender, answers from before all of them or
-    /// from after all. An empty list changes nothing and isn't counted.
+    /// Makes a list of changes as one, or says which of them would be refused, and then none is
+    /// made. Each lookup, by whatever sender, answers from before all of them or from after all. An
+    /// empty list changes nothing and isn't counted.
     pub fn change_all<R: Wait>(
         &mut self,
         alloc: Global,
@@ -89,8 +91,10 @@ impl<'d, N: ArenaName> Changer<'d, N> {
         Ok(made)
     }
 
-    /// Marks the class references whose lookups [`change_all`](Changer::change_all) may alter, beside those that are marked, each at its slot, and makes no change; or says which would be
-    /// refused. Then what those before it may alter is marked; where memory is wanting, the marks say nothing.
+    /// Marks the class references whose lookups [`change_all`](Changer::change_all) may alter,
+    /// beside those that are marked, each at its slot, and makes no change; or says which would be
+    /// refused. Then what those before it may alter is marked; where memory is wanting, the marks
+    /// say nothing.
     pub fn reach<R: Wait>(
         &mut self,
         alloc: Global,

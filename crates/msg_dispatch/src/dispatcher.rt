@@ -29,7 +29,8 @@ pub struct NoSenderFree;
 #[error("the changer is out")]
 pub struct ChangerOut;
 
-/// What senders and the changer share: the arena, and behind the runtime lock the runtime that keeps it.
+/// What senders and the changer share: the arena, and behind the runtime lock the runtime that
+/// keeps it.
 #[derive(Drop)]
 pub struct Dispatcher<N: ArenaName> {
     pub(crate) arena: Arena,
@@ -38,10 +39,12 @@ pub struct Dispatcher<N: ArenaName> {
 }
 
 impl<N: ArenaName> Dispatcher<N> {
-    /// The dispatcher of an arena that was just opened. Its history is the origin's without changes, at which the changer begins.
+    /// The dispatcher of an arena that was just opened. Its history is the origin's without
+    /// changes, at which the changer begins.
     ///
-    /// The error is want of memory: for the tables, or for the marks of class references that a change reaches. Nothing is left of arena and keeper then. No
-    /// clause says that memory was really wanted: tests with ample memory do.
+    /// The error is want of memory: for the tables, or for the marks of class references that a
+    /// change reaches. Nothing is left of arena and keeper then. No clause says that memory was
+    /// really wanted: tests with ample memory do.
     pub fn open<C: HasOrigin>(
         alloc: Global,
         arena: Arena,
@@ -94,8 +97,8 @@ impl<N: ArenaName> Dispatcher<N> {
 
     /// What was done to caches so far: the keeper's report.
     ///
-    /// The clause says only that its counts are in proportion: until the lock is taken and once it is let go others may have counted more. Behind the lock it is the
-    /// runtime's own.
+    /// The clause says only that its counts are in proportion: until the lock is taken and once it
+    /// is let go others may have counted more. Behind the lock it is the runtime's own.
     pub fn report<R: Wait>(&self, rt: &R) -> Report
         ensures { AreCounts result }
     {

@@ -44,7 +44,8 @@ impl<'d, N: ArenaName> Model for Recalling<'d, N> {
 }
 
 impl<'d, N: ArenaName> Recalling<'d, N> {
-    /// The sender, with nothing noted yet. Notes take 64 KiB: where they can't be had, the sender comes back.
+    /// The sender, with nothing noted yet. Notes take 64 KiB: where they can't be had, the sender
+    /// comes back.
     pub fn new(alloc: Global, sender: Sender<'d, N>) -> Result<Recalling<'d, N>, Sender<'d, N>>
         ensures ok { IfOk result (λ r. (r.sender ≡ sender.entry) × AreBlank r.notes) }
         ensures err { IfErr result (λ s. s ≡ sender.entry) }
@@ -62,8 +63,9 @@ impl<'d, N: ArenaName> Recalling<'d, N> {
         self.sender
     }
 
-    /// The implementation that a lookup finds at what the sender has then seen. What it has noted since the stamp of the class reference it answers with no lock, and by that one load of a word that
-    /// threads share, which is stored where a change affects the class reference.
+    /// The implementation that a lookup finds at what the sender has then seen. What it has noted
+    /// since the stamp of the class reference it answers with no lock, and by that one load of a
+    /// word that threads share, which is stored where a change affects the class reference.
     #[inline(always)]
     pub fn find<R: Wait>(&mut self, rt: &R, class: ClassRef, sel: Selector) -> ImpRef
         requires class { class.class < class_total self.old.sender.seen.front.origin }
@@ -77,7 +79,8 @@ impl<'d, N: ArenaName> Recalling<'d, N> {
         self.sender.find_noted(rt, &mut self.notes, class, sel)
     }
 
-    /// What it has noted of a lookup since the stamp of the class reference, which is loaded: what the lookup finds at all changes, which the sender has then seen. It waits for nothing.
+    /// What it has noted of a lookup since the stamp of the class reference, which is loaded: what
+    /// the lookup finds at all changes, which the sender has then seen. It waits for nothing.
     #[inline]
     pub fn recall(&mut self, class: ClassRef, sel: Selector) -> Option<ImpRef>
         requires class { class.class < class_total self.old.sender.seen.front.origin }
@@ -91,7 +94,8 @@ impl<'d, N: ArenaName> Recalling<'d, N> {
         self.sender.recall(&self.notes, class, sel)
     }
 
-    /// How many changes there are, which the sender has then seen: nothing older is answered from then on. One shared word is loaded, and nothing is forgotten.
+    /// How many changes there are, which the sender has then seen: nothing older is answered from
+    /// then on. One shared word is loaded, and nothing is forgotten.
     pub fn refresh(&mut self) -> u64
         ensures begins { BeginsWith self.new.sender.seen.front self.old.sender.seen.front }
         ensures length { result ≡ length self.new.sender.seen.front.changes }

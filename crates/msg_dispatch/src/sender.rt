@@ -19,7 +19,8 @@ use msg_tables::laws::a_found_implementation_is_listed;
 use std::marker::Model;
 use std::sync::Wait;
 
-/// Looks up, first in the caches without a lock. It carries what it has seen of the history, and never answers from before that.
+/// Looks up, first in the caches without a lock. It carries what it has seen of the history, and
+/// never answers from before that.
 #[derive(Drop)]
 pub struct Sender<'d, N: ArenaName> {
     pub(crate) dispatcher: &'d Dispatcher<N>,
@@ -42,7 +43,8 @@ impl<'d, N: ArenaName> Model for Sender<'d, N> {
 }
 
 impl<'d, N: ArenaName> Sender<'d, N> {
-    /// The implementation that the cache of a class reference has, which is the lookup's at what the sender has then seen. No lock is taken.
+    /// The implementation that the cache of a class reference has, which is the lookup's at what
+    /// the sender has then seen. No lock is taken.
     #[inline]
     pub fn find_cached(&mut self, class: ClassRef, sel: Selector) -> Option<ImpRef>
         requires class { class.class < class_total self.old.seen.front.origin }
@@ -109,7 +111,8 @@ impl<'d, N: ArenaName> Sender<'d, N> {
             .answer_noted(&dispatcher.arena, &mut self.reader, notes, class, sel)
     }
 
-    /// The implementation that a lookup finds at what the sender has then seen. After a miss it takes the lock, once.
+    /// The implementation that a lookup finds at what the sender has then seen. After a miss it
+    /// takes the lock, once.
     #[inline]
     pub fn find<R: Wait>(&mut self, rt: &R, class: ClassRef, sel: Selector) -> ImpRef
         requires class { class.class < class_total self.old.seen.front.origin }
@@ -127,7 +130,8 @@ impl<'d, N: ArenaName> Sender<'d, N> {
         }
     }
 
-    /// What the notes have of a lookup at all changes, which the sender has then seen: what was noted since the stamp of the class reference, which is loaded. It waits for nobody.
+    /// What the notes have of a lookup at all changes, which the sender has then seen: what was
+    /// noted since the stamp of the class reference, which is loaded. It waits for nobody.
     #[inline]
     pub fn recall(&mut self, notes: &Notes, class: ClassRef, sel: Selector) -> Option<ImpRef>
         requires class { class.class < class_total self.old.seen.front.origin }
@@ -189,7 +193,8 @@ impl<'d, N: ArenaName> Sender<'d, N> {
 
     /// Gives the sender's number back. That of a sender which is dropped stays used.
     ///
-    /// No clause says that the number is free then: once the lock is let go another may have it. Behind the lock it is taken in.
+    /// No clause says that the number is free then: once the lock is let go another may have it.
+    /// Behind the lock it is taken in.
     pub fn finish<R: Wait>(self, rt: &R) {
         let Sender {
             dispatcher,

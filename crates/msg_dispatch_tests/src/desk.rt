@@ -20,7 +20,8 @@ use std::marker::Model;
 use std::process::Abort;
 use std::sync::Arc;
 
-/// An arena of so many senders and arrays for the image of two classes, with its keeper beside tables.
+/// An arena of so many senders and arrays for the image of two classes, with its keeper beside
+/// tables.
 pub(crate) fn open(rt: &impl Abort, alloc: Global, senders: u32, arrays: [u16; 9]) -> Box<Desk> {
     let image = image(rt, alloc, SMALL);
     assert_eq!(rt; image.class_count(), 2);

@@ -26,7 +26,8 @@ pub(crate) const GRAND: ClassRef = ClassRef {
     meta: false,
 };
 
-/// The image of a document. What a test owns lies in a box, since each way out of the test drops it by one call there.
+/// The image of a document. What a test owns lies in a box, since each way out of the test drops it
+/// by one call there.
 pub(crate) fn image(rt: &impl Abort, alloc: Global, document: &str) -> Box<Image> {
     let document = read_document(alloc, document.as_bytes()).expect(rt, "a document");
     Box::new(alloc, document.image).expect(rt, "memory")
@@ -51,7 +52,8 @@ pub(crate) fn selector(rt: &impl Abort, number: u32) -> Selector {
     Selector::of(number).expect(rt, "a number above 0")
 }
 
-// The text of a document of root classes without methods, but for the first, which has methods of so many selectors from 2 on. All are implementation 1.
+// The text of a document of root classes without methods, but for the first, which has methods of
+// so many selectors from 2 on. All are implementation 1.
 pub(crate) fn grid(rt: &impl Abort, alloc: Global, classes: u32, selectors: u32) -> String {
     let mut methods = String::new(alloc);
     for number in 0..selectors {

@@ -1,4 +1,5 @@
-//! Tests of the caches that threads share, and of the dispatcher: in one thread, in many, and of what other runtimes have got wrong.
+//! Tests of the caches that threads share, and of the dispatcher: in one thread, in many, and of
+//! what other runtimes have got wrong.
 #![tactic(auto)]
 
 #[cfg(test)]

@@ -1,4 +1,5 @@
-//! What is done when no memory is left, or too little. With `rt try --test --fail-alloc N..`, which refuses the Nth allocation and all after it, these tests have to pass for each N, too.
+//! What is done when no memory is left, or too little. With `rt try --test --fail-alloc N..`, which
+//! refuses the Nth allocation and all after it, these tests have to pass for each N, too.
 
 ghost use Rattle.std.specs.Prelude.{◌≡◌};
 ghost use Rattle.msg_image.specs.Opened.{origin_of};
@@ -53,7 +54,8 @@ fn is_left<N: ArenaName, R: Wait + Abort>(
     same(rt, sender.find_cached(rt, GRAND, sel), Some(ImpRef::of(2)));
 }
 
-// A change that adds a row, for which there may be no memory. It is tried with ever more, and at last made, where there is some. The first time there is none.
+// A change that adds a row, for which there may be no memory. It is tried with ever more, and at
+// last made, where there is some. The first time there is none.
 fn adds<N: ArenaName, R: Wait + Abort>(
     rt: &R,
     dispatcher: &Dispatcher<N>,
@@ -114,7 +116,8 @@ fn answers<N: ArenaName, R: Wait + Abort>(
     assert!(rt; dispatcher.sender(rt).is_ok());
 }
 
-// Opens a dispatcher, where there is memory for one, and takes all memory that is left. Says whether there was.
+// Opens a dispatcher, where there is memory for one, and takes all memory that is left. Says
+// whether there was.
 fn opens_and_answers<N: ArenaName, R: Wait + Abort>(
     rt: &R,
     alloc: Global,
@@ -162,7 +165,8 @@ fn is_answered<R: Wait + Abort>(
     }
 }
 
-// It is tried with ever more memory, until there is enough for a dispatcher. The first time there is none.
+// It is tried with ever more memory, until there is enough for a dispatcher. The first time there
+// is none.
 fn is_answered_at_last<R: Wait + Abort>(
     rt: &R,
     alloc: Global,

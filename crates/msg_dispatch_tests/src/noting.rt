@@ -25,7 +25,8 @@ fn addition(class: ClassRef, sel: Selector) -> Change {
     }
 }
 
-// A sender with notes that is known to be of its dispatcher's image, and looks for its classes alone.
+// A sender with notes that is known to be of its dispatcher's image, and looks for its classes
+// alone.
 #[derive(Drop)]
 struct Noting<'d, N: ArenaName> {
     sender: Recalling<'d, N>,

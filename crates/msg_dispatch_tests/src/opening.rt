@@ -1,4 +1,5 @@
-//! A dispatcher that is opened for a test, and lent to what the test does with it: each function that owns one has its proof drop it.
+//! A dispatcher that is opened for a test, and lent to what the test does with it: each function
+//! that owns one has its proof drop it.
 
 ghost use Rattle.std.specs.Prelude.{◌≡◌};
 ghost use Rattle.msg_image.specs.Opened.{origin_of};

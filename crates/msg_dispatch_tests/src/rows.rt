@@ -141,7 +141,8 @@ fn refusals(rt: &impl Abort, desk: &mut Desk) -> u32 {
     refused
 }
 
-// Fills Child's cache, where so many entries find no array, and the last one is cached if there is none of these.
+// Fills Child's cache, where so many entries find no array, and the last one is cached if there is
+// none of these.
 fn grows(rt: &impl Abort, desk: &mut Desk, reader: &mut Reader, none: u32, report: [u64; 5]) {
     same(rt, refusals(rt, desk), none);
     same(rt, five(desk.report()), report);
@@ -153,7 +154,8 @@ fn grows(rt: &impl Abort, desk: &mut Desk, reader: &mut Reader, none: u32, repor
     same(rt, last.is_some(), none == 0);
 }
 
-// The same where so many of the largest arrays are there. An array is cleared only when it is free, so nothing that was retired is given again.
+// The same where so many of the largest arrays are there. An array is cleared only when it is free,
+// so nothing that was retired is given again.
 fn grows_to(rt: &impl Abort, alloc: Global, largest: u16, none: u32, report: [u64; 5]) {
     let mut desk = open(rt, alloc, 64, [1, 1, 1, 1, 1, 1, 1, 1, largest]);
     let mut reader = desk.give_out(rt, 63);
@@ -168,7 +170,8 @@ fn a_cache_grows_to_the_largest(rt: HostRuntime) {
     }
 }
 
-// All calls of a keeper, its turn and its senders: the one sender stops, the other finds what was cached, and a change that takes no memory is made.
+// All calls of a keeper, its turn and its senders: the one sender stops, the other finds what was
+// cached, and a change that takes no memory is made.
 fn keeps(rt: &impl Abort, desk: &mut Desk, reader: &mut Reader) {
     assert!(rt; !desk.gives_out(0));
     assert!(rt; !desk.has_turn());

@@ -1,5 +1,6 @@
-//! What tests compare by. In functions of their own comparisons are proved once, and not at each place of a test. Where what follows rests on
-//! what was compared, the test compares by the macro, so that its proof knows it.
+//! What tests compare by. In functions of their own comparisons are proved once, and not at each
+//! place of a test. Where what follows rests on what was compared, the test compares by the macro,
+//! so that its proof knows it.
 
 use std::fmt::Debug;
 use std::process::Abort;

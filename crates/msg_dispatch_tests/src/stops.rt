@@ -31,7 +31,8 @@ impl Pause for Stop<'_> {
     }
 }
 
-// The load before which a sender stops that seeks a selector, the implementation that it finds, and how many bucket words it loads. Child's cache has these entries.
+// The load before which a sender stops that seeks a selector, the implementation that it finds, and
+// how many bucket words it loads. Child's cache has these entries.
 #[derive(Clone, Copy, Debug)]
 pub(crate) struct Case {
     entries: &'static [u32],
@@ -41,7 +42,8 @@ pub(crate) struct Case {
     loads: u32,
 }
 
-// Child has selectors 2, 6 and 10, at places 2, 3 and 0 of the one array of 4. A sender that stops before the header load finds no array.
+// Child has selectors 2, 6 and 10, at places 2, 3 and 0 of the one array of 4. A sender that stops
+// before the header load finds no array.
 const STOPS: [(u32, u32, Option<u32>, u32); 14] = [
     (2, 0, None, 0),
     (2, 1, Some(1), 1),

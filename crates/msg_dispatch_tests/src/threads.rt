@@ -183,7 +183,8 @@ fn add_all<N: ArenaName, R: Wait + Abort>(rt: &R, changer: &mut Changer<'_, N>) 
     }
 }
 
-// Asks for what is added, until the last was found and so many answers were given. What was added before something that was found is found, too.
+// Asks for what is added, until the last was found and so many answers were given. What was added
+// before something that was found is found, too.
 fn never_older<N: ArenaName, R: Wait + Abort>(rt: &R, sender: &mut Asker<'_, N>, times: u32) {
     let mut found = 0;
     let mut place = 7u32;

@@ -39,8 +39,8 @@ impl Edits {
         }
     }
 
-    /// Takes one line: the document that is edited from here on, what is expected from here on, an edit `OLD => NEW` at the first place of the old
-    /// text, or a comment.
+    /// Takes one line: the document that is edited from here on, what is expected from here on, an
+    /// edit `OLD => NEW` at the first place of the old text, or a comment.
     pub(crate) fn take<T: Threads + Wait + Sync>(
         &mut self,
         rt: &HostRuntime,

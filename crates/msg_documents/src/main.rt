@@ -1,8 +1,10 @@
-//! Runs the documents of the folder that it is started in, and says of each whether its answers are as they should be.
+//! Runs the documents of the folder that it is started in, and says of each whether its answers are
+//! as they should be.
 //!
-//! In `examples` and `answers` a document `NAME.json` stands beside `NAME.out`, which is what a run of it writes, for each number of workers and each cut.
-//! In `edits` each `NAME.edits` has edits of the documents there, and the fault that the edited document is refused with.
-//! Each text is also read by `serde_json`, which has to make the same of it.
+//! In `examples` and `answers` a document `NAME.json` stands beside `NAME.out`, which is what a run
+//! of it writes, for each number of workers and each cut. In `edits` each `NAME.edits` has edits of
+//! the documents there, and the fault that the edited document is refused with. Each text is also
+//! read by `serde_json`, which has to make the same of it.
 #![tactic(auto)]
 
 mod edits;
@@ -63,7 +65,8 @@ fn read(rt: &HostRuntime, folder: &str, name: &str, end: &str) -> io::Result<Str
     fs::read_to_string(rt, path.as_str())
 }
 
-// Whether the document is read as serde_json reads it, and each run of it writes the text, and nothing else.
+// Whether the document is read as serde_json reads it, and each run of it writes the text, and
+// nothing else.
 fn is_answered<T: Threads + Wait + Sync>(
     rt: &T,
     alloc: Global,

@@ -13,7 +13,8 @@ use Rattle.msg_eval.specs.Message.{message_to, super_message}
 use Rattle.msg_eval.specs.Operation.{result_of, is_no}
 
 abbrev mutual
-  -- An expression, and then the rest. Both operands of an operation are evaluated, and of an `if` one part alone. A send evaluates its receiver, then its arguments, then it is dispatched.
+  -- An expression, and then the rest. Both operands of an operation are evaluated, and of an `if`
+  -- one part alone. A send evaluates its receiver, then its arguments, then it is dispatched.
   pub eval : ImageParts → Bodies → Scope → Expression → ℕ → Rest → Meaning
   eval image body s (Const v) n k = k v n
   eval image body s Me n k = k s.me n

@@ -19,7 +19,8 @@ sizes_of image = record { classes = class_total image; imps = length image.imps 
 abbrev pub table_sizes : TablesView → Sizes
 table_sizes t = record { classes = length t.supers; imps = last_imp t.counts }
 
--- The answer is the lookup at a point of the history that begins with h, and there the finder then stands.
+-- The answer is the lookup at a point of the history that begins with h, and there the finder then
+-- stands.
 pub record FindsAfter (stands : History → Type 0) (h : History) (c : ClassRef) (s i : ℕ) : Type 0 where
   pub point : History
   pub begins : BeginsWith point h

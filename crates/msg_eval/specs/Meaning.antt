@@ -7,7 +7,8 @@ use Rattle.msg_eval.specs.declared.reply.Reply.TheVariants as replies
 use Rattle.msg_eval.specs.declared.reply.SendFault.{SendFault}
 use Rattle.msg_eval.specs.declared.reply.SendFault.TheVariants.{Budget}
 
--- A send ends with a reply, or asks for a lookup of a selector in a class and goes on with the answer: an implementation by its number, or 0 for forwarding.
+-- A send ends with a reply, or asks for a lookup of a selector in a class and goes on with the
+-- answer: an implementation by its number, or 0 for forwarding.
 pub data Meaning : Type 0 where
   Ends : Reply → Meaning
   Asks : ClassRef → ℕ → (ℕ → Meaning) → Meaning
@@ -16,7 +17,8 @@ pub data Meaning : Type 0 where
 abbrev pub Rest : Type 0
 Rest = Value → ℕ → Meaning
 
--- what the body of an implementation does for a receiver and arguments, where so many lookups are left, and what follows its value
+-- what the body of an implementation does for a receiver and arguments, where so many lookups are
+-- left, and what follows its value
 abbrev pub Bodies : Type 0
 Bodies = ℕ → Value → List Value → ℕ → Rest → Meaning
 

@@ -32,7 +32,8 @@ EndsAfter (Asks c s go) (p ∷ ps) reply = EndsAfter (go (lookup p c s)) ps repl
 abbrev pub SendAt : ImageParts → Value → Selector → List Value → List History → Reply → Type 0
 SendAt image receiver s xs points reply = EndsAfter (send_of image receiver s xs) points reply
 
--- There are points that rise from h at which the send ends with the reply, and the finder stands at the last of them, or at h where there are none.
+-- There are points that rise from h at which the send ends with the reply, and the finder stands at
+-- the last of them, or at h where there are none.
 pub record RepliesFrom (stands : History → Type 0) (h : History) (send : Meaning) (reply : Reply) : Type 0 where
   pub points : List History
   pub rise : Rise h points
@@ -73,7 +74,8 @@ pub record HasOneReply (h : History) (send : Meaning) : Type 0 where
 
 -- ---- the same with lists of answers
 
--- What the answers of a list come to: the reply and how many were used, or the question that comes next.
+-- What the answers of a list come to: the reply and how many were used, or the question that comes
+-- next.
 pub data Outcome : Type 0 where
   Ended : Reply → (used : ℕ) → Outcome
   Asking : ClassRef → ℕ → Outcome
@@ -84,7 +86,8 @@ with_answers (Ends r) answers used = Ended r used
 with_answers (Asks c s go) [] used = Asking c s
 with_answers (Asks c s go) (i ∷ is) used = with_answers (go i) is (suc used)
 
--- There are answers, as many as points: each is the lookup at its point of what is asked after the answers before it, and with all of them the send ends with the reply.
+-- There are answers, as many as points: each is the lookup at its point of what is asked after the
+-- answers before it, and with all of them the send ends with the reply.
 pub record HasAnswersAt (send : Meaning) (used : ℕ) (points : List History) (reply : Reply) : Type 0 where
   pub answers : List ℕ
   pub as_many : length answers ≡ length points

@@ -12,13 +12,15 @@ abbrev pub Leads : Meaning → History → History → Reply → Type 0
 Leads (Ends r) h g reply = (r ≡ reply) × (h ≡ g)
 Leads (Asks c s go) h g reply = (p : History) × BeginsWith p h × Leads (go (lookup p c s)) p g reply
 
--- From h a part of a send comes to this result, with so many lookups left, at a point where the finder then stands: what follows the result there leads to the reply of the whole.
+-- From h a part of a send comes to this result, with so many lookups left, at a point where the
+-- finder then stands: what follows the result there leads to the reply of the whole.
 pub record Gives {A : Type 0} (stands : History → Type 0) (h : History) (part : (A → ℕ → Meaning) → Meaning) (result : Result A SendFault) (left : ℕ) : Type 0 where
   pub point : History
   pub there : stands point
   pub follows : (k : A → ℕ → Meaning) (g : History) (reply : Reply) → Leads (go_on result left k) point g reply → Leads (part k) h g reply
 
--- From each history at which the finder stood, a part of a send comes to this result where the finder then stands, with so many lookups left.
+-- From each history at which the finder stood, a part of a send comes to this result where the
+-- finder then stands, with so many lookups left.
 abbrev pub Means : {F A : Type 0} → (F → History → Type 0) → F → F → ((A → ℕ → Meaning) → Meaning) → Result A SendFault → ℕ → Type 0
 Means stands old new part result left = (h : History) → stands old h → Gives (stands new) h part result left
 
@@ -32,7 +34,8 @@ abbrev pub numbered : Result ImpRef SendFault → Result ℕ SendFault
 numbered (Ok i) = Ok (imp_number i)
 numbered (Err f) = Err f
 
--- From h a part of a send comes to another part, at a point where the finder then stands: what leads from there to a reply leads the whole to it.
+-- From h a part of a send comes to another part, at a point where the finder then stands: what
+-- leads from there to a reply leads the whole to it.
 pub record ComesTo {A : Type 0} (stands : History → Type 0) (h : History) (part later : (A → ℕ → Meaning) → Meaning) : Type 0 where
   pub point : History
   pub there : stands point

@@ -1,6 +1,7 @@
 //! The evaluation of bodies.
 //!
-//! What evaluates a part of a send is a small function of its own, so that no frame on the stack has room for more than its part.
+//! What evaluates a part of a send is a small function of its own, so that no frame on the stack
+//! has room for more than its part.
 
 ghost use Rattle.std.specs.Prelude.{◌≡◌, ◌<◌, ◌≤◌, ◌+◌, length, List, [], IfOk};
 ghost use Rattle.arrayvec.specs.ArrayVec.{array_vec_len};
@@ -36,7 +37,8 @@ pub const MAX_BODIES: u32 = 32;
 
 /// Sends a message, and evaluates the bodies that it comes to.
 ///
-/// It takes no memory, and on the stack no more than the greatest depth of 32 bodies. Forwarding doesn't nest, however often it starts again.
+/// It takes no memory, and on the stack no more than the greatest depth of 32 bodies. Forwarding
+/// doesn't nest, however often it starts again.
 pub fn send<F: Finder>(
     finder: &mut F,
     image: &Image,
@@ -97,8 +99,10 @@ fn eval_expr<F: Finder>(
 
 // Evaluates both operands, and operates on them.
 //
-// A leaf, as every second expression of a body is, is looked at before a call that might wait: after each of those the compiled code has a test more. And a
-// result that goes from one function to the next is copied in other pieces than it was written in, for which the processor waits: so this is inlined.
+// A leaf, as every second expression of a body is, is looked at before a call that might wait:
+// after each of those the compiled code has a test more. And a result that goes from one function
+// to the next is copied in other pieces than it was written in, for which the processor waits: so
+// this is inlined.
 #[cycle(eval)]
 #[inline(always)]
 fn eval_two<F: Finder>(

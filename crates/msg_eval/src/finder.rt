@@ -21,7 +21,8 @@ pub trait Finder {
     /// It has seen this history and no more.
     ghost stands: { Self → History → Type 0 };
 
-    /// The implementation that a lookup finds at some point, which the finder has then seen, or forwarding.
+    /// The implementation that a lookup finds at some point, which the finder has then seen, or
+    /// forwarding.
     fn find(&mut self, class: ClassRef, sel: Selector) -> ImpRef
         requires { class.class < (sizes (kept self.old)).classes }
         ensures kept { kept self.new ≡ kept self.old }

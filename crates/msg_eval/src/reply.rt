@@ -12,7 +12,8 @@ pub enum Reply {
 /// Why a send gives no value.
 #[derive(Clone, Copy, Debug, PartialEq, Eq)]
 pub enum SendFault {
-    /// Neither the receiver's class nor a forwarding target has the method. The class is the receiver's, after forwarding the last one's.
+    /// Neither the receiver's class nor a forwarding target has the method. The class is the
+    /// receiver's, after forwarding the last one's.
     Unrecognized { class: ClassRef, sel: Selector },
     NotAnObject,
     NotANumber,

@@ -45,7 +45,8 @@ distinct_while_few none names texts empty added = record {
   all = λ few. added.all few ∙ ap (λ ns. fold with_name ns texts) empty;
 }
 
--- texts of selectors, the names of classes and those of objects and implementations were added to none
+-- texts of selectors, the names of classes and those of objects and implementations were added to
+-- none
 pub are_names : (f : Form) (none between last : FormNames) (selectors : List Text) → AreAddedWhileFew none.selectors selectors (selector_texts f) → AreClassesAdded (record none { selectors = selectors }) between f → AreMembersAdded between last f → HasNone none → AreNamesOf last f
 unfolding distinct has_duplicate_class has_duplicate_object has_duplicate_imp
 are_names f none between last selectors texts classes members empty =

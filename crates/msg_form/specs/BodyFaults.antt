@@ -30,7 +30,8 @@ pub record AreBodyFaults (b : BodyFaults) (f : Form) : Type 0 where
   pub argument_index : b.argument_index ≡ spec.has_wrong_argument_index f
   pub too_deep : b.too_deep ≡ spec.has_too_deep_body f
 
--- what a body has at its worst: in a method of a root class, where no class and no object has a name
+-- what a body has at its worst: in a method of a root class, where no class and no object has a
+-- name
 pub record AreWorst (w : BodyFaults) (args : ℕ) (body : Expression) : Type 0 where
   pub sends_above : w.sends_above ≡ list_any is_super_send (parts body)
   pub unknown_class : w.unknown_class ≡ list_any (is_unknown []) (classes_in body)

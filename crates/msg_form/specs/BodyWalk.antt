@@ -44,7 +44,8 @@ with_constant classes objects f (class_named n) =
     record { sends_above = f.sends_above; unknown_class = f.unknown_class || is_unknown classes n; unknown_object = f.unknown_object; argument_count = f.argument_count; argument_index = f.argument_index; too_deep = f.too_deep }
 with_constant classes objects f (selector_named s) = f
 
--- what is wrong with an expression of a body with so many arguments, but for those inside it; above says that a super send is
+-- what is wrong with an expression of a body with so many arguments, but for those inside it; above
+-- says that a super send is
 abbrev pub with_own : Bool → List Text → List Text → ℕ → BodyFaults → Expression → BodyFaults
 with_own above classes objects args f (constant c) = with_constant classes objects f c
 with_own above classes objects args f me = f

@@ -38,7 +38,8 @@ constant_of (string s) = None
 constant_of (array ds) = listed_constant_of (values_of ds)
 constant_of (object ms) = None
 
--- ---- a list that begins with a word: ds are its values, and es is what each of them spells as an expression
+-- ---- a list that begins with a word: ds are its values, and es is what each of them spells as an
+-- expression
 
 -- the expression at a place
 abbrev pub at : ℕ → List (Option Expression) → Option Expression
@@ -133,7 +134,8 @@ listed_of ds es = value_of as_str 0 ds >>= λ word. worded_of word ds es
 -- ---- any value
 
 abbrev mutual
-  -- the expression that a JSON value spells: a constant, or a list that begins with one of the words
+  -- the expression that a JSON value spells: a constant, or a list that begins with one of the
+  -- words
   pub expression_of : Data → Option Expression
   expression_of null = option_map constant (constant_of null)
   expression_of (boolean b) = option_map constant (constant_of (boolean b))

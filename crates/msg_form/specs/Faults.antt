@@ -63,7 +63,8 @@ has_late_superclass names (c ∷ cs) = is_outside names c.superclass || has_late
 abbrev pub has_unlisted_superclass : List ClassForm → Bool
 has_unlisted_superclass cs = list_any (λ c. is_outside (map (λ (d : ClassForm). d.name) cs) c.superclass) cs
 
--- a class's `super` isn't the name of a listed class, or in version 1 of one that is listed before it
+-- a class's `super` isn't the name of a listed class, or in version 1 of one that is listed before
+-- it
 unfoldable pub has_other_superclass : Form → Bool
 has_other_superclass f = if makes_classes f.version then has_unlisted_superclass f.classes else has_late_superclass [] f.classes
 
@@ -76,7 +77,8 @@ has_unknown_superclass f = has_other_superclass f || list_any (sends_above (root
 
 -- ---- UnknownClass
 
--- a category or implementation has no listed class, or an object, change or constant names none that is listed or may be made
+-- a category or implementation has no listed class, or an object, change or constant names none
+-- that is listed or may be made
 unfoldable pub has_unknown_class : Form → Bool
 has_unknown_class f = list_any (is_unknown (class_names f)) (classes_named f) || list_any (is_unknown (listed_names f)) (home_classes f)
 
@@ -163,7 +165,8 @@ has_too_deep_body f = list_any (λ i. is_too_deep i.body) f.imps
 abbrev pub superclasses_of : List ClassForm → List (Option ℕ)
 superclasses_of cs = map (λ c. option_map (number_among (distinct (map (λ (d : ClassForm). d.name) cs))) c.superclass) cs
 
--- A listed class stands on its own chain of superclasses, so that the chain doesn't end. In version 1 superclasses come first.
+-- A listed class stands on its own chain of superclasses, so that the chain doesn't end. In version
+-- 1 superclasses come first.
 unfoldable pub has_class_cycle : Form → Bool
 has_class_cycle f = makes_classes f.version && has_cycle (superclasses_of f.classes)
 

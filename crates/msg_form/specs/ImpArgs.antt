@@ -11,6 +11,7 @@ use Rattle.msg_form.specs.declared.form.Pair.{Pair}
 abbrev pub args_at : List Text → List ImpForm → Text → Option ℕ
 args_at names imps name = number_of names name >>= λ n. option_map (λ i. i.args) (slice_get imps (n - 1))
 
--- by its place, the pair's implementation takes another number of arguments than its selector has colons
+-- by its place, the pair's implementation takes another number of arguments than its selector has
+-- colons
 abbrev pub is_miscounted_by : List Text → List ImpForm → Pair → Bool
 is_miscounted_by names imps p = differs (args_at names imps p.imp.now) p.selector.now

@@ -27,7 +27,8 @@ has_duplicate (text ∷ texts) = is_among text texts || has_duplicate texts
 abbrev pub repeats : List Text → List Text → Bool
 repeats seen texts = list_any (λ t. is_among t seen) texts || has_duplicate texts
 
--- The number of a name, from 0. One that is none of the names would get the first's; where names are known this is no name's number but its own.
+-- The number of a name, from 0. One that is none of the names would get the first's; where names
+-- are known this is no name's number but its own.
 abbrev pub number_among : List Text → Text → ℕ
 number_among names name = unwrap_or (number_of names name) 1 - 1
 

@@ -13,7 +13,8 @@ forwarding_text = codes "forwardingTargetForSelector:"
 abbrev pub list_texts : List PairForm → List Text
 list_texts pairs = map (λ p. p.selector) pairs
 
--- from the outside in and left to right: a send's selector after its receiver and before its arguments
+-- from the outside in and left to right: a send's selector after its receiver and before its
+-- arguments
 abbrev mutual
   pub texts_in : Expression → List Text
   texts_in (constant c) = own_selector c

@@ -153,7 +153,8 @@ pub(crate) fn are_alike<'v, T: Named<'v>>(alloc: Global, parts: &[T]) -> Result<
     add_names(&mut names, parts)
 }
 
-/// Adds the names of the listed classes and of those that may be made. Whether one of them is among the names or stands twice.
+/// Adds the names of the listed classes and of those that may be made. Whether one of them is among
+/// the names or stands twice.
 fn add_class_names<'v>(names: &mut NameSet<'v>, form: &Form<'v>) -> Result<bool, AllocError>
     ensures names { OnOk result (names.new ≡ fold with_name names.old (class_names (form_view form.now))) }
     ensures twice { IfOk result (λ b. b ≡ repeats names.old (class_names (form_view form.now))) }

@@ -1,8 +1,9 @@
 //! The least fault of a document.
 //!
-//! All checks together take time in proportion to the document's size: each goes once over the parts
-//! that its fault speaks of, and looks names up in the form's sets of names. The walk over the places of selectors
-//! and the one over the bodies are the dear ones. They take memory for a reference to each list of pairs.
+//! All checks together take time in proportion to the document's size: each goes once over the
+//! parts that its fault speaks of, and looks names up in the form's sets of names. The walk over
+//! the places of selectors and the one over the bodies are the dear ones. They take memory for a
+//! reference to each list of pairs.
 
 ghost use Rattle.std.specs.Prelude.{◌≡◌, ◌≤◌, drop, length, IfOk};
 ghost use Rattle.msg_form.specs.BodyFaults.{AreBodyFaults};

@@ -8,7 +8,8 @@ use crate::limits::{
     MAX_OBJECTS,
 };
 
-/// The conditions that are judged on a form stand in the order of their faults' numbers, and none is left out.
+/// The conditions that are judged on a form stand in the order of their faults' numbers, and none
+/// is left out.
 pub fn faults_are_judged_in_the_order_of_their_numbers()
     ensures { ConditionsAreInOrder }
 {}

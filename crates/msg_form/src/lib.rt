@@ -1,7 +1,8 @@
 //! The syntax of documents, with names as texts, and what is wrong with one.
 //!
-//! [`Form::read`] reads the form of a document from its JSON value, [`fault_by`] judges it, and [`Form::selector_texts`] lists the texts that
-//! get numbers as selectors. A form borrows its texts from the JSON text.
+//! [`Form::read`] reads the form of a document from its JSON value, [`fault_by`] judges it, and
+//! [`Form::selector_texts`] lists the texts that get numbers as selectors. A form borrows its texts
+//! from the JSON text.
 #![tactic(auto)]
 
 mod changes;

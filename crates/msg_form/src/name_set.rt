@@ -11,7 +11,8 @@ use std::marker::Model;
 /// How many names have numbers.
 const MAX_NUMBERED: usize = 4_294_967_295;
 
-/// Different texts of a document, numbered from 1 as they came. A look-up and an insert hash the text once.
+/// Different texts of a document, numbered from 1 as they came. A look-up and an insert hash the
+/// text once.
 #[derive(Drop)]
 pub struct NameSet<'v> {
     names: IndexSet<&'v str>,
@@ -71,7 +72,8 @@ impl<'v> NameSet<'v> {
         Some(index as u32 + 1)
     }
 
-    /// Whether the name is new to the set, which then has it. There is no room for more than 4,294,967,295 names.
+    /// Whether the name is new to the set, which then has it. There is no room for more than
+    /// 4,294,967,295 names.
     pub fn insert(&mut self, name: &'v str) -> Result<bool, AllocError>
         ensures added { IfOk result (λ b. b ≡ not (is_among name.now self.old)) }
         ensures names { OnOk result (self.new ≡ with_name self.old name.now) }

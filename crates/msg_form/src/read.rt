@@ -1,4 +1,5 @@
-//! Reading a form from a JSON tree. Each value is looked at once, and texts are borrowed from the JSON text.
+//! Reading a form from a JSON tree. Each value is looked at once, and texts are borrowed from the
+//! JSON text.
 
 ghost use Rattle.std.specs.Prelude.{◌≡◌, IfErr, IfOk, Option, map};
 ghost use Rattle.serde_json.specs.Data.{Data};

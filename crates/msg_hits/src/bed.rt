@@ -92,7 +92,8 @@ impl<'a> Bed<'a> {
     /// Caches the entries of a load, and gives queries for them.
     pub(crate) fn prepare(&mut self, alloc: Global, load: Load) -> Result<Queries> {
         let (entries, queries) = drawn(alloc, load)?;
-        // An array that a cache grows into has one entry, so what was cached before is cached again.
+        // An array that a cache grows into has one entry, so what was cached before is cached
+        // again.
         for _time in 0..2 {
             self.fill_all(&entries);
         }

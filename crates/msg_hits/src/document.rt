@@ -10,7 +10,8 @@ pub(crate) const CLASSES: u32 = 32;
 /// The selectors that are sought are numbered from 1 to this one.
 pub(crate) const SELECTORS: u32 = 255;
 
-// The methods of the root, and their implementations. Selector 1 is that of forwarding, and of another selector the implementation's number is one less than its own.
+// The methods of the root, and their implementations. Selector 1 is that of forwarding, and of
+// another selector the implementation's number is one less than its own.
 fn methods(alloc: Global) -> Result<(String, String), AllocError> {
     let mut methods = String::new(alloc);
     let mut imps = String::new(alloc);

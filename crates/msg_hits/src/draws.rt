@@ -2,7 +2,8 @@
 
 ghost use Rattle.std.specs.Prelude.{◌<◌};
 
-/// Marsaglia's generator of 64 bits with the shifts 13, 7 and 17 (Xorshift RNGs, 2003), from a seed that stays the same.
+/// Marsaglia's generator of 64 bits with the shifts 13, 7 and 17 (Xorshift RNGs, 2003), from a seed
+/// that stays the same.
 #[derive(Drop)]
 pub(crate) struct Draws {
     state: u64,

@@ -65,7 +65,8 @@ fn entries(alloc: Global, draws: &mut Draws, load: Load) -> Result<Vec<Query>, A
     Ok(entries)
 }
 
-// So many selectors, of which no two are one, where a thousand draws give so many. After each one number is drawn and left, where the other program draws an implementation.
+// So many selectors, of which no two are one, where a thousand draws give so many. After each one
+// number is drawn and left, where the other program draws an implementation.
 fn draw_selectors(
     alloc: Global,
     draws: &mut Draws,

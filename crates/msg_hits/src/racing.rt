@@ -38,7 +38,8 @@ impl Runner<'_> {
     }
 }
 
-// All windows of a runner. One whose clock can't be read counts as the longest, so that no runner waits in vain.
+// All windows of a runner. One whose clock can't be read counts as the longest, so that no runner
+// waits in vain.
 fn run<'a, R: Wait + Clock>(
     rt: &R,
     runner: Runner<'a>,
@@ -57,7 +58,8 @@ fn run<'a, R: Wait + Clock>(
     Ok(runner.took)
 }
 
-/// The nanoseconds of each sender in each window. Where a thread can't be started the senders wait for it forever.
+/// The nanoseconds of each sender in each window. Where a thread can't be started the senders wait
+/// for it forever.
 pub(crate) fn race<'a, R: Threads + Wait + Clock + Sync>(
     rt: &R,
     alloc: Global,

@@ -39,7 +39,8 @@ IsRefusal n = (n ≢ 0) × (n ≢ want_of_memory) × (n ≢ want_of_room)
 abbrev pub LacksSelector : RuntimeView → RuntimeView → ℕ → ℕ → Type 0
 LacksSelector v w sel n = sel ≡ 0 → (n ≡ want_of_selector) × (w ≡ v)
 
--- A change took a runtime from v to w with the answer n: 0 where it was made, and else its fault's number, and nothing has changed.
+-- A change took a runtime from v to w with the answer n: 0 where it was made, and else its fault's
+-- number, and nothing has changed.
 pub record AnswersChange (v w : RuntimeView) (x : Change) (n : ℕ) : Type 0 where
   pub arena : w.arena ≡ v.arena
   pub given : w.keeper.given ≡ v.keeper.given

@@ -100,7 +100,8 @@ AreMeant rows xs = map change_in rows ≡ map (λ x. Ok x) xs
 abbrev pub MakesRows : List ChangeRow → History → History → Type 0
 MakesRows rows old new = (xs : List Change) × AreMeant rows xs × AreMade xs old new
 
--- the row of this place means no change, and this is the number of its fault; those before mean some
+-- the row of this place means no change, and this is the number of its fault; those before mean
+-- some
 abbrev pub IsBadRow : List ChangeRow → ℕ → ℕ → Type 0
 IsBadRow rows place n = (before : List Change) × AreMeant (take place rows) before
     × (row : ChangeRow) × (slice_get rows place ≡ Some row) × (f : AskFault) × (change_in row ≡ Err f) × (n ≡ ask_fault_number f)
@@ -109,7 +110,8 @@ IsBadRow rows place n = (before : List Change) × AreMeant (take place rows) bef
 abbrev pub IsRefusedRow : List ChangeRow → History → ℕ → ℕ → Type 0
 IsRefusedRow rows h place n = (xs : List Change) × AreMeant rows xs × (f : ChangeFault) × (refused_from 0 (log h) xs ≡ Some (place, f)) × (n ≡ change_fault_number f)
 
--- rows are taken as changes of which one is refused at a history: the row of this place means none, or is the first that would be refused
+-- rows are taken as changes of which one is refused at a history: the row of this place means none,
+-- or is the first that would be refused
 abbrev pub AreRefusedRows : List ChangeRow → History → ℕ → ℕ → Type 0
 AreRefusedRows rows h place n = IsBadRow rows place n ⊎ IsRefusedRow rows h place n
 
@@ -117,7 +119,8 @@ AreRefusedRows rows h place n = IsBadRow rows place n ⊎ IsRefusedRow rows h pl
 abbrev pub AreRowsRefusedAt : List ChangeRow → History → ℕ → ℕ → Type 0
 AreRowsRefusedAt rows h place n = n ≢ want_of_memory → AreRefusedRows rows h place n
 
--- where memory was wanting each row means a change, and neither those before this place would be refused nor that at it
+-- where memory was wanting each row means a change, and neither those before this place would be
+-- refused nor that at it
 abbrev pub LackMemoryAt : List ChangeRow → History → ℕ → Type 0
 LackMemoryAt rows h place = (xs : List Change) × AreMeant rows xs × (refused_from 0 (log h) (take (place + 1) xs) ≡ None)
 
@@ -125,7 +128,9 @@ LackMemoryAt rows h place = (xs : List Change) × AreMeant rows xs × (refused_f
 abbrev pub LackMemoryIf : List ChangeRow → History → ℕ → ℕ → Type 0
 LackMemoryIf rows h place n = n ≡ want_of_memory → LackMemoryAt rows h place
 
--- Why the changes of rows aren't made at a history: the number of a fault at the place of a row. But for want of memory, that row means no change, or its change is the first that would be refused.
+-- Why the changes of rows aren't made at a history: the number of a fault at the place of a row.
+-- But for want of memory, that row means no change, or its change is the first that would be
+-- refused.
 pub record IsRowFault (rows : List ChangeRow) (h : History) (r : RowFault) : Type 0 where
   pub some : r.number ≢ 0
   pub room : r.number ≢ want_of_room
@@ -133,7 +138,8 @@ pub record IsRowFault (rows : List ChangeRow) (h : History) (r : RowFault) : Typ
   pub fault : AreRowsRefusedAt rows h r.place r.number
   pub memory : LackMemoryIf rows h r.place r.number
 
--- what was written tells the way back from the changes that the rows mean, directly after they are made at a history
+-- what was written tells the way back from the changes that the rows mean, directly after they are
+-- made at a history
 abbrev pub TellsRowsBack : List ChangeRow → History → List Entry → Type 0
 TellsRowsBack rows h entries = (xs : List Change) × AreMeant rows xs × TellsWayBack xs h entries
 
@@ -142,7 +148,8 @@ abbrev pub AreWayBack : Option (List Change) → List ChangeRow → ℕ → Type
 AreWayBack None undo n = n ≡ 0
 AreWayBack (Some ys) undo n = AreMeant (take n undo) ys
 
--- so many rows mean what takes back the changes that these mean, directly after they are made at a history
+-- so many rows mean what takes back the changes that these mean, directly after they are made at a
+-- history
 abbrev pub UndoesRows : List ChangeRow → History → List ChangeRow → ℕ → Type 0
 UndoesRows rows h undo n = (xs : List Change) × AreMeant rows xs × AreWayBack (undo_all (table (log h)) xs) undo n
 
@@ -158,12 +165,14 @@ ReachesRowsOf v rows old new = ReachesRows rows v.keeper.history (classes v.aren
 abbrev pub ReachesRowsBefore : RuntimeView → List ChangeRow → ℕ → List Bool → List Bool → Type 0
 ReachesRowsBefore v rows place old new = (xs : List Change) × AreMeant rows xs × MarksAffectedByAll (classes v.arena) (log v.keeper.history) (take place xs) old new
 
--- A row that means no change leaves the marks. Where its change is the first that would be refused, what those before it may alter is marked.
+-- A row that means no change leaves the marks. Where its change is the first that would be refused,
+-- what those before it may alter is marked.
 abbrev pub RefusesToReach : RuntimeView → List ChangeRow → ℕ → ℕ → List Bool → List Bool → Type 0
 RefusesToReach v rows place n old new =
     (IsBadRow rows place n × (new ≡ old))
     ⊎ (IsRefusedRow rows v.keeper.history place n × ReachesRowsBefore v rows place old new)
 
--- an entry that has a way back was given back behind the first `count` rows: the rows up to `n` then mean that too
+-- an entry that has a way back was given back behind the first `count` rows: the rows up to `n`
+-- then mean that too
 abbrev pub GivesBack : Entry → ℕ → List ChangeRow → ℕ → List ChangeRow → Type 0
 GivesBack e count old n new = (ys : List Change) → AreMeant (take count old) ys → (zs : List Change) × (and_before (undo_entry e) (Some ys) ≡ Some zs) × AreMeant (take n new) zs

@@ -6,7 +6,8 @@ use Rattle.msg_host.specs.Config.{arena_config, host_origin}
 use Rattle.msg_runtime.specs.View.{RuntimeView}
 use Rattle.msg_host.specs.declared.config.HostConfig.{HostConfig}
 
--- The runtime has the history without changes of the config's class numbers, and an arena of its senders and arrays, of which none is out.
+-- The runtime has the history without changes of the config's class numbers, and an arena of its
+-- senders and arrays, of which none is out.
 pub record OpensAs (config : HostConfig) (v : RuntimeView) : Type 0 where
   pub history : v.keeper.history ≡ empty (host_origin config)
   pub given : v.keeper.given ≡ replicate v.arena.key.senders false

@@ -12,7 +12,8 @@ use crate::runtime::HostedRuntime;
 use msg_names::ClassRef;
 
 impl HostedRuntime {
-    /// `class_getMethodImplementation`: the number of the implementation that a lookup finds now, or of forwarding. No cache is looked at or filled.
+    /// `class_getMethodImplementation`: the number of the implementation that a lookup finds now,
+    /// or of forwarding. No cache is looked at or filled.
     pub fn lookup(&self, class: u32, meta: bool, sel: u32) -> Result<u32, AskFault>
         ensures found { IfOk result (λ i. i ≡ lookup self.now.keeper.history (ref_of class meta) sel) }
         ensures listed { IfOk result (λ i. i ≤ last_imp self.now.keeper.history.origin.counts) }

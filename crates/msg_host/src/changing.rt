@@ -112,7 +112,8 @@ impl HostedRuntime {
         }
     }
 
-    /// Attaches a category, as `attachCategories` does: methods for the class, and others for its metaclass. Alike.
+    /// Attaches a category, as `attachCategories` does: methods for the class, and others for its
+    /// metaclass. Alike.
     pub fn attach(
         &mut self,
         alloc: Global,
@@ -141,7 +142,8 @@ impl HostedRuntime {
         })
     }
 
-    /// `objc_allocateClassPair` with `objc_registerClassPair`, alike: makes a class, without methods, under a superclass or as a root class.
+    /// `objc_allocateClassPair` with `objc_registerClassPair`, alike: makes a class, without
+    /// methods, under a superclass or as a root class.
     pub fn make_class(&mut self, class: u32, superclass: Option<u32>) -> u32
         ensures { AnswersChange self.old self.new (Change.AddClass class superclass) result }
     {

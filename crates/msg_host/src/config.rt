@@ -46,7 +46,8 @@ pub struct HostConfig {
     pub classes: u32,
     /// How many senders there may be.
     pub senders: u32,
-    /// How many arrays there are of 4 buckets, of 8, and so on up to 1,024. Where each is 0 they are the default.
+    /// How many arrays there are of 4 buckets, of 8, and so on up to 1,024. Where each is 0 they
+    /// are the default.
     pub arrays: [u32; 9],
 }
 
@@ -97,7 +98,8 @@ fn are_beyond(arrays: &[u32; 9]) -> bool
 }
 
 impl HostConfig {
-    /// The config that words spell, one field after another. Fields beyond the last word are 0, and words beyond the last field have to be.
+    /// The config that words spell, one field after another. Fields beyond the last word are 0, and
+    /// words beyond the last field have to be.
     pub fn of_words(words: &[u32]) -> Option<HostConfig>
         ensures config { IfSome result (λ config. config ≡ config_of words.now) }
         ensures known { is_some result ≡ are_known words.now }

@@ -10,7 +10,8 @@ ghost use Rattle.msg_host.specs.declared.fault.SenderFault.TheVariants as sendin
 use msg_names::{ClassRef, Selector};
 use std::alloc::AllocError;
 
-/// Why a question in numbers isn't asked, or a change in numbers isn't made. Where both of the first two hold, the first is answered.
+/// Why a question in numbers isn't asked, or a change in numbers isn't made. Where both of the
+/// first two hold, the first is answered.
 #[derive(Clone, Copy, Debug, PartialEq, Eq)]
 pub enum AskFault {
     /// No class has the number.
@@ -21,7 +22,8 @@ pub enum AskFault {
     BadRow,
 }
 
-// The number of the fault that the array for an answer has too few places, or another count than is asked for. No question or change is refused for it.
+// The number of the fault that the array for an answer has too few places, or another count than is
+// asked for. No question or change is refused for it.
 pub(crate) const NO_ROOM: u32 = 76;
 
 impl AskFault {

@@ -1,6 +1,8 @@
-//! What a host program's handles hold: a runtime behind the host's own lock, and senders that share its arena.
+//! What a host program's handles hold: a runtime behind the host's own lock, and senders that share
+//! its arena.
 //!
-//! The calls of `asking`, `changing` and `sending` take and give numbers, as a host in C has them, and refuse the numbers that mean nothing.
+//! The calls of `asking`, `changing` and `sending` take and give numbers, as a host in C has them,
+//! and refuse the numbers that mean nothing.
 #![tactic(auto)]
 
 mod asking;

@@ -15,8 +15,10 @@ use msg_runtime::Made;
 use msg_tables::{ChangeFault, ChangeList, ChangeRef, Refused};
 use std::alloc::Global;
 
-/// A change in numbers. Its kind says which call makes it alone, and it reads the fields that this call takes: 1 `add`, 2 `replace`, 3 `set`, 4 `exchange`, 5 `make_class` with the
-/// superclass in `other`, 6 `make_class` without one. A class number with 0 beside it is the class, with 1 its metaclass.
+/// A change in numbers. Its kind says which call makes it alone, and it reads the fields that this
+/// call takes: 1 `add`, 2 `replace`, 3 `set`, 4 `exchange`, 5 `make_class` with the superclass in
+/// `other`, 6 `make_class` without one. A class number with 0 beside it is the class, with 1 its
+/// metaclass.
 #[repr(C)]
 #[derive(Clone, Copy)]
 pub struct ChangeRow {
@@ -30,7 +32,8 @@ pub struct ChangeRow {
     pub other_sel: u32,
 }
 
-// Why the changes of rows aren't made, or what they reach isn't told: the place of a row, and the number of its fault.
+// Why the changes of rows aren't made, or what they reach isn't told: the place of a row, and the
+// number of its fault.
 #[derive(Clone, Copy)]
 pub(crate) struct RowFault {
     pub(crate) place: usize,
@@ -200,8 +203,10 @@ impl HostedRuntime {
         }
     }
 
-    /// Makes the changes of rows as one. 0, or the number of the fault, after which nothing has changed; then `place` is that of the row, from 0, which means no change or is the first that
-    /// would be refused, or at which memory was wanting. Rows that mean no change are found before any is made.
+    /// Makes the changes of rows as one. 0, or the number of the fault, after which nothing has
+    /// changed; then `place` is that of the row, from 0, which means no change or is the first that
+    /// would be refused, or at which memory was wanting. Rows that mean no change are found before
+    /// any is made.
     pub fn make_all(&mut self, alloc: Global, rows: &[ChangeRow], place: &mut usize) -> u32
         ensures arena { self.new.arena ≡ self.old.arena }
         ensures given { self.new.keeper.given ≡ self.old.keeper.given }

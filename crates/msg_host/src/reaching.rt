@@ -11,7 +11,8 @@ use crate::runtime::HostedRuntime;
 use std::alloc::Global;
 
 impl HostedRuntime {
-    // Marks what the changes of rows may alter if they are made as one, or says why they would be refused.
+    // Marks what the changes of rows may alter if they are made as one, or says why they would be
+    // refused.
     fn rows_reach(
         &mut self,
         alloc: Global,

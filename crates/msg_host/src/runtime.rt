@@ -35,7 +35,8 @@ use std::alloc::{AllocError, Global};
 use std::marker::Model;
 use std::sync::Arc;
 
-/// What stands behind a host's runtime lock: a runtime, the right to change it, and the arena that its senders share.
+/// What stands behind a host's runtime lock: a runtime, the right to change it, and the arena that
+/// its senders share.
 ///
 /// It is used by one thread at a time. Which one it is the host settles, by its lock.
 #[derive(Drop)]
@@ -67,7 +68,8 @@ impl Model for HostedRuntime {
 impl HostedRuntime {
     /// Opens a runtime without classes, with no change made.
     ///
-    /// `BadConfig` is answered before memory is asked for. `Memory` may be answered wherever a growth is refused.
+    /// `BadConfig` is answered before memory is asked for. `Memory` may be answered wherever a
+    /// growth is refused.
     pub fn open(alloc: Global, config: HostConfig) -> Result<HostedRuntime, OpenFault>
         ensures ok { IfOk result (λ r. (is_beyond config ≡ false) × OpensAs config r) }
         ensures refused { IsErrOf result OpenFault.BadConfig → is_beyond config ≡ true }
@@ -101,9 +103,11 @@ impl HostedRuntime {
         self.runtime.marks(alloc)
     }
 
-    /// Marks the class references whose lookups a change may alter, beside those that are marked, and doesn't make it; or says why it would be refused, and marks none.
+    /// Marks the class references whose lookups a change may alter, beside those that are marked,
+    /// and doesn't make it; or says why it would be refused, and marks none.
     ///
-    /// It looks at the classes that it marks and at one or two more, and takes no memory. Outside what is marked the change alters no lookup.
+    /// It looks at the classes that it marks and at one or two more, and takes no memory. Outside
+    /// what is marked the change alters no lookup.
     pub fn reach(&self, change: &Change, marks: &mut Marks) -> Result<(), ChangeFault>
         requires { length marks.old ≡ 2 * classes self.now.arena }
         ensures ok { OnOk result (MarksReached self.now change.now marks.old marks.new) }
@@ -114,8 +118,10 @@ impl HostedRuntime {
         self.runtime.reach(change, marks)
     }
 
-    /// Marks the class references whose lookups a list of changes may alter if it is made as one, beside those that are marked, each at its slot, and doesn't make it; or says which of them
-    /// would be refused. Then what those before it may alter is marked; where memory is wanting, the marks say nothing.
+    /// Marks the class references whose lookups a list of changes may alter if it is made as one,
+    /// beside those that are marked, each at its slot, and doesn't make it; or says which of them
+    /// would be refused. Then what those before it may alter is marked; where memory is wanting,
+    /// the marks say nothing.
     pub fn reach_all<L: ChangeList>(
         &mut self,
         alloc: Global,
@@ -135,7 +141,8 @@ impl HostedRuntime {
             .reach_all(alloc, &self.arena, &mut self.turn, changes, marked)
     }
 
-    /// Makes a change, flushes the caches that it reaches, and answers how many times changes were made. After an error nothing was changed or flushed.
+    /// Makes a change, flushes the caches that it reaches, and answers how many times changes were
+    /// made. After an error nothing was changed or flushed.
     pub fn change(&mut self, change: &Change) -> Result<u64, ChangeFault>
         ensures arena { self.new.arena ≡ self.old.arena }
         ensures ok { IfOk result (IsMadeAt self.old.keeper.history change.now self.new.keeper.history) }
@@ -147,8 +154,9 @@ impl HostedRuntime {
         self.runtime.change(&self.arena, &mut self.turn, change)
     }
 
-    /// Makes a list of changes as one, flushes the caches that it reaches, and answers how many times changes were made and what was written; or says which of them would be refused. After an
-    /// error nothing was changed or flushed. An empty list changes nothing and isn't counted.
+    /// Makes a list of changes as one, flushes the caches that it reaches, and answers how many
+    /// times changes were made and what was written; or says which of them would be refused. After
+    /// an error nothing was changed or flushed. An empty list changes nothing and isn't counted.
     pub fn change_all<L: ChangeList>(&mut self, alloc: Global, changes: &L) -> Result<Made, Refused>
         ensures arena { self.new.arena ≡ self.old.arena }
         ensures ok { OnOk result (AreMade (L.changes changes.now) self.old.keeper.history self.new.keeper.history) }
@@ -201,7 +209,8 @@ impl HostedRuntime {
         })
     }
 
-    // Answers what a sender missed, caches it, and notes it. The sender has then seen the whole history.
+    // Answers what a sender missed, caches it, and notes it. The sender has then seen the whole
+    // history.
     pub(crate) fn answer(
         &mut self,
         sender: &mut HostedSender,

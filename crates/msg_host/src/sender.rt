@@ -19,7 +19,8 @@ use std::alloc::Global;
 use std::marker::Model;
 use std::sync::Arc;
 
-/// Looks up without a lock, in the caches that it shares with all senders of its runtime. It never answers from before what it has seen.
+/// Looks up without a lock, in the caches that it shares with all senders of its runtime. It never
+/// answers from before what it has seen.
 #[derive(Drop)]
 pub struct HostedSender {
     pub(crate) arena: Arc<Arena, Global>,
@@ -52,7 +53,8 @@ impl HostedSender {
         self.classes
     }
 
-    /// How many changes there are, which the sender has then seen: nothing older is answered from then on. No lock is wanted.
+    /// How many changes there are, which the sender has then seen: nothing older is answered from
+    /// then on. No lock is wanted.
     pub fn refresh(&mut self) -> u64
         ensures arena { self.new.arena ≡ self.old.arena }
         ensures begins { BeginsWith self.new.seen.front self.old.seen.front }
@@ -62,7 +64,8 @@ impl HostedSender {
         self.reader.refresh(&self.arena)
     }
 
-    // The stamp of a class reference: no change after so many has affected it. The sender has then seen all changes.
+    // The stamp of a class reference: no change after so many has affected it. The sender has then
+    // seen all changes.
     pub(crate) fn load_stamp(&mut self, class: ClassRef) -> u64
         requires { class.class < classes self.old.arena }
         ensures arena { self.new.arena ≡ self.old.arena }
@@ -74,7 +77,8 @@ impl HostedSender {
         self.reader.stamp(&self.arena, class)
     }
 
-    // The implementation that the notes have, or else that the cache has: what a lookup finds at what the sender has then seen. What the notes have is noted again at the number of changes.
+    // The implementation that the notes have, or else that the cache has: what a lookup finds at
+    // what the sender has then seen. What the notes have is noted again at the number of changes.
     #[inline]
     pub(crate) fn find(
         &mut self,

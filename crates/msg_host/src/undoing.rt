@@ -33,7 +33,8 @@ impl ChangeRow {
     }
 }
 
-// Writes what takes an entry back behind the first `count` rows, and says how many rows there are then. None where there is no way back.
+// Writes what takes an entry back behind the first `count` rows, and says how many rows there are
+// then. None where there is no way back.
 fn give_back(entry: Entry, rows: &mut [ChangeRow], count: usize) -> Option<usize>
     requires { count < length rows.old }
     ensures some { IfSome result (λ n. GivesBack entry count rows.old n rows.new) }
@@ -51,7 +52,8 @@ fn give_back(entry: Entry, rows: &mut [ChangeRow], count: usize) -> Option<usize
     }
 }
 
-// Writes what takes changes back, the last first, and says how many rows that is. None where there is no way back.
+// Writes what takes changes back, the last first, and says how many rows that is. None where there
+// is no way back.
 fn write_way_back(entries: &[Entry], rows: &mut [ChangeRow]) -> Option<usize>
     requires { length entries.now ≤ length rows.old }
     ensures some { IfSome result (AreWayBack (undo_journal entries.now) rows.new) }
@@ -68,8 +70,10 @@ fn write_way_back(entries: &[Entry], rows: &mut [ChangeRow]) -> Option<usize>
 }
 
 impl HostedRuntime {
-    /// Makes the changes of rows as one, as [`make_all`](HostedRuntime::make_all), and writes the rows that take them back directly after it, which are made as one too; `undone` says how many.
-    /// It is 0 where there is no way back: a method was added, or a class made. `undo` has two places for each row, or else 76 is answered and nothing done.
+    /// Makes the changes of rows as one, as [`make_all`](HostedRuntime::make_all), and writes the
+    /// rows that take them back directly after it, which are made as one too; `undone` says how
+    /// many. It is 0 where there is no way back: a method was added, or a class made. `undo` has
+    /// two places for each row, or else 76 is answered and nothing done.
     pub fn make_all_with_undo(
         &mut self,
         alloc: Global,

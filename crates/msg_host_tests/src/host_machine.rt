@@ -1,4 +1,5 @@
-//! The machine of events over a host's classes, which are made one by one, with numbers and limits of the host's own.
+//! The machine of events over a host's classes, which are made one by one, with numbers and limits
+//! of the host's own.
 
 use crate::same::same_at;
 use msg_core::{Event, EventFault, Machine, Seen};

@@ -1,4 +1,5 @@
--- Expressions of a document without fault: what they name is listed, and they are as large as their forms.
+-- Expressions of a document without fault: what they name is listed, and they are as large as their
+-- forms.
 use Rattle.std.proofs.Common.{◌≡◌, ◌<◌, ◌≤◌, ◌+◌, ℕ, suc, List, [], ◌∷◌, ◌++◌, length, length-append, Bool, true, false, not, refl, sym, ap, ◌∙◌, arith}
 use Rattle.std.specs.Prelude.{max, ◌==◌}
 use Rattle.std.specs.List.{list_any, flat_map}

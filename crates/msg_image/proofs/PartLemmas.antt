@@ -54,7 +54,8 @@ super_at [] k d at = cc
 super_at (o ∷ os) zero d at = same_Some o d at
 super_at (o ∷ os) (suc k) d at = super_at os k d at
 
--- going up to it: it is listed, one less deep, and the class isn't so deep that a number of 32 bits is too small
+-- going up to it: it is listed, one less deep, and the class isn't so deep that a number of 32 bits
+-- is too small
 pub record GoesUp (supers : List (Option ℕ)) (k d : ℕ) : Type 0 where
   pub listed : d < length supers
   pub deeper : depth_of supers k ≡ suc (depth_of supers d)

@@ -146,7 +146,8 @@ module _ (f : Form) (g : IsFaultless f) where
 
   -- ---- what holds of the texts at all places of selectors holds at each place
 
-  -- a test that none of the texts passes, at the places of classes, of categories, of bodies and of items
+  -- a test that none of the texts passes, at the places of classes, of categories, of bodies and of
+  -- items
   pub record NoneIn (p : Text → Bool) : Type 0 where
     pub classes : list_any p (flat_map class_texts f.classes) ≡ false
     pub categories : list_any p (flat_map category_texts f.categories) ≡ false

@@ -33,7 +33,8 @@ abbrev pub ImplementationHasNumberOfPlace : Type 0
 ImplementationHasNumberOfPlace = (f : Form) (place : ℕ) (i : ImpForm) → fault_of f ≡ None → slice_get f.imps place ≡ Some i
     → imp_number (imp_named (numbers_of f) i.name) ≡ place + 1
 
--- of the categories of a class with a method of a selector the one that is listed last wins, over the others and over the class
+-- of the categories of a class with a method of a selector the one that is listed last wins, over
+-- the others and over the class
 abbrev pub LastCategoryWins : Type 0
 LastCategoryWins = (image : ImageParts) (before later : List Category) (c : Category) (s i : ℕ) → IsSound image
     → image.categories ≡ before ++ c ∷ later → All (Lacks (of_class c.class) s) later → own_in s c.methods ≡ Some i

@@ -19,7 +19,9 @@ pub record Numbers : Type 0 where
   pub objects : List Text
   pub imps : List Text
 
--- Selectors are numbered as the walk meets them. Where no two classes, objects or implementations have one name, they are numbered as they are listed, and the classes that may be made after the listed ones.
+-- Selectors are numbered as the walk meets them. Where no two classes, objects or implementations
+-- have one name, they are numbered as they are listed, and the classes that may be made after the
+-- listed ones.
 abbrev pub numbers_of : Form → Numbers
 numbers_of f = record {
   selectors = distinct (selector_texts f);
@@ -32,7 +34,8 @@ numbers_of f = record {
 abbrev pub numbers_by : FormNames → Numbers
 numbers_by n = record { selectors = n.selectors; classes = n.classes; objects = n.objects; imps = n.imps }
 
--- A name that is none of the names would stand for the first, or for forwarding; a document without fault has no such name.
+-- A name that is none of the names would stand for the first, or for forwarding; a document without
+-- fault has no such name.
 unfoldable pub selector_named : Numbers → Text → Selector
 selector_named n text = selector_of (unwrap_or (number_of n.selectors text) 1)
 

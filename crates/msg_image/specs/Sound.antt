@@ -80,7 +80,8 @@ pub record IsSoundCategory (image : ImageParts) (c : Category) : Type 0 where
   pub methods : AreListed image c.methods
   pub class_methods : AreListed image c.class_methods
 
--- an implementation stands in a listed class, and its body reads its own arguments and names what the image has
+-- an implementation stands in a listed class, and its body reads its own arguments and names what
+-- the image has
 pub record IsSoundImp (image : ImageParts) (i : ImpParts) : Type 0 where
   pub home : i.home.class < length image.classes
   pub args : i.args ≤ 4
@@ -122,7 +123,8 @@ IsSoundChange image (Exchange c s d t) = HasClass image c × HasSelector image s
 IsSoundChange image (Attach k ms cs) = (k < class_total image) × AreListed image ms × AreListed image cs
 IsSoundChange image (AddClass k d) = (k < class_total image) × IfSome d (λ e. e < class_total image)
 
--- a send is of the image's selectors, objects and classes, with as many arguments as its selector takes
+-- a send is of the image's selectors, objects and classes, with as many arguments as its selector
+-- takes
 abbrev pub IsSoundItem : ImageParts → ItemParts → Type 0
 IsSoundItem image (SendItem r s args) = IsOf image r × All (IsOf image) args × Takes image s (length args) × All (HasSelector image) (flat_map own_selector (r ∷ args))
 IsSoundItem image (ChangeItem c) = IsSoundChange image c

@@ -29,7 +29,8 @@ const TREE_BYTES: usize = 4;
 // The first piece of a tree's arena has no more bytes. A second one has twice as many.
 const PIECE_BYTES: usize = 15_728_640;
 
-// More than the second piece has, and no more than 32 MiB: the largest block of which glibc learns by its being freed.
+// More than the second piece has, and no more than 32 MiB: the largest block of which glibc learns
+// by its being freed.
 const FREED_BYTES: usize = 32_505_856;
 
 // A text of so many bytes is long.
@@ -85,9 +86,11 @@ fn by_names(alloc: Global, form: &Form, names: &FormNames) -> Result<Document, D
     }
 }
 
-/// Judges a form, whoever made it: the document that it is, or its least fault, as [`read_document`] answers for a text that spells it.
+/// Judges a form, whoever made it: the document that it is, or its least fault, as
+/// [`read_document`] answers for a text that spells it.
 ///
-/// Takes time and memory in the order of the form. `Memory` may be answered wherever a growth is refused; every other fault says of the form what its name says.
+/// Takes time and memory in the order of the form. `Memory` may be answered wherever a growth is
+/// refused; every other fault says of the form what its name says.
 pub fn judge_form(alloc: Global, form: &Form) -> Result<Document, DocumentFault>
     ensures ok { IfOk result (λ d. judged (Some (form_view form.now)) ≡ Ok (document_parts d)) }
     ensures err { IfErr result (IsFaultOf (form_view form.now)) }
@@ -100,10 +103,12 @@ pub fn judge_form(alloc: Global, form: &Form) -> Result<Document, DocumentFault>
     document
 }
 
-// Room for the tree of most texts, taken at once. Where so much can't be had, the arena begins small.
+// Room for the tree of most texts, taken at once. Where so much can't be had, the arena begins
+// small.
 //
-// glibc gives a large block that is freed back to the system, unless one as large was freed before. So for a long text one is
-// freed first, in which nothing was written: then the image comes to lie where the tree lay, and the system needn't clear pages for it.
+// glibc gives a large block that is freed back to the system, unless one as large was freed before.
+// So for a long text one is freed first, in which nothing was written: then the image comes to lie
+// where the tree lay, and the system needn't clear pages for it.
 fn arena(alloc: Global, bytes: &[u8]) -> Bump {
     if bytes.len() >= LONG_BYTES {
         drop(Bump::try_with_capacity(alloc, FREED_BYTES));
@@ -115,7 +120,8 @@ fn arena(alloc: Global, bytes: &[u8]) -> Bump {
     }
 }
 
-// The form that a text spells, with its expressions in the arena. Its tree lies in an arena of its own, and neither is kept beside what is made of the form.
+// The form that a text spells, with its expressions in the arena. Its tree lies in an arena of its
+// own, and neither is kept beside what is made of the form.
 fn spelled<'t>(
     alloc: Global,
     bump: &'t Bump,
@@ -130,10 +136,12 @@ fn spelled<'t>(
     Ok(Form::read(alloc, bump, &value)?)
 }
 
-/// Reads a document: the image and the items that the bytes spell, or the first fault in the order of [`DocumentFault`].
+/// Reads a document: the image and the items that the bytes spell, or the first fault in the order
+/// of [`DocumentFault`].
 ///
-/// Takes time and memory in the order of the bytes. A text that is too long isn't looked at. `Memory` may be answered wherever a growth
-/// is refused; every other fault says of the bytes what its name says.
+/// Takes time and memory in the order of the bytes. A text that is too long isn't looked at.
+/// `Memory` may be answered wherever a growth is refused; every other fault says of the bytes what
+/// its name says.
 pub fn read_document(alloc: Global, bytes: &[u8]) -> Result<Document, DocumentFault>
     ensures ok { IfOk result (λ d. IsAnswer bytes.now (Ok (document_parts d))) }
     ensures err { IfErr result (λ e. e ≢ DocumentFault.Memory → IsAnswer bytes.now (Err e)) }

@@ -26,7 +26,8 @@ use std::marker::Model;
 /// An implementation.
 #[derive(Drop)]
 pub struct Imp {
-    /// The class in whose source the implementation stands, or its metaclass. A super send looks up above it.
+    /// The class in whose source the implementation stands, or its metaclass. A super send looks up
+    /// above it.
     pub home: ClassRef,
     /// How many arguments it takes.
     pub args: u8,
@@ -41,7 +42,8 @@ pub(crate) struct Object {
 
 /// What a document says of classes, categories, objects and implementations.
 ///
-/// Contracts see the parts without their pointers. The reading calls take no memory, and each indexes once.
+/// Contracts see the parts without their pointers. The reading calls take no memory, and each
+/// indexes once.
 #[derive(Drop)]
 pub struct Image {
     names: Names,
@@ -98,7 +100,8 @@ fn superclass_count(origin: &Origin, class: u32) -> u32
     depth
 }
 
-// The classes of an image: a part of it that is made by itself, as is what stands for the rest, since where memory is wanted each function gives back what it has made.
+// The classes of an image: a part of it that is made by itself, as is what stands for the rest,
+// since where memory is wanted each function gives back what it has made.
 #[derive(Drop)]
 struct Classes {
     names: Vec<String>,
@@ -224,7 +227,8 @@ impl Image {
         }
     }
 
-    /// The superclass, or for a metaclass the superclass's metaclass, and for a root metaclass the root class itself.
+    /// The superclass, or for a metaclass the superclass's metaclass, and for a root metaclass the
+    /// root class itself.
     pub fn superclass(&self, class: ClassRef) -> Option<ClassRef>
         requires { class.class < length self.now.classes }
         ensures value { result ≡ superclass_in self.now class }
@@ -233,7 +237,8 @@ impl Image {
         class.above(self.origin.superclass(class.class))
     }
 
-    /// How many superclasses stand above a listed class: none above a root class, and else one more than above its superclass.
+    /// How many superclasses stand above a listed class: none above a root class, and else one more
+    /// than above its superclass.
     ///
     /// Takes time in the order of what it answers.
     pub fn depth(&self, class: u32) -> u32
@@ -244,7 +249,8 @@ impl Image {
         superclass_count(&self.origin, class)
     }
 
-    /// The methods that the class itself lists, without those of categories. A class that may be made lists none.
+    /// The methods that the class itself lists, without those of categories. A class that may be
+    /// made lists none.
     pub fn methods(&self, class: ClassRef) -> &[(Selector, ImpRef)]
         requires { class.class < class_total self.now }
         ensures methods { method_numbers result.now ≡ methods_in self.now class }

@@ -1,4 +1,5 @@
-//! Laws of documents: of a form without fault each part has the number of its place, and the last category wins.
+//! Laws of documents: of a form without fault each part has the number of its place, and the last
+//! category wins.
 
 ghost use Rattle.std.specs.Prelude.{◌≡◌};
 ghost use Rattle.msg_image.specs.Laws.{ClassHasNumberOfPlace, MadeClassComesAfterListed};
@@ -28,7 +29,8 @@ pub fn an_implementation_has_the_number_of_its_place()
     ensures { ImplementationHasNumberOfPlace }
 {}
 
-/// Of the categories of a class with a method of a selector the one that is listed last wins, over the others and over the class; later categories without such a method change nothing.
+/// Of the categories of a class with a method of a selector the one that is listed last wins, over
+/// the others and over the class; later categories without such a method change nothing.
 pub fn the_last_category_wins()
     ensures class { LastCategoryWins }
     ensures metaclass { LastCategoryWinsAtMetaclass }

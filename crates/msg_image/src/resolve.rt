@@ -52,7 +52,8 @@ pub(crate) fn each<F, T: Resolve<F>>(
     Ok(found)
 }
 
-// Two values that were made, or the refusal of one. What was made beside one that was refused is dropped here, for all types at once.
+// Two values that were made, or the refusal of one. What was made beside one that was refused is
+// dropped here, for all types at once.
 pub(crate) fn both<A: Drop, B: Drop>(
     first: Result<A, AllocError>,
     second: Result<B, AllocError>,

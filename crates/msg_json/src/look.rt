@@ -70,8 +70,8 @@ fn are_keys(members: &[(&str, Tree<'_, '_>)], count: usize) -> bool
     keys == count
 }
 
-// From the last to the first, so that a key is found where it came last: all searches of an object together take as many steps as it has members and
-// keys, multiplied.
+// From the last to the first, so that a key is found where it came last: all searches of an object
+// together take as many steps as it has members and keys, multiplied.
 fn is_among(members: &[(&str, Tree<'_, '_>)], key: &str) -> bool
     ensures { result ≡ list_any (λ m. bytes_eq m.0.now key.now) members.now }
 {

@@ -11,7 +11,8 @@ use serde_json::Number;
 
 /// The number that a numeral writes, or none where it is too large for a float.
 ///
-/// Digits alone, as most numbers of a document are, are read in one pass, which looks for no point and no exponent.
+/// Digits alone, as most numbers of a document are, are read in one pass, which looks for no point
+/// and no exponent.
 pub(crate) fn number(text: &str) -> Option<Number>
     ensures { option_map number_view result ≡ number_of text.now }
 {
@@ -25,7 +26,8 @@ pub(crate) fn number(text: &str) -> Option<Number>
     }
 }
 
-// The next two stand apart from `number`, which would pay at its entry for what they keep on the stack.
+// The next two stand apart from `number`, which would pay at its entry for what they keep on the
+// stack.
 #[inline(never)]
 fn after_minus(bytes: &[u8]) -> Option<Number>
     ensures { option_map number_view result ≡ number_from true (scan bytes.now) }
@@ -40,7 +42,8 @@ fn without_minus(bytes: &[u8]) -> Option<Number>
     unsigned(&Numeral::scan(bytes))
 }
 
-// The number that digits alone write, where it fits. The kit's reader would pass over a plus, which isn't JSON's.
+// The number that digits alone write, where it fits. The kit's reader would pass over a plus, which
+// isn't JSON's.
 fn plain_digits(bytes: &[u8]) -> Option<u64>
     ensures { IfSome result (λ n. number_from false (scan bytes.now) ≡ Some (unsigned n)) }
 {

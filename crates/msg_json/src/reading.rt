@@ -27,12 +27,12 @@ pub enum JsonFault {
     Memory,
 }
 
-/// Reads a text: no string is copied but one with an escape, which stands in `scratch`. The lists and objects of the tree
-/// lie in the arena, each in as much room as it takes.
+/// Reads a text: no string is copied but one with an escape, which stands in `scratch`. The lists
+/// and objects of the tree lie in the arena, each in as much room as it takes.
 ///
-/// `NotJson` comes for bytes that aren't UTF-8 or no JSON text (RFC 8259), for lists and objects that nest deeper than 127, for a lone
-/// surrogate and for a number too large for a float; `Memory` wherever a growth is refused, and never
-/// of a text without bytes.
+/// `NotJson` comes for bytes that aren't UTF-8 or no JSON text (RFC 8259), for lists and objects
+/// that nest deeper than 127, for a lone surrogate and for a number too large for a float; `Memory`
+/// wherever a growth is refused, and never of a text without bytes.
 pub fn read<'t, 'b>(
     alloc: Global,
     bump: &'b Bump,

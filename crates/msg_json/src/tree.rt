@@ -2,7 +2,8 @@
 
 use serde_json::Number;
 
-/// A JSON value. Its texts are those of the JSON text that it was read from, its lists and members lie in an arena, and numbers are read.
+/// A JSON value. Its texts are those of the JSON text that it was read from, its lists and members
+/// lie in an arena, and numbers are read.
 ///
 /// An object's members stand as they come, also those whose key comes again.
 #[cycle(tree)]

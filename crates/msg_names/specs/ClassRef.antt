@@ -21,7 +21,8 @@ abbrev pub root_above : ℕ → Bool → Option ClassRef
 root_above k true = Some (record { class = k; meta = false })
 root_above k false = None
 
--- What stands above a class reference whose class has this superclass: the superclass, or its metaclass (Objective-C Runtime Reference).
+-- What stands above a class reference whose class has this superclass: the superclass, or its
+-- metaclass (Objective-C Runtime Reference).
 abbrev pub above : ClassRef → Option ℕ → Option ClassRef
 above c (Some d) = Some (record { class = d; meta = c.meta })
 above c None = root_above c.class c.meta

@@ -31,7 +31,8 @@ starts_with_digit text = is_ascii_digit (slice_index text 0)
 unfoldable pub ends_in_its_colons : List ℕ → Bool
 ends_in_its_colons text = nat_le (colons_of text) MAX_ARGUMENTS && (colons_of text == 0 || slice_index text (length text - 1) == colon)
 
--- the name of a class, an object or an implementation: 1 to 64 letters, digits and `_`, and no digit first
+-- the name of a class, an object or an implementation: 1 to 64 letters, digits and `_`, and no
+-- digit first
 unfoldable pub is_identifier : List ℕ → Bool
 is_identifier text = is_sized text && (not (starts_with_digit text) && list_all is_word_byte text)
 

@@ -45,7 +45,8 @@ impl ImpRef {
     ghost use Rattle.std.specs.Prelude.{◌≡◌};
     ghost use Rattle.msg_names.specs.Number.{imp_number};
 
-    /// What a lookup answers where no class of the chain has the method, as `_objc_msgForward` in the runtime.
+    /// What a lookup answers where no class of the chain has the method, as `_objc_msgForward` in
+    /// the runtime.
     pub const FORWARD: ImpRef = ImpRef { number: 0 };
 
     /// The implementation of a number.
@@ -82,8 +83,8 @@ impl ClassRef {
         2 * self.class as usize + usize::from(self.meta)
     }
 
-    /// Its superclass, where that of its class is given: for a metaclass the superclass's metaclass, and for a root metaclass the root class itself
-    /// (Objective-C Runtime Reference).
+    /// Its superclass, where that of its class is given: for a metaclass the superclass's
+    /// metaclass, and for a root metaclass the root class itself (Objective-C Runtime Reference).
     #[inline(always)]
     pub fn above(self, superclass: Option<u32>) -> Option<ClassRef>
         ensures { result ≡ above self superclass }

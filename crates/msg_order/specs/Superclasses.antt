@@ -16,7 +16,8 @@ abbrev pub depth_up : ℕ → List (Option ℕ) → ℕ → ℕ
 depth_up zero supers k = 0
 depth_up (suc n) supers k = option_map_or (λ d. suc (depth_up n supers d)) (super_of supers k) 0
 
--- How many superclasses stand above a class. A chain of superclasses that ends has fewer than there are classes; of one that doesn't as many as there are classes are counted.
+-- How many superclasses stand above a class. A chain of superclasses that ends has fewer than there
+-- are classes; of one that doesn't as many as there are classes are counted.
 unfoldable pub depth_of : List (Option ℕ) → ℕ → ℕ
 depth_of supers k = depth_up (length supers) supers k
 

@@ -39,7 +39,8 @@ impl Placing {
         Ok(())
     }
 
-    // Puts a class in the order, after those above it, of which there may be so many. It is false that it stands there where there are as many, or more.
+    // Puts a class in the order, after those above it, of which there may be so many. It is false
+    // that it stands there where there are as many, or more.
     fn place(&mut self, supers: &[Option<u32>], class: u32, room: usize) -> Result<bool, AllocError>
         requires listed { AreListed supers.now }
         requires class { class < length supers.now }
@@ -64,7 +65,8 @@ impl Placing {
 
 /// The classes, each after its superclass, or nothing where a chain of superclasses doesn't end.
 ///
-/// Takes time and memory in the order of their number, and a stack of as many small frames as superclasses stand above a class.
+/// Takes time and memory in the order of their number, and a stack of as many small frames as
+/// superclasses stand above a class.
 pub fn class_order(alloc: Global, supers: &[Option<u32>]) -> Result<Option<Vec<u32>>, AllocError>
     requires few { length supers.now < 2 ^ 32 }
     requires listed { AreListed supers.now }

@@ -64,7 +64,8 @@ recalled_blank m since slot sel blank = at (nat_lt slot (2 ^ 26)) (slice_get m.n
 pub as_noted : (h : History) (n : Note) (since slot sel : ℕ) → slot < 2 ^ 26 → sel < 2 ^ 32 → IsSealOf n.seal slot sel n.imp → since ≤ n.count → IsNoteOf h n → IsRecalledSince h since slot sel n.imp
 as_noted h n since slot sel short few e le is = (n.count, le, is.recalled slot sel short few e)
 
--- what is recalled since the last change that affects the class reference is the lookup at the history
+-- what is recalled since the last change that affects the class reference is the lookup at the
+-- history
 pub recalled_still : (h : History) (c : ClassRef) (since sel imp : ℕ) → IsAccepted h → last_affected h c ≤ since → IsRecalledSince h since (slot_of c) sel imp → imp ≡ lookup h c sel
 recalled_still h c since sel imp ok last (k, le, is) = is.found c refl ∙ stays-since h c sel k ok.origin ok.changes (omega arith) is.seen
 

@@ -13,7 +13,8 @@ use Rattle.msg_reader.specs.Key.{place_of}
 use Rattle.msg_reader.specs.Notes.{recalled}
 use Rattle.msg_reader.specs.declared.notes.Notes.{Notes}
 
--- at each place but that of the lookup of a class reference and a selector, notes have what they had
+-- at each place but that of the lookup of a class reference and a selector, notes have what they
+-- had
 abbrev pub HaveOthersOf : ClassRef → ℕ → Notes → Notes → Type 0
 HaveOthersOf c sel old new = (place : ℕ) → place ≢ place_of (slot_of c) sel → slice_get new.notes place ≡ slice_get old.notes place
 
@@ -45,7 +46,8 @@ HasLoaded c n w = (before : List (ClassRef × ℕ)) × (w.stamps ≡ (c, n) ∷ 
 abbrev pub RecallsSince : Notes → ClassRef → ℕ → SenderView → SenderView → Option ℕ → Type 0
 RecallsSince n c sel v w found = (since : ℕ) × LoadsStamp c since v w × (found ≡ recalled n since (slot_of c) sel)
 
--- a stamp is loaded, and what the notes have since then is found; then nothing else was done, and the notes stay
+-- a stamp is loaded, and what the notes have since then is found; then nothing else was done, and
+-- the notes stay
 abbrev pub FindsRecalled : Notes → Notes → ClassRef → ℕ → SenderView → SenderView → Option ℕ → Type 0
 FindsRecalled was is c sel v w found =
     (since : ℕ) × LoadsFirst c since v w × IfSome (recalled was since (slot_of c) sel) (λ i. (found ≡ Some i) × LoadsStamp c since v w × (is ≡ was))
@@ -62,7 +64,8 @@ IsNotedSince n c sel w i = (since : ℕ) × HasLoaded c since w × (slot_of c < 
 abbrev pub IsNotedFound : Notes → ClassRef → Selector → SenderView → ImpRef → Type 0
 IsNotedFound n c s w i = IsNotedSince n c (selector_number s) w (imp_number i)
 
--- The last probe was for the lookup, and missed; or the stamp that was loaded last says more changes than these: the class reference was closed, or opened after more.
+-- The last probe was for the lookup, and missed; or the stamp that was loaded last says more
+-- changes than these: the class reference was closed, or opened after more.
 abbrev pub MissesAfter : ArenaView → ClassRef → ℕ → ℕ → SenderView → Type 0
 MissesAfter a c sel count w = ((w.last.class ≡ c) × (w.last.sel ≡ sel) × Misses (layout a) w.last) ⊎ ((n : ℕ) × HasLoaded c n w × (count < n))
 

@@ -16,7 +16,8 @@ use Rattle.msg_reader.specs.Found.{IsListed}
 use Rattle.msg_reader.specs.declared.note.Note.{Note}
 use Rattle.msg_reader.specs.declared.notes.Notes.{Notes}
 
--- The lookup of a selector by the class reference of a slot, at the point of the history after its first n changes, finds this implementation.
+-- The lookup of a selector by the class reference of a slot, at the point of the history after its
+-- first n changes, finds this implementation.
 pub record IsRecalled (h : History) (n slot sel imp : ℕ) : Type 0 where
   pub seen : n ≤ length h.changes
   pub listed : imp ≤ last_imp h.origin.counts
@@ -39,11 +40,13 @@ pub record AreNotesOf (h : History) (n : Notes) : Type 0 where
 pub record AreBlank (n : Notes) : Type 0 where
   pub notes : All (λ (n : Note). (n.seal ≡ 0) × (n.imp ≡ 0)) n.notes
 
--- what a note has of a lookup after so many changes or more: the implementation's number, 0 where it found no method
+-- what a note has of a lookup after so many changes or more: the implementation's number, 0 where
+-- it found no method
 abbrev pub found_by : Note → ℕ → ℕ → ℕ → Option ℕ
 found_by n since slot sel = if n.seal + mark_of n.imp == key_of slot sel && nat_le since n.count then Some n.imp else None
 
--- what notes have of a lookup: that which stands at its place. Of slots from 2^26 on nothing is noted.
+-- what notes have of a lookup: that which stands at its place. Of slots from 2^26 on nothing is
+-- noted.
 abbrev pub recalled : Notes → ℕ → ℕ → ℕ → Option ℕ
 recalled n since slot sel = if nat_lt slot (2 ^ 26) then option_and_then (λ k. found_by k since slot sel) (slice_get n.notes (place_of slot sel)) else None
 
@@ -65,7 +68,8 @@ IsNoted h n c sel imp = slot_of c < 2 ^ 26 → HaveNoted n h c sel imp
 abbrev pub KeysAreOneToOne : Type 0
 KeysAreOneToOne = (slot sel other next : ℕ) → sel < 2 ^ 32 → next < 2 ^ 32 → key_of slot sel ≡ key_of other next → (slot ≡ other) × (sel ≡ next)
 
--- a word that the seal of a note is less than a key, by no more than 16 bits, says that the note is of that lookup, and what it found
+-- a word that the seal of a note is less than a key, by no more than 16 bits, says that the note is
+-- of that lookup, and what it found
 abbrev pub SealTells : Note → ℕ → ℕ → Type 0
 SealTells n slot sel = (said : ℕ) → 0 < said → said < 65536 → n.seal + said ≡ key_of slot sel → IsSealOf n.seal slot sel n.imp × (said ≡ mark_of n.imp)
 
@@ -85,11 +89,13 @@ Tells n since slot sel i = (h : History) → IsNoteOf h n → IsRecalledSince h 
 abbrev pub Tell : Notes → ℕ → ℕ → ℕ → ℕ → Type 0
 Tell n since slot sel i = (h : History) → AreNotesOf h n → IsRecalledSince h since slot sel i
 
--- of whatever history of changes that were accepted these are notes, where none after so many affects the class reference: there the lookup finds this implementation
+-- of whatever history of changes that were accepted these are notes, where none after so many
+-- affects the class reference: there the lookup finds this implementation
 abbrev pub TellFound : Notes → ℕ → ClassRef → Selector → ImpRef → Type 0
 TellFound n since c s i = (h : History) → AreNotesOf h n → IsAccepted h → last_affected h c ≤ since → IsFoundAt h c s i × IsListed h i
 
--- of each history where the lookup finds this implementation after the first so many changes, what were notes still are
+-- of each history where the lookup finds this implementation after the first so many changes, what
+-- were notes still are
 abbrev pub StayNotes : Notes → Notes → ℕ → ClassRef → Selector → ImpRef → Type 0
 StayNotes old new count c s i = (h : History) → AreNotesOf h old → count ≤ length h.changes → IsFoundAt (first count h) c s i → IsListed h i → AreNotesOf h new
 

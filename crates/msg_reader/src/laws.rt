@@ -24,7 +24,8 @@ pub fn a_history_no_longer_is_the_same()
     ensures { (p h : History) → BeginsWith p h → length p.changes ≡ length h.changes → p ≡ h }
 {}
 
-/// The slot of a class reference is below 2^26, where there are at most so many classes; then what is noted of it is recalled.
+/// The slot of a class reference is below 2^26, where there are at most so many classes; then what
+/// is noted of it is recalled.
 #[tactic(auto, using(crate::proofs::NoteLemmas::short_slot))]
 pub fn a_slot_of_few_classes_is_short()
     ensures { (c : ClassRef) → c.class < 2 ^ 25 → slot_of c < 2 ^ 26 }
@@ -36,9 +37,9 @@ pub fn keys_are_one_to_one()
     ensures { KeysAreOneToOne }
 {}
 
-/// The seal of a note tells of which lookup it is and what that found, of those that have its place: a
-/// host that loads it once, takes it from the key of its lookup and has 1 to 65,535 has the mark of what
-/// was found. So one load tells what `Notes::recall_method` does.
+/// The seal of a note tells of which lookup it is and what that found, of those that have its
+/// place: a host that loads it once, takes it from the key of its lookup and has 1 to 65,535 has
+/// the mark of what was found. So one load tells what `Notes::recall_method` does.
 #[tactic(auto, using(crate::proofs::KeyLemmas::seals_tell))]
 pub fn a_seal_says_key_and_number()
     ensures { SealsTell }

@@ -15,9 +15,9 @@ const LONG: u32 = 65_534;
 
 const NO_METHOD: u64 = 65_535;
 
-// What a lookup found, and how many changes there were. `seal` is the key of a class reference's slot
-// and a selector, less the mark of what was found: so a host in C has both by one load, and no handler
-// of a signal comes between them. Blank, it is 0, which is nobody's.
+// What a lookup found, and how many changes there were. `seal` is the key of a class reference's
+// slot and a selector, less the mark of what was found: so a host in C has both by one load, and no
+// handler of a signal comes between them. Blank, it is 0, which is nobody's.
 #[repr(C)]
 #[derive(Clone, Copy)]
 pub(crate) struct Note {
@@ -29,8 +29,8 @@ pub(crate) struct Note {
     ghost sealed: { IsSealed seal imp },
 }
 
-// The key of a slot and a selector. Its low 16 bits are where the note lies, from the first one on. It is
-// above each mark, so no key is a blank note's.
+// The key of a slot and a selector. Its low 16 bits are where the note lies, from the first one on.
+// It is above each mark, so no key is a blank note's.
 #[inline(always)]
 fn key(slot: usize, sel: u32) -> u64
     requires { slot < 2 ^ 26 }
@@ -40,7 +40,8 @@ fn key(slot: usize, sel: u32) -> u64
     (slot as u64 + 1) * APART + u64::from(sel) * 32
 }
 
-// The one place at which it may be. Selectors whose numbers are near, of classes whose numbers are near, have places of their own.
+// The one place at which it may be. Selectors whose numbers are near, of classes whose numbers are
+// near, have places of their own.
 #[inline(always)]
 pub(crate) fn place(slot: usize, sel: u32) -> usize
     requires { slot < 2 ^ 26 }
@@ -87,8 +88,8 @@ impl Note {
         self.seal + mark(self.imp) == key(slot, sel)
     }
 
-    // The implementation's number, where this is a note of that lookup after so many changes or more; 0
-    // where that found no method.
+    // The implementation's number, where this is a note of that lookup after so many changes or
+    // more; 0 where that found no method.
     #[inline(always)]
     pub(crate) fn answer(&self, since: u64, slot: usize, sel: u32) -> Option<u32>
         requires slot { slot < 2 ^ 26 }

@@ -1,4 +1,5 @@
-//! What a sender notes of its lookups. No thread but its own sees it, and no call here takes a lock or reads a shared word.
+//! What a sender notes of its lookups. No thread but its own sees it, and no call here takes a lock
+//! or reads a shared word.
 
 ghost use Rattle.std.specs.Prelude.{◌≡◌, ◌<◌, ◌≤◌, ℕ, option_map, IfSome, None};
 ghost use Rattle.msg_names.specs.Number.{imp_number};
@@ -13,7 +14,8 @@ use msg_names::{ClassRef, ImpRef, Selector};
 // Of slots from here on nothing is noted. No arena has a word for one.
 const SLOTS: usize = 67_108_864;
 
-/// What a sender notes of its lookups, at one of 2,048 places for each class reference and selector. In C it is so many notes of 32 bytes, and zero bytes are a blank one.
+/// What a sender notes of its lookups, at one of 2,048 places for each class reference and
+/// selector. In C it is so many notes of 32 bytes, and zero bytes are a blank one.
 #[repr(C)]
 #[derive(Drop)]
 pub struct Notes {
@@ -38,7 +40,8 @@ impl Notes {
         *self = Notes::new();
     }
 
-    /// The implementation that a lookup found after so many changes or more, where it is noted: it finds that still, where no later change affects the class reference.
+    /// The implementation that a lookup found after so many changes or more, where it is noted: it
+    /// finds that still, where no later change affects the class reference.
     #[inline]
     pub fn recall(&self, since: u64, class: ClassRef, sel: Selector) -> Option<ImpRef>
         ensures found { IfSome result (TellFound self.now since class sel) }
@@ -50,7 +53,8 @@ impl Notes {
         }
     }
 
-    /// As `recall`, in numbers: of the slot of a class reference and a selector's number the number of the implementation, 0 for forwarding.
+    /// As `recall`, in numbers: of the slot of a class reference and a selector's number the number
+    /// of the implementation, 0 for forwarding.
     #[inline]
     pub fn recall_method(&self, since: u64, slot: usize, sel: u32) -> Option<u32>
         ensures found { IfSome result (Tell self.now since slot sel) }

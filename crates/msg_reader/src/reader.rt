@@ -1,8 +1,11 @@
 //! The sender's protocol: load the stamp, recall; else probe, load the stamp again, and note.
 //!
-//! A lookup is answered from the notes where it was noted after as many changes as the stamp of its class reference says, or more: since then no change has affected that, so it is the lookup
-//! now. What the notes lack is probed for. A hit is right at some moment between the load of the count of changes before it and that of the stamp after it; where the stamp isn't above that count,
-//! no change in between affects the class reference, so the hit is right at both, and is noted at that count. No lock is taken: what a cache lacks is the runtime's to answer.
+//! A lookup is answered from the notes where it was noted after as many changes as the stamp of its
+//! class reference says, or more: since then no change has affected that, so it is the lookup now.
+//! What the notes lack is probed for. A hit is right at some moment between the load of the count
+//! of changes before it and that of the stamp after it; where the stamp isn't above that count, no
+//! change in between affects the class reference, so the hit is right at both, and is noted at that
+//! count. No lock is taken: what a cache lacks is the runtime's to answer.
 
 ghost use Rattle.std.specs.Prelude.{◌≡◌, ◌<◌, ◌≤◌, ◌+◌, length, option_map, IfSome, IfNone};
 ghost use Rattle.msg_tables.specs.History.{BeginsWith};
@@ -24,7 +27,8 @@ use msg_names::{ClassRef, ImpRef, Selector};
 use msg_tables::laws::a_found_implementation_is_listed;
 use std::marker::Model;
 
-/// Reads without a lock. It carries what it has seen of the history, and never answers from before that.
+/// Reads without a lock. It carries what it has seen of the history, and never answers from before
+/// that.
 #[derive(Drop)]
 pub struct Reader {
     prober: Prober,
@@ -73,7 +77,8 @@ impl Reader {
         keeper.renew(arena, &mut self.prober);
     }
 
-    /// `cache_getImp`: the implementation that the cache of a class reference has, which is the lookup's at what the reader has then seen. The notes aren't asked.
+    /// `cache_getImp`: the implementation that the cache of a class reference has, which is the
+    /// lookup's at what the reader has then seen. The notes aren't asked.
     #[inline]
     pub fn probe(&mut self, arena: &Arena, class: ClassRef, sel: Selector) -> Option<ImpRef>
         requires reader { IsSenderOf arena.now self.old }
@@ -86,7 +91,8 @@ impl Reader {
         self.prober.probe(arena, class, sel)
     }
 
-    /// How many changes there are, which the reader has then seen: nothing older is answered from then on. One shared word is loaded.
+    /// How many changes there are, which the reader has then seen: nothing older is answered from
+    /// then on. One shared word is loaded.
     #[inline]
     pub fn refresh(&mut self, arena: &Arena) -> u64
         requires reader { IsSenderOf arena.now self.old }
@@ -100,7 +106,8 @@ impl Reader {
         self.prober.published(arena)
     }
 
-    /// The stamp of a class reference: no change after so many has affected it. The reader has then seen all changes. One shared word is loaded.
+    /// The stamp of a class reference: no change after so many has affected it. The reader has then
+    /// seen all changes. One shared word is loaded.
     #[inline(always)]
     pub fn stamp(&mut self, arena: &Arena, class: ClassRef) -> u64
         requires reader { IsSenderOf arena.now self.old }
@@ -114,7 +121,9 @@ impl Reader {
         self.prober.stamp(arena, class)
     }
 
-    /// What the notes have of a lookup at all changes, which the reader has then seen: what was noted since the stamp of the class reference. That is loaded, and no other word that threads share.
+    /// What the notes have of a lookup at all changes, which the reader has then seen: what was
+    /// noted since the stamp of the class reference. That is loaded, and no other word that threads
+    /// share.
     #[inline]
     pub fn recall(
         &mut self,
@@ -138,8 +147,10 @@ impl Reader {
         notes.recall(since, class, sel)
     }
 
-    /// The implementation that the notes have, or else that the cache has, and then the notes too: what a lookup finds at what the reader has then seen, all changes. Where a change that affects the
-    /// class reference falls into a probe that hits, its answer is left. A class reference that is closed isn't probed.
+    /// The implementation that the notes have, or else that the cache has, and then the notes too:
+    /// what a lookup finds at what the reader has then seen, all changes. Where a change that
+    /// affects the class reference falls into a probe that hits, its answer is left. A class
+    /// reference that is closed isn't probed.
     #[inline(always)]
     pub fn find(
         &mut self,
@@ -202,7 +213,8 @@ impl Reader {
         self.find_at(arena, notes, count, class, sel)
     }
 
-    /// As `find`, for who asks the notes by the number of changes: what the notes have is noted again at that number, which is loaded first.
+    /// As `find`, for who asks the notes by the number of changes: what the notes have is noted
+    /// again at that number, which is loaded first.
     pub fn find_counted(
         &mut self,
         arena: &Arena,
@@ -238,7 +250,8 @@ impl Reader {
         }
     }
 
-    // As `find`, of what the notes lack, where so many changes were counted: a hit is noted at that count.
+    // As `find`, of what the notes lack, where so many changes were counted: a hit is noted at that
+    // count.
     #[inline(always)]
     fn find_at(
         &mut self,

@@ -8,7 +8,8 @@ pub(crate) const CLASSES: [&str; 3] = ["Root", "Child", "Grand"];
 
 pub(crate) const SELECTORS: [&str; 2] = ["value", "name"];
 
-/// A method of a class: what is sent is answered with a number. Of two rows of one class and one selector the later counts.
+/// A method of a class: what is sent is answered with a number. Of two rows of one class and one
+/// selector the later counts.
 #[derive(Clone, Copy, Debug)]
 pub(crate) struct Row {
     class: usize,

@@ -1,4 +1,5 @@
-//! Threads that wait for one another: a run whose work were done one after another would meet the limit of its gate.
+//! Threads that wait for one another: a run whose work were done one after another would meet the
+//! limit of its gate.
 
 use crate::holding::Moment::{ChangeDone, ChangeStarts, PieceDone, PieceStarts};
 use crate::holding::{Hold, Holding, Moment, TURNS};
@@ -35,7 +36,8 @@ const TWO: Texts = &[(G, 1), (S, 1)];
 
 const TWO_AND_A_CHANGE: Texts = &[(G, 1), (S, 1), (CHANGE, 1)];
 
-// A run of so many workers, with so many sends a piece, in which two moments are held, each until another.
+// A run of so many workers, with so many sends a piece, in which two moments are held, each until
+// another.
 #[derive(Clone, Copy)]
 struct Row {
     name: &'static str,

@@ -1,4 +1,5 @@
-//! Tests of runs: gates that hold one thread until another comes, many sends beside many changes, devices that fail, and memory that is refused.
+//! Tests of runs: gates that hold one thread until another comes, many sends beside many changes,
+//! devices that fail, and memory that is refused.
 #![tactic(auto)]
 
 #[cfg(test)]

@@ -9,7 +9,8 @@ use std::process::Abort;
 use std::sync::Wait;
 use std::thread::Threads;
 
-// Two selectors, before a list that swaps their methods, after it, and after a list of which the first part alone would have swapped one back.
+// Two selectors, before a list that swaps their methods, after it, and after a list of which the
+// first part alone would have swapped one back.
 const ITEMS: &str = r#"{"send":[["obj","c"],"value"]},{"send":[["obj","s"],"name"]},
 {"change":["all",["set","Root",false,"value","r_name"],["set","Root",false,"name","r_value"]]},
 {"send":[["obj","c"],"value"]},{"send":[["obj","s"],"name"]},

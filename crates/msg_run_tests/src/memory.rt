@@ -50,7 +50,8 @@ fn addition(rt: &impl Abort) -> Change {
     }
 }
 
-// What the calls are made of. It lies in a box, since each way out of a test drops it by one call there.
+// What the calls are made of. It lies in a box, since each way out of a test drops it by one call
+// there.
 #[derive(Drop)]
 struct Bed {
     image: Image,
@@ -304,7 +305,8 @@ fn a_complaint_takes_no_memory(rt: HostRuntime) {
     }
 }
 
-// Runs a document of two sends into memory that is there, and says whether there was enough beside it. Where there wasn't, nothing was written.
+// Runs a document of two sends into memory that is there, and says whether there was enough beside
+// it. Where there wasn't, nothing was written.
 fn is_answered<T: Threads + Wait + Abort + Sync>(
     rt: &T,
     alloc: Global,
@@ -329,7 +331,8 @@ fn is_answered<T: Threads + Wait + Abort + Sync>(
     ended.is_ok()
 }
 
-// The run is tried with ever more memory, until there is enough, for a thread's stack too. The first time there is none.
+// The run is tried with ever more memory, until there is enough, for a thread's stack too. The
+// first time there is none.
 fn is_answered_at_last<T: Threads + Wait + Abort + Sync>(
     rt: &T,
     alloc: Global,

@@ -102,7 +102,8 @@ fn are_in_order<R: Abort>(rt: &R, told: &[Told], moments: &[Moment]) {
     }
 }
 
-// The workers of the pieces, in the order of the pieces' numbers. Nothing but these and the three changes is told.
+// The workers of the pieces, in the order of the pieces' numbers. Nothing but these and the three
+// changes is told.
 fn are_by<R: Abort>(rt: &R, told: &[Told], workers: &[u32]) {
     same(rt, told.len() / 2, workers.len().saturating_add(3));
     let mut piece = 0u32;

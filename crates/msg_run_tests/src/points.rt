@@ -1,4 +1,5 @@
-//! What each point of a history answers, and what a worker's lines say of the points at which it looked up.
+//! What each point of a history answers, and what a worker's lines say of the points at which it
+//! looked up.
 
 use crate::edits::{CLASSES, Edit, Row, SELECTORS, answer, make, opening};
 use std::alloc::Global;
@@ -71,7 +72,8 @@ impl Points {
         None
     }
 
-    /// The least point, from one on, at which the last lookup of a send can have been made that was answered so.
+    /// The least point, from one on, at which the last lookup of a send can have been made that was
+    /// answered so.
     pub(crate) fn last_of(
         &self,
         from: usize,

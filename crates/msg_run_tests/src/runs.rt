@@ -8,7 +8,8 @@ use std::process::Abort;
 use std::sync::Wait;
 use std::thread::Threads;
 
-/// Four classes. `value` is 7 and `name` is 1 in all of them, but for `name` of the class `Child` and below it; `r_name`, which can be set for `value`, is 1.
+/// Four classes. `value` is 7 and `name` is 1 in all of them, but for `name` of the class `Child`
+/// and below it; `r_name`, which can be set for `value`, is 1.
 const CLASSES: &str = r#"{"version":1,"classes":[
 {"name":"Root","super":null,"methods":[["value","r_value"],["name","r_name"]],"class_methods":[]},
 {"name":"Child","super":"Root","methods":[["name","c_name"]],"class_methods":[]},

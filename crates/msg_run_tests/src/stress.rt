@@ -1,4 +1,5 @@
-//! Hundreds of thousands of sends beside thousands of changes. Each line is checked against what the method lists answer, and each worker's points against those before.
+//! Hundreds of thousands of sends beside thousands of changes. Each line is checked against what
+//! the method lists answer, and each worker's points against those before.
 
 use crate::edits::{CLASSES, Edit, SELECTORS, item};
 use crate::points::{FACTOR, Points, Sent, send_of};
@@ -102,7 +103,8 @@ fn document(rt: &impl Abort, alloc: Global, edits: &[Edit]) -> String {
     ).expect(rt, "memory")
 }
 
-// A gate by which neither the sends nor the changes get far ahead of the others: there is about one change for each piece.
+// A gate by which neither the sends nor the changes get far ahead of the others: there is about one
+// change for each piece.
 #[derive(Drop)]
 struct Paced {
     pieces: AtomicU32,
@@ -133,7 +135,8 @@ impl Paced {
 }
 
 impl Gate for Paced {
-    // Some piece that isn't done is at most as many pieces behind as there are workers, so one of the two goes on.
+    // Some piece that isn't done is at most as many pieces behind as there are workers, so one of
+    // the two goes on.
     fn piece_starts(&self, _worker: u32, piece: u32) {
         self.wait(&self.changes, piece.saturating_sub(16));
     }
@@ -220,7 +223,8 @@ fn rises(rt: &impl Abort, points: &Points, text: &[u8]) -> usize {
     seen.rises
 }
 
-// The changes really are made among the sends: by the gate a worker's points rise at least once in sixteen of its pieces.
+// The changes really are made among the sends: by the gate a worker's points rise at least once in
+// sixteen of its pieces.
 fn round<T: Threads + Wait + Abort + Sync>(rt: &T, alloc: Global, points: &Points, document: &str) {
     let gate = Paced::new();
     let outcome = ran(rt, alloc, Way::Beside, document, WORKERS, CUT, &gate);

@@ -12,7 +12,8 @@ use Rattle.msg_runner.specs.declared.workers.Batch.{Batch}
 abbrev pub HasServed : Part → History → Batch → History → Type 0
 HasServed p h b now = IsServed p.image.now (worker_of p.deal.cut p.deal.workers) p.deal.workers h (map item_parts p.items.now) (map (λ (rs : Vec Reply Global). rs.items) b.shares.items) b.outcomes.items now
 
--- a worker has answered its share of a part beside the changes, which led from one history to another that has each of its points
+-- a worker has answered its share of a part beside the changes, which led from one history to
+-- another that has each of its points
 abbrev pub HasAnswered : Part → ℕ → History → Batch → History → Type 0
 HasAnswered p w h b now =
     (last : History)

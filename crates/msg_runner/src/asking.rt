@@ -14,7 +14,8 @@ use msg_image::Image;
 use msg_names::{ClassRef, ImpRef, Selector, Value};
 use std::sync::Wait;
 
-// A worker: its sender, the handle by which its misses wait, and the gate that it tells of its pieces.
+// A worker: its sender, the handle by which its misses wait, and the gate that it tells of its
+// pieces.
 #[derive(Drop)]
 pub(crate) struct Asking<'r, 'd, N: ArenaName, G: Gate, R: Wait> {
     pub(crate) rt: &'r R,

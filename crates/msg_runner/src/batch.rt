@@ -106,7 +106,8 @@ impl<'s, G: Gate, R: Threads + Wait + Sync> Run<'s, G, R> {
     }
 
     // Answers items, a line for each, and says how many pieces and changes there were. No more
-    // threads are started than there are pieces, and where there is one piece and no change none is.
+    // threads are started than there are pieces, and where there is one piece and no change none
+    // is.
     pub(crate) fn share_out<'e: 's, 'd: 's, N: ArenaName + Send + Sync + 's>(
         &self,
         scope: &'s Scope<'s, &'e ()>,

@@ -98,8 +98,8 @@ pub(crate) fn change_by<'d, N: ArenaName, R: Wait>(
     }
 }
 
-// Makes the changes among items, in order, and says what became of each item's. The first such item has the number
-// `first`.
+// Makes the changes among items, in order, and says what became of each item's. The first such item
+// has the number `first`.
 pub(crate) fn make_changes<'d, N: ArenaName, G: Gate, R: Wait>(
     alloc: Global,
     rt: &R,

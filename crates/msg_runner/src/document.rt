@@ -39,9 +39,9 @@ fn is_shared(part: Part<'_>) -> bool {
 }
 
 impl<'s, G: Gate, R: Threads + Wait + Sync> Run<'s, G, R> {
-    // Writes the lines of a part: of the sends before the next item of changes, or of one such item.
-    // The calling thread answers by itself where it is of changes, one worker takes part, or there
-    // is one piece.
+    // Writes the lines of a part: of the sends before the next item of changes, or of one such
+    // item. The calling thread answers by itself where it is of changes, one worker takes part, or
+    // there is one piece.
     fn write_part<'e: 's, 'd: 's, N: ArenaName + Send + Sync + 's>(
         &self,
         scope: &'s Scope<'s, &'e ()>,
@@ -176,8 +176,9 @@ impl<'r, G: Gate, R: Threads + Wait + Sync> Run<'r, G, R> {
 /// Answers a document's items in their order: a line for each, of which the text is whole.
 ///
 /// With `Changes::Between` the text is that of one thread which takes the items one by one and
-/// searches the method lists, for every number of workers and every cut. No more threads are started
-/// than there are pieces of `cut` sends, and one worker is the calling thread. Only memory can fail.
+/// searches the method lists, for every number of workers and every cut. No more threads are
+/// started than there are pieces of `cut` sends, and one worker is the calling thread. Only memory
+/// can fail.
 pub fn answer_document<G: Gate, T: Threads + Wait + Sync>(
     rt: &T,
     alloc: Global,

@@ -49,8 +49,9 @@ fn run_asked<R: Source, W: Sink, T: Threads + Wait + Sync>(
     }
 }
 
-/// Answers a document as the words of a command line ask, says in a line why where that can't be, and gives the
-/// exit status, with which the process is to end: what the document takes stays taken.
+/// Answers a document as the words of a command line ask, says in a line why where that can't be,
+/// and gives the exit status, with which the process is to end: what the document takes stays
+/// taken.
 pub fn run_words<R: Source, W: Sink, C: Sink, T: Threads + Wait + Sync>(
     rt: &T,
     alloc: Global,
@@ -80,8 +81,8 @@ pub fn run_words<R: Source, W: Sink, C: Sink, T: Threads + Wait + Sync>(
     }
 }
 
-/// What a program does: it answers a document as the words that it was started with ask, and gives the exit status,
-/// with which the process is to end.
+/// What a program does: it answers a document as the words that it was started with ask, and gives
+/// the exit status, with which the process is to end.
 ///
 /// `whole` names no words, since no clause says what `words` gives.
 pub fn run_program<R: Source, W: Sink, C: Sink, T: Env + Alloc<A = Global> + Threads + Wait + Sync>(

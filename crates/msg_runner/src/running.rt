@@ -112,8 +112,8 @@ pub fn run<R: Source, W: Sink, G: Gate, T: Threads + Wait + Sync>(
     run_as(rt, alloc, gate, source, sink, asked)
 }
 
-/// Reads a document, answers all its sends by workers while it makes the changes in their order, and
-/// writes a line for each item.
+/// Reads a document, answers all its sends by workers while it makes the changes in their order,
+/// and writes a line for each item.
 ///
 /// Each worker's sends are answered at points of one history that rise.
 pub fn run_beside<R: Source, W: Sink, G: Gate, T: Threads + Wait + Sync>(

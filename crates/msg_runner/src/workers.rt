@@ -94,7 +94,8 @@ fn start<'s, 'e: 's, 'd: 's, N: ArenaName + Send + Sync + 's, G: Gate, R: Wait +
     Ok(worker)
 }
 
-// Starts the last worker, calls itself for the others, and joins the last. The innermost call makes the changes.
+// Starts the last worker, calls itself for the others, and joins the last. The innermost call makes
+// the changes.
 pub(crate) fn work_beside<
     's,
     'e: 's,

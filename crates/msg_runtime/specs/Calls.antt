@@ -20,7 +20,8 @@ use Rattle.msg_runtime.specs.View.{RuntimeView}
 abbrev pub HasKeeper : Keeper → RuntimeView → Type 0
 HasKeeper k r = (r.keeper ≡ keeper_view k) × (r.remembered ≡ keeper_remembered k) × (r.report ≡ keeper_report k)
 
--- what was found for a selector's number was filled in and counted, and the sender of the view v was then shown the history
+-- what was found for a selector's number was filled in and counted, and the sender of the view v
+-- was then shown the history
 abbrev pub CachesNumber : ClassRef → ℕ → ℕ → SenderView → RuntimeView → RuntimeView → Type 0
 CachesNumber c s i v r r' = AnswersMiss (layout r.arena) r.remembered c s i v r.keeper r'.keeper r.report r'.report
 
@@ -28,7 +29,8 @@ CachesNumber c s i v r r' = AnswersMiss (layout r.arena) r.remembered c s i v r.
 abbrev pub CachesAnswer : ClassRef → Selector → ImpRef → SenderView → RuntimeView → RuntimeView → Type 0
 CachesAnswer c s i v r r' = CachesNumber c (selector_number s) (imp_number i) v r r'
 
--- the change would be accepted, and beside those that were marked the class references are that it affects
+-- the change would be accepted, and beside those that were marked the class references are that it
+-- affects
 abbrev pub MarksReached : RuntimeView → Change → List Bool → List Bool → Type 0
 MarksReached r x old new = IsAccepted r.keeper.history x × MarksAffected (classes r.arena) (log r.keeper.history) x old new
 

@@ -13,7 +13,8 @@ use Rattle.msg_cache.specs.Views.{ArenaView}
 use Rattle.msg_cache.specs.declared.keeper.Keeper.{Keeper}
 use Rattle.msg_runtime.specs.Reach.{are_reached}
 
--- each class reference of which this is true at the tables' log is cold: it has no live array, and is closed
+-- each class reference of which this is true at the tables' log is cold: it has no live array, and
+-- is closed
 abbrev pub AreFlushed : ArenaView → TablesView → Keeper → (Log → ClassRef → Bool) → Type 0
 AreFlushed a t k is_meant = (h : Log) → StandsAt t h → (c : ClassRef) → is_meant h c ≡ true → IsCold a k c
 

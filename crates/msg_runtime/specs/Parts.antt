@@ -41,7 +41,8 @@ keeper_remembered k = k.remembered.items
 abbrev pub keeper_report : Keeper → Report
 keeper_report k = k.report
 
--- some fill of what was found took the keeper's view k to k', and was counted from the report r to r'
+-- some fill of what was found took the keeper's view k to k', and was counted from the report r to
+-- r'
 abbrev pub IsFilled : Layout → List ℕ → ClassRef → ℕ → ℕ → KeeperView → KeeperView → Report → Report → Type 0
 IsFilled z remembered c s i k k' r r' = (answer : Filled) × Fills z remembered c s i k k' answer × CountsFill (way_of z remembered k c s) answer r r'
 
@@ -49,7 +50,8 @@ IsFilled z remembered c s i k k' r r' = (answer : Filled) × Fills z remembered 
 abbrev pub CachesFound : ArenaView → ClassRef → Selector → ImpRef → Keeper → Keeper → Type 0
 CachesFound a c s i k k' = IsFilled (layout a) (keeper_remembered k) c (selector_number s) (imp_number i) (keeper_view k) (keeper_view k') (keeper_report k) (keeper_report k')
 
--- what was found was filled in, its class reference was opened, if it was closed, and the sender of the view v was then shown the history
+-- what was found was filled in, its class reference was opened, if it was closed, and the sender of
+-- the view v was then shown the history
 abbrev pub AnswersMiss : Layout → List ℕ → ClassRef → ℕ → ℕ → SenderView → KeeperView → KeeperView → Report → Report → Type 0
 AnswersMiss z remembered c s i v k k' r r' = (j : KeeperView) × IsFilled z remembered c s i k j r r' × (k' ≡ given_again v (cache.opened z c j))
 

@@ -12,7 +12,8 @@ use Rattle.msg_tables.specs.Log.{Log, holder}
 use Rattle.msg_tables.specs.Origin.{CountsView}
 use Rattle.msg_tables.specs.Several.{is_below}
 
--- where methods that are set or exchanged stand, of a host's classes: of a document's all caches are flushed
+-- where methods that are set or exchanged stand, of a host's classes: of a document's all caches
+-- are flushed
 abbrev pub unless_counted : Option CountsView → List ClassRef → Option (List ClassRef)
 unless_counted None places = Some places
 unless_counted (Some counts) places = None
@@ -29,7 +30,8 @@ set_places h c s = unless_counted h.origin.counts (holders_of h c s)
 abbrev pub exchanged_places : Log → (ClassRef × Selector) → (ClassRef × Selector) → Option (List ClassRef)
 exchanged_places h one other = unless_counted h.origin.counts (holders_of h one.0 one.1 ++ holders_of h other.0 other.1)
 
--- The class references that are flushed with all below them after a change, where this is then the log; none where all caches are flushed.
+-- The class references that are flushed with all below them after a change, where this is then the
+-- log; none where all caches are flushed.
 abbrev pub flushed_places : Log → Change → Option (List ClassRef)
 flushed_places h (Add c s i) = Some (c ∷ [])
 flushed_places h (Replace c s i) = Some (c ∷ [])
@@ -42,6 +44,7 @@ flushed_places h (AddClass k d) = Some []
 abbrev pub are_reached : Log → ClassRef → Option (List ClassRef) → Bool
 are_reached h c places = option_map_or (λ ps. is_below h ps c) places true
 
--- a change after which this is the log flushes the cache of a class reference: it is of the class that is made, or one that is flushed, or below such a one
+-- a change after which this is the log flushes the cache of a class reference: it is of the class
+-- that is made, or one that is flushed, or below such a one
 abbrev pub is_flushed : Log → Change → ClassRef → Bool
 is_flushed h x c = is_of_made x c || are_reached h c (flushed_places h x)

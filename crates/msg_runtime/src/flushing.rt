@@ -80,7 +80,8 @@ pub(crate) fn flush_below(
     flush_each(keeper, arena, below);
 }
 
-// Flushes the caches of a class reference and of all below it, where a list of its methods isn't empty.
+// Flushes the caches of a class reference and of all below it, where a list of its methods isn't
+// empty.
 fn flush_methods(
     keeper: &mut Keeper,
     arena: &Arena,
@@ -144,7 +145,8 @@ fn flush_holder(
     }
 }
 
-// Flushes the caches that a method which was set may be seen from: where it stands and below, and of a document's classes all.
+// Flushes the caches that a method which was set may be seen from: where it stands and below, and
+// of a document's classes all.
 fn flush_set(
     keeper: &mut Keeper,
     arena: &Arena,
@@ -204,9 +206,10 @@ fn flush_exchanged(
 
 // Flushes the caches that a change reaches, which was just made.
 //
-// A method that is added or replaced is seen by the class and those below, and so is each list of an attached category. A method that is set or exchanged is seen
-// where it stands and below; of a document's classes all caches are flushed then. No lookup finds anything in a class before it is made, and nothing is below it
-// then but its metaclass: making one looks at no other class.
+// A method that is added or replaced is seen by the class and those below, and so is each list of
+// an attached category. A method that is set or exchanged is seen where it stands and below; of a
+// document's classes all caches are flushed then. No lookup finds anything in a class before it is
+// made, and nothing is below it then but its metaclass: making one looks at no other class.
 pub(crate) fn flush_reached(
     keeper: &mut Keeper,
     arena: &Arena,

@@ -12,7 +12,8 @@ use msg_cache::{Arena, Keeper};
 use msg_names::ClassRef;
 use msg_tables::{Below, Entry, Tables, Written};
 
-// Flushes the caches that an entry tells of: of a class that was made, or of where rows were written and of all below, unless these were flushed last. Answers what was flushed last then.
+// Flushes the caches that an entry tells of: of a class that was made, or of where rows were
+// written and of all below, unless these were flushed last. Answers what was flushed last then.
 fn flush_entry(
     keeper: &mut Keeper,
     arena: &Arena,
@@ -47,8 +48,10 @@ fn flush_entry(
     Some(place)
 }
 
-// Flushes the caches that a list of changes reaches, which were just made: of the classes that were made, and of where rows were written and of all below, as the
-// tables are now. What stood below a place when a change wrote there still does. Of entries at one place that follow one another the first alone has its classes gone over.
+// Flushes the caches that a list of changes reaches, which were just made: of the classes that were
+// made, and of where rows were written and of all below, as the tables are now. What stood below a
+// place when a change wrote there still does. Of entries at one place that follow one another the
+// first alone has its classes gone over.
 pub(crate) fn flush_written(
     keeper: &mut Keeper,
     arena: &Arena,

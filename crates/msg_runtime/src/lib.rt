@@ -1,4 +1,5 @@
-//! What a runtime lock guards: the keeper of the method caches, and the class tables at its history.
+//! What a runtime lock guards: the keeper of the method caches, and the class tables at its
+//! history.
 #![tactic(auto)]
 
 mod caching;

@@ -44,8 +44,9 @@ pub struct Made {
 
 /// The keeper of an arena's method caches, and class tables that stand at its history.
 ///
-/// It is what is used by one thread at a time, while senders probe the arena beside it. It has no lock of its own and waits for nobody: whoever has threads
-/// puts a lock round it. Once it is opened nothing but a change takes memory, and that only for rows.
+/// It is what is used by one thread at a time, while senders probe the arena beside it. It has no
+/// lock of its own and waits for nobody: whoever has threads puts a lock round it. Once it is
+/// opened nothing but a change takes memory, and that only for rows.
 #[derive(Drop)]
 pub struct Runtime {
     keeper: Keeper,
@@ -119,8 +120,9 @@ impl Runtime {
         })
     }
 
-    /// Answers a lookup that a reader missed, from the tables, and caches the answer. Its class reference is then open: what is noted of it counts until a change affects it. The reader has then seen
-    /// the whole history.
+    /// Answers a lookup that a reader missed, from the tables, and caches the answer. Its class
+    /// reference is then open: what is noted of it counts until a change affects it. The reader has
+    /// then seen the whole history.
     pub fn answer(
         &mut self,
         arena: &Arena,
@@ -187,7 +189,8 @@ impl Runtime {
         imp
     }
 
-    /// The implementation that a lookup finds, from the tables alone: no cache is looked at or filled.
+    /// The implementation that a lookup finds, from the tables alone: no cache is looked at or
+    /// filled.
     pub fn lookup(&self, class: ClassRef, sel: Selector) -> ImpRef
         requires class { class.class < classes self.now.arena }
         ensures found { IsFoundAt self.now.keeper.history class sel result }
@@ -223,7 +226,8 @@ impl Runtime {
         self.tables.marks(alloc)
     }
 
-    /// Marks the class references whose lookups a change may alter, beside those that are marked, and doesn't make it; or says why it would be refused, and marks none.
+    /// Marks the class references whose lookups a change may alter, beside those that are marked,
+    /// and doesn't make it; or says why it would be refused, and marks none.
     ///
     /// It looks at the classes that it marks and at one or two more, and takes no memory.
     pub fn reach(&self, change: &Change, marks: &mut Marks) -> Result<(), ChangeFault>
@@ -237,10 +241,13 @@ impl Runtime {
         self.tables.reach(change, marks)
     }
 
-    /// Marks the class references whose lookups a list of changes may alter if it is made as one, beside those that are marked, each at its slot, and doesn't make it; or says which of them
-    /// would be refused. Then what those before it may alter is marked; where memory is wanting, the marks say nothing.
+    /// Marks the class references whose lookups a list of changes may alter if it is made as one,
+    /// beside those that are marked, each at its slot, and doesn't make it; or says which of them
+    /// would be refused. Then what those before it may alter is marked; where memory is wanting,
+    /// the marks say nothing.
     ///
-    /// No cache is touched. It costs the walk over the classes that it marks, and what it costs the tables to make the list and to take it back. The turn's history is the runtime's.
+    /// No cache is touched. It costs the walk over the classes that it marks, and what it costs the
+    /// tables to make the list and to take it back. The turn's history is the runtime's.
     pub fn reach_all<L: ChangeList>(
         &mut self,
         alloc: Global,
@@ -269,7 +276,8 @@ impl Runtime {
             .reach_all(alloc, changes, marked, &mut self.below)
     }
 
-    /// Makes a change, closes what it reaches and flushes its caches, and answers how many times changes were made. After an error nothing was changed or flushed.
+    /// Makes a change, closes what it reaches and flushes its caches, and answers how many times
+    /// changes were made. After an error nothing was changed or flushed.
     ///
     /// The turn's history is the runtime's, before and after.
     pub fn change(
@@ -308,11 +316,14 @@ impl Runtime {
         Ok(self.keeper.commit_closed(arena, turn, change))
     }
 
-    /// Makes a list of changes as one, closes what it reaches and flushes its caches, and answers how many times changes were made and what was written; or says which of them would be refused. After an
-    /// error nothing was changed or flushed. An empty list changes nothing and isn't counted.
+    /// Makes a list of changes as one, closes what it reaches and flushes its caches, and answers
+    /// how many times changes were made and what was written; or says which of them would be
+    /// refused. After an error nothing was changed or flushed. An empty list changes nothing and
+    /// isn't counted.
     ///
-    /// The turn's history is the runtime's, before and after. It costs what its changes cost but for one count that is stored, and room for what they write, which is that of an earlier list where
-    /// that was given back and is large enough.
+    /// The turn's history is the runtime's, before and after. It costs what its changes cost but
+    /// for one count that is stored, and room for what they write, which is that of an earlier list
+    /// where that was given back and is large enough.
     pub fn change_all<L: ChangeList>(
         &mut self,
         alloc: Global,
@@ -355,7 +366,8 @@ impl Runtime {
         Ok(Made { count, written })
     }
 
-    /// Takes back what was written, once it isn't looked at any more: the next list of changes writes there, if it isn't large.
+    /// Takes back what was written, once it isn't looked at any more: the next list of changes
+    /// writes there, if it isn't large.
     pub fn keep_room(&mut self, written: Written)
         ensures { self.new ≡ self.old }
     {
@@ -364,7 +376,8 @@ impl Runtime {
         }
     }
 
-    /// A reader of a sender number that isn't given out, where there is one. It has seen the whole history.
+    /// A reader of a sender number that isn't given out, where there is one. It has seen the whole
+    /// history.
     ///
     /// It looks at the numbers that are out up to the least that isn't.
     pub fn sender(&mut self, arena: &Arena) -> Option<Reader>

@@ -21,7 +21,8 @@ pub struct Hog {
 impl Hog {
     /// Takes all memory that is free.
     ///
-    /// Where there is no environment nothing is taken: so tests are tried without a proof, over an allocator that has more memory than there is.
+    /// Where there is no environment nothing is taken: so tests are tried without a proof, over an
+    /// allocator that has more memory than there is.
     pub fn new<R: Env + AllocGlobal>(rt: &R) -> Result<Hog, AllocError> {
         let alloc = rt.alloc();
         let mut hog = Hog {
@@ -42,7 +43,8 @@ impl Hog {
         Ok(())
     }
 
-    // Takes blocks that are only reserved: from more than an address space has down to the smallest.
+    // Takes blocks that are only reserved: from more than an address space has down to the
+    // smallest.
     fn take_all(&mut self, alloc: Global) {
         let mut size = 1 << 46;
         for _halving in 0..35 {
@@ -79,7 +81,8 @@ impl Hog {
         !self.blocks.is_empty()
     }
 
-    /// Gives a little memory back, and more once it has done so some thousand times. Says whether there was any.
+    /// Gives a little memory back, and more once it has done so some thousand times. Says whether
+    /// there was any.
     pub fn give_back(&mut self) -> bool {
         self.pieces.pop().is_some() || self.blocks.pop().is_some()
     }

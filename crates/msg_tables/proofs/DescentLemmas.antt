@@ -137,7 +137,8 @@ below-meta false true true d root = absurd (clash (root refl))
 below-meta false false true d root = refl
 below-meta false false false d root = refl
 
--- A class reference descends from another where their classes do: from a class's metaclass just metaclasses do, and from a class classes, and where that is a root class metaclasses too.
+-- A class reference descends from another where their classes do: from a class's metaclass just
+-- metaclasses do, and from a class classes, and where that is a root class metaclasses too.
 module _ (supers : List (Option Presence)) (order : List ℕ) (before : IsOrder supers order) (origin : ClassRef) where
   abbrev pub Kinds : ClassRef → Type 0
   Kinds c = descends supers origin c ≡ (cond c.meta (origin.meta || is_root supers origin.class) (not origin.meta) && descends supers (of_class origin.class) (of_class c.class))

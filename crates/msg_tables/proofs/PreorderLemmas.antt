@@ -114,7 +114,8 @@ pub first-same : (f g : ℕ → ℕ) (ks : List ℕ) → ((k : ℕ) → is_in k 
 first-same f g [] same = refl
 first-same f g (k ∷ ks) same = same k (first-in k ks)
 
--- a class that is placed right after another, and is one deeper, is among the deeper ones where the other is
+-- a class that is placed right after another, and is one deeper, is among the deeper ones where the
+-- other is
 pub deeper-placed : (f : ℕ → ℕ) (s n d j : ℕ) (ks : List ℕ) → f n ≡ suc (f s) → is_in j (deeper f d (placed s n ks)) ≡ (is_in j (deeper f d ks) || cond (is_in s (deeper f d ks)) (n == j) false)
 deeper-placed f s n d j [] one = refl
 deeper-placed f s n d j (k ∷ ks) one = at (k == s) refl (deeper-placed f s n d j ks one)

@@ -32,6 +32,7 @@ abbrev pub is_of_made : Change → ClassRef → Bool
 is_of_made (AddClass k d) c = c.class == k
 is_of_made _ c = false
 
--- the class reference is of the class that is made, or is below a place of the change, or such a place
+-- the class reference is of the class that is made, or is below a place of the change, or such a
+-- place
 unfoldable pub is_affected : Log → Change → ClassRef → Bool
 is_affected h x c = is_of_made x c || list_any (λ place. is_member place (chain_at h c)) (written_refs h x)

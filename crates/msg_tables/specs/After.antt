@@ -49,7 +49,8 @@ set_method (Some holder) s i rows = set_own holder s i rows
 abbrev pub row : ClassRef → Selector → ImpRef → Row
 row c s i = record { class = c; sel = selector_number s; imp = imp_number i }
 
--- The rows after a change. Attached methods go last, each list from its last entry to its first, so that the earlier of two entries counts.
+-- The rows after a change. Attached methods go last, each list from its last entry to its first, so
+-- that the earlier of two entries counts.
 abbrev pub rows_after : ClassTable → Change → List Row
 rows_after t (Add c s i) = t.rows ++ row c s i ∷ []
 rows_after t (Replace c s i) =

@@ -9,7 +9,8 @@ bucket_of count s = bit_and (s + s / 32) (count - 1)
 abbrev pub bucket_at : ℕ → List (ℕ × ℕ) → ℕ → ℕ
 bucket_at count rows i = bucket_of count (slice_index_or rows i (0, 0)).0
 
--- `link` is 1 more than the place of the last of the first k rows that is in the bucket b, or 0 where none is
+-- `link` is 1 more than the place of the last of the first k rows that is in the bucket b, or 0
+-- where none is
 pub record IsLast (count : ℕ) (rows : List (ℕ × ℕ)) (b k link : ℕ) : Type 0 where
   pub within : link ≤ k
   pub there : (i : ℕ) → link ≡ i + 1 → bucket_at count rows i ≡ b

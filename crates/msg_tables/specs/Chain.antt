@@ -14,7 +14,8 @@ presence_of supers k = slice_index_or supers k None
 abbrev pub is_present : List (Option Presence) → ℕ → Bool
 is_present supers k = is_some (presence_of supers k)
 
--- the superclass of a class reference, where each class that is present has the superclass that is given here
+-- the superclass of a class reference, where each class that is present has the superclass that is
+-- given here
 abbrev pub super_of : List (Option Presence) → ClassRef → Option ClassRef
 super_of supers c = option_map_or (λ p. above c p.superclass) (presence_of supers c.class) None
 
@@ -23,7 +24,8 @@ abbrev pub chain_up : ℕ → List (Option Presence) → ClassRef → List Class
 chain_up zero supers c = c ∷ []
 chain_up (suc n) supers c = c ∷ option_map_or (chain_up n supers) (super_of supers c) []
 
--- From a class reference upward, to a root class, and nothing from one that isn't present. No more stand above it than there are class numbers: at most the other metaclasses and the root class.
+-- From a class reference upward, to a root class, and nothing from one that isn't present. No more
+-- stand above it than there are class numbers: at most the other metaclasses and the root class.
 unfoldable pub chain_of : List (Option Presence) → ClassRef → List ClassRef
 chain_of supers c = if is_present supers c.class then chain_up (length supers) supers c else []
 
@@ -36,7 +38,8 @@ abbrev pub index_in : List ℕ → ℕ → ℕ
 index_in [] k = 0
 index_in (x ∷ xs) k = if x == k then 0 else suc (index_in xs k)
 
--- at least as many as stand above a class reference, where each superclass stands before its subclasses in the order
+-- at least as many as stand above a class reference, where each superclass stands before its
+-- subclasses in the order
 abbrev pub steps_of : List ℕ → ClassRef → ℕ
 steps_of order c = index_in order c.class + (if c.meta then 1 else 0)
 

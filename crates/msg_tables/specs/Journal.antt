@@ -136,7 +136,8 @@ entry_count (RewriteBoth first second) = 2
 entry_count (Attach k methods class_methods) = 2
 entry_count _ = 1
 
--- the changes that take an entry back: a row that was rewritten gets its implementation again, and rows that were added and a class that was made have no way back
+-- the changes that take an entry back: a row that was rewritten gets its implementation again, and
+-- rows that were added and a class that was made have no way back
 abbrev pub undo_entry : Entry → Option (List Change)
 undo_entry (Added c zero) = Some []
 undo_entry (Added c (suc n)) = None

@@ -92,7 +92,8 @@ abbrev pub AttachedClassMethodIsFound : Type 0
 AttachedClassMethodIsFound = (h : Log) (k : ℕ) (methods class_methods : List (ℕ × ℕ)) (s i : ℕ) → no_class h (of_class k) ≡ false → own_in s (reverse class_methods) ≡ Some i
     → lookup (and_then h (Attach k methods class_methods)) (of_meta k) s ≡ i
 
--- of the method lists of a class reference with a method of a selector the one that is attached last wins
+-- of the method lists of a class reference with a method of a selector the one that is attached
+-- last wins
 abbrev pub LastListWins : Type 0
 LastListWins = (o : OriginView) (before later : List MethodsOf) (l : MethodsOf) (s i : ℕ) → IsSound o → o.lists ≡ before ++ l ∷ later
     → All (Lacks l.class s) later → own_in s l.methods ≡ Some i → lookup (empty o) l.class s ≡ i

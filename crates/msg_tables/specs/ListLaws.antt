@@ -18,7 +18,8 @@ AcceptedWhereNoneIsRefused = (h : Log) (xs : List Change) (k : ℕ) → refused_
 abbrev pub NoneIsRefusedWhereAccepted : Type 0
 NoneIsRefusedWhereAccepted = (h : Log) (xs : List Change) (k : ℕ) → AreAccepted h xs → refused_from k h xs ≡ None
 
--- the changes before a place are accepted one after another, and the one there is then refused for this fault
+-- the changes before a place are accepted one after another, and the one there is then refused for
+-- this fault
 abbrev pub IsFirstRefused : Log → List Change → ℕ → ChangeFault → Type 0
 IsFirstRefused h xs n f = (before : List Change) × (x : Change) × (later : List Change) × (xs ≡ before ++ x ∷ later) × (length before ≡ n)
     × AreAccepted h before × (refusal (and_all h before) x ≡ Some f)
@@ -41,7 +42,8 @@ abbrev pub WhatIsBelowStays : Type 0
 WhatIsBelowStays = (h : Log) (xs : List Change) (c p : ClassRef) → IsSound h.origin → IsLog h → AreAccepted h xs
     → is_member p (chain_at h c) ≡ true → is_member p (chain_at (and_all h xs) c) ≡ true
 
--- what some change of a list affects is, once all are made, of a class that was made, or at a place at which one wrote, or below one
+-- what some change of a list affects is, once all are made, of a class that was made, or at a place
+-- at which one wrote, or below one
 abbrev pub AffectedIsAtItsPlaces : Type 0
 AffectedIsAtItsPlaces = (h : Log) (xs : List Change) (c : ClassRef) → IsSound h.origin → IsLog h → AreAccepted h xs → is_affected_by_all h xs c ≡ true
     → (is_of_one (made_by_all xs) c || is_below (and_all h xs) (written_by_all h xs) c) ≡ true

@@ -20,14 +20,16 @@ pub record AreMade (xs : List Change) (old new : History) : Type 0 where
   pub accepted : refused_from 0 (log old) xs ≡ None
   pub history : new ≡ and_as_one old xs
 
--- The first that would be refused is named, with its fault. Where memory was wanting, neither those before it would be refused nor it itself.
+-- The first that would be refused is named, with its fault. Where memory was wanting, neither those
+-- before it would be refused nor it itself.
 pub record AreRefused (xs : List Change) (h : History) (r : Refused) : Type 0 where
   pub fault : r.fault ≢ Memory → refused_from 0 (log h) xs ≡ Some (r.place, r.fault)
   pub memory : r.fault ≡ Memory → refused_from 0 (log h) (take (r.place + 1) xs) ≡ None
   pub before : refused_from 0 (log h) (take r.place xs) ≡ None
   pub place : r.place < length xs
 
--- What was written tells the way back from changes that are made at a history, where there is one, in two entries for each at most.
+-- What was written tells the way back from changes that are made at a history, where there is one,
+-- in two entries for each at most.
 pub record TellsWayBack (xs : List Change) (h : History) (entries : List Entry) : Type 0 where
   pub undo : undo_all (table (log h)) xs ≡ undo_journal entries
   pub few : length entries ≤ 2 * length xs

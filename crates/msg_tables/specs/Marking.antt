@@ -35,11 +35,13 @@ is_of class own meta c = (if c.meta then meta else own) && (class == c.class)
 abbrev pub MarksThose : (ClassRef → Bool) → List Bool → List Bool → Type 0
 MarksThose test old new = (c : ClassRef) → is_marked new c ≡ (is_marked old c || test c)
 
--- of the class references of n classes those at and below these places are marked, beside those that were
+-- of the class references of n classes those at and below these places are marked, beside those
+-- that were
 abbrev pub MarksBelow : ℕ → Log → List ClassRef → List Bool → List Bool → Type 0
 MarksBelow n h places old new = (c : ClassRef) → c.class < n → is_marked new c ≡ (is_marked old c || list_any (λ place. is_member place (chain_at h c)) places)
 
--- of the class references of n classes those that a change affects are marked, beside those that were
+-- of the class references of n classes those that a change affects are marked, beside those that
+-- were
 abbrev pub MarksAffected : ℕ → Log → Change → List Bool → List Bool → Type 0
 MarksAffected n h x old new = (c : ClassRef) → c.class < n → is_marked new c ≡ (is_marked old c || is_affected h x c)
 

@@ -22,7 +22,8 @@ pub record OriginView : Type 0 where
   pub made : ℕ
   -- the method lists, in the order in which they are attached
   pub lists : List MethodsOf
-  -- where they aren't known each number from 1 is a selector and an implementation, and all fit one another
+  -- where they aren't known each number from 1 is a selector and an implementation, and all fit one
+  -- another
   pub counts : Option CountsView
   pub limits : Limits
 

@@ -81,7 +81,8 @@ nexts_with nexts k (Some d) = slice_set (slice_set nexts k (next_at nexts d)) d 
 abbrev pub CanBeSuperclass : Preorder → ℕ → Type 0
 CanBeSuperclass p d = (d < length p.depths.items) × (d < length p.nexts.items) × (depth_at p.depths.items d < MAX_CLASSES)
 
--- a class is one of those that stand in such an order, of which there is room for as many as have numbers
+-- a class is one of those that stand in such an order, of which there is room for as many as have
+-- numbers
 abbrev pub CanBeGathered : Preorder → ℕ → ℕ → Type 0
 CanBeGathered p class room =
     (supers : List (Option Presence)) × HavePreorder supers p.depths.items p.nexts.items × (is_present supers class ≡ true) × (length supers ≤ room)

@@ -64,7 +64,8 @@ with_methods_reversed methods ms = ms ++ reverse (method_numbers methods)
 abbrev pub ChangesAt : (List (ℕ × ℕ) → List (ℕ × ℕ)) → ℕ → List RowList → List RowList → Type 0
 ChangesAt f at old new = rows_of new ≡ changed_at f at (rows_of old)
 
--- methods were attached to the list of a class and to that of its metaclass, which comes next, each from the last to the first
+-- methods were attached to the list of a class and to that of its metaclass, which comes next, each
+-- from the last to the first
 abbrev pub Attaches : ℕ → List (Selector × ImpRef) → List (Selector × ImpRef) → List RowList → List RowList → Type 0
 Attaches at methods class_methods old new = rows_of new ≡ slice_set
     (slice_set (rows_of old) at (with_methods_reversed methods (slice_index_or (rows_of old) at [])))

@@ -11,7 +11,8 @@ pub record Row : Type 0 where
   pub sel : ℕ
   pub imp : ℕ
 
--- of each class number the class with its superclass, where it is present, and the rows, oldest first
+-- of each class number the class with its superclass, where it is present, and the rows, oldest
+-- first
 pub record ClassTable : Type 0 where
   pub supers : List (Option Presence)
   pub rows : List Row
@@ -25,7 +26,8 @@ abbrev pub or_else : Option ℕ → Option ℕ → Option ℕ
 or_else (Some i) o = Some i
 or_else None o = o
 
--- the implementation in the own row of a class reference and a selector, which is the last of their rows
+-- the implementation in the own row of a class reference and a selector, which is the last of their
+-- rows
 abbrev pub own : List Row → ClassRef → ℕ → Option ℕ
 own [] c s = None
 own (r ∷ rs) c s = or_else (own rs c s) (if is_at c s r then Some r.imp else None)

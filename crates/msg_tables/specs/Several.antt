@@ -30,7 +30,8 @@ abbrev pub is_affected_by_all : Log → List Change → ClassRef → Bool
 is_affected_by_all h [] c = false
 is_affected_by_all h (x ∷ xs) c = is_affected h x c || is_affected_by_all (and_then h x) xs c
 
--- the class references at which the changes of a list add or rewrite rows, each at the log before it
+-- the class references at which the changes of a list add or rewrite rows, each at the log before
+-- it
 abbrev pub written_by_all : Log → List Change → List ClassRef
 written_by_all h [] = []
 written_by_all h (x ∷ xs) = written_refs h x ++ written_by_all (and_then h x) xs

@@ -13,7 +13,9 @@ abbrev pub old_at : Option ClassRef → Selector → ℕ → List Change
 old_at None s i = []
 old_at (Some p) s i = Replace p s (imp_ref_of i) ∷ []
 
--- The parts that take a part back, seen from the tables before it: each own row that it rewrites gets its implementation again. Methods that were added and a class that was made have no way back.
+-- The parts that take a part back, seen from the tables before it: each own row that it rewrites
+-- gets its implementation again. Methods that were added and a class that was made have no way
+-- back.
 abbrev pub undo : ClassTable → Change → Option (List Change)
 undo t (Add c s i) = None
 undo t (Replace c s i) = option_map (λ old. Replace c s (imp_ref_of old) ∷ []) (own t.rows c (selector_number s))

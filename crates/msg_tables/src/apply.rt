@@ -113,7 +113,8 @@ impl Tables {
         }
     }
 
-    /// The fault for which the change would be refused, and none where it would be made. No memory is taken.
+    /// The fault for which the change would be refused, and none where it would be made. No memory
+    /// is taken.
     pub fn refusal(&self, change: &Change) -> Option<ChangeFault>
         ensures { (h : Log) → StandsAt self.now h → result ≡ refusal h change.now }
     {
@@ -122,7 +123,8 @@ impl Tables {
 
     /// Makes a change, or says why not and changes nothing.
     ///
-    /// A method is looked up once; a row that is rewritten is found in its bucket. All growths come first; only `Attach` goes over more than one row.
+    /// A method is looked up once; a row that is rewritten is found in its bucket. All growths come
+    /// first; only `Attach` goes over more than one row.
     pub fn apply(&mut self, change: &Change) -> Result<(), ChangeFault>
         ensures ok { OnOk result (Makes self.old change.now self.new) }
         ensures err { OnErr result (self.new ≡ self.old) }

@@ -15,7 +15,8 @@ use crate::entry::{Entry, Written};
 use crate::fault::ChangeFault;
 use crate::tables::Tables;
 
-/// Why a list of changes was not made: the place of the first that was refused, from 0, and its fault.
+/// Why a list of changes was not made: the place of the first that was refused, from 0, and its
+/// fault.
 #[derive(Clone, Copy, Debug, PartialEq, Eq)]
 pub struct Refused {
     pub place: usize,
@@ -23,7 +24,8 @@ pub struct Refused {
 }
 
 impl Tables {
-    // Why a list isn't made for which there is no room: its first change would be refused, or else for want of memory.
+    // Why a list isn't made for which there is no room: its first change would be refused, or else
+    // for want of memory.
     pub(crate) fn lacks_room<L: ChangeList>(&self, changes: &L) -> Refused
         ensures place { result.place ≡ 0 }
         ensures fault { result.fault ≢ ChangeFault.Memory → IsRefused (L.changes changes.now) self.now result }
@@ -84,9 +86,12 @@ impl Tables {
 
     /// Makes a list of changes as one, or says which would be refused and changes nothing.
     ///
-    /// Each is judged and made after those before it, as by [`apply`](Tables::apply). The room for what they write to the journal comes first, of two entries for each: it is that of an
-    /// earlier journal, made larger where it is too small. Where one is refused, or memory is wanting, those before it are taken back, from the last to the first; that takes no memory, and
-    /// goes over the rows of the lists that rows are taken from, for each of these rows, and over all classes where one was made.
+    /// Each is judged and made after those before it, as by [`apply`](Tables::apply). The room for
+    /// what they write to the journal comes first, of two entries for each: it is that of an
+    /// earlier journal, made larger where it is too small. Where one is refused, or memory is
+    /// wanting, those before it are taken back, from the last to the first; that takes no memory,
+    /// and goes over the rows of the lists that rows are taken from, for each of these rows, and
+    /// over all classes where one was made.
     pub fn apply_all<L: ChangeList>(
         &mut self,
         changes: &L,

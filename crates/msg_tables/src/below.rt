@@ -68,7 +68,8 @@ impl Tables {
 
     /// Finds a class reference and all below it.
     ///
-    /// Below a root class stand its metaclass and all metaclasses of its subclasses too. It looks at the classes that it finds and at one more, and takes no memory.
+    /// Below a root class stand its metaclass and all metaclasses of its subclasses too. It looks
+    /// at the classes that it finds and at one more, and takes no memory.
     pub fn below(&self, class: ClassRef, below: &mut Below)
         requires class { class.class < length self.now.supers }
         requires room { length self.now.supers ≤ below.old.room }

@@ -6,7 +6,8 @@ ghost use Rattle.msg_tables.specs.ChangeList.{change_of};
 
 use crate::change::{Change, ChangeRef};
 
-/// A list of changes that are read one at a time: a slice of them, or what a host has in their place.
+/// A list of changes that are read one at a time: a slice of them, or what a host has in their
+/// place.
 pub trait ChangeList {
     ghost changes: { Self → List Change };
 

@@ -30,7 +30,8 @@ pub enum Entry {
 }
 
 impl Entry {
-    /// The class reference at which rows were added or rewritten: what finds others lies at it and below.
+    /// The class reference at which rows were added or rewritten: what finds others lies at it and
+    /// below.
     pub fn place(self) -> Option<ClassRef>
         ensures place { result ≡ place_of self }
         ensures listed { (n : ℕ) → NamesListed n self → IfSome result (λ p. p.class < n) }
@@ -96,7 +97,9 @@ impl Written {
         Ok(entries)
     }
 
-    /// The changes that take the list back directly after it, the last first: each own row that was rewritten gets its implementation again. None where rows were added or a class was made, which have no way back.
+    /// The changes that take the list back directly after it, the last first: each own row that was
+    /// rewritten gets its implementation again. None where rows were added or a class was made,
+    /// which have no way back.
     pub fn undo(&self, alloc: Global) -> Result<Option<Vec<Change>>, AllocError>
         ensures { IfOk result (λ undo. option_map (λ changes. changes.items) undo ≡ undo_journal self.now) }
     {

@@ -7,7 +7,8 @@ ghost use Rattle.msg_tables.specs.declared.fault.ChangeFault.TheVariants.{Memory
 use std::alloc::AllocError;
 use thiserror::Error;
 
-/// Why a change was not made. Where several hold, the first is answered; memory is wanted only after all others were excluded.
+/// Why a change was not made. Where several hold, the first is answered; memory is wanted only
+/// after all others were excluded.
 #[derive(Clone, Copy, Debug, PartialEq, Eq, Error)]
 pub enum ChangeFault {
     /// No class that is present has the number, or is the superclass of one that is to be made.
@@ -16,7 +17,8 @@ pub enum ChangeFault {
     /// An implementation is forwarding, or none has the number.
     #[error("no implementation")]
     NoImp,
-    /// No selector has the number, or one takes another number of arguments than the implementation, or than the other selector.
+    /// No selector has the number, or one takes another number of arguments than the
+    /// implementation, or than the other selector.
     #[error("argument count")]
     ArgumentCount,
     /// The class itself has the method already.

@@ -1,7 +1,7 @@
 //! What a lookup will find once a change is made.
 //!
-//! The chain stays, and at each class reference what the change writes comes before the class's own method. So the answer is
-//! known before the change is made, and takes no memory.
+//! The chain stays, and at each class reference what the change writes comes before the class's own
+//! method. So the answer is known before the change is made, and takes no memory.
 
 ghost use Rattle.std.specs.Prelude.{◌≡◌, ◌<◌, length, option_map, reverse, IfSome, true};
 ghost use Rattle.msg_names.specs.Number.{selector_number, imp_number};
@@ -30,7 +30,8 @@ fn listed(methods: &MethodList, sel: Selector) -> Option<ImpRef>
     None
 }
 
-// The implementation, where the method of a class reference and a selector that is written is the one that is sought.
+// The implementation, where the method of a class reference and a selector that is written is the
+// one that is sought.
 fn at_ref(
     place: Option<ClassRef>,
     here: ClassRef,
@@ -162,7 +163,8 @@ fn own_after(tables: &Tables, change: &Change, here: ClassRef, sel: Selector) ->
     }
 }
 
-// The implementation that a lookup will find which begins at a class that will be present. `classes` is how many there are.
+// The implementation that a lookup will find which begins at a class that will be present.
+// `classes` is how many there are.
 fn found_from(
     tables: &Tables,
     classes: usize,
@@ -193,9 +195,11 @@ fn found_from(
 }
 
 impl Tables {
-    /// The implementation that [`Tables::lookup`] will find once a change is made, which is of listed classes.
+    /// The implementation that [`Tables::lookup`] will find once a change is made, which is of
+    /// listed classes.
     ///
-    /// Each class on the way costs a search in its own methods and, where the change names methods by `SetImp` or `Exchange`, a lookup of those. No memory is taken.
+    /// Each class on the way costs a search in its own methods and, where the change names methods
+    /// by `SetImp` or `Exchange`, a lookup of those. No memory is taken.
     pub fn lookup_after(&self, change: &Change, class: ClassRef, sel: Selector) -> ImpRef
         requires class { class.class < length self.now.supers }
         requires listed { SeeksAmong (length self.now.supers) change.now }

@@ -10,8 +10,10 @@ use msg_names::{ImpRef, Selector};
 use std::alloc::{AllocError, Global};
 use std::marker::Model;
 
-// The rows, oldest first. Some selectors share a bucket, whose rows hang together: `newest` has of each bucket 1 more than the place of its newest row,
-// or 0 where it has none, and `older` the same of the row before each row in its bucket. So a lookup goes from the newest row of a selector's bucket to the oldest.
+// The rows, oldest first. Some selectors share a bucket, whose rows hang together: `newest` has of
+// each bucket 1 more than the place of its newest row, or 0 where it has none, and `older` the same
+// of the row before each row in its bucket. So a lookup goes from the newest row of a selector's
+// bucket to the oldest.
 #[derive(Drop)]
 pub(crate) struct IndexedRows {
     rows: Vec<(Selector, ImpRef)>,
@@ -31,7 +33,8 @@ impl Model for IndexedRows {
     ghost invariant = { IsIndexed };
 }
 
-// The bucket of a selector, of so many. Numbers that follow one another have buckets that do; those that go by 8, 16 or 32, as where a host makes them of addresses, are spread too.
+// The bucket of a selector, of so many. Numbers that follow one another have buckets that do; those
+// that go by 8, 16 or 32, as where a host makes them of addresses, are spread too.
 #[inline(always)]
 fn bucket(sel: Selector, count: usize) -> usize
     requires { 0 < count }
@@ -139,7 +142,8 @@ impl IndexedRows {
         self.newest[bucket] = self.rows.len();
     }
 
-    // Writes another implementation into a selector's last row, where it has one, and answers the one that stood there.
+    // Writes another implementation into a selector's last row, where it has one, and answers the
+    // one that stood there.
     pub(crate) fn set(&mut self, sel: Selector, imp: ImpRef) -> Option<ImpRef>
         ensures rows { self.new.rows ≡ with_imp sel imp self.old.rows }
         ensures was { option_map imp_number result ≡ own_in (selector_number sel) self.old.rows }

@@ -1,4 +1,5 @@
-//! Judging changes: each fault is a test of its own, they come in their order, and a method is looked up once: the edit that is answered says where it stands.
+//! Judging changes: each fault is a test of its own, they come in their order, and a method is
+//! looked up once: the edit that is answered says where it stands.
 
 ghost use Rattle.std.specs.Prelude.{◌≡◌, ◌<◌, ◌≤◌, ◌||◌, length, false, true, not, IfOk, IfSome, IsSome, None};
 ghost use Rattle.msg_names.specs.Number.{selector_number, imp_number};

@@ -119,7 +119,8 @@ pub fn an_attached_method_is_found()
     ensures metaclass { AttachedClassMethodIsFound }
 {}
 
-/// Of the method lists of a class reference with a method of a selector the one that is attached last wins: a category's over the class's. Later lists without such a method change nothing.
+/// Of the method lists of a class reference with a method of a selector the one that is attached
+/// last wins: a category's over the class's. Later lists without such a method change nothing.
 pub fn the_last_list_wins()
     ensures { LastListWins }
 {}

@@ -15,7 +15,8 @@ pub const MOST_SENDERS: usize = 16_384;
 /// The most words of caches that a limit may be.
 pub const MOST_WORDS: u64 = 268_435_456;
 
-/// What a program's tables and caches may come to. A document's limits are fixed; a host has its own.
+/// What a program's tables and caches may come to. A document's limits are fixed; a host has its
+/// own.
 #[derive(Clone, Copy, Debug, PartialEq, Eq)]
 pub struct Limits {
     /// How many rows may stand at any time.
@@ -24,6 +25,7 @@ pub struct Limits {
     pub changes: u64,
     /// How many senders there may be at most.
     pub senders: u32,
-    /// How many words caches may use at most: header words, bucket words, probe words and the version word.
+    /// How many words caches may use at most: header words, bucket words, probe words and the
+    /// version word.
     pub words: u32,
 }

@@ -53,12 +53,14 @@ pub fn a_change_of_parts_affects_no_more()
     ensures { ListAffectsNoMore }
 {}
 
-/// What stands below a class reference stays there while parts are made: what a part affects can be sought once all are made.
+/// What stands below a class reference stays there while parts are made: what a part affects can be
+/// sought once all are made.
 pub fn what_is_below_stays_below()
     ensures { WhatIsBelowStays }
 {}
 
-/// What some change of a list affects is, once all are made, of a class that was made, or is a class reference at which one wrote, or below one.
+/// What some change of a list affects is, once all are made, of a class that was made, or is a
+/// class reference at which one wrote, or below one.
 pub fn what_is_affected_is_at_its_places()
     ensures { AffectedIsAtItsPlaces }
 {}

@@ -25,7 +25,8 @@ pub(crate) fn append_row(
     Ok(())
 }
 
-// Another implementation in the last row of a selector in one of the lists, where it has one. Answers the one that stood there.
+// Another implementation in the last row of a selector in one of the lists, where it has one.
+// Answers the one that stood there.
 pub(crate) fn rewrite_row(
     lists: &mut Vec<MethodRows>,
     at: usize,
@@ -65,7 +66,8 @@ pub(crate) fn append_rows(
     Ok(())
 }
 
-// Methods at the end of the lists of a class and of its metaclass, each from its last to its first. Room is made in both before either is written.
+// Methods at the end of the lists of a class and of its metaclass, each from its last to its first.
+// Room is made in both before either is written.
 pub(crate) fn attach_rows(
     lists: &mut Vec<MethodRows>,
     at: usize,

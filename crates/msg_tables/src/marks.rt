@@ -14,7 +14,8 @@ use std::marker::Model;
 
 /// Which class references of an image are marked.
 ///
-/// The room for what is found while descendants are sought is made with the marks, so that none is taken later.
+/// The room for what is found while descendants are sought is made with the marks, so that none is
+/// taken later.
 #[derive(Drop)]
 pub struct Marks {
     pub(crate) marked: Vec<bool>,
@@ -42,7 +43,8 @@ impl Marks {
         self.marked[class.slot()]
     }
 
-    /// How many class references are marked, classes and metaclasses together. Each place is looked at.
+    /// How many class references are marked, classes and metaclasses together. Each place is looked
+    /// at.
     pub fn count(&self) -> usize
         ensures { result ≡ count_by (λ mark. mark) self.now }
     {
@@ -114,7 +116,8 @@ impl Tables {
 
     /// Marks a class reference and all below it, beside those that are marked.
     ///
-    /// Below a root class stand its metaclass and all metaclasses of its subclasses too. It looks at the classes that it marks and at one more, and takes no memory.
+    /// Below a root class stand its metaclass and all metaclasses of its subclasses too. It looks
+    /// at the classes that it marks and at one more, and takes no memory.
     pub fn descendants(&self, class: ClassRef, marks: &mut Marks)
         requires class { class.class < length self.now.supers }
         requires marks { length marks.old ≡ 2 * length self.now.supers }

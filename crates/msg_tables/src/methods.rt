@@ -5,7 +5,8 @@ ghost use Rattle.std.specs.Prelude.{◌≡◌};
 use msg_names::{ImpRef, Selector};
 use std::marker::Model;
 
-/// A list of methods: selectors with their implementations. Contracts see the pairs of their numbers.
+/// A list of methods: selectors with their implementations. Contracts see the pairs of their
+/// numbers.
 #[derive(Drop)]
 pub struct MethodList {
     pairs: Vec<(Selector, ImpRef)>,

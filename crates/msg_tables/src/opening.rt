@@ -140,7 +140,8 @@ impl Tables {
         Ok(tables)
     }
 
-    /// The tables as a program finds them that was just loaded: each class has its methods, and the categories were attached one after another.
+    /// The tables as a program finds them that was just loaded: each class has its methods, and the
+    /// categories were attached one after another.
     ///
     /// Each method is copied once.
     pub fn open<C: HasOrigin>(alloc: Global, classes: &C) -> Result<Tables, AllocError>

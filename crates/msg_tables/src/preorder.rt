@@ -12,7 +12,8 @@ ghost use Rattle.msg_tables.specs.Preorder.{depths_with, nexts_with};
 use crate::presence::Presence;
 use std::alloc::{AllocError, Global};
 
-// Of each class how many superclasses it has above it, and which class comes next, where that is no root class. So what is below a class is found by a walk over just that.
+// Of each class how many superclasses it has above it, and which class comes next, where that is no
+// root class. So what is below a class is found by a walk over just that.
 #[derive(Drop)]
 pub(crate) struct Preorder {
     depths: Vec<u32>,
@@ -65,7 +66,8 @@ impl Preorder {
         place_all(self, supers, order);
     }
 
-    // Gathers a class and those below it, each after its superclass. It looks at just these, and at one more.
+    // Gathers a class and those below it, each after its superclass. It looks at just these, and at
+    // one more.
     pub(crate) fn gather(&self, class: u32, classes: &mut Vec<u32>)
         requires preorder { CanBeGathered self.now class (vec_capacity classes.old) }
         requires none { classes.old.items ≡ [] }

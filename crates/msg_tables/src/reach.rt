@@ -93,9 +93,11 @@ impl Tables {
         }
     }
 
-    /// Marks the class references whose lookups a change may alter, beside those that are marked, and doesn't make it; or says why it would be refused, and marks none.
+    /// Marks the class references whose lookups a change may alter, beside those that are marked,
+    /// and doesn't make it; or says why it would be refused, and marks none.
     ///
-    /// It looks at the classes that it marks and at one or two more, and takes no memory. No lookup of a class reference that it doesn't mark is altered by the change.
+    /// It looks at the classes that it marks and at one or two more, and takes no memory. No lookup
+    /// of a class reference that it doesn't mark is altered by the change.
     pub fn reach(&self, change: &Change, marks: &mut Marks) -> Result<(), ChangeFault>
         requires stands { (h : Log) × StandsAt self.now h }
         requires marks { length marks.old ≡ 2 * length self.now.supers }

@@ -50,7 +50,8 @@ impl Tables {
         self.apply_part(change, journal)
     }
 
-    // Marks what the changes of a list affect and makes them, one after another, as far as one that is refused.
+    // Marks what the changes of a list affect and makes them, one after another, as far as one that
+    // is refused.
     fn reach_each<L: ChangeList>(
         &mut self,
         changes: &L,
@@ -80,11 +81,15 @@ impl Tables {
         Ok(())
     }
 
-    /// Marks the class references whose lookups a list of changes may alter if it is made as one, beside those that are marked, each at its slot; or says which of them would be refused.
-    /// No lookup of a class reference that it doesn't mark is altered by the list. Where one would be refused, what those before it affect is marked; where memory is wanting, the marks say nothing.
+    /// Marks the class references whose lookups a list of changes may alter if it is made as one,
+    /// beside those that are marked, each at its slot; or says which of them would be refused. No
+    /// lookup of a class reference that it doesn't mark is altered by the list. Where one would be
+    /// refused, what those before it affect is marked; where memory is wanting, the marks say
+    /// nothing.
     ///
-    /// The changes are made, each after what it affects was marked, and taken back: what that costs, and the room for it, [`apply_all`](Tables::apply_all) says. Beside that it looks at the
-    /// classes that it marks.
+    /// The changes are made, each after what it affects was marked, and taken back: what that
+    /// costs, and the room for it, [`apply_all`](Tables::apply_all) says. Beside that it looks at
+    /// the classes that it marks.
     pub fn reach_all<L: ChangeList>(
         &mut self,
         alloc: Global,

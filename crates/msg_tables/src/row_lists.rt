@@ -10,7 +10,8 @@ use msg_names::{ImpRef, Selector};
 use std::alloc::{AllocError, Global};
 use std::marker::Model;
 
-// A list for each class reference. Room for all is taken at once, and as far as a list is that ever had a row they are written: so class numbers that are only reserved cost nothing.
+// A list for each class reference. Room for all is taken at once, and as far as a list is that ever
+// had a row they are written: so class numbers that are only reserved cost nothing.
 #[derive(Drop)]
 pub(crate) struct RowLists {
     written: Vec<MethodRows>,
@@ -87,7 +88,8 @@ impl RowLists {
         append_row(&mut self.written, at, sel, imp)
     }
 
-    // Another implementation in the last row of a selector in one of the lists, where it has one. Answers the one that stood there.
+    // Another implementation in the last row of a selector in one of the lists, where it has one.
+    // Answers the one that stood there.
     pub(crate) fn rewrite_row(&mut self, at: usize, sel: Selector, imp: ImpRef) -> Option<ImpRef>
         ensures rows { ChangesAt (with_imp sel imp) at self.old self.new }
         ensures was { IsOwnIn self.old at sel result }
@@ -122,7 +124,8 @@ impl RowLists {
         append_rows(&mut self.written, at, methods)
     }
 
-    // Methods at the end of the lists of a class and of its metaclass, each from its last to its first. Room is made in both before either is written.
+    // Methods at the end of the lists of a class and of its metaclass, each from its last to its
+    // first. Room is made in both before either is written.
     pub(crate) fn attach_rows(
         &mut self,
         at: usize,

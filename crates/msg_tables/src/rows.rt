@@ -10,7 +10,8 @@ use msg_names::{ImpRef, Selector};
 use std::alloc::{AllocError, Global};
 use std::marker::Model;
 
-// Rows with their index. A class reference that never had a row keeps a word for them: so what is kept of a class that may be made, and isn't, is small.
+// Rows with their index. A class reference that never had a row keeps a word for them: so what is
+// kept of a class that may be made, and isn't, is small.
 #[derive(Drop)]
 pub(crate) struct MethodRows {
     indexed: Option<Box<IndexedRows>>,
@@ -83,7 +84,8 @@ impl MethodRows {
         self.indexed.as_mut().unwrap().push(sel, imp);
     }
 
-    // Writes another implementation into a selector's last row, where it has one, and answers the one that stood there.
+    // Writes another implementation into a selector's last row, where it has one, and answers the
+    // one that stood there.
     pub(crate) fn set(&mut self, sel: Selector, imp: ImpRef) -> Option<ImpRef>
         ensures rows { self.new.rows ≡ with_imp sel imp self.old.rows }
         ensures was { option_map imp_number result ≡ own_in (selector_number sel) self.old.rows }

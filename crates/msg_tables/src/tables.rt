@@ -19,11 +19,13 @@ use std::marker::Model;
 
 /// The class tables at a point of their log.
 ///
-/// A lookup goes up the superclasses, and at each compares the selector with the few methods of its bucket, however many the class has.
+/// A lookup goes up the superclasses, and at each compares the selector with the few methods of its
+/// bucket, however many the class has.
 #[derive(Drop)]
 pub struct Tables {
     pub(crate) supers: Vec<Option<Presence>>,
-    // The classes that are present, each after its superclass. There is room for all that may be made.
+    // The classes that are present, each after its superclass. There is room for all that may be
+    // made.
     pub(crate) order: Vec<u32>,
     pub(crate) preorder: Preorder,
     pub(crate) lists: RowLists,
@@ -53,7 +55,8 @@ pub(crate) struct Method {
 }
 
 impl Tables {
-    /// The superclass, or for a metaclass the superclass's metaclass, and for a root metaclass the root class itself.
+    /// The superclass, or for a metaclass the superclass's metaclass, and for a root metaclass the
+    /// root class itself.
     #[inline]
     pub fn superclass(&self, class: ClassRef) -> Option<ClassRef>
         requires { class.class < length self.now.supers }
@@ -63,7 +66,8 @@ impl Tables {
         self.above(class)
     }
 
-    /// Whether it is known how many arguments each selector and each implementation takes, as of a document's. Of a host's it isn't: all of them fit one another.
+    /// Whether it is known how many arguments each selector and each implementation takes, as of a
+    /// document's. Of a host's it isn't: all of them fit one another.
     pub fn counts_arguments(&self) -> bool
         ensures { result ≡ is_some self.now.counts }
     {
@@ -124,9 +128,11 @@ impl Tables {
         None
     }
 
-    /// The implementation of the method that the class or the nearest superclass has, and else forwarding.
+    /// The implementation of the method that the class or the nearest superclass has, and else
+    /// forwarding.
     ///
-    /// Each class on the way costs a bucket, in which a class has a method or two. No memory is taken.
+    /// Each class on the way costs a bucket, in which a class has a method or two. No memory is
+    /// taken.
     pub fn lookup(&self, class: ClassRef, sel: Selector) -> ImpRef
         requires { class.class < length self.now.supers }
         ensures listed { imp_number result ≤ last_imp self.now.counts }

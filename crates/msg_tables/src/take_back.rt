@@ -91,7 +91,8 @@ impl Tables {
         }
     }
 
-    // Takes back all that a journal tells of. No memory is taken; where a class was made, all classes are gone over.
+    // Takes back all that a journal tells of. No memory is taken; where a class was made, all
+    // classes are gone over.
     pub(crate) fn take_back(&mut self, start: Start, journal: &mut Vec<Entry>)
         requires { (old : TablesView) × GoesBack journal.old.items start.rows start.changes old self.old }
         ensures { AreTakenBack journal.old.items start.rows start.changes self.old self.new }

@@ -12,7 +12,8 @@ fn selector(rt: &impl Abort, number: u32) -> Selector {
     Selector::of(number).expect(rt, "a number above 0")
 }
 
-// What is done to an array of 4, or what it then has. Selectors and implementations are named by their numbers.
+// What is done to an array of 4, or what it then has. Selectors and implementations are named by
+// their numbers.
 #[derive(Clone, Copy, Debug)]
 enum Row {
     Put(u32, u32, Placed),

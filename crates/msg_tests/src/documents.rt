@@ -1,5 +1,5 @@
-//! Documents, edits of them, and the number of the fault that one is refused with. Want of memory ends a test where it comes: a `?` there would drop each text that
-//! the test owns once more.
+//! Documents, edits of them, and the number of the fault that one is refused with. Want of memory
+//! ends a test where it comes: a `?` there would drop each text that the test owns once more.
 
 use crate::same::same_at;
 use msg_image::{DocumentFault, read_document};

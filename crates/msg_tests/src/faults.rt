@@ -6,7 +6,8 @@ use msg_samples::SMALL;
 use std::alloc::Global;
 use std::process::Abort;
 
-// An edit of a document by a long list: `old` is replaced by `before`, so many pieces with commas, and `after`.
+// An edit of a document by a long list: `old` is replaced by `before`, so many pieces with commas,
+// and `after`.
 #[derive(Clone, Copy)]
 struct Long {
     document: &'static str,

@@ -1,4 +1,5 @@
-//! Tests of the public calls of the crates that read documents, of class tables, of names and buckets, and of the machine of events.
+//! Tests of the public calls of the crates that read documents, of class tables, of names and
+//! buckets, and of the machine of events.
 #![tactic(auto)]
 
 #[cfg(test)]

@@ -125,7 +125,8 @@ const REFUSED: [(Row, Result<Seen, EventFault>); 27] = [
     (Row::Fill(CHILD, 2, OTHER), Ok(Seen::Nothing)),
 ];
 
-// The machine of a document's image, with one sender and one array of 4, answers each event of the rows.
+// The machine of a document's image, with one sender and one array of 4, answers each event of the
+// rows.
 fn answers(
     rt: &impl Abort,
     alloc: Global,

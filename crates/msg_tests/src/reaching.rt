@@ -85,7 +85,8 @@ fn added(class: ClassRef, sel: Selector) -> Change {
     }
 }
 
-// A method reaches its class and what is below; a root class's also the metaclasses, which stand below it.
+// A method reaches its class and what is below; a root class's also the metaclasses, which stand
+// below it.
 fn methods_reach_what_is_below(rt: &impl Abort, tables: &Tables, marks: &mut Marks)
     requires stands { (h : Log) × StandsAt tables.now h }
     requires marks { length marks.old ≡ 2 * length tables.now.supers }
@@ -164,7 +165,8 @@ fn set(class: ClassRef, sel: Selector) -> Change {
     }
 }
 
-// Each change of a list reaches what it would where those before it were made: `value` is then found at `Child`.
+// Each change of a list reaches what it would where those before it were made: `value` is then
+// found at `Child`.
 #[test]
 fn a_list_reaches_what_its_changes_may_alter(rt: HostRuntime) {
     let image = image(&rt, rt.alloc());

@@ -117,7 +117,8 @@ fn spoil(random: &mut Random, text: &mut Vec<u8>) {
     }
 }
 
-// Reads the text, and half of the time one that is spoiled. What is read well takes the place of one of the values, if it is short.
+// Reads the text, and half of the time one that is spoiled. What is read well takes the place of
+// one of the values, if it is short.
 fn try_text(
     random: &mut Random,
     values: &mut [String],

@@ -128,7 +128,8 @@ struct Marked<'t> {
 }
 
 impl Marked<'_> {
-    // How many class references descend from this one, whether the other does, and whether it is marked when the marks were taken away.
+    // How many class references descend from this one, whether the other does, and whether it is
+    // marked when the marks were taken away.
     fn descendants(
         &mut self,
         rt: &impl Abort,

@@ -1,5 +1,5 @@
-//! Interned texts, for hosts that name things: each text has a number, from 1 in the order in which the texts first came. Nothing is forgotten, and a text may be any
-//! bytes.
+//! Interned texts, for hosts that name things: each text has a number, from 1 in the order in which
+//! the texts first came. Nothing is forgotten, and a text may be any bytes.
 #![tactic(auto)]
 
 #[cfg(test)]

@@ -72,7 +72,8 @@ impl Texts {
         text_in(&self.set, number)
     }
 
-    /// How many colons the text of a number has: as many arguments as a selector takes whose name it is.
+    /// How many colons the text of a number has: as many arguments as a selector takes whose name
+    /// it is.
     pub fn colons(&self, number: u32) -> Option<usize>
         ensures { result ≡ option_map colons_of (text_at self.now number) }
     {

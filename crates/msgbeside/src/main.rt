@@ -1,4 +1,5 @@
-//! Reads a document from standard input, makes its changes beside its sends, and writes the answers to standard output: `msgbeside [workers [cut]]`.
+//! Reads a document from standard input, makes its changes beside its sends, and writes the answers
+//! to standard output: `msgbeside [workers [cut]]`.
 #![tactic(auto)]
 
 use msg_devices::{FromReader, Program, ToWriter};

@@ -1,4 +1,5 @@
-//! Reads a document from standard input and writes its answers to standard output: `msgrun [workers [cut]]`.
+//! Reads a document from standard input and writes its answers to standard output:
+//! `msgrun [workers [cut]]`.
 #![tactic(auto)]
 
 use msg_devices::{FromReader, Program, ToWriter};

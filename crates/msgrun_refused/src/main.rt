@@ -1,4 +1,5 @@
-//! `msgrun` once more, whose stored run has words that are refused (a crate has one): the cut is 0, so the status is 2 and nothing is written.
+//! `msgrun` once more, whose stored run has words that are refused (a crate has one): the cut is 0,
+//! so the status is 2 and nothing is written.
 #![tactic(auto)]
 
 use msg_devices::{FromReader, Program, ToWriter};

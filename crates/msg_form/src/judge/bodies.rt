@@ -1,7 +1,8 @@
 //! What is wrong with bodies.
 //!
-//! Bodies are most of a large document. One walk looks for all faults of a body, when it was read and still lies near. Only a body that names classes or
-//! objects is walked over again, to look these names up.
+//! Bodies are most of a large document. One walk looks for all faults of a body, when it was read
+//! and still lies near. Only a body that names classes or objects is walked over again, to look
+//! these names up.
 
 ghost use Rattle.std.specs.Prelude.{◌≡◌, ◌&&◌, false, not};
 ghost use Rattle.std.specs.List.{list_any};
@@ -42,8 +43,9 @@ const NO_FAULTS: BodyFaults = BodyFaults {
     too_deep: false,
 };
 
-/// What a look at a body finds when it is read: the faults that it has at its worst, in a method of a root class, where
-/// no class and no object has a name; and whether it has texts at places of selectors.
+/// What a look at a body finds when it is read: the faults that it has at its worst, in a method of
+/// a root class, where no class and no object has a name; and whether it has texts at places of
+/// selectors.
 pub(crate) fn looked_at(alloc: Global, body: &Expr, args: u8) -> Found
     ensures worst { AreWorst result.faults args (expr_view body.now) }
     ensures selects { result.selects ≡ has_texts (expr_view body.now) }
@@ -126,7 +128,8 @@ impl Known<'_, '_> {
         walk.found(faults, &imp.body).faults
     }
 
-    /// A body that names no class and no object has its worst faults, but for those of a root class.
+    /// A body that names no class and no object has its worst faults, but for those of a root
+    /// class.
     fn with_worst(&self, faults: BodyFaults, imp: &Imp) -> BodyFaults
         requires class { imp.now.worst.unknown_class ≡ false }
         requires object { imp.now.worst.unknown_object ≡ false }

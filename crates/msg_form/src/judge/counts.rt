@@ -49,7 +49,8 @@ fn has_miscounted_pair(alloc: Global, form: &Form, imps: &NameSet) -> Result<boo
     Ok(any(&test, &lists))
 }
 
-/// The test of a pair whose implementation takes more or fewer arguments than its selector has colons.
+/// The test of a pair whose implementation takes more or fewer arguments than its selector has
+/// colons.
 #[derive(Drop)]
 struct Miscounted<'n, 'w, 'i, 'v> {
     /// The names of the implementations, each in its place.
