@@ -7,7 +7,8 @@ ghost use Rattle.msg_tables.specs.History.{holder, lookup, superclass};
 ghost use Rattle.msg_cache.specs.Views.{classes};
 ghost use Rattle.msg_c.specs.Answers.{IsAsked, Shows, TellsFault, TellsNoHolder, TellsNoSuperclass};
 ghost use Rattle.msg_host.specs.Named.{ref_of};
-ghost use Rattle.msg_c.specs.Handles.{AnswersAsked, IfAt, IfOpen};
+ghost use Rattle.msg_address.specs.Address.{IsNotNull};
+ghost use Rattle.msg_c.specs.Handles.{AnswersAsked, HasRuntime, IfAt, IfOpen};
 
 use crate::answer::{CLOSED, DONE, NONE};
 use crate::runtime_handle::RuntimeHandle;
@@ -59,6 +60,28 @@ pub extern "C" fn msg_change_count(
         return CLOSED;
     };
     *count = held.count();
+    *runtime = RuntimeHandle::of(held);
+    DONE
+}
+
+/// Where the words lie that all threads share: the address of the first. The stamp of a class
+/// reference lies as many bytes behind it as each note of that says. They lie there as long as the
+/// runtime or a sender of it is open.
+#[unsafe(no_mangle)]
+pub extern "C" fn msg_words(
+    alloc: Global,
+    runtime: &mut RuntimeHandle,
+    words: &mut *const u64,
+) -> u32
+    ensures kept { runtime.new.held.state ≡ runtime.old.held.state }
+    ensures closed { runtime.old.held.state ≡ None → result ≡ CLOSED }
+    ensures left { result ≢ 0 → words.new ≡ words.old }
+    ensures done { HasRuntime runtime.old → (result ≡ 0) × IsNotNull words.new }
+{
+    let Some(held) = runtime.take(alloc) else {
+        return CLOSED;
+    };
+    *words = held.words();
     *runtime = RuntimeHandle::of(held);
     DONE
 }

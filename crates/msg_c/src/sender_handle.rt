@@ -2,13 +2,14 @@
 
 ghost use Rattle.std.specs.Prelude.{◌≡◌, Option, Some, None, option_map, is_some, true};
 ghost use Rattle.msg_host.specs.View.{SenderView};
+ghost use Rattle.msg_reader.specs.Notes.{AreBlank};
 ghost use Rattle.msg_c.specs.Notes.{AreNotesIn};
 ghost use Rattle.msg_c.specs.SenderOwned.{held_owns, state_coded};
 
 use crate::parts::Parts;
 use msg_host::HostedSender;
 use msg_reader::Notes;
-use msg_reader::laws::blank_notes_are_of_each_history;
+use msg_reader::laws::{blank_notes_are_of_each_history, blank_notes_are_of_each_table};
 use std::alloc::Global;
 use std::marker::Model;
 use std::{mem, ptr};
@@ -133,6 +134,7 @@ impl SenderHandle {
         ensures { self.new.held.state ≡ Some held.value }
     {
         blank_notes_are_of_each_history();
+        blank_notes_are_of_each_table();
         self.held.put(held);
         self.is_open = true;
     }
@@ -140,6 +142,7 @@ impl SenderHandle {
     // What an open handle holds. The handle is then closed.
     pub(crate) fn close(&mut self, alloc: Global) -> Option<Box<HostedSender>>
         ensures closed { self.new.held.state ≡ None }
+        ensures blank { AreBlank self.new.notes }
         ensures taken { option_map (λ b. b.value) result ≡ self.old.held.state }
     {
         if !self.is_open {

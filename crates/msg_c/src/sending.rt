@@ -5,7 +5,7 @@ ghost use Rattle.msg_tables.specs.Origin.{last_imp};
 ghost use Rattle.msg_tables.specs.History.{lookup};
 ghost use Rattle.msg_core.specs.Stamps.{last_affected};
 ghost use Rattle.msg_reader.specs.Kept.{HaveOthersOf};
-ghost use Rattle.msg_reader.specs.Notes.{recalled};
+ghost use Rattle.msg_reader.specs.Notes.{AreBlank, recalled};
 ghost use Rattle.msg_c.specs.Answers.{AreOfOneArena, IsAsked, fault_in};
 ghost use Rattle.msg_c.specs.Answers.{number_of_recalled, sender_arena};
 ghost use Rattle.msg_host.specs.Named.{ref_of};
@@ -82,7 +82,8 @@ pub extern "C" fn msg_sender_open(
     answer
 }
 
-/// Closes the sender. Its number is given back, unless the runtime was closed before it.
+/// Closes the sender, whose notes are then blank. Its number is given back, unless the runtime was
+/// closed before it.
 #[unsafe(no_mangle)]
 pub extern "C" fn msg_sender_close(
     alloc: Global,
@@ -93,6 +94,7 @@ pub extern "C" fn msg_sender_close(
     ensures kept { StaysAt runtime.old runtime.new }
     ensures back { TakesBack runtime.old runtime.new sender.old }
     ensures closed { sender.new.held.state ≡ None }
+    ensures blank { AreBlank sender.new.notes }
     ensures was_closed { sender.old.held.state ≡ None → result ≡ CLOSED }
     ensures was_open { HasSender sender.old → result ≡ 0 }
 {

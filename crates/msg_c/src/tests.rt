@@ -6,7 +6,7 @@ ghost use Rattle.msg_c.specs.Handles.{StaysAt};
 
 use crate::answer::{ALREADY_OPEN, BAD_CONFIG, CLOSED, DONE, NONE};
 use crate::asking::{
-    MsgClass, msg_change_count, msg_class_count, msg_holder, msg_lookup, msg_superclass,
+    MsgClass, msg_change_count, msg_class_count, msg_holder, msg_lookup, msg_superclass, msg_words,
 };
 use crate::changing::{
     msg_add, msg_attach, msg_exchange, msg_make_class, msg_make_root_class, msg_replace,
@@ -20,6 +20,7 @@ use crate::sending::msg_sender_open;
 use msg_host::MethodRow;
 use std::alloc::Global;
 use std::process::Abort;
+use std::ptr;
 use std::test::Fail;
 
 // Class numbers 0 to 3, three senders, and two arrays of each capacity.
@@ -96,6 +97,17 @@ fn found<R: Abort>(
         DONE,
     );
     imp
+}
+
+#[test]
+fn an_open_runtime_has_words(rt: HostRuntime) -> Result<(), Fail> {
+    let alloc = rt.alloc();
+    let mut runtime = RuntimeHandle::closed(alloc);
+    let mut words = ptr::null();
+    answers(&rt, msg_words(alloc, &mut runtime, &mut words), CLOSED);
+    let mut runtime = opened(&rt, alloc);
+    answers(&rt, msg_words(alloc, &mut runtime, &mut words), DONE);
+    Ok(())
 }
 
 #[test]

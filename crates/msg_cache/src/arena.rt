@@ -1,6 +1,7 @@
 //! The arena: the words of all caches, which threads share.
 
-ghost use Rattle.std.specs.Prelude.{◌≡◌, IfErr, ◌+◌, ◌^◌, ◌<◌, ◌≤◌, All, IfOk, length, replicate};
+ghost use Rattle.std.specs.Prelude.{◌≡◌, IfErr, ◌+◌, ◌*◌, ◌^◌, ◌<◌, ◌≤◌, All, IfOk, length, replicate};
+ghost use Rattle.msg_address.specs.Address.{IsNotNull};
 ghost use Rattle.msg_buckets.specs.Capacity.{IsCapacity};
 ghost use Rattle.msg_core.specs.State.{capacity};
 ghost use Rattle.msg_cache.specs.Config.{IsLeastUnlessMemory, NoneHoldsIfMemory};
@@ -17,6 +18,7 @@ use crate::setting::Setting;
 use crate::steps::{Seat, Words};
 use crate::view::View;
 use atomic_table::Table;
+use msg_address::address_of;
 use msg_names::ClassRef;
 use msg_tables::{HasOrigin, MOST_SENDERS, Origin};
 use std::alloc::{AllocError, Global};
@@ -164,6 +166,24 @@ impl Arena {
         (self.probes - self.stamps) as u32 / 2
     }
 
+    /// How many bytes after the first word the stamp of a class reference lies. The words lie in
+    /// one block.
+    #[inline(always)]
+    pub fn stamp_offset(&self, class: ClassRef) -> u64
+        requires { class.class < classes self.now }
+        ensures { result ≡ 8 * stamp_at (layout self.now) class }
+    {
+        8 * self.stamp_at(class) as u64
+    }
+
+    /// The address of the first word, for a host that loads one of them itself. They lie there as
+    /// long as the arena is there.
+    pub fn words(&self) -> *const u64
+        ensures { IsNotNull result }
+    {
+        address_of(&self.table.shared)
+    }
+
     // Where the stamp of a class reference stands.
     #[inline(always)]
     pub(crate) fn stamp_at(&self, class: ClassRef) -> usize
@@ -171,6 +191,7 @@ impl Arena {
         ensures place { result ≡ stamp_at (layout_of self.now.key) class }
         ensures within { result < probes_of (layout_of self.now.key) }
         ensures few { probes_of (layout_of self.now.key) ≤ self.now.table.words }
+        ensures short { self.now.table.words < 2 ^ 32 }
     {
         self.stamps + class.slot()
     }

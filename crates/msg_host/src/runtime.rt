@@ -9,9 +9,10 @@ ghost use Rattle.msg_tables.specs.Several.{refused_from};
 ghost use Rattle.msg_tables.specs.declared.fault.ChangeFault.{ChangeFault};
 ghost use Rattle.msg_cache.specs.Counts.{AreCounts, after_refusal};
 ghost use Rattle.msg_cache.specs.Plays.{given_again, taken_in};
-ghost use Rattle.msg_cache.specs.Views.{classes};
+ghost use Rattle.msg_address.specs.Address.{IsNotNull};
+ghost use Rattle.msg_cache.specs.Views.{classes, layout};
 ghost use Rattle.msg_reader.specs.Kept.{KeepOthers};
-ghost use Rattle.msg_reader.specs.Notes.{AreNotesOf, HaveNotedFor};
+ghost use Rattle.msg_reader.specs.Notes.{AreNotesOf, HaveNotedFor, StayStamped};
 ghost use Rattle.msg_runtime.specs.Changed.{IsAccepted, IsMadeAt, IsRefusedAt, IsRefusedFor};
 ghost use Rattle.msg_runtime.specs.Calls.{AllAreOut, CachesAnswer, MarksAllReached, MarksReached};
 ghost use Rattle.msg_runtime.specs.Parts.{IsNew};
@@ -185,6 +186,14 @@ impl HostedRuntime {
         self.runtime.report()
     }
 
+    /// The address of the first of the words that all threads share. They lie there as long as the
+    /// runtime or a sender of it is there.
+    pub fn words(&self) -> *const u64
+        ensures { IsNotNull result }
+    {
+        self.arena.words()
+    }
+
     /// A sender, which has seen the whole history. There is none where as many are out as the
     /// runtime has room for, and only there is `NoneFree` answered.
     pub fn sender(&mut self) -> Result<HostedSender, SenderFault>
@@ -233,6 +242,7 @@ impl HostedRuntime {
         ensures notes { AreNotesOf self.old.keeper.history notes.new }
         ensures noted { HaveNotedFor notes.new self.old.keeper.history class sel result }
         ensures others { KeepOthers notes.old notes.new class sel }
+        ensures stamped { StayStamped (layout self.old.arena) notes.old notes.new }
     {
         a_slot_of_few_classes_is_short();
         a_fill_changes_caches_alone();

@@ -6,9 +6,9 @@ ghost use Rattle.msg_tables.specs.Origin.{last_imp};
 ghost use Rattle.msg_tables.specs.History.{BeginsWith};
 ghost use Rattle.msg_core.specs.Stamps.{last_affected};
 ghost use Rattle.msg_cache.specs.Rule.{IsAccepted};
-ghost use Rattle.msg_cache.specs.Views.{IsFoundAt, classes};
+ghost use Rattle.msg_cache.specs.Views.{IsFoundAt, classes, layout};
 ghost use Rattle.msg_reader.specs.Kept.{FindsUnprobed, KeepOthers, LoadsStamp, MissesUnlessChanged};
-ghost use Rattle.msg_reader.specs.Notes.{AreNotesOf};
+ghost use Rattle.msg_reader.specs.Notes.{AreNotesOf, StayStamped};
 ghost use Rattle.msg_host.specs.Named.{HaveNotedLast};
 
 use msg_cache::Arena;
@@ -95,6 +95,7 @@ impl HostedSender {
         ensures notes { AreNotesOf self.new.seen.front notes.new }
         ensures noted { IfSome result (HaveNotedLast notes.new self.new class sel) }
         ensures others { KeepOthers notes.old notes.new class sel }
+        ensures stamped { StayStamped (layout self.old.arena) notes.old notes.new }
         ensures unprobed { FindsUnprobed notes.old class (selector_number sel) self.old.seen self.new.seen (option_map imp_number result) }
         ensures missed { IfNone result (MissesUnlessChanged self.new.arena class (selector_number sel) self.old.seen self.new.seen) }
     {

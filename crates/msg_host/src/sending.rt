@@ -5,10 +5,10 @@ ghost use Rattle.msg_tables.specs.Origin.{last_imp};
 ghost use Rattle.msg_tables.specs.History.{BeginsWith, lookup};
 ghost use Rattle.msg_core.specs.Stamps.{last_affected};
 ghost use Rattle.msg_cache.specs.Rule.{IsAccepted};
-ghost use Rattle.msg_cache.specs.Views.{classes};
+ghost use Rattle.msg_cache.specs.Views.{classes, layout};
 ghost use Rattle.msg_host.specs.Asking.{ask_fault};
 ghost use Rattle.msg_host.specs.declared.fault.AskFault.{AskFault};
-ghost use Rattle.msg_reader.specs.Notes.{AreNotesOf, HaveNoted};
+ghost use Rattle.msg_reader.specs.Notes.{AreNotesOf, HaveNoted, StayStamped};
 ghost use Rattle.msg_reader.specs.Kept.{FindsUnprobed, HaveNotedSince, HaveOthersOf, LoadsStamp, MissesUnlessChanged};
 ghost use Rattle.msg_runtime.specs.Calls.{CachesNumber};
 ghost use Rattle.msg_host.specs.Named.{IfFound, ref_of};
@@ -42,6 +42,7 @@ impl HostedSender {
         ensures notes { AreNotesOf self.new.seen.front notes.new }
         ensures noted { IfFound result (HaveNotedSince notes.new (ref_of class meta) sel self.new.seen) }
         ensures others { HaveOthersOf (ref_of class meta) sel notes.old notes.new }
+        ensures stamped { StayStamped (layout self.old.arena) notes.old notes.new }
         ensures unprobed { IfOk result (FindsUnprobed notes.old (ref_of class meta) sel self.old.seen self.new.seen) }
         ensures missed { IfOk result (λ found.
             IfNone found (MissesUnlessChanged self.old.arena (ref_of class meta) sel self.old.seen self.new.seen)) }
@@ -100,6 +101,7 @@ impl HostedRuntime {
         ensures notes { AreNotesOf sender.new.seen.front notes.new }
         ensures noted { IfOk result (HaveNoted notes.new self.old.keeper.history (ref_of class meta) sel) }
         ensures others { HaveOthersOf (ref_of class meta) sel notes.old notes.new }
+        ensures stamped { StayStamped (layout self.old.arena) notes.old notes.new }
     {
         let (class, sel) = asked(self.class_count(), class, meta, sel)?;
         Ok(self.answer(sender, notes, class, sel).number())

@@ -1,3 +1,4 @@
 mod KeyLemmas
 pub mod NoteLemmas
 pub mod ReaderLemmas
+mod StampedLemmas

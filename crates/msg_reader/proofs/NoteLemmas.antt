@@ -1,6 +1,6 @@
 -- What is noted stays right where the history grows.
 use Rattle.std.proofs.Common.{◌≡◌, ◌≢◌, ◌<◌, ◌≤◌, ◌+◌, ℕ, List, ◌⊎◌, inl, inr, ◌++◌, ◌^◌, length, get_or, set, refl, sym, ap, subst, ◌∙◌, arith, length-append, length-set, get_or-set_other}
-use Rattle.std.proofs.lemmas.Bool.{cases_eq, eq-eqb, le-leb, ne_eqb}
+use Rattle.std.proofs.lemmas.Bool.{cases_eq, ne_eqb}
 use Rattle.std.proofs.lemmas.List.{take-append-le}
 use Rattle.std.proofs.lemmas.Grind.{get_or-set_at}
 use Rattle.std.specs.Prelude.{◌&&◌, Bool, true, false, Option, Some, None, if◌then◌else◌, nat_le, nat_lt, option_and_then, slice_get}
@@ -19,20 +19,20 @@ use Rattle.msg_reader.specs.Key.{IsSealOf, key_of, mark_of, place_of}
 use Rattle.msg_core.specs.Stamps.{last_affected}
 use Rattle.msg_core.proofs.StampLemmas.{since as stays-since}
 use Rattle.msg_cache.specs.Rule.{IsAccepted}
-use Rattle.msg_reader.specs.Notes.{found_by, recalled, AreBlank, IsNoteOf, AreNotesOf, IsRecalled, IsRecalledSince, LiesAt}
+use Rattle.msg_reader.specs.Notes.{found_by, recalled, AreBlank, IsBlank, IsNoteOf, AreNotesOf, IsRecalled, IsRecalledSince, LiesAt}
 
 -- a blank note is one of each history
-pub unnamed : (h : History) (n : Note) → (n.seal ≡ 0) × (n.imp ≡ 0) → IsNoteOf h n
+pub unnamed : (h : History) (n : Note) → IsBlank n → IsNoteOf h n
 unnamed h n none = record {
   recalled = λ slot sel short few e.
-      let none_of : mark_of n.imp ≡ 65535 = ap mark_of none.1 in
-      absurd (omega (arith, none.0, e, none_of));
+      let none_of : mark_of n.imp ≡ 65535 = ap mark_of none.imp in
+      absurd (omega (arith, none.seal, e, none_of));
 }
 
 pub blank_of : (h : History) (m : Notes) → AreBlank m → AreNotesOf h m
 blank_of h m b = record {
   notes = λ k d inside. unnamed h (get_or m.notes k d) (b.notes k d inside);
-  placed = λ p d inside full. absurd (full (b.notes p d inside).0);
+  placed = λ p d inside full. absurd (full (b.notes p d inside).seal);
 }
 
 -- what isn't at its place isn't noted
@@ -55,9 +55,9 @@ recalled_blank m since slot sel blank = at (nat_lt slot (2 ^ 26)) (slice_get m.n
     at : (b : Bool) (o : Option Note) → slice_get m.notes (place_of slot sel) ≡ o → (if b then option_and_then (λ k. found_by k since slot sel) o else None) ≡ None
     at true None e = refl
     at true (Some n) e =
-        let none : (n.seal ≡ 0) × (n.imp ≡ 0) = All-at (λ (k : Note). (k.seal ≡ 0) × (k.imp ≡ 0)) m.notes (place_of slot sel) n blank.notes e in
-        let none_of : mark_of n.imp ≡ 65535 = ap mark_of none.1 in
-        apart n since slot sel (λ same. omega (arith, none.0, same, none_of))
+        let none : IsBlank n = All-at IsBlank m.notes (place_of slot sel) n blank.notes e in
+        let none_of : mark_of n.imp ≡ 65535 = ap mark_of none.imp in
+        apart n since slot sel (λ same. omega (arith, none.seal, same, none_of))
     at false o e = refl
 
 -- a note answers what it notes

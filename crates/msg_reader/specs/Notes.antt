@@ -8,8 +8,9 @@ use Rattle.msg_names.specs.declared.value.Selector.{Selector}
 use Rattle.msg_reader.specs.Key.{IsSealOf, key_of, mark_of, place_of}
 use Rattle.msg_tables.specs.Origin.{last_imp}
 use Rattle.msg_tables.specs.History.{History, lookup}
-use Rattle.msg_core.specs.State.{first}
+use Rattle.msg_core.specs.State.{Layout, first}
 use Rattle.msg_core.specs.Stamps.{last_affected}
+use Rattle.msg_cache.specs.Layout.{stamp_at, word_count}
 use Rattle.msg_cache.specs.Rule.{IsAccepted}
 use Rattle.msg_cache.specs.Views.{IsFoundAt}
 use Rattle.msg_reader.specs.Found.{IsListed}
@@ -36,9 +37,30 @@ pub record AreNotesOf (h : History) (n : Notes) : Type 0 where
   pub notes : All (IsNoteOf h) n.notes
   pub placed : (p : ℕ) (d : Note) → p < length n.notes → LiesAt p (get_or n.notes p d)
 
+-- A note is blank. It says 0 of its stamp, which is where the count of changes lies.
+pub record IsBlank (n : Note) : Type 0 where
+  pub seal : n.seal ≡ 0
+  pub imp : n.imp ≡ 0
+  pub stamp : n.stamp ≡ 0
+
 -- nothing is noted: each note is blank
 pub record AreBlank (n : Notes) : Type 0 where
-  pub notes : All (λ (n : Note). (n.seal ≡ 0) × (n.imp ≡ 0)) n.notes
+  pub notes : All IsBlank n.notes
+
+-- A note says where the stamp of the class reference that it is of lies: so many bytes after the
+-- first word of the table. Whatever it is of, a word of the table lies there.
+pub record IsStamped (z : Layout) (n : Note) : Type 0 where
+  pub tells : (c : ClassRef) (sel : ℕ) → sel < 2 ^ 32 → IsSealOf n.seal (slot_of c) sel n.imp → n.stamp ≡ 8 * stamp_at z c
+  pub whole : n.stamp % 8 ≡ 0
+  pub within : n.stamp < 8 * word_count z
+
+-- so it is of each note
+abbrev pub AreStamped : Layout → Notes → Type 0
+AreStamped z n = All (IsStamped z) n.notes
+
+-- and so it stays
+abbrev pub StayStamped : Layout → Notes → Notes → Type 0
+StayStamped z old new = AreStamped z old → AreStamped z new
 
 -- what a note has of a lookup after so many changes or more: the implementation's number, 0 where
 -- it found no method

@@ -4,7 +4,8 @@ ghost use Rattle.std.specs.Prelude.{◌≡◌, ◌<◌, ◌^◌, length};
 ghost use Rattle.msg_names.specs.ClassRef.{slot_of};
 ghost use Rattle.msg_names.specs.declared.value.ClassRef.{ClassRef};
 ghost use Rattle.msg_tables.specs.History.{History, BeginsWith};
-ghost use Rattle.msg_reader.specs.Notes.{AreBlank, AreNotesOf, KeysAreOneToOne, SealsTell};
+ghost use Rattle.msg_core.specs.State.{Layout};
+ghost use Rattle.msg_reader.specs.Notes.{AreBlank, AreNotesOf, AreStamped, KeysAreOneToOne, SealsTell};
 ghost use Rattle.msg_reader.specs.declared.notes.Notes.{Notes};
 
 /// Notes of a history are notes of each longer history.
@@ -16,6 +17,12 @@ pub fn notes_are_of_longer_histories()
 #[tactic(auto, using(crate::proofs::NoteLemmas::blank_of))]
 pub fn blank_notes_are_of_each_history()
     ensures { (h : History) (n : Notes) → AreBlank n → AreNotesOf h n }
+{}
+
+/// Blank notes say where stamps lie as notes of any table do: they are of no class reference.
+#[tactic(auto, using(crate::proofs::StampedLemmas::blank_stamped))]
+pub fn blank_notes_are_of_each_table()
+    ensures { (z : Layout) (n : Notes) → AreBlank n → AreStamped z n }
 {}
 
 /// A history that begins with another and is no longer is that one.

@@ -17,7 +17,9 @@ const NO_METHOD: u64 = 65_535;
 
 // What a lookup found, and how many changes there were. `seal` is the key of a class reference's
 // slot and a selector, less the mark of what was found: so a host in C has both by one load, and no
-// handler of a signal comes between them. Blank, it is 0, which is nobody's.
+// handler of a signal comes between them. Blank, it is 0, which is nobody's. `stamp` is how many
+// bytes after the first of the words that threads share the stamp of its class reference lies.
+// Blank, it is 0: there the count of changes lies, and whatever that says, the seal is nobody's.
 #[repr(C)]
 #[derive(Clone, Copy)]
 pub(crate) struct Note {
@@ -25,7 +27,7 @@ pub(crate) struct Note {
     count: u64,
     imp: u32,
     spare: u32,
-    spared: u64,
+    stamp: u64,
     ghost sealed: { IsSealed seal imp },
 }
 
@@ -75,7 +77,7 @@ impl Note {
         count: 0,
         imp: 0,
         spare: 0,
-        spared: 0,
+        stamp: 0,
     };
 
     // Whether it is of this lookup.
@@ -104,12 +106,14 @@ impl Note {
         }
     }
 
-    // A note of a lookup after so many changes.
+    // A note of a lookup after so many changes, which says where the stamp lies.
     #[inline(always)]
-    pub(crate) fn of(count: u64, slot: usize, sel: u32, imp: u32) -> Note
+    pub(crate) fn of(count: u64, slot: usize, sel: u32, imp: u32, stamp: u64) -> Note
         requires slot { slot < 2 ^ 26 }
         requires sel { 0 < sel }
         ensures sealed { IsSealOf result.seal slot sel imp }
+        ensures imp { result.imp ≡ imp }
+        ensures stamp { result.stamp ≡ stamp }
         ensures kept { (since : ℕ) → since ≤ count → found_by result since slot sel ≡ Some imp }
         ensures placed { LiesAt (place_of slot sel) result }
         ensures note { (h : History) → IsRecalled h count slot sel imp → IsNoteOf h result }
@@ -119,7 +123,7 @@ impl Note {
             count,
             imp,
             spare: 0,
-            spared: 0,
+            stamp,
         }
     }
 }

@@ -4,11 +4,13 @@
 ghost use Rattle.std.specs.Prelude.{◌≡◌, ◌<◌, ◌≤◌, ℕ, option_map, IfSome, None};
 ghost use Rattle.msg_names.specs.Number.{imp_number};
 ghost use Rattle.msg_tables.specs.History.{History};
+ghost use Rattle.msg_cache.specs.Views.{classes, layout};
 ghost use Rattle.msg_reader.specs.Kept.{KeepOthers};
-ghost use Rattle.msg_reader.specs.Notes.{AreBlank, AreNotesOf, HaveKept, StayNotes};
+ghost use Rattle.msg_reader.specs.Notes.{AreBlank, AreNotesOf, HaveKept, StayNotes, StayStamped};
 ghost use Rattle.msg_reader.specs.Notes.{Tell, TellFound, recalled, recalled_of};
 
 use crate::note::{Note, PLACES, place};
+use msg_cache::Arena;
 use msg_names::{ClassRef, ImpRef, Selector};
 
 // Of slots from here on nothing is noted. No arena has a word for one.
@@ -81,19 +83,22 @@ impl Notes {
         }
     }
 
-    /// Notes what a lookup found after so many changes, and forgets no note but the one at its
-    /// place. Of a class reference whose slot is 2^26 or more, which no arena has a word for, it
+    /// Notes what a lookup found after so many changes, and where the stamp of its class reference
+    /// lies, and forgets no note but the one at its place. Of a class reference whose slot is 2^26 or more, which no arena has a word for, it
     /// notes nothing.
     #[inline]
-    pub fn keep(&mut self, count: u64, class: ClassRef, sel: Selector, imp: ImpRef)
+    pub fn keep(&mut self, arena: &Arena, count: u64, class: ClassRef, sel: Selector, imp: ImpRef)
+        requires { class.class < classes arena.now }
         ensures notes { StayNotes self.old self.new count class sel imp }
         ensures kept { (since : ℕ) → since ≤ count → HaveKept self.new since class sel imp }
         ensures others { KeepOthers self.old self.new class sel }
+        ensures stamped { StayStamped (layout arena.now) self.old self.new }
     {
         let slot = class.slot();
         let named = sel.number();
         if slot < SLOTS {
-            self.notes[place(slot, named)] = Note::of(count, slot, named, imp.number());
+            let stamp = arena.stamp_offset(class);
+            self.notes[place(slot, named)] = Note::of(count, slot, named, imp.number(), stamp);
         }
     }
 }

@@ -18,7 +18,7 @@ ghost use Rattle.msg_cache.specs.Plays.{given_again, renewed};
 ghost use Rattle.msg_names.specs.Number.{imp_number, selector_number};
 ghost use Rattle.msg_reader.specs.Found.{IsListed};
 ghost use Rattle.msg_reader.specs.Kept.{FindsRecalled, FindsUnprobed, HasLoaded, IsNotedFound, KeepOthers, LoadsMore, LoadsStamp, MissesAfter, MissesUnlessChanged, RecallsSince};
-ghost use Rattle.msg_reader.specs.Notes.{AreNotesOf};
+ghost use Rattle.msg_reader.specs.Notes.{AreNotesOf, StayStamped};
 
 use crate::laws::notes_are_of_longer_histories;
 use crate::notes::Notes;
@@ -167,6 +167,7 @@ impl Reader {
         ensures some { IfSome result (IsFoundAt self.new.sender.front class sel) }
         ensures listed { IfSome result (IsListed self.new.sender.front) }
         ensures notes { AreNotesOf self.new.sender.front notes.new }
+        ensures stamped { StayStamped (layout arena.now) notes.old notes.new }
         ensures noted { IfSome result (IsNotedFound notes.new class sel self.new.sender) }
         ensures others { KeepOthers notes.old notes.new class sel }
         ensures private { FindsRecalled notes.old notes.new class (selector_number sel) self.old.sender self.new.sender (option_map imp_number result) }
@@ -200,6 +201,7 @@ impl Reader {
         ensures some { IfSome result (IsFoundAt self.new.sender.front class sel) }
         ensures listed { IfSome result (IsListed self.new.sender.front) }
         ensures notes { AreNotesOf self.new.sender.front notes.new }
+        ensures stamped { StayStamped (layout arena.now) notes.old notes.new }
         ensures noted { IfSome result (IsNotedFound notes.new class sel self.new.sender) }
         ensures others { KeepOthers notes.old notes.new class sel }
         ensures stamps { LoadsMore self.old.sender self.new.sender }
@@ -230,6 +232,7 @@ impl Reader {
         ensures some { IfSome result (IsFoundAt self.new.sender.front class sel) }
         ensures listed { IfSome result (IsListed self.new.sender.front) }
         ensures notes { AreNotesOf self.new.sender.front notes.new }
+        ensures stamped { StayStamped (layout arena.now) notes.old notes.new }
         ensures noted { IfSome result (IsNotedFound notes.new class sel self.new.sender) }
         ensures others { KeepOthers notes.old notes.new class sel }
         ensures unprobed { FindsUnprobed notes.old class (selector_number sel) self.old.sender self.new.sender (option_map imp_number result) }
@@ -241,7 +244,7 @@ impl Reader {
         match notes.recall(since, class, sel) {
             Some(imp) => {
                 if since <= count {
-                    notes.keep(count, class, sel, imp);
+                    notes.keep(arena, count, class, sel, imp);
                 }
                 Some(imp)
             }
@@ -270,6 +273,7 @@ impl Reader {
         ensures some { IfSome result (IsFoundAt self.new.sender.front class sel) }
         ensures listed { IfSome result (IsListed self.new.sender.front) }
         ensures notes { AreNotesOf self.new.sender.front notes.new }
+        ensures stamped { StayStamped (layout arena.now) notes.old notes.new }
         ensures noted { IfSome result (IsNotedFound notes.new class sel self.new.sender) }
         ensures others { KeepOthers notes.old notes.new class sel }
         ensures stamps { LoadsMore self.old.sender self.new.sender }
@@ -282,7 +286,7 @@ impl Reader {
         if count < after {
             return None;
         }
-        notes.keep(count, class, sel, imp);
+        notes.keep(arena, count, class, sel, imp);
         Some(imp)
     }
 }

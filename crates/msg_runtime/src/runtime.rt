@@ -10,9 +10,9 @@ ghost use Rattle.msg_tables.specs.declared.fault.ChangeFault.{ChangeFault};
 ghost use Rattle.msg_cache.specs.Counts.{AreCounts};
 ghost use Rattle.msg_cache.specs.Plays.{given_again, taken_in, lent, is_lent};
 ghost use Rattle.msg_cache.specs.declared.view.TurnAt.TheVariants.{Away};
-ghost use Rattle.msg_cache.specs.Views.{IsFoundAt, IsSenderOf, classes};
+ghost use Rattle.msg_cache.specs.Views.{IsFoundAt, IsSenderOf, classes, layout};
 ghost use Rattle.msg_reader.specs.Kept.{KeepOthers};
-ghost use Rattle.msg_reader.specs.Notes.{AreNotesOf, IsNoted};
+ghost use Rattle.msg_reader.specs.Notes.{AreNotesOf, IsNoted, StayStamped};
 ghost use Rattle.msg_runtime.specs.Calls.{AllAreOut, CachesAnswer, CountsRefusalUnless, HasKeeper, KeepsCaches, LendsTurnIf, MarksAllReached, MarksReached};
 ghost use Rattle.msg_runtime.specs.Changed.{IsAccepted, IsMadeAt, IsRefusedAt, IsRefusedFor};
 ghost use Rattle.msg_runtime.specs.Parts.{IsKeeperOf, IsNew, keeper_history};
@@ -182,10 +182,11 @@ impl Runtime {
         ensures notes { AreNotesOf self.old.keeper.history notes.new }
         ensures noted { IsNoted self.old.keeper.history notes.new class (selector_number sel) (imp_number result) }
         ensures others { KeepOthers notes.old notes.new class sel }
+        ensures stamped { StayStamped (layout self.old.arena) notes.old notes.new }
     {
         notes_are_of_longer_histories();
         let imp = self.answer(arena, reader, class, sel);
-        notes.keep(self.count(), class, sel, imp);
+        notes.keep(arena, self.count(), class, sel, imp);
         imp
     }
 

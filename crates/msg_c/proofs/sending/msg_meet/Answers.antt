@@ -1,12 +1,10 @@
-use Rattle.std.proofs.Common.{ap, ◌∙◌, sym, subst, Some}
-use Rattle.msg_host.specs.View.{SenderView}
+use Rattle.std.proofs.Common.{sym, subst}
 use Rattle.msg_tables.specs.History.{BeginsWith}
-use Rattle.msg_c.specs.Answers.{sender_front}
 use Rattle.msg_c.proofs.NoteLemmas.{notes_on}
 use Rattle.msg_c.proofs.sending.msg_meet.Goals as goal
 
 pub invariant_of-sender-clause-noted : goal.invariant_of-sender-clause-noted
 invariant_of-sender-clause-noted c =
-    let are = c.args.sender.now.noted.seen c.deref_mut-2.result.now.seen.front (ap sender_front c.take-asker.ensures.taken ∙ ap (λ (v : SenderView). Some v.seen.front) (sym c.deref_mut-2.ensures.value)) in
     let begins = subst (λ g. BeginsWith g c.deref_mut-2.result.now.seen.front) (sym c.meet.ensures.front) c.meet.ensures.begins in
-    notes_on c.put.new.self.state c.deref_mut-2.result.now c.meet.new.sender c.args.sender.now.notes c.notes_are_of_longer_histories.ensures are begins c.put.ensures
+    notes_on c.args.sender.now.held.state c.put.new.self.state c.take-asker.result.value c.deref_mut-2.result.now c.meet.new.sender c.args.sender.now.notes c.notes_are_of_longer_histories.ensures
+    c.args.sender.now.noted c.take-asker.ensures.taken c.deref_mut-2.ensures.value c.meet.ensures.arena begins c.put.ensures

@@ -1,10 +1,7 @@
-use Rattle.std.proofs.Common.{ap, ◌∙◌, sym, Some}
-use Rattle.msg_host.specs.View.{SenderView}
-use Rattle.msg_c.specs.Answers.{sender_front}
 use Rattle.msg_c.proofs.NoteLemmas.{notes_on}
 use Rattle.msg_c.proofs.sending.msg_refresh.Goals as goal
 
 pub invariant_of-sender-clause-noted : goal.invariant_of-sender-clause-noted
 invariant_of-sender-clause-noted c =
-    let are = c.args.sender.now.noted.seen c.deref_mut.result.now.seen.front (ap sender_front c.take-asker.ensures.taken ∙ ap (λ (v : SenderView). Some v.seen.front) (sym c.deref_mut.ensures.value)) in
-    notes_on c.put.new.self.state c.deref_mut.result.now c.refresh.new.self c.args.sender.now.notes c.notes_are_of_longer_histories.ensures are c.refresh.ensures.begins c.put.ensures
+    notes_on c.args.sender.now.held.state c.put.new.self.state c.take-asker.result.value c.deref_mut.result.now c.refresh.new.self c.args.sender.now.notes c.notes_are_of_longer_histories.ensures
+    c.args.sender.now.noted c.take-asker.ensures.taken c.deref_mut.ensures.value c.refresh.ensures.arena c.refresh.ensures.begins c.put.ensures

@@ -4,6 +4,7 @@ use Rattle.msg_tables.specs.History.{History}
 use Rattle.msg_cache.specs.Views.{ArenaView, classes, layout}
 use Rattle.msg_cache.specs.declared.view.KeeperView.{KeeperView}
 use Rattle.msg_runtime.specs.Calls.{CachesAnswer}
+use Rattle.msg_reader.specs.Notes.{StayStamped}
 use Rattle.msg_runtime.specs.View.{RuntimeView}
 use Rattle.msg_host.proofs.runtime.HostedRuntime.answer.Goals as goal
 
@@ -28,3 +29,6 @@ pub returns-clause-cached : goal.returns-clause-cached
 returns-clause-cached c =
     let cached = subst (λ (v : RuntimeView). CachesAnswer c.args.class c.args.sel c.answer_noted.result c.sender.inside.reader.sender v c.answer_noted.new.self) c.self.view_is c.answer_noted.ensures.cached in
     subst (λ v. CachesAnswer c.args.class c.args.sel c.answer_noted.result v.seen c.args.self.now c.answer_noted.new.self) c.sender.view_is cached
+
+pub returns-clause-stamped : goal.returns-clause-stamped
+returns-clause-stamped c = subst (λ (v : RuntimeView). StayStamped (layout v.arena) c.args.notes.now c.answer_noted.new.notes) c.self.view_is c.answer_noted.ensures.stamped

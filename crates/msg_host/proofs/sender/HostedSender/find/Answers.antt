@@ -1,6 +1,7 @@
-use Rattle.std.proofs.Common.{◌<◌, ◌^◌, ap, arith}
+use Rattle.std.proofs.Common.{◌<◌, ◌^◌, ap, subst, ◌∙◌, arith}
 use Rattle.msg_names.specs.ClassRef.{slot_of}
-use Rattle.msg_cache.specs.Views.{classes}
+use Rattle.msg_cache.specs.Views.{ArenaView, classes, layout}
+use Rattle.msg_reader.specs.Notes.{StayStamped}
 use Rattle.msg_reader.specs.Kept.{IsNotedFound}
 use Rattle.msg_reader.proofs.ReaderLemmas.{if_some}
 use Rattle.msg_host.specs.Named.{HaveNotedLast}
@@ -15,3 +16,7 @@ returns-clause-noted c =
     let is : SenderView = record { arena = c.args.self.now.arena; seen = c.find_counted.new.self.sender } in
     if_some (IsNotedFound c.find_counted.new.notes c.args.class c.args.sel is.seen) (HaveNotedLast c.find_counted.new.notes is c.args.class c.args.sel) c.find_counted.result
     (λ i noted. (noted.0, noted.1, noted.2 short)) c.find_counted.ensures.noted
+
+pub returns-clause-stamped : goal.returns-clause-stamped
+returns-clause-stamped c =
+    subst (λ (a : ArenaView). StayStamped (layout a) c.args.notes.now c.find_counted.new.notes) (c.deref.ensures ∙ ap (λ (v : SenderView). v.arena) c.self.view_is) c.find_counted.ensures.stamped

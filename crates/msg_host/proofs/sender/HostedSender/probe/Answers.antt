@@ -1,10 +1,9 @@
-use Rattle.std.proofs.Common.{◌≡◌, ℕ, zero, suc, Bool, true, false, Option, Some, None, refl, ap, sym, subst, ◌∙◌}
+use Rattle.std.proofs.Common.{◌≡◌, ℕ, zero, suc, Bool, true, false, Some, None, refl, ap, sym, subst, ◌∙◌}
 use Rattle.std.specs.Prelude.{◌==◌, if◌then◌else◌, nat_lt}
 use Rattle.msg_names.specs.Number.{selector_number, selector_of}
 use Rattle.msg_names.specs.declared.value.ClassRef.{ClassRef}
 use Rattle.msg_reader.specs.Kept.{HaveNotedSince}
 use Rattle.msg_host.specs.Asking.{ask_fault}
-use Rattle.msg_host.specs.declared.fault.AskFault.{AskFault}
 use Rattle.msg_host.specs.declared.fault.AskFault.TheVariants.{NoClass, NoSelector}
 use Rattle.msg_host.proofs.sender.HostedSender.probe.Goals as goal
 

@@ -1,8 +1,10 @@
-use Rattle.std.proofs.Common.{rules, ◌≡◌, ◌≤◌, ℕ, length, ap, sym, ◌∙◌, arith}
+use Rattle.std.proofs.Common.{rules, ◌≡◌, ℕ, length, ap, subst, sym, ◌∙◌, arith}
 use Rattle.msg_names.specs.Number.{selector_number, imp_number}
 use Rattle.msg_tables.specs.History.{lookup}
 use Rattle.msg_core.specs.State.{first}
 use Rattle.msg_core.proofs.KeepLemmas.{first_all}
+use Rattle.msg_cache.specs.Views.{ArenaView, layout}
+use Rattle.msg_reader.specs.Notes.{StayStamped}
 use Rattle.msg_runtime.proofs.runtime.Runtime.answer_noted.Goals as goal
 
 pub returns-clause-notes : goal.returns-clause-notes
@@ -19,3 +21,6 @@ returns-clause-noted c = λ short.
     let h = c.args.self.now.keeper.history in
     let all : c.count.result ≡ length h.changes = search rules in
     c.keep.ensures.kept (length h.changes) (omega (arith, all)) short
+
+pub returns-clause-stamped : goal.returns-clause-stamped
+returns-clause-stamped c = subst (λ (a : ArenaView). StayStamped (layout a) c.args.notes.now c.keep.new.self) c.requires.arena c.keep.ensures.stamped
