@@ -5,7 +5,7 @@
  *
  *     msg_runtime *runtime;
  *     uint32_t fault = msg_process_start(NULL);
- *     if (!fault) fault = msg_process_lock_to_change(&runtime);
+ *     if (!fault) fault = msg_process_lock(&runtime);
  *     if (!fault) { fault = msg_make_root_class(runtime, SHAPE); msg_process_unlock(); }
  *     if (!fault) fault = msg_process_find(SHAPE, false, AREA, &imp);
  *
@@ -40,11 +40,9 @@ extern "C" {
  * time, else as msg_open. */
 uint32_t msg_process_start(const msg_config *config);
 
-/* The runtime, under its lock, to ask it; or to ask and change it: until the unlock no thread goes
- * by what it had noted before. MSG_CLOSED before the start, and MSG_LOCK_HELD where the calling
- * thread holds it; then there is nothing to unlock. */
+/* The runtime, under its lock, to ask and to change it. MSG_CLOSED before the start, and
+ * MSG_LOCK_HELD where the calling thread holds it; then there is nothing to unlock. */
 uint32_t msg_process_lock(msg_runtime **runtime);
-uint32_t msg_process_lock_to_change(msg_runtime **runtime);
 /* Gives the lock back; by the thread that took it. */
 void msg_process_unlock(void);
 
@@ -67,18 +65,27 @@ uint32_t msg_process_find_slowly(uint64_t key, unsigned waits, uint32_t *imp);
 /* What the inline call goes by. `turns`: how often the thread was on the slow way. `sender`: its
  * own; or one without notes while that is in use, and where it has none. */
 struct msg_process_thread { const msg_sender *sender; uint64_t turns; };
-/* How many changes there are, or more than ever are noted, while the lock is held to change. On a
- * line of the cache of its own. */
-struct msg_process_count { uint64_t begun, spare[7]; };
+/* Where the words are that threads share (msg_words): before the start `none`. On a line of the
+ * cache of its own. */
+struct msg_process_words { const uint64_t *at; uint64_t none, spare[6]; };
 #ifndef MSG_TLS
-#define MSG_TLS "initial-exec" /* "local-exec" takes an instruction less, in what is linked into a program alone */
+/* "local-exec" takes an instruction less, in what is linked into a program alone. */
+#define MSG_TLS "initial-exec"
 #endif
 extern __thread __attribute__((tls_model(MSG_TLS))) struct msg_process_thread msg_process_own;
-extern struct msg_process_count msg_process_changes;
+extern struct msg_process_words msg_process_words;
 
 #ifdef __cplusplus
 }
 #endif
+
+/* The stamp of a note's class. The words are loaded after the sender that has the note: one with
+ * notes is shown after they are. */
+static inline uint64_t msg_process_stamp(const msg_note *note)
+{
+    __atomic_signal_fence(__ATOMIC_SEQ_CST);
+    return msg_stamp_of(__atomic_load_n(&msg_process_words.at, __ATOMIC_RELAXED), note);
+}
 
 /* msg_process_find of a key, for a host that keeps 2 * number + meta times MSG_KEY_OF_SLOT with
  * each class, and adds msg_key(0, sel) to it. A handler of a signal may come between any two of the
@@ -88,31 +95,33 @@ static inline uint32_t msg_process_find_key(uint64_t key, uint32_t *imp)
     uint64_t turns = __atomic_load_n(&msg_process_own.turns, __ATOMIC_RELAXED);
     __atomic_signal_fence(__ATOMIC_SEQ_CST);
     const msg_sender *sender = __atomic_load_n(&msg_process_own.sender, __ATOMIC_RELAXED);
-    uint64_t count = __atomic_load_n(&msg_process_changes.begun, __ATOMIC_ACQUIRE);
     const msg_note *note = MSG_NOTE_OF(sender, key); /* as msg_recall_key */
-    uint64_t said = note->count == count ? msg_said(note, key) : MSG_SAID_NONE;
+    uint64_t stamp = msg_process_stamp(note);
+    uint64_t said = note->count >= stamp ? msg_said(note, key) : MSG_SAID_NONE;
     uint32_t found = said < MSG_SAID_LONG ? (uint32_t)said : said == MSG_SAID_LONG ? note->imp : 0;
     __atomic_signal_fence(__ATOMIC_SEQ_CST);
     bool is_same = __atomic_load_n(&msg_process_own.turns, __ATOMIC_RELAXED) == turns;
     if (!found || !is_same) return msg_process_find_slowly(key, MSG_WAITS, imp);
-    MSG_TEST(found == msg_recall(sender, MSG_SLOT_OF(key), MSG_SEL_OF(key), count) ||
+    MSG_TEST(found == msg_recall(sender, MSG_SLOT_OF(key), MSG_SEL_OF(key), stamp) ||
              __atomic_load_n(&msg_process_own.turns, __ATOMIC_RELAXED) != turns);
     *imp = found;
     return MSG_DONE;
 }
 
-/* objc_msg_lookup, by all changes whose unlock had returned: the implementation's number, 0 for
- * forwarding. Faults: MSG_CLOSED before the start, MSG_NO_CLASS, MSG_NO_SELECTOR and, where the
- * calling thread holds the lock, MSG_LOCK_HELD. */
+/* objc_msg_lookup, by all changes that had returned: the implementation's number, 0 for forwarding.
+ * Faults: MSG_CLOSED before the start, MSG_NO_CLASS, MSG_NO_SELECTOR and, where the calling thread
+ * holds the lock, MSG_LOCK_HELD. */
 static inline uint32_t msg_process_find(uint32_t number, bool meta, uint32_t sel, uint32_t *imp)
 {
     uint32_t slot = msg_slot(number, meta);
-    return slot < MSG_SLOTS ? msg_process_find_key(msg_key(slot, sel), imp) : (uint32_t)MSG_NO_CLASS;
+    if (slot == MSG_SLOTS) return MSG_NO_CLASS;
+    return msg_process_find_key(msg_key(slot, sel), imp);
 }
 
 /* msg_process_find that never waits and takes no memory: where it would ask under the lock, and any
  * thread has that, it answers MSG_LOCK_HELD. */
-static inline uint32_t msg_process_find_at_once(uint32_t number, bool meta, uint32_t sel, uint32_t *imp)
+static inline uint32_t msg_process_find_at_once(uint32_t number, bool meta, uint32_t sel,
+                                                uint32_t *imp)
 {
     uint32_t slot = msg_slot(number, meta);
     if (slot == MSG_SLOTS) return MSG_NO_CLASS;

@@ -50,7 +50,9 @@
  * wrote before it made that change. So does whoever is told of the change by
  * msg_refresh, msg_probe, msg_fill or msg_meet: the library's shared words are
  * stored and loaded sequentially consistent. So a table of functions may grow
- * while threads send: first the new slot, then the change.
+ * while threads send: first the new slot, then the change. What a host writes
+ * before a change returns, inside the lock too, another thread may see while it
+ * still finds what was before the change; what it writes after that, nobody.
  */
 #ifndef MSG_RUNTIME_H
 #define MSG_RUNTIME_H
@@ -74,13 +76,15 @@ extern "C" {
 #endif
 
 /* What a sender has noted of one lookup. `seal` is the lookup's key (msg_key)
- * less what msg_said says of it; 0 is no note. */
+ * less what msg_said says of it; 0 is no note. `stamp`: how many bytes after
+ * the first of the shared words (msg_words) the stamp of its class lies; of no
+ * note it is 0, which is the count of changes. */
 typedef struct {
     uint64_t seal;
     uint64_t count;
     uint32_t imp;
     uint32_t spare;
-    uint64_t spared;
+    uint64_t stamp;
 } msg_note;
 
 /* How many notes a sender has, in its handle: 64 KiB. */
@@ -297,6 +301,11 @@ uint32_t msg_reach(msg_runtime *runtime, const msg_change *changes,
 
 /* ---- senders, under the lock ---- */
 
+/* Where the words lie that all threads share, which the inline recall loads a
+ * stamp from. They lie there as long as the runtime or a sender of it is open,
+ * and only the library writes them. */
+uint32_t msg_words(msg_runtime *runtime, const uint64_t **words);
+
 /* Opens a sender for one thread. It has seen all changes so far. MSG_NO_SENDER
  * only if as many are open as the config says; a sender that is closed counts
  * no more. */
@@ -318,20 +327,16 @@ uint32_t msg_meet(msg_runtime *runtime, msg_sender *sender);
 uint32_t msg_version(void);
 /* How many bytes a msg_sender has, for hosts that don't compile this header. */
 size_t msg_sender_size(void);
-/* What the sender has noted of the lookup after `count` changes or more, for
+/* What the sender has noted of the lookup after `since` changes or more, for
  * slot 2 * number + meta: the implementation's number, MSG_NOTED_NONE if it
  * noted that there is no method, or 0 if it has no such note. Then ask
  * msg_find, which notes what it finds.
  *
- * It loads from the handle alone and writes nothing, so it is the short way of
- * a send for a host that keeps a count of the changes it has made or begun:
- * under the lock, the count goes up by one before each change, and down again
- * after a change that was refused, or a list of no parts. msg_change_count
- * tells it. The count is atomic, stored with release and loaded with acquire. A
- * thread that loads it and recalls by it finds nothing from before a change
- * that had returned. */
+ * It loads from the handle alone and writes nothing. Since the stamp of the
+ * class (msg_stamp) it is what a lookup finds now: msg_recall_key does both,
+ * inline, and is the short way of a send. */
 size_t msg_recall(const msg_sender *sender, size_t slot, uint32_t sel,
-                  uint64_t count);
+                  uint64_t since);
 #define MSG_NOTED_NONE ((size_t)1 << 32) /* as a uint32_t 0, forwarding */
 /* What is cached (cache_getImp): what the sender has noted, else what the
  * shared cache has: the lookup after the changes that the sender has then seen,
@@ -482,8 +487,19 @@ static inline const char *msg_fault_text(uint32_t fault)
 #ifdef MSG_CHECK
 #include <assert.h>
 #define MSG_TEST(what) assert(what)
+/* That the stamp of a key's note is msg_stamp, unless it is another by now. It
+ * isn't closed; so where it was closed meanwhile, it opens by a later count. */
+#define MSG_TEST_STAMP(sender, words, key, stamp) \
+    do { \
+        uint64_t msg_told = stamp; \
+        msg_stamp((msg_sender *)(sender), MSG_SLOT_OF(key) / 2, \
+                  MSG_SLOT_OF(key) % 2, &msg_told); \
+        MSG_TEST(msg_told == (stamp) || \
+                 msg_stamp_of(words, MSG_NOTE_OF(sender, key)) != (stamp)); \
+    } while (0)
 #else
 #define MSG_TEST(what) ((void)0)
+#define MSG_TEST_STAMP(sender, words, key, stamp) ((void)0)
 #endif
 
 /* Of slots below this keys are one to one, as they are of any class. And of a
@@ -521,32 +537,52 @@ static inline uint64_t msg_said(const msg_note *note, uint64_t key)
     return key - *(const volatile uint64_t *)&note->seal;
 }
 
-/* msg_recall without a call, for where each instruction counts: the
- * implementation's number that is noted of a key, or 0 where it is noted that
- * there is no method, or nothing is. So it is of key 0, which is of no lookup.
- * Trusted: this code. With MSG_CHECK each answer is compared with the proved
- * one. */
-static inline uint32_t msg_recall_key(const msg_sender *sender, uint64_t key,
-                                      uint64_t count)
+/* The stamp of the class that a note is of, by one load of a shared word: no
+ * change after so many has affected it, so what was noted after as many or more
+ * is what a lookup finds now. The load is sequentially consistent, as the
+ * library's own.
+ *
+ * The note's seal is loaded after the stamp and the note's count. So where a
+ * handler of a signal noted something there in between, the seal is of that: of
+ * another lookup, or found just now and right, whatever stamp and count were
+ * loaded. Where none did, all three are of one note. */
+static inline uint64_t msg_stamp_of(const uint64_t *words, const msg_note *note)
+{
+    const void *stamp = (const char *)words + note->stamp;
+    return __atomic_load_n((const uint64_t *)stamp, __ATOMIC_SEQ_CST);
+}
+
+/* msg_stamp and msg_recall without a call, for where each instruction counts:
+ * the implementation's number that a lookup of the key finds now, or 0 where it
+ * finds no method, or nothing is noted of it. So it is of key 0, which is of no
+ * lookup. `words` are the runtime's (msg_words). Trusted: this code, and that
+ * the stamp lies where the words and the note say. With MSG_CHECK each answer
+ * is compared with the proved msg_recall, and its stamp with msg_stamp. */
+static inline uint32_t msg_recall_key(const msg_sender *sender,
+                                      const uint64_t *words, uint64_t key)
 {
     const msg_note *note = MSG_NOTE_OF(sender, key);
-    uint64_t said = note->count >= count ? msg_said(note, key) : MSG_SAID_NONE;
+    uint64_t stamp = msg_stamp_of(words, note);
+    uint64_t said = note->count >= stamp ? msg_said(note, key) : MSG_SAID_NONE;
     uint32_t imp = said < MSG_SAID_LONG ? (uint32_t)said
                  : said == MSG_SAID_LONG ? note->imp : 0;
     MSG_TEST(imp == (uint32_t)msg_recall(sender, MSG_SLOT_OF(key),
-                                         MSG_SEL_OF(key), count));
+                                         MSG_SEL_OF(key), stamp));
+    if (imp) MSG_TEST_STAMP(sender, words, key, stamp);
     return imp;
 }
 
 /* Whether it is noted that there is no method: then msg_recall answers
  * MSG_NOTED_NONE. */
-static inline bool msg_recall_none_key(const msg_sender *sender, uint64_t key,
-                                       uint64_t count)
+static inline bool msg_recall_none_key(const msg_sender *sender,
+                                       const uint64_t *words, uint64_t key)
 {
     const msg_note *note = MSG_NOTE_OF(sender, key);
-    bool is_none = note->count >= count && msg_said(note, key) == MSG_SAID_NONE;
+    uint64_t stamp = msg_stamp_of(words, note);
+    bool is_none = note->count >= stamp && msg_said(note, key) == MSG_SAID_NONE;
     MSG_TEST(is_none == (msg_recall(sender, MSG_SLOT_OF(key), MSG_SEL_OF(key),
-                                    count) == MSG_NOTED_NONE));
+                                    stamp) == MSG_NOTED_NONE));
+    if (is_none) MSG_TEST_STAMP(sender, words, key, stamp);
     return is_none;
 }
 
@@ -560,11 +596,11 @@ static inline uint32_t msg_slot(uint32_t number, bool meta)
 /* The same of a slot and a selector. Of slots from MSG_SLOTS on nothing is
  * noted. */
 static inline uint32_t msg_recall_inline(const msg_sender *sender,
-                                         uint32_t slot, uint32_t sel,
-                                         uint64_t count)
+                                         const uint64_t *words, uint32_t slot,
+                                         uint32_t sel)
 {
     if (slot >= MSG_SLOTS) return 0;
-    return msg_recall_key(sender, msg_key(slot, sel), count);
+    return msg_recall_key(sender, words, msg_key(slot, sel));
 }
 
 /* Finds a message's implementation (objc_msg_lookup): the lookup at a version

@@ -181,7 +181,7 @@ static inline void make_one(const struct part *part)
 static inline bool put(Class class_, SEL sel, IMP imp, const char *types, IMP *before)
 {
     if (!class_ || !class_->record || !sel || !imp || !types) return false;
-    CHANGING;
+    LOCKED;
     Method method = method_of(class_->record, shim_sel(sel));
     if (method ? !before : !*types) return false;
     struct part part = part_of(class_->record, method, sel, imp, types);
@@ -205,7 +205,7 @@ IMP class_replaceMethod(Class class_, SEL sel, IMP imp, const char *types)
 IMP method_setImplementation(Method method, IMP imp)
 {
     if (!method || !imp) return NULL;
-    CHANGING;
+    LOCKED;
     struct part part = part_of(home_of(method), method, method->name.sel, imp, NULL);
     make_one(&part);
     return part.before;
@@ -223,7 +223,7 @@ static bool plan_exchange(const struct objc_method_pair *pair, msg_change *chang
 
 size_t objc_exchange_methods(const struct objc_method_pair *pairs, size_t count)
 {
-    CHANGING;
+    LOCKED;
     msg_change *all = shim_memory(count * sizeof *all);
     size_t place = 0;
     while (place < count && plan_exchange(&pairs[place], &all[place])) place++;
@@ -263,7 +263,7 @@ static bool plan_swap(const struct objc_method_swap *rows, size_t at, struct par
 
 size_t objc_replace_methods(struct objc_method_swap *rows, size_t count)
 {
-    CHANGING;
+    LOCKED;
     struct part *parts = shim_memory(count * sizeof *parts);
     msg_change *all = shim_memory(count * sizeof *all);
     size_t place = 0;

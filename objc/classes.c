@@ -170,7 +170,7 @@ Class objc_allocateClassPair(Class superclass, const char *name, size_t extra)
 void objc_registerClassPair(Class class_)
 {
     if (!class_ || class_isMetaClass(class_)) return;
-    CHANGING;
+    LOCKED;
     if (!shim_in_construction(class_) || shim_class_named(class_->name)) return;
     in_construction--;
     shim_number_class(class_);

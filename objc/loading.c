@@ -179,7 +179,7 @@ static void keep_loaded(const void *module)
 static void take_module(struct module *module)
 {
     static bool has_roots;
-    CHANGING;
+    LOCKED;
     if (!has_roots) take_symbols(shim_roots.symbols);
     has_roots = true;
     if (module != &shim_roots) take_symbols(module->symbols);

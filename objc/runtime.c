@@ -41,15 +41,10 @@ static void start(void)
     if (said && !strcmp(said, "1")) atexit(shim_report);
 }
 
-static uint32_t take(bool to_change)
-{
-    return to_change ? msg_process_lock_to_change(&shim_runtime) : msg_process_lock(&shim_runtime);
-}
-
-void shim_take(bool to_change)
+void shim_take(void)
 {
     uint32_t fault;
-    while (__builtin_expect((fault = take(to_change)) == MSG_CLOSED, 0)) start();
+    while (__builtin_expect((fault = msg_process_lock(&shim_runtime)) == MSG_CLOSED, 0)) start();
     shim_must(fault, "in a handler of a signal");
 }
 

@@ -1,6 +1,6 @@
 /* The way of a send that hits, without the lock: what the thread's own sender has noted. Trusted:
- * that a note is of its key and count, in whatever order other threads and handlers of signals come
- * between. */
+ * that a note is of its key and as new as its stamp, in whatever order other threads and handlers
+ * of signals come between. */
 #ifndef MSG_OBJC_SEAT_H
 #define MSG_OBJC_SEAT_H
 
@@ -10,67 +10,75 @@
  * it never moves. */
 extern __attribute__((visibility("hidden"))) _Atomic(IMP) shim_functions[MOST_IMPS + 1];
 
-static inline IMP shim_function(uint32_t imp) { return atomic_load_explicit(&shim_functions[imp], memory_order_acquire); }
+static inline IMP shim_function(uint32_t imp)
+{
+    return atomic_load_explicit(&shim_functions[imp], memory_order_acquire);
+}
 
-/* By how many changes were begun, or a number that no note has while one is made. */
-static inline uint64_t shim_begun(void) { return __atomic_load_n(&msg_process_changes.begun, __ATOMIC_ACQUIRE); }
+/* A word of a note, as the instructions of x86-64 have it. Two of them are spelled longer: so the
+ * jump behind them is kept within a line by prefixes, not by an instruction more. */
+#define AT_NOTE "%P[word](%[sender],%[place])"
+#define LONGER "%{disp32%} "
+#define NOTE(field) [sender] "r"(sender), [place] "r"((uint64_t)(uint16_t)key), \
+                    [word] "i"(offsetof(msg_sender, notes) + offsetof(msg_note, field))
 
-/* What the note at the one place of a class and a selector says (msg_said), by all changes that
- * were begun before. First it is seen that the note isn't older; then one load has the lookup and
- * the number, so a handler of a signal, which may note another there, comes before both or after
- * both. Until a class was initialized its key is 0, and the sum is the key of class number 0, which
- * isn't made. */
-static inline uint64_t shim_said_at(uint64_t count, Class class_, SEL sel)
+/* What the note at the one place of a class and a selector says (msg_said), by all changes that had
+ * returned. First it is seen that the note isn't older than the stamp of its class; then one load
+ * has the lookup and the number. So a handler of a signal that notes another there comes before
+ * both or after both; or what is said was found by it, just now (msg_stamp_of). Until a class was
+ * initialized its key is 0, and the sum is the key of class number 0, which isn't made. */
+static inline uint64_t shim_said_at(Class class_, SEL sel)
 {
     const msg_sender *sender = __atomic_load_n(&msg_process_own.sender, __ATOMIC_RELAXED);
     uint64_t key = __atomic_load_n(&class_->key, __ATOMIC_ACQUIRE) + sel->name.key;
-    const msg_note *note = MSG_NOTE_OF(sender, key);
-    if (__builtin_expect(note->count != count, 0)) return UINT64_MAX;
-    atomic_signal_fence(memory_order_seq_cst);
-#ifdef __x86_64__
-    uint64_t said = key;
-    /* msg_said, an instruction shorter */
-    __asm__("subq %1, %0" : "+r"(said) : "m"(note->seal) : "cc");
+    const msg_note *note __attribute__((unused)) = MSG_NOTE_OF(sender, key);
+#ifdef __x86_64__ /* the same, three instructions shorter: the note's place is in each load of it */
+    uint64_t stamp, said = key;
+    bool is_old;
+    __asm__ volatile(LONGER "movq " AT_NOTE ", %0" : "=r"(stamp) : NOTE(stamp) : "memory");
+    stamp += (uintptr_t)msg_process_words.at;
+    stamp = __atomic_load_n((const uint64_t *)stamp, __ATOMIC_SEQ_CST);
+    __asm__ volatile(LONGER "cmpq %1, " AT_NOTE
+                     : "=@ccb"(is_old) : "r"(stamp), NOTE(count) : "memory");
+    if (__builtin_expect(is_old, 0)) return UINT64_MAX;
+    __asm__ volatile("subq " AT_NOTE ", %0" : "+r"(said) : NOTE(seal) : "cc", "memory");
 #else
+    uint64_t stamp = msg_process_stamp(note);
+    if (__builtin_expect(note->count < stamp, 0)) return UINT64_MAX;
+    atomic_signal_fence(memory_order_seq_cst);
     uint64_t said = msg_said(note, key);
 #endif
-    MSG_TEST(said >= MSG_SAID_LONG || msg_recall(sender, MSG_SLOT_OF(key), MSG_SEL_OF(key), count) == said ||
-             msg_said(note, key) != said || note->count != count); /* or a handler's by now */
+    MSG_TEST(said >= MSG_SAID_LONG || /* or a handler's by now */
+             msg_recall(sender, MSG_SLOT_OF(key), MSG_SEL_OF(key), stamp) == said ||
+             msg_said(note, key) != said || note->count < stamp);
     return said;
 }
 
-/* The number of a note that has a long one, which is another word than its seal: a handler that
- * found something in between raised `turns`. 0 where the note is another by now. */
-static __attribute__((noinline, unused)) uint32_t shim_long_at(uint64_t count, Class class_, SEL sel)
+/* All of a note that says just this, for what is another word than its seal: a handler that found
+ * something in between raised `turns`. False where it is another note by now, or an old one. */
+static __attribute__((noinline, unused)) bool shim_note_of(uint64_t said, Class class_, SEL sel,
+                                                           msg_note *all)
 {
     uint64_t turns = __atomic_load_n(&msg_process_own.turns, __ATOMIC_RELAXED);
     atomic_signal_fence(memory_order_seq_cst);
     const msg_sender *sender = __atomic_load_n(&msg_process_own.sender, __ATOMIC_RELAXED);
     uint64_t key = __atomic_load_n(&class_->key, __ATOMIC_ACQUIRE) + sel->name.key;
     const msg_note *note = MSG_NOTE_OF(sender, key);
-    bool is_of = note->count == count && msg_said(note, key) == MSG_SAID_LONG;
-    uint32_t number = __atomic_load_n(&note->imp, __ATOMIC_RELAXED);
+    bool is_of = note->count >= msg_process_stamp(note) && msg_said(note, key) == said;
+    *all = *note;
     atomic_signal_fence(memory_order_seq_cst);
-    return is_of && __atomic_load_n(&msg_process_own.turns, __ATOMIC_RELAXED) == turns ? number : 0;
+    return is_of && __atomic_load_n(&msg_process_own.turns, __ATOMIC_RELAXED) == turns;
 }
 
-/* What a note says: a method, that there is none, or nothing of the lookup. */
-enum { METHOD, NO_METHOD, NOTHING };
-
-/* And the number that it has: the method's, or 0. */
-static inline uint32_t shim_note_at(uint64_t count, Class class_, SEL sel, uint32_t *number)
+/* Whether a note says what is found: the method's number, or 0 where there is none. */
+static inline bool shim_note(Class class_, SEL sel, uint32_t *number)
 {
-    uint64_t said = shim_said_at(count, class_, sel);
-    *number = 0;
-    if (__builtin_expect(said > MSG_SAID_NONE, 0)) return NOTHING;
-    if (said == MSG_SAID_NONE) return NO_METHOD;
-    *number = said == MSG_SAID_LONG ? shim_long_at(count, class_, sel) : (uint32_t)said;
-    return __builtin_expect(*number, 1) ? METHOD : NOTHING;
-}
-
-static inline uint32_t shim_note(Class class_, SEL sel, uint32_t *number)
-{
-    return shim_note_at(shim_begun(), class_, sel, number);
+    msg_note note;
+    uint64_t said = shim_said_at(class_, sel);
+    *number = said < MSG_SAID_LONG ? (uint32_t)said : 0;
+    if (__builtin_expect(said != MSG_SAID_LONG, 1)) return said <= MSG_SAID_NONE;
+    if (shim_note_of(said, class_, sel, &note)) *number = note.imp;
+    return *number != 0;
 }
 
 #endif

@@ -61,7 +61,7 @@ static void ensure_initialized(Class class_)
 static inline bool noted(Class class_, SEL sel, IMP *imp)
 {
     uint32_t number;
-    if (shim_note(class_, sel, &number) > NO_METHOD) return false;
+    if (!shim_note(class_, sel, &number)) return false;
     *imp = shim_function(number);
     return true;
 }
@@ -72,22 +72,29 @@ IMP shim_look(Class class_, SEL sel)
     return noted(class_, sel, &imp) ? imp : shim_find(class_, shim_sel(sel));
 }
 
-/* Whether a thread's note said so after just as many changes as are begun now: it is then so for
- * all threads. */
-static bool has_no_resolver(Class of) { return LOAD(of->record->unresolved) == shim_begun(); }
+/* Whether a thread's note said so that isn't older than the stamp of the metaclass: it is then so
+ * for all threads. */
+static inline bool has_no_resolver(const struct record *of)
+{
+    msg_note none = {.count = LOAD(of->unresolved), .stamp = LOAD(of->resolver_stamp)};
+    return none.count >= msg_process_stamp(&none);
+}
+
+static __attribute__((noinline)) void keep_unresolved(struct record *of, Class metaclass, SEL asked)
+{
+    msg_note none;
+    if (!shim_note_of(MSG_SAID_NONE, metaclass, asked, &none)) return;
+    STORE(of->resolver_stamp, none.stamp);
+    STORE(of->unresolved, none.count);
+}
 
 static inline bool resolve(Class class_, SEL sel)
 {
-    uint32_t number;
-    uint64_t count = shim_begun();
+    IMP imp;
     Class plain = plain_class(class_);
     SEL asked = &shim_own[class_->record->meta ? RESOLVE_CLASS : RESOLVE_INSTANCE];
-    uint32_t said = shim_note_at(count, plain->isa, asked, &number);
-    if (said == NO_METHOD) {
-        __atomic_store_n(&class_->record->unresolved, count, __ATOMIC_RELAXED);
-        return false;
-    }
-    IMP imp = said == METHOD ? shim_function(number) : shim_find(plain->isa, shim_sel(asked));
+    if (!noted(plain->isa, asked, &imp)) imp = shim_find(plain->isa, shim_sel(asked));
+    else if (!imp) keep_unresolved(class_->record, plain->isa, asked);
     return __builtin_expect(imp != NULL, 0) &&
            ((BOOL (*)(id, SEL, SEL))(void (*)(void))imp)((id)plain, asked, sel);
 }
@@ -101,12 +108,10 @@ bool shim_resolve(Class class_, SEL sel)
 }
 
 /* Where it is noted that nothing is found, or was found to be so: NULL is forwarding. */
-static inline IMP resolved(Class class_, SEL sel)
+static __attribute__((noinline)) IMP find_resolved(Class class_, SEL sel)
 {
     return resolve(class_, sel) ? shim_look(class_, sel) : NULL;
 }
-
-static __attribute__((noinline)) IMP find_resolved(Class of, SEL sel) { return resolved(of, sel); }
 
 /* Where nothing is noted, as before a class's first message. */
 static __attribute__((noinline, cold)) IMP find_first(Class class_, SEL sel)
@@ -119,7 +124,7 @@ static __attribute__((noinline, cold)) IMP find_first(Class class_, SEL sel)
 }
 
 /* Of a class that may be NULL, as above a root. */
-static __attribute__((noinline)) IMP find_from(id receiver, Class class_, SEL sel)
+static __attribute__((noinline)) IMP find_from(id receiver, SEL sel, Class class_)
 {
     IMP imp;
     if (!class_) shim_stop("a root class has no super to be sent", sel_getName(sel));
@@ -128,29 +133,21 @@ static __attribute__((noinline)) IMP find_from(id receiver, Class class_, SEL se
     return imp ? imp : shim_forward(receiver, sel);
 }
 
-static __attribute__((noinline)) IMP find_slowly(id receiver, SEL sel)
-{
-    uint32_t number;
-    Class class_ = shim_class_of(receiver);
-    uint32_t said = shim_note(class_, sel, &number);
-    if (said == METHOD) return shim_function(number); /* a long number */
-    if (__builtin_expect(said != NO_METHOD, 0)) return find_from(receiver, class_, sel);
-    IMP imp = has_no_resolver(class_) ? NULL : resolved(class_, sel);
-    return imp ? imp : shim_forward(receiver, sel);
-}
-
 /* At the begin of a line of the cache, as it is wherever the linker puts it. */
 __attribute__((aligned(LINE))) IMP objc_msg_lookup(id receiver, SEL sel)
 {
     if (__builtin_expect(!receiver, 0)) return nil_method;
-    uint64_t said = shim_said_at(shim_begun(), shim_class_of(receiver), sel);
-    return __builtin_expect(said < MSG_SAID_LONG, 1) ? shim_function((uint32_t)said) : find_slowly(receiver, sel);
+    Class class_ = shim_class_of(receiver);
+    uint64_t said = shim_said_at(class_, sel);
+    if (__builtin_expect(said < MSG_SAID_LONG, 1)) return shim_function((uint32_t)said);
+    bool is_none = said == MSG_SAID_NONE && has_no_resolver(class_->record);
+    return is_none ? shim_forward(receiver, sel) : find_from(receiver, sel, class_);
 }
 
 static inline IMP find(id receiver, Class class_, SEL sel)
 {
     IMP imp;
-    return class_ && noted(class_, sel, &imp) && imp ? imp : find_from(receiver, class_, sel);
+    return class_ && noted(class_, sel, &imp) && imp ? imp : find_from(receiver, sel, class_);
 }
 
 IMP objc_msg_lookup_super(struct objc_super *super_, SEL sel)
@@ -168,11 +165,10 @@ IMP get_imp(Class class_, SEL sel) { return class_getMethodImplementation(class_
 
 BOOL class_respondsToSelector(Class class_, SEL sel)
 {
-    uint32_t number;
     if (!class_ || !sel) return false;
-    uint32_t said = shim_note(class_, sel, &number);
-    if (said <= NO_METHOD)
-        return said == METHOD || (!has_no_resolver(class_) && find_resolved(class_, sel));
+    uint64_t said = shim_said_at(class_, sel);
+    if (said <= MSG_SAID_LONG) return true;
+    if (said == MSG_SAID_NONE && has_no_resolver(class_->record)) return false;
     return class_->record && !shim_in_construction(class_) && find_first(class_, sel);
 }
 

@@ -47,8 +47,9 @@ struct record {
     uint32_t number, room;
     _Atomic(uint32_t) count;
     _Atomic(struct rows *) rows;
-    /* The last count of changes after which a note said that it has no resolver; 0 is none's. */
-    uint64_t unresolved;
+    /* After how many changes a note said that it has no resolver, and where the stamp lies of the
+     * metaclass that was asked. Of none 0, and 0: the count of changes, which is above that. */
+    uint64_t unresolved, resolver_stamp;
     atomic_int initialized;
 };
 
@@ -100,12 +101,10 @@ static inline pthread_mutex_t *shim_hold(pthread_mutex_t *lock)
 static inline void shim_unlock(pthread_mutex_t **lock) { if (*lock) pthread_mutex_unlock(*lock); }
 #define AT_END(give) __attribute__((cleanup(give), unused))
 #define HOLDING(lock) pthread_mutex_t *held AT_END(shim_unlock) = shim_hold(lock)
-/* The runtime's, in the same way, to ask the tables; or to ask and change them, when no send goes
- * by what was noted before. */
-void shim_take(bool to_change);
+/* The runtime's, in the same way, to ask and to change the tables. */
+void shim_take(void);
 static inline void shim_give(char *unused) { msg_process_unlock(); }
-#define LOCKED shim_take(false); char locked AT_END(shim_give)
-#define CHANGING shim_take(true); char locked AT_END(shim_give)
+#define LOCKED shim_take(); char locked AT_END(shim_give)
 
 /* What threads share without a lock: with what was written before it was stored. */
 #define LOAD(place) __atomic_load_n(&(place), __ATOMIC_ACQUIRE)

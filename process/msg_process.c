@@ -8,12 +8,10 @@
  *
  *  1. Calls that take the runtime are made between `take` and `give`. Nothing of the caller's is
  *     called there.
- *  2. Changes. `begun` is a number that no note has from before a change until it is the count of
- *     changes again, refused or not. So what a thread recalls is from after each change that it can
- *     know of. It is stored relaxed before the change, whose own stores are sequentially consistent
- *     and carry it: who has seen one of them sees the new `begun`. The count is stored by a release
- *     after the change, and loaded by an acquire: who goes by it, or asks its sender then, has all
- *     that the change stored, and what the host wrote before.
+ *  2. A note is gone by where its count isn't below the stamp of its class, as the library's own
+ *     recall does: by one sequentially consistent load, in the words that msg_words tells of. They
+ *     stay, since the runtime is never closed; and they are stored before `started`, so who has a
+ *     sender, and so notes, has them.
  *  3. A sender is in one call at a time. Its thread takes it from `msg_process_own` by one
  *     exchange, so a handler in the middle of a call finds nobody's there, recalls nothing that is
  *     half written, and asks under the lock. `turns` goes up before, so a find that a handler
@@ -43,14 +41,13 @@
 #include <sys/mman.h>
 #include <time.h>
 
-#define BEGUN UINT64_MAX /* no sender notes anything after so many changes */
 #define PARTS_OF(key) MSG_SLOT_OF(key) / 2, MSG_SLOT_OF(key) % 2, MSG_SEL_OF(key)
 enum { SPARES = 2, PATIENCE = 64 };
 enum { SLICE = 1000000, SLICES = 1000 }; /* of a wait for a while: nanoseconds, and how many */
 
 struct seat { _Alignas(64) msg_sender sender; struct seat *next; atomic_bool asks; };
 
-_Alignas(64) struct msg_process_count msg_process_changes = {.begun = BEGUN};
+_Alignas(64) struct msg_process_words msg_process_words = {.at = &msg_process_words.none};
 static _Alignas(64) msg_sender nobody; /* closed, without notes */
 __thread struct msg_process_thread msg_process_own = {.sender = &nobody};
 
@@ -91,7 +88,7 @@ static inline int lock_by(unsigned waits)
          : waits == MSG_WAITS_A_WHILE ? lock_for_a_while() : pthread_mutex_trylock(&lock);
 }
 
-static inline uint32_t take(bool to_change, unsigned waits)
+static inline uint32_t take(unsigned waits)
 {
     if (holds) return MSG_LOCK_HELD;
     holds = true;
@@ -99,15 +96,11 @@ static inline uint32_t take(bool to_change, unsigned waits)
         holds = false;
         return MSG_LOCK_HELD;
     }
-    if (to_change) __atomic_store_n(&msg_process_changes.begun, BEGUN, __ATOMIC_RELAXED);
     return MSG_DONE;
 }
 
 static void give(void)
 {
-    uint64_t count;
-    if (!msg_change_count(&runtime, &count) && count != msg_process_changes.begun)
-        __atomic_store_n(&msg_process_changes.begun, count, __ATOMIC_RELEASE);
     pthread_mutex_unlock(&lock);
     holds = false;
 }
@@ -196,7 +189,7 @@ static void at_thread_end(void *unused)
     (void)unused;
     tried = true;
     hide();
-    take(false, MSG_WAITS); /* or the thread ends with the lock, which is given below */
+    take(MSG_WAITS); /* or the thread ends with the lock, which is given below */
     stand_up();
     give();
 }
@@ -206,7 +199,7 @@ static bool stock(void)
 {
     struct seat *seat = new_seat();
     if (!seat) return false;
-    take(false, MSG_WAITS);
+    take(MSG_WAITS);
     bool opens = !msg_sender_open(&runtime, &seat->sender);
     if (opens) push_spare(seat);
     give();
@@ -231,7 +224,7 @@ static struct seat *sit_down(unsigned waits)
     if (is_short && waits != MSG_WAITS && ++stood < PATIENCE) return NULL;
     if (__atomic_exchange_n(&tried, true, __ATOMIC_SEQ_CST)) return NULL;
     if (is_short && !stock()) return NULL;
-    if (take(false, waits)) {
+    if (take(waits)) {
         tried = false;
         return NULL;
     }
@@ -247,21 +240,21 @@ static struct seat *sit_down(unsigned waits)
 
 static uint32_t probe(struct seat *seat, uint64_t key, uint32_t *imp)
 {
-    uint64_t seen;
     uint32_t answer = MSG_MISSED;
     atomic_store(&seat->asks, true);
-    if (!atomic_load(&forks)) {
-        msg_refresh(&seat->sender, &seen);
-        answer = msg_probe(&seat->sender, PARTS_OF(key), imp);
-    }
+    if (!atomic_load(&forks)) answer = msg_probe(&seat->sender, PARTS_OF(key), imp);
     atomic_store_explicit(&seat->asks, false, memory_order_release);
     return answer;
 }
 
 static inline uint32_t fill(struct seat *seat, uint64_t key, uint32_t *imp)
 {
-    return seat ? msg_fill(&runtime, &seat->sender, PARTS_OF(key), imp)
-                : msg_lookup(&runtime, PARTS_OF(key), imp);
+    if (!seat) return msg_lookup(&runtime, PARTS_OF(key), imp);
+    uint32_t fault = msg_fill(&runtime, &seat->sender, PARTS_OF(key), imp);
+    if (!fault)
+        MSG_TEST_STAMP(&seat->sender, msg_process_words.at, key,
+                       msg_process_stamp(MSG_NOTE_OF(&seat->sender, key)));
+    return fault;
 }
 
 uint32_t msg_process_find_slowly(uint64_t key, unsigned waits, uint32_t *imp)
@@ -270,7 +263,7 @@ uint32_t msg_process_find_slowly(uint64_t key, unsigned waits, uint32_t *imp)
     struct seat *seat = hide();
     if (!seat && waits) seat = sit_down(waits);
     uint32_t answer = seat ? probe(seat, key, imp) : (uint32_t)MSG_MISSED;
-    if (answer == MSG_MISSED && !(answer = take(false, waits))) {
+    if (answer == MSG_MISSED && !(answer = take(waits))) {
         answer = fill(seat, key, imp);
         give();
     }
@@ -288,16 +281,14 @@ void msg_process_cache(uint64_t key)
 
 /* ---- the lock, for the host ---- */
 
-static uint32_t take_started(bool to_change, msg_runtime **taken)
+uint32_t msg_process_lock(msg_runtime **taken)
 {
     bool is_open = atomic_load_explicit(&started, memory_order_acquire);
-    uint32_t fault = is_open ? take(to_change, MSG_WAITS) : (uint32_t)MSG_CLOSED;
+    uint32_t fault = is_open ? take(MSG_WAITS) : (uint32_t)MSG_CLOSED;
     if (!fault) *taken = &runtime;
     return fault;
 }
 
-uint32_t msg_process_lock(msg_runtime **taken) { return take_started(false, taken); }
-uint32_t msg_process_lock_to_change(msg_runtime **taken) { return take_started(true, taken); }
 void msg_process_unlock(void) { if (holds) give(); }
 
 /* ---- forks ---- */
@@ -307,13 +298,13 @@ static void before_fork(void)
     kept = holds;
     atomic_fetch_add(&forks, 1);
     if (kept) return; /* without waiting, which the lock would have to be given for */
-    take(false, MSG_WAITS);
+    take(MSG_WAITS);
     for (struct seat *seat = seats; seat;) {
         bool asks = seat != own && atomic_load(&seat->asks);
         if (asks) {
             give();
             sched_yield();
-            take(false, MSG_WAITS);
+            take(MSG_WAITS);
         }
         seat = asks ? seats : seat->next; /* after a wait it may be gone */
     }
@@ -344,12 +335,17 @@ static void in_child(void)
 uint32_t msg_process_start(const msg_config *config)
 {
     static bool has_key, has_forks; /* also of a start that was refused */
-    uint32_t fault = take(false, MSG_WAITS);
+    uint32_t fault = take(MSG_WAITS);
     if (fault) return fault;
     has_key = has_key || !pthread_key_create(&key, at_thread_end);
     has_forks = has_forks || !pthread_atfork(before_fork, in_parent, in_child);
     fault = has_key && has_forks ? msg_open(&runtime, config) : (uint32_t)MSG_NO_MEMORY;
-    if (!fault) atomic_store_explicit(&started, true, memory_order_release);
+    if (!fault) {
+        const uint64_t *words;
+        msg_words(&runtime, &words); /* which is open */
+        __atomic_store_n(&msg_process_words.at, words, __ATOMIC_RELAXED);
+        atomic_store_explicit(&started, true, memory_order_release);
+    }
     give();
     return fault;
 }

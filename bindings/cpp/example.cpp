@@ -2,6 +2,7 @@
 //
 //     c++ -std=c++17 example.cpp $(pkg-config --cflags --libs yeldrost) -o example && ./example
 #include <msg_runtime.hpp>
+#include <atomic>
 #include <cstdio>
 #include <thread>
 

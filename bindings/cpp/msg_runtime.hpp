@@ -4,7 +4,6 @@
 #define MSG_RUNTIME_HPP
 
 #include "msg_runtime.h"
-#include <atomic>
 #include <cstddef>
 #include <cstdint>
 #include <initializer_list>
@@ -90,7 +89,7 @@ namespace inner {
 struct shared {
     msg_runtime handle = MSG_RUNTIME_INIT;
     std::mutex lock;
-    std::atomic<std::uint64_t> begun{0}; // how many changes were made or begun
+    const std::uint64_t *words = nullptr; // the shared ones
 };
 } // namespace inner
 
@@ -129,38 +128,34 @@ public:
 
     void make_root_class(std::uint32_t number)
     {
-        change([&] { return msg_make_root_class(&at->handle, number); });
+        must(msg_make_root_class(&at->handle, number));
     }
     void make_class(std::uint32_t number, std::uint32_t superclass)
     {
-        change([&] { return msg_make_class(&at->handle, number, superclass); });
+        must(msg_make_class(&at->handle, number, superclass));
     }
     void add(class_ref to, std::uint32_t selector, std::uint32_t imp)
     {
-        change([&] { return msg_add(&at->handle, to.number, to.meta, selector, imp); });
+        must(msg_add(&at->handle, to.number, to.meta, selector, imp));
     }
     void replace(class_ref in, std::uint32_t selector, std::uint32_t imp)
     {
-        change([&] { return msg_replace(&at->handle, in.number, in.meta, selector, imp); });
+        must(msg_replace(&at->handle, in.number, in.meta, selector, imp));
     }
     void set_imp(class_ref of, std::uint32_t selector, std::uint32_t imp)
     {
-        change([&] { return msg_set_imp(&at->handle, of.number, of.meta, selector, imp); });
+        must(msg_set_imp(&at->handle, of.number, of.meta, selector, imp));
     }
     void exchange(class_ref of, std::uint32_t selector, class_ref other, std::uint32_t other_selector)
     {
-        change([&] {
-            return msg_exchange(&at->handle, of.number, of.meta, selector, other.number, other.meta, other_selector);
-        });
+        must(msg_exchange(&at->handle, of.number, of.meta, selector, other.number, other.meta, other_selector));
     }
     // Lists of msg_method that lie in one piece: an array, a std::vector, an initializer list.
     template <class Methods, class ClassMethods>
     void attach(std::uint32_t number, const Methods &methods, const ClassMethods &class_methods)
     {
-        change([&] {
-            return msg_attach(&at->handle, number, pointer<msg_method>(methods), std::size(methods),
-                              pointer<msg_method>(class_methods), std::size(class_methods));
-        });
+        must(msg_attach(&at->handle, number, pointer<msg_method>(methods), std::size(methods),
+                        pointer<msg_method>(class_methods), std::size(class_methods)));
     }
     template <class Methods> void attach(std::uint32_t number, const Methods &methods)
     {
@@ -177,11 +172,8 @@ public:
     template <class Changes> void change_all(const Changes &changes)
     {
         std::size_t place = 0;
-        auto made = [&] {
-            return msg_change_all(&at->handle, pointer<msg_change>(changes), std::size(changes), &place);
-        };
-        std::uint32_t answer = std::size(changes) ? answer_of(made) : made(); // an empty list is no change
-        listed(answer, place);
+        auto answer = msg_change_all(&at->handle, pointer<msg_change>(changes), std::size(changes), &place);
+        listed(answer, place); // which is written by now
     }
     void change_all(std::initializer_list<msg_change> changes)
     {
@@ -193,11 +185,8 @@ public:
     {
         std::vector<msg_change> undo(2 * std::size(changes) + 1);
         std::size_t place = 0, undone = 0;
-        auto made = [&] {
-            return msg_change_all_with_undo(&at->handle, pointer<msg_change>(changes), std::size(changes), undo.data(),
-                                            undo.size(), &undone, &place);
-        };
-        std::uint32_t answer = std::size(changes) ? answer_of(made) : made();
+        std::uint32_t answer = msg_change_all_with_undo(&at->handle, pointer<msg_change>(changes), std::size(changes),
+                                                        undo.data(), undo.size(), &undone, &place);
         listed(answer, place);
         undo.resize(undone);
         return undo;
@@ -259,16 +248,6 @@ private:
         static const Row none{};
         return std::size(rows) ? std::data(rows) : &none;
     }
-    template <class Change> void change(Change made) { must(answer_of(made)); }
-    // No sender goes by a note from before, once the change has begun.
-    template <class Change> std::uint32_t answer_of(Change made)
-    {
-        std::uint64_t before = at->begun.load(std::memory_order_relaxed);
-        at->begun.store(before + 1, std::memory_order_release);
-        std::uint32_t answer = made();
-        if (answer != MSG_DONE) at->begun.store(before, std::memory_order_release);
-        return answer;
-    }
 
     std::shared_ptr<inner::shared> at;
     std::unique_lock<std::mutex> held;
@@ -280,6 +259,7 @@ public:
     explicit runtime(const msg_config &config = {}) : at(std::make_shared<inner::shared>())
     {
         must(msg_open(&at->handle, &config));
+        must(msg_words(&at->handle, &at->words));
     }
     ~runtime() { close(); }
     runtime(runtime &&) noexcept = default;
@@ -332,15 +312,12 @@ public:
     // The implementation by all changes that returned before; 0 is forwarding.
     std::uint32_t find(class_ref of, std::uint32_t selector)
     {
-        std::uint64_t begun = shared().begun.load(std::memory_order_acquire);
-        std::uint32_t noted = msg_recall_inline(own.get(), static_cast<std::uint32_t>(of.slot()), selector, begun);
-        if (noted && of.has_slot()) return noted;
-        refresh();
-        return find_seen(of, selector);
+        std::uint32_t slot = static_cast<std::uint32_t>(of.slot());
+        std::uint32_t noted = is_open() ? msg_recall_inline(own.get(), at->words, slot, selector) : 0;
+        return noted && of.has_slot() ? noted : find_called(of, selector);
     }
-    // The same, at what the sender has then seen: no older than what it found before, and maybe no newer. This is
-    // msg_find: a probe, and after a miss a fill under the lock.
-    std::uint32_t find_seen(class_ref of, std::uint32_t selector)
+    // The same by calls, as msg_find: a probe, and after a miss a fill under the lock.
+    std::uint32_t find_called(class_ref of, std::uint32_t selector)
     {
         std::uint32_t imp = 0;
         shared();
@@ -363,19 +340,19 @@ public:
         return imp;
     }
     // What is noted after so many changes or more; 0 where nothing is, or forwarding.
-    std::uint32_t recall(class_ref of, std::uint32_t selector, std::uint64_t count) const
+    std::uint32_t recall(class_ref of, std::uint32_t selector, std::uint64_t since) const
     {
-        return own ? static_cast<std::uint32_t>(msg_recall(own.get(), of.slot(), selector, count)) : 0;
+        return own ? static_cast<std::uint32_t>(msg_recall(own.get(), of.slot(), selector, since)) : 0;
     }
-    // The same by a key of key_of, without a call.
-    std::uint32_t recall_key(std::uint64_t key, std::uint64_t count) const
+    // What is noted since the stamp of a key_of's class, without a call.
+    std::uint32_t recall_key(std::uint64_t key) const
     {
-        return own ? msg_recall_key(own.get(), key, count) : 0;
+        return is_open() ? msg_recall_key(own.get(), at->words, key) : 0;
     }
-    // Whether it is noted that no method is found.
-    bool recalls_none(class_ref of, std::uint32_t selector, std::uint64_t count) const
+    // Whether it is noted since then that no method is found.
+    bool recalls_none(class_ref of, std::uint32_t selector) const
     {
-        return own && of.has_slot() && msg_recall_none_key(own.get(), key_of(of, selector), count);
+        return is_open() && of.has_slot() && msg_recall_none_key(own.get(), at->words, key_of(of, selector));
     }
     static std::uint64_t key_of(class_ref of, std::uint32_t selector)
     {
@@ -406,6 +383,7 @@ public:
 
 private:
     friend class locked;
+    bool is_open() const { return own && own->open; } // and then the words are there
     inner::shared &shared() const
     {
         if (!own) throw fault(MSG_CLOSED); // moved from

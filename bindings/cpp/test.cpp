@@ -1,5 +1,6 @@
 // Each call of the header through msg_runtime.hpp, each kind of fault, moves, and threads beside changes.
 #include <msg_runtime.hpp>
+#include <atomic>
 #include <cstdio>
 #include <cstdlib>
 #include <thread>
@@ -152,13 +153,15 @@ static void senders()
     CHECK(!sender.probe(root, VALUE) && sender.recall(child, VALUE, 4) == 0);
     CHECK(runtime.lock().fill(sender, child, VALUE) == 1);
     CHECK(sender.probe(child, VALUE) == 1u && sender.recall(child, VALUE, 4) == 1);
-    CHECK(sender.recall_key(msg::sender::key_of(child, VALUE), 4) == 1);
+    CHECK(sender.recall_key(msg::sender::key_of(child, VALUE)) == 1);
     CHECK(sender.find(child, VALUE) == 1 && sender.find(child_itself, NEW) == 4 && sender.find(child, TAKE) == 0);
     runtime.lock().replace(child, VALUE, 5);
-    CHECK(sender.find_seen(child, VALUE) == 5);
-    CHECK(sender.find(child, VALUE) == 5 && sender.find_seen(child, VALUE) == 5);
+    CHECK(sender.recall_key(msg::sender::key_of(child, VALUE)) == 0);
+    CHECK(sender.find(child, VALUE) == 5 && sender.find_called(child, VALUE) == 5);
+    CHECK(sender.recall_key(msg::sender::key_of(child_itself, NEW)) == 4 && sender.recalls_none(child, TAKE) == false);
+    CHECK(sender.find(child, TAKE) == 0 && sender.recalls_none(child, TAKE));
     runtime.lock().replace(child, VALUE, 6);
-    CHECK(sender.refresh() == 6 && sender.find_seen(child, VALUE) == 6);
+    CHECK(sender.refresh() == 6 && sender.find_called(child, VALUE) == 6);
     runtime.lock().meet(sender);
     FAULT(MSG_NO_CLASS, sender.find(msg::instances_of(16384), VALUE));
     FAULT(MSG_NO_CLASS, sender.find(msg::instances_of(UINT32_C(1) << 31 | CHILD), VALUE));

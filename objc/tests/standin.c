@@ -18,9 +18,15 @@ struct cell { uint64_t key; uint32_t imp; };
  * mixed with it, so that who reads both words without a lock sees whether they are of one entry. */
 struct entry { _Atomic(uint64_t) mixed, found; };
 
-/* `root`: the number of the root above it, and `changed`, of a root: the version of the last
- * change below it. What is cached of an earlier version is no longer found. */
-struct class { bool made; int64_t above; _Atomic(uint32_t) root; _Atomic(uint64_t) changed; };
+/* Its superclass, the last that was made below it, and the one before that below the same; or a
+ * number below 0. */
+struct class { bool made; int64_t above, below, beside; };
+
+/* Shared words: the version, and a stamp for each slot: no change after that version has affected
+ * it. It is closed by a change, and opened by the next fill. What was noted or cached of an earlier
+ * version is no longer found. */
+enum { VERSION, STAMPS = 8 };
+#define CLOSED UINT64_MAX
 
 struct tables {
     struct class *of;
@@ -29,7 +35,7 @@ struct tables {
     uint32_t classes, senders, out;
     uint64_t fills, refused;
     struct asker *askers; /* all that are out: a handle may lie where no sanitizer looks */
-    _Atomic(uint64_t) version;
+    _Atomic(uint64_t) *words;
     struct entry cache[PLACES];
 };
 
@@ -45,13 +51,24 @@ static void *zeros(size_t count, size_t size)
     return memory;
 }
 
+static uint64_t version(const struct tables *tables)
+{
+    return atomic_load(&tables->words[VERSION]);
+}
+
+static uint64_t stamp(const struct tables *tables, uint32_t slot)
+{
+    return atomic_load(&tables->words[STAMPS + slot]);
+}
+
 static uint64_t mix(uint64_t word) { return (word ^ word >> 29) * 0x9e3779b97f4a7c15; }
 
 /* Where the method of a key stands, or would. */
 static struct cell *cell(const struct tables *tables, uint64_t key)
 {
     size_t at = mix(key) >> 20 & (tables->cell_room - 1);
-    while (tables->cells[at].key && tables->cells[at].key != key) at = (at + 1) & (tables->cell_room - 1);
+    while (tables->cells[at].key && tables->cells[at].key != key)
+        at = (at + 1) & (tables->cell_room - 1);
     return &tables->cells[at];
 }
 
@@ -72,7 +89,8 @@ static void put(struct tables *tables, uint64_t key, uint32_t imp)
 
 static bool is_config(const uint32_t *config, size_t words)
 {
-    static const uint32_t most[] = {CLASSES, SENDERS, ARRAYS, ARRAYS, ARRAYS, ARRAYS, ARRAYS, ARRAYS, ARRAYS, ARRAYS, ARRAYS};
+    static const uint32_t most[] = {CLASSES, SENDERS, ARRAYS, ARRAYS, ARRAYS, ARRAYS,
+                                    ARRAYS,  ARRAYS,  ARRAYS, ARRAYS, ARRAYS};
     for (size_t i = 0; i < words; i++)
         if (config[i] > (i < sizeof most / sizeof *most ? most[i] : 0)) return false;
     return true;
@@ -86,6 +104,7 @@ uint32_t msg_open_words(msg_runtime *runtime, const uint32_t *config, size_t wor
     tables->classes = words > 0 && config[0] ? config[0] : 16384;
     tables->senders = words > 1 && config[1] ? config[1] : 1024;
     tables->of = zeros(tables->classes, sizeof *tables->of);
+    tables->words = zeros(STAMPS + 2 * tables->classes, sizeof *tables->words);
     tables->cell_room = 1024;
     tables->cells = zeros(tables->cell_room, sizeof *tables->cells);
     *runtime = (msg_runtime){tables, true};
@@ -95,7 +114,14 @@ uint32_t msg_open_words(msg_runtime *runtime, const uint32_t *config, size_t wor
 uint32_t msg_change_count(msg_runtime *runtime, uint64_t *count)
 {
     if (!runtime->open) return MSG_CLOSED;
-    *count = ((struct tables *)runtime->at)->version;
+    *count = version(runtime->at);
+    return MSG_DONE;
+}
+
+uint32_t msg_words(msg_runtime *runtime, const uint64_t **words)
+{
+    if (!runtime->open) return MSG_CLOSED;
+    *words = (const uint64_t *)(const void *)((struct tables *)runtime->at)->words;
     return MSG_DONE;
 }
 
@@ -138,10 +164,27 @@ uint32_t msg_holder(msg_runtime *runtime, uint32_t number, bool meta, uint32_t s
     return MSG_DONE;
 }
 
-/* What is cached for the class is gone before the change is told. */
-static void flush(struct tables *tables, uint32_t number)
+static void close_stamp(struct tables *tables, uint32_t slot)
 {
-    atomic_store(&tables->of[tables->of[number].root].changed, tables->version + 1);
+    atomic_store(&tables->words[STAMPS + slot], CLOSED);
+}
+
+/* The class, or its metaclass, and those below: their stamps are closed before the change is told.
+ * A root's metaclass stands below the root. */
+static void flush(struct tables *tables, uint32_t number, bool meta)
+{
+    int64_t at = (int64_t)number;
+    bool both = !meta && tables->of[number].above < 0;
+    while (at >= 0) {
+        if (both || !meta) close_stamp(tables, 2 * (uint32_t)at);
+        if (both || meta) close_stamp(tables, 2 * (uint32_t)at + 1);
+        int64_t next = tables->of[at].below;
+        while (next < 0 && at >= 0 && at != (int64_t)number) {
+            next = tables->of[at].beside;
+            at = tables->of[at].above;
+        }
+        at = next;
+    }
 }
 
 /* ---- changes: each is a list of parts ---- */
@@ -151,7 +194,10 @@ static void flush(struct tables *tables, uint32_t number)
 struct was { uint64_t key; uint32_t imp; };
 struct log { struct was *rows; size_t count; };
 
-static bool is_made(const struct tables *tables, uint32_t number) { return number < tables->classes && tables->of[number].made; }
+static bool is_made(const struct tables *tables, uint32_t number)
+{
+    return number < tables->classes && tables->of[number].made;
+}
 
 static uint32_t set(struct tables *tables, struct log *log, uint64_t key, uint32_t imp)
 {
@@ -168,9 +214,11 @@ static uint32_t write(struct tables *tables, struct log *log, const msg_change *
     if (!it->imp) return MSG_NO_SUCH_IMP;
     if (it->kind == MSG_ADDS && cell(tables, key)->imp) return MSG_METHOD_PRESENT;
     bool meta = it->meta;
-    int64_t at = it->kind == MSG_SETS_IMP ? holder(tables, it->number, &meta, it->sel) : (int64_t)it->number;
+    bool sets = it->kind == MSG_SETS_IMP;
+    int64_t at = sets ? holder(tables, it->number, &meta, it->sel) : (int64_t)it->number;
     if (at < 0) return MSG_NO_METHOD;
-    return full ? (uint32_t)MSG_LIMIT : set(tables, log, msg_key(2 * (uint32_t)at + meta, it->sel), it->imp);
+    if (full) return MSG_LIMIT;
+    return set(tables, log, msg_key(2 * (uint32_t)at + meta, it->sel), it->imp);
 }
 
 static uint32_t exchange(struct tables *tables, struct log *log, const msg_change *it, bool full)
@@ -178,10 +226,12 @@ static uint32_t exchange(struct tables *tables, struct log *log, const msg_chang
     bool meta = it->meta, other_meta = it->other_meta;
     if (!is_made(tables, it->number) || !is_made(tables, it->other)) return MSG_NO_SUCH_CLASS;
     if (!it->sel || !it->other_sel) return MSG_NO_SELECTOR;
-    int64_t at = holder(tables, it->number, &meta, it->sel), other = holder(tables, it->other, &other_meta, it->other_sel);
+    int64_t at = holder(tables, it->number, &meta, it->sel);
+    int64_t other = holder(tables, it->other, &other_meta, it->other_sel);
     if (at < 0 || other < 0) return MSG_NO_METHOD;
     if (full) return MSG_LIMIT;
-    uint64_t key = msg_key(2 * (uint32_t)at + meta, it->sel), other_key = msg_key(2 * (uint32_t)other + other_meta, it->other_sel);
+    uint64_t key = msg_key(2 * (uint32_t)at + meta, it->sel);
+    uint64_t other_key = msg_key(2 * (uint32_t)other + other_meta, it->other_sel);
     uint32_t imp = cell(tables, key)->imp;
     set(tables, log, key, cell(tables, other_key)->imp);
     return set(tables, log, other_key, imp);
@@ -190,13 +240,16 @@ static uint32_t exchange(struct tables *tables, struct log *log, const msg_chang
 static uint32_t make(struct tables *tables, struct log *log, const msg_change *it, bool full)
 {
     bool is_root = it->kind == MSG_MAKES_ROOT_CLASS;
-    if (it->number >= tables->classes || (!is_root && !is_made(tables, it->other))) return MSG_NO_SUCH_CLASS;
+    bool is_below = is_root || is_made(tables, it->other);
+    if (it->number >= tables->classes || !is_below) return MSG_NO_SUCH_CLASS;
     if (full) return MSG_LIMIT;
     struct class *made = &tables->of[it->number];
     if (made->made) return MSG_DUPLICATE_CLASS;
-    made->made = true;
-    made->above = is_root ? -1 : (int64_t)it->other;
-    made->root = is_root ? it->number : (uint32_t)tables->of[it->other].root;
+    *made = (struct class){true, is_root ? -1 : (int64_t)it->other, -1, -1};
+    if (!is_root) {
+        made->beside = tables->of[it->other].below;
+        tables->of[it->other].below = it->number;
+    }
     log->rows[log->count++] = (struct was){0, it->number};
     return MSG_DONE;
 }
@@ -204,8 +257,11 @@ static uint32_t make(struct tables *tables, struct log *log, const msg_change *i
 static uint32_t meaning(const msg_change *it)
 {
     switch (it->kind) {
-    case MSG_ADDS: case MSG_REPLACES: case MSG_SETS_IMP: return it->meta > 1 ? MSG_BAD_CHANGE : it->sel ? MSG_DONE : MSG_NO_SELECTOR;
-    case MSG_EXCHANGES: return it->meta > 1 || it->other_meta > 1 ? MSG_BAD_CHANGE : it->sel && it->other_sel ? MSG_DONE : MSG_NO_SELECTOR;
+    case MSG_ADDS: case MSG_REPLACES: case MSG_SETS_IMP:
+        return it->meta > 1 ? MSG_BAD_CHANGE : it->sel ? MSG_DONE : MSG_NO_SELECTOR;
+    case MSG_EXCHANGES:
+        if (it->meta > 1 || it->other_meta > 1) return MSG_BAD_CHANGE;
+        return it->sel && it->other_sel ? MSG_DONE : MSG_NO_SELECTOR;
     case MSG_MAKES_CLASS: case MSG_MAKES_ROOT_CLASS: return MSG_DONE;
     default: return MSG_BAD_CHANGE;
     }
@@ -224,8 +280,10 @@ static void take_back(struct tables *tables, const struct log *log)
 {
     for (size_t i = log->count; i--;) {
         struct was was = log->rows[i];
+        struct class *made = &tables->of[was.imp];
         if (was.key) put(tables, was.key, was.imp);
-        else tables->of[was.imp].made = false;
+        else made->made = false;
+        if (!was.key && made->above >= 0) tables->of[made->above].below = made->beside;
     }
 }
 
@@ -258,18 +316,21 @@ static void mark_below(const struct tables *tables, struct mark place, bool *rea
     }
 }
 
-static void commit(struct tables *tables, const msg_change *changes, size_t count)
+/* All that was written is affected, and what is below it; of a class that was made both sides. */
+static void commit(struct tables *tables, const struct log *log)
 {
-    for (size_t i = 0; i < count; i++) {
-        flush(tables, changes[i].number);
-        if (changes[i].kind == MSG_EXCHANGES) flush(tables, changes[i].other);
+    for (size_t i = 0; i < log->count; i++) {
+        uint32_t slot = log->rows[i].key ? MSG_SLOT_OF(log->rows[i].key) : 2 * log->rows[i].imp;
+        flush(tables, slot / 2, slot % 2);
+        if (!log->rows[i].key) flush(tables, slot / 2, true);
     }
-    atomic_fetch_add(&tables->version, 1);
+    atomic_fetch_add(&tables->words[VERSION], 1);
 }
 
 /* Makes the parts, as far as one that is refused, and marks before each what it reaches, where
  * that is asked. */
-static uint32_t change_each(struct tables *tables, struct log *log, const msg_change *changes, size_t count, bool *reached, size_t *place)
+static uint32_t change_each(struct tables *tables, struct log *log, const msg_change *changes,
+                            size_t count, bool *reached, size_t *place)
 {
     uint32_t fault = MSG_DONE;
     size_t at = 0;
@@ -278,16 +339,19 @@ static uint32_t change_each(struct tables *tables, struct log *log, const msg_ch
     while (at < count && !fault) {
         struct mark marks[2];
         size_t marked = reached ? places_of(tables, &changes[at], marks) : 0;
-        if ((fault = change(tables, log, &changes[at], tables->version + at >= CHANGES))) break;
+        if ((fault = change(tables, log, &changes[at], version(tables) + at >= CHANGES))) break;
         for (size_t i = 0; i < marked; i++) mark_below(tables, marks[i], reached);
-        if (reached && changes[at].kind >= MSG_MAKES_CLASS) reached[2 * changes[at].number] = reached[2 * changes[at].number + 1] = true;
+        uint32_t slot = 2 * changes[at].number;
+        if (reached && changes[at].kind >= MSG_MAKES_CLASS)
+            reached[slot] = reached[slot + 1] = true;
         at++;
     }
     if (fault) *place = at;
     return fault;
 }
 
-uint32_t msg_change_all_with_undo(msg_runtime *runtime, const msg_change *changes, size_t count, msg_change *undo, size_t room, size_t *undone, size_t *place)
+uint32_t msg_change_all_with_undo(msg_runtime *runtime, const msg_change *changes, size_t count,
+                                  msg_change *undo, size_t room, size_t *undone, size_t *place)
 {
     if (!runtime->open) return MSG_CLOSED;
     if (undone && room < 2 * count) return MSG_NO_ROOM;
@@ -295,7 +359,7 @@ uint32_t msg_change_all_with_undo(msg_runtime *runtime, const msg_change *change
     struct log log = {zeros(2 * count + 1, sizeof *log.rows), 0};
     uint32_t fault = change_each(tables, &log, changes, count, NULL, place);
     if (fault) take_back(tables, &log);
-    else if (count) commit(tables, changes, count);
+    else if (count) commit(tables, &log);
     if (undone && !fault) *undone = 0;
     for (size_t i = log.count; undone && !fault && i--;) {
         struct was was = log.rows[i];
@@ -305,18 +369,21 @@ uint32_t msg_change_all_with_undo(msg_runtime *runtime, const msg_change *change
             break;
         }
         *undone = log.count - i;
-        undo[log.count - i - 1] = (msg_change){MSG_REPLACES, slot / 2, slot % 2, MSG_SEL_OF(was.key), was.imp, 0, 0, 0};
+        undo[log.count - i - 1] =
+            (msg_change){MSG_REPLACES, slot / 2, slot % 2, MSG_SEL_OF(was.key), was.imp, 0, 0, 0};
     }
     free(log.rows);
     return fault;
 }
 
-uint32_t msg_change_all(msg_runtime *runtime, const msg_change *changes, size_t count, size_t *place)
+uint32_t msg_change_all(msg_runtime *runtime, const msg_change *changes, size_t count,
+                        size_t *place)
 {
     return msg_change_all_with_undo(runtime, changes, count, NULL, 0, NULL, place);
 }
 
-uint32_t msg_reach(msg_runtime *runtime, const msg_change *changes, size_t count, bool *reached, size_t room, size_t *place)
+uint32_t msg_reach(msg_runtime *runtime, const msg_change *changes, size_t count, bool *reached,
+                   size_t room, size_t *place)
 {
     if (!runtime->open) return MSG_CLOSED;
     struct tables *tables = runtime->at;
@@ -347,7 +414,8 @@ uint32_t msg_replace(msg_runtime *runtime, uint32_t number, bool meta, uint32_t 
 uint32_t msg_exchange(msg_runtime *runtime, uint32_t number, bool meta, uint32_t sel,
                       uint32_t other, bool other_meta, uint32_t other_sel)
 {
-    return change_one(runtime, (msg_change){MSG_EXCHANGES, number, meta, sel, 0, other, other_meta, other_sel});
+    msg_change it = {MSG_EXCHANGES, number, meta, sel, 0, other, other_meta, other_sel};
+    return change_one(runtime, it);
 }
 
 uint32_t msg_make_class(msg_runtime *runtime, uint32_t number, uint32_t superclass)
@@ -375,18 +443,21 @@ static void put_all(struct tables *tables, uint32_t slot, const msg_method *meth
     while (count--) put(tables, msg_key(slot, methods[count].sel), methods[count].imp);
 }
 
-uint32_t msg_attach(msg_runtime *runtime, uint32_t number, const msg_method *methods, size_t count, const msg_method *class_methods, size_t class_count)
+uint32_t msg_attach(msg_runtime *runtime, uint32_t number, const msg_method *methods, size_t count,
+                    const msg_method *class_methods, size_t class_count)
 {
     if (!runtime->open) return MSG_CLOSED;
     struct tables *tables = runtime->at;
-    uint32_t fault = is_made(tables, number) ? fault_in(methods, count) : (uint32_t)MSG_NO_SUCH_CLASS;
+    uint32_t fault = MSG_NO_SUCH_CLASS;
+    if (is_made(tables, number)) fault = fault_in(methods, count);
     if (!fault) fault = fault_in(class_methods, class_count);
-    if (!fault && tables->version == CHANGES) fault = MSG_LIMIT;
+    if (!fault && version(tables) == CHANGES) fault = MSG_LIMIT;
     if (fault) return fault;
     put_all(tables, 2 * number, methods, count);
     put_all(tables, 2 * number + 1, class_methods, class_count);
-    flush(tables, number);
-    atomic_fetch_add(&tables->version, 1);
+    if (count) flush(tables, number, false);
+    if (class_count) flush(tables, number, true);
+    atomic_fetch_add(&tables->words[VERSION], 1);
     return MSG_DONE;
 }
 
@@ -401,7 +472,7 @@ uint32_t msg_sender_open(msg_runtime *runtime, msg_sender *sender)
     }
     struct asker *asker = malloc(sizeof *asker);
     if (!asker) return MSG_NO_MEMORY;
-    *asker = (struct asker){tables, atomic_load(&tables->version), tables->askers};
+    *asker = (struct asker){tables, version(tables), tables->askers};
     tables->askers = asker;
     tables->out++;
     sender->at = asker;
@@ -439,7 +510,8 @@ static const msg_note *note_at(const msg_sender *sender, uint32_t slot, uint32_t
 
 static void note(msg_sender *sender, uint32_t slot, uint32_t sel, uint64_t count, uint32_t imp)
 {
-    *(msg_note *)note_at(sender, slot, sel) = (msg_note){msg_key(slot, sel) - mark_of(imp), count, imp, 0, 0};
+    uint64_t seal = msg_key(slot, sel) - mark_of(imp), at = (STAMPS + slot) * sizeof(uint64_t);
+    *(msg_note *)note_at(sender, slot, sel) = (msg_note){seal, count, imp, 0, at};
 }
 
 static bool is_noted(const msg_sender *sender, uint32_t slot, uint32_t sel, uint64_t count)
@@ -455,25 +527,34 @@ size_t msg_recall(const msg_sender *sender, size_t slot, uint32_t sel, uint64_t 
     return imp ? imp : MSG_NOTED_NONE;
 }
 
-static struct entry *place(struct tables *tables, uint64_t key) { return &tables->cache[mix(key) >> 40 & (PLACES - 1)]; }
+static struct entry *place(struct tables *tables, uint64_t key)
+{
+    return &tables->cache[mix(key) >> 40 & (PLACES - 1)];
+}
 
 /* One more than the version, since an empty place is of none. */
-static uint64_t found_at(uint32_t imp, uint64_t version) { return (uint64_t)imp << 32 | (uint32_t)(version + 1); }
+static uint64_t found_at(uint32_t imp, uint64_t version)
+{
+    return (uint64_t)imp << 32 | (uint32_t)(version + 1);
+}
 
-uint32_t msg_fill(msg_runtime *runtime, msg_sender *sender, uint32_t number, bool meta, uint32_t sel, uint32_t *imp)
+uint32_t msg_fill(msg_runtime *runtime, msg_sender *sender, uint32_t number, bool meta,
+                  uint32_t sel, uint32_t *imp)
 {
     if (!runtime->open || !sender->open) return MSG_CLOSED;
     struct asker *asker = sender->at;
     must(asker && runtime->at == asker->tables);
     uint32_t slot = 2 * number + meta, fault = msg_lookup(runtime, number, meta, sel, imp);
     if (fault) return fault;
-    asker->seen = atomic_load(&asker->tables->version);
+    struct tables *tables = asker->tables;
+    asker->seen = version(tables);
     note(sender, slot, sel, asker->seen, *imp);
     uint64_t key = msg_key(slot, sel), found = found_at(*imp, asker->seen);
-    struct entry *entry = place(asker->tables, key);
+    struct entry *entry = place(tables, key);
     atomic_store(&entry->found, found);
     atomic_store(&entry->mixed, key ^ mix(found));
-    asker->tables->fills++;
+    if (stamp(tables, slot) == CLOSED) atomic_store(&tables->words[STAMPS + slot], asker->seen);
+    tables->fills++;
     return MSG_DONE;
 }
 
@@ -490,20 +571,16 @@ uint32_t msg_report_words(msg_runtime *runtime, uint64_t *words, size_t count)
     return MSG_DONE;
 }
 
-/* Whether what was found at a version is still so: no change of the class's tree came after it. */
-static bool is_still(struct tables *tables, uint32_t number, uint64_t version)
-{
-    return atomic_load(&tables->of[tables->of[number].root].changed) <= version;
-}
-
-/* From the shared cache: of a version that the sender has seen, or sees by this. */
-static uint32_t probe(struct asker *asker, msg_sender *sender, uint32_t slot, uint32_t sel, uint32_t *imp)
+/* From the shared cache: of a version since which no change affected the slot. */
+static uint32_t probe(struct asker *asker, msg_sender *sender, uint32_t slot, uint32_t sel,
+                      uint32_t *imp)
 {
     uint64_t key = msg_key(slot, sel);
     struct entry *entry = place(asker->tables, key);
-    asker->seen = atomic_load(&asker->tables->version);
-    uint64_t mixed = atomic_load(&entry->mixed), found = atomic_load(&entry->found), since = (uint32_t)found - UINT64_C(1);
-    if (mixed != (key ^ mix(found)) || !is_still(asker->tables, slot / 2, since)) return MSG_MISSED;
+    asker->seen = version(asker->tables);
+    uint64_t mixed = atomic_load(&entry->mixed), found = atomic_load(&entry->found);
+    uint64_t since = (uint32_t)found - UINT64_C(1);
+    if (mixed != (key ^ mix(found)) || stamp(asker->tables, slot) > since) return MSG_MISSED;
     if (asker->seen < since) asker->seen = since;
     uint32_t is_imp = *imp = (uint32_t)(found >> 32);
     note(sender, slot, sel, asker->seen, is_imp);
@@ -517,7 +594,8 @@ uint32_t msg_probe(msg_sender *sender, uint32_t number, bool meta, uint32_t sel,
     must(asker); /* in one call at a time: the library takes it out meanwhile */
     sender->at = NULL;
     uint32_t slot = 2 * number + meta, answer = fault_of(asker->tables, number, sel);
-    if (!answer && is_noted(sender, slot, sel, asker->seen)) *imp = note_at(sender, slot, sel)->imp;
+    if (!answer && is_noted(sender, slot, sel, stamp(asker->tables, slot)))
+        *imp = note_at(sender, slot, sel)->imp;
     else if (!answer) answer = probe(asker, sender, slot, sel, imp);
     sender->at = asker;
     return answer;
@@ -528,6 +606,16 @@ uint32_t msg_refresh(msg_sender *sender, uint64_t *count)
     if (!sender->open) return MSG_CLOSED;
     struct asker *asker = sender->at;
     must(asker);
-    *count = asker->seen = atomic_load(&asker->tables->version);
+    *count = asker->seen = version(asker->tables);
     return MSG_DONE;
+}
+
+uint32_t msg_stamp(msg_sender *sender, uint32_t number, bool meta, uint64_t *told)
+{
+    if (!sender->open) return MSG_CLOSED;
+    struct asker *asker = sender->at;
+    must(asker);
+    uint32_t fault = fault_of(asker->tables, number, 1);
+    if (!fault) *told = stamp(asker->tables, 2 * number + meta);
+    return fault;
 }

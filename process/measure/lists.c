@@ -27,14 +27,16 @@ static void open_all(void)
     must(msg_open(&runtime, &(msg_config){.classes = CLASSES + 1, .senders = 1}));
     for (uint32_t number = 1; number <= CLASSES; number++) {
         must(msg_make_root_class(&runtime, number));
-        for (uint32_t sel = 1; sel <= METHODS; sel++) must(msg_add(&runtime, number, false, sel, sel));
+        for (uint32_t sel = 1; sel <= METHODS; sel++)
+            must(msg_add(&runtime, number, false, sel, sel));
     }
 }
 
 /* The methods that are replaced, in turn in each of the classes. */
 static void plan(size_t count, size_t classes)
 {
-    for (size_t i = 0; i < count; i++) parts[i] = (msg_change){.kind = MSG_REPLACES, .number = 1 + i % classes, .sel = 1 + i};
+    for (size_t i = 0; i < count; i++)
+        parts[i] = (msg_change){.kind = MSG_REPLACES, .number = 1 + i % classes, .sel = 1 + i};
 }
 
 static void one_by_one(size_t count, uint32_t imp)
@@ -92,19 +94,24 @@ static void measure(size_t count, size_t classes, size_t windows, size_t rounds)
         list[window] = timed(as_list, count, rounds);
         ratio[window] = list[window] / one[window];
     }
-    printf("%zu %zu %.0f %.0f %.3f\n", count, classes, median(one, windows), median(list, windows), median(ratio, windows));
+    printf("%zu %zu %.0f %.0f %.3f\n", count, classes, median(one, windows), median(list, windows),
+           median(ratio, windows));
     free(one);
 }
 
 int main(int count, char **words)
 {
-    static const size_t sizes[][2] = {{2, 1}, {2, 2}, {3, 1}, {3, 3}, {6, 3}, {19, 1}, {19, 3}, {19, 19}};
+    static const size_t sizes[][2] = {{2, 1}, {2, 2},  {3, 1},  {3, 3},
+                                      {6, 3}, {19, 1}, {19, 3}, {19, 19}};
     open_all();
     if (count == 4 && !strcmp(words[1], "time"))
-        for (size_t i = 0; i < sizeof sizes / sizeof *sizes; i++) measure(sizes[i][0], sizes[i][1], strtoul(words[2], NULL, 10), strtoul(words[3], NULL, 10));
+        for (size_t i = 0; i < sizeof sizes / sizeof *sizes; i++)
+            measure(sizes[i][0], sizes[i][1], strtoul(words[2], NULL, 10),
+                    strtoul(words[3], NULL, 10));
     else if (count == 5) {
         plan(strtoul(words[2], NULL, 10), strtoul(words[3], NULL, 10));
-        repeat(strcmp(words[1], "list") ? one_by_one : as_list, strtoul(words[2], NULL, 10), strtoul(words[4], NULL, 10));
+        repeat(strcmp(words[1], "list") ? one_by_one : as_list, strtoul(words[2], NULL, 10),
+               strtoul(words[4], NULL, 10));
     }
     return 0;
 }

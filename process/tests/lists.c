@@ -17,7 +17,8 @@ static void want(int line, const char *what, uint64_t found, uint64_t wanted)
 {
     if (found == wanted) return;
     wrong++;
-    printf("lists.c:%d: %s is %llu, not %llu\n", line, what, (unsigned long long)found, (unsigned long long)wanted);
+    printf("lists.c:%d: %s is %llu, not %llu\n", line, what, (unsigned long long)found,
+           (unsigned long long)wanted);
 }
 #define WANT(found, wanted) want(__LINE__, #found, found, wanted)
 
@@ -44,8 +45,11 @@ static void made(void)
         {.kind = MSG_ADDS, .number = MADE, .sel = ONE, .imp = 21},
         {.kind = MSG_REPLACES, .number = ROOT, .sel = ONE, .imp = 22},
         {.kind = MSG_REPLACES, .number = ROOT, .meta = 1, .sel = TWO, .imp = 23},
-        {.kind = MSG_SETS_IMP, .number = CHILD, .sel = ONE, .imp = 24},                                          /* where it is found: in the root */
-        {.kind = MSG_EXCHANGES, .number = MADE, .sel = ONE, .other = MADE, .other_meta = 1, .other_sel = TWO}, /* 21 with 23 */
+        /* where it is found: in the root */
+        {.kind = MSG_SETS_IMP, .number = CHILD, .sel = ONE, .imp = 24},
+        /* 21 with 23 */
+        {.kind = MSG_EXCHANGES, .number = MADE, .sel = ONE, .other = MADE, .other_meta = 1,
+         .other_sel = TWO},
         {.kind = MSG_SETS_IMP, .number = MADE, .sel = ONE, .imp = 25},
     };
     _Static_assert(sizeof parts / sizeof *parts == COUNT_IN, "as many");
@@ -88,18 +92,27 @@ static void refused(msg_change last, uint32_t fault)
 
 static void all_refused(void)
 {
-    refused((msg_change){.kind = MSG_REPLACES, .number = CLASSES, .sel = ONE, .imp = 1}, MSG_NO_SUCH_CLASS);
-    refused((msg_change){.kind = MSG_REPLACES, .number = MADE + 2, .sel = ONE, .imp = 1}, MSG_NO_SUCH_CLASS);
+    refused((msg_change){.kind = MSG_REPLACES, .number = CLASSES, .sel = ONE, .imp = 1},
+            MSG_NO_SUCH_CLASS);
+    refused((msg_change){.kind = MSG_REPLACES, .number = MADE + 2, .sel = ONE, .imp = 1},
+            MSG_NO_SUCH_CLASS);
     refused((msg_change){.kind = MSG_REPLACES, .number = ROOT, .sel = ONE}, MSG_NO_SUCH_IMP);
     refused((msg_change){.kind = MSG_REPLACES, .number = ROOT, .imp = 1}, MSG_NO_SELECTOR);
-    refused((msg_change){.kind = MSG_ADDS, .number = MADE + 1, .sel = NOBODYS, .imp = 1}, MSG_METHOD_PRESENT); /* by the list itself */
-    refused((msg_change){.kind = MSG_SETS_IMP, .number = ROOT, .sel = NOBODYS, .imp = 1}, MSG_NO_METHOD);
-    refused((msg_change){.kind = MSG_EXCHANGES, .number = ROOT, .sel = ONE, .other = ROOT, .other_sel = NOBODYS}, MSG_NO_METHOD);
-    refused((msg_change){.kind = MSG_MAKES_CLASS, .number = MADE + 1, .other = ROOT}, MSG_DUPLICATE_CLASS);
-    refused((msg_change){.kind = MSG_MAKES_CLASS, .number = MADE + 2, .other = MADE + 3}, MSG_NO_SUCH_CLASS);
+    refused((msg_change){.kind = MSG_ADDS, .number = MADE + 1, .sel = NOBODYS, .imp = 1},
+            MSG_METHOD_PRESENT); /* by the list itself */
+    refused((msg_change){.kind = MSG_SETS_IMP, .number = ROOT, .sel = NOBODYS, .imp = 1},
+            MSG_NO_METHOD);
+    refused((msg_change){.kind = MSG_EXCHANGES, .number = ROOT, .sel = ONE, .other = ROOT,
+                         .other_sel = NOBODYS},
+            MSG_NO_METHOD);
+    refused((msg_change){.kind = MSG_MAKES_CLASS, .number = MADE + 1, .other = ROOT},
+            MSG_DUPLICATE_CLASS);
+    refused((msg_change){.kind = MSG_MAKES_CLASS, .number = MADE + 2, .other = MADE + 3},
+            MSG_NO_SUCH_CLASS);
     refused((msg_change){.kind = 0}, MSG_BAD_CHANGE);
     refused((msg_change){.kind = MSG_MAKES_ROOT_CLASS + 1}, MSG_BAD_CHANGE);
-    refused((msg_change){.kind = MSG_REPLACES, .number = ROOT, .meta = 2, .sel = ONE, .imp = 1}, MSG_BAD_CHANGE);
+    refused((msg_change){.kind = MSG_REPLACES, .number = ROOT, .meta = 2, .sel = ONE, .imp = 1},
+            MSG_BAD_CHANGE);
 }
 
 /* Two replaced methods and an exchange of them, taken back; a method that is added has no way
@@ -109,7 +122,8 @@ static void undone(void)
     const msg_change parts[] = {
         {.kind = MSG_REPLACES, .number = ROOT, .sel = ONE, .imp = 41},
         {.kind = MSG_SETS_IMP, .number = ROOT, .meta = 1, .sel = TWO, .imp = 42},
-        {.kind = MSG_EXCHANGES, .number = ROOT, .sel = ONE, .other = ROOT, .other_meta = 1, .other_sel = TWO},
+        {.kind = MSG_EXCHANGES, .number = ROOT, .sel = ONE, .other = ROOT, .other_meta = 1,
+         .other_sel = TWO},
         {.kind = MSG_ADDS, .number = ROOT, .sel = NOBODYS, .imp = 43},
     };
     msg_change back[8];
@@ -139,13 +153,15 @@ static void reached(void)
     const msg_change parts[] = {
         {.kind = MSG_REPLACES, .number = MADE, .sel = TWO, .imp = 51},
         {.kind = MSG_MAKES_CLASS, .number = MADE + 2, .other = MADE},
-        {.kind = MSG_SETS_IMP, .number = CHILD, .meta = 1, .sel = TWO, .imp = 52}, /* found at the root's metaclass */
+        /* found at the root's metaclass */
+        {.kind = MSG_SETS_IMP, .number = CHILD, .meta = 1, .sel = TWO, .imp = 52},
         {.kind = MSG_ADDS, .number = MADE + 2, .sel = TWO, .imp = 53},
         {.kind = MSG_ADDS, .number = MADE + 2, .sel = TWO, .imp = 54}, /* refused */
     };
     bool found[2 * CLASSES] = {false};
-    const bool wanted[2 * CLASSES] = {[2 * ROOT + 1] = true, [2 * CHILD + 1] = true, [2 * MADE] = true, [2 * MADE + 1] = true,
-                                      [2 * (MADE + 1) + 1] = true, [2 * (MADE + 2)] = true, [2 * (MADE + 2) + 1] = true};
+    const bool wanted[2 * CLASSES] = {
+        [2 * ROOT + 1] = true, [2 * CHILD + 1] = true, [2 * MADE] = true, [2 * MADE + 1] = true,
+        [2 * (MADE + 1) + 1] = true, [2 * (MADE + 2)] = true, [2 * (MADE + 2) + 1] = true};
     size_t place = 99;
     uint64_t before = changes();
     WANT(msg_reach(&runtime, parts, 4, found, 2 * CLASSES - 1, &place), MSG_NO_ROOM);
@@ -197,11 +213,13 @@ static void held(void)
 int main(void)
 {
     size_t place = 99;
-    WANT(msg_change_all(&runtime, &(msg_change){.kind = MSG_MAKES_ROOT_CLASS}, 1, &place), MSG_CLOSED);
+    const msg_change makes = {.kind = MSG_MAKES_ROOT_CLASS};
+    WANT(msg_change_all(&runtime, &makes, 1, &place), MSG_CLOSED);
     WANT(place, 99);
     WANT(msg_open(&runtime, &(msg_config){.classes = CLASSES}), MSG_DONE);
     WANT(msg_sender_open(&runtime, &sender), MSG_DONE);
-    const msg_change first[] = {{.kind = MSG_MAKES_ROOT_CLASS, .number = ROOT}, {.kind = MSG_MAKES_CLASS, .number = CHILD, .other = ROOT}};
+    const msg_change first[] = {{.kind = MSG_MAKES_ROOT_CLASS, .number = ROOT},
+                                {.kind = MSG_MAKES_CLASS, .number = CHILD, .other = ROOT}};
     WANT(msg_change_all(&runtime, first, 2, &place), MSG_DONE);
     made();
     all_refused();

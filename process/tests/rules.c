@@ -13,7 +13,7 @@
 #include <unistd.h>
 
 enum { ROOT, CHILD, UNMADE, CLASSES, SENDERS = 3 };
-enum { ONE = 1, TWO, NOBODYS };
+enum { ONE = 1, TWO, NOBODYS, INHERITED };
 
 static int wrong;
 
@@ -21,7 +21,8 @@ static void want(int line, const char *what, uint64_t found, uint64_t wanted)
 {
     if (found == wanted) return;
     wrong++;
-    printf("rules.c:%d: %s is %llu, not %llu\n", line, what, (unsigned long long)found, (unsigned long long)wanted);
+    printf("rules.c:%d: %s is %llu, not %llu\n", line, what, (unsigned long long)found,
+           (unsigned long long)wanted);
 }
 #define WANT(found, wanted) want(__LINE__, #found, found, wanted)
 
@@ -44,7 +45,7 @@ static uint32_t find_at_once(uint32_t number, bool meta, uint32_t sel)
 
 static uint32_t set(uint32_t number, bool meta, uint32_t sel, uint32_t imp)
 {
-    uint32_t fault = msg_process_lock_to_change(&runtime);
+    uint32_t fault = msg_process_lock(&runtime);
     if (fault) return 1000 + fault;
     fault = msg_replace(runtime, number, meta, sel, imp);
     msg_process_unlock();
@@ -64,11 +65,13 @@ static void texts(void)
         const char *text = msg_fault_text(numbers[i]);
         if (strlen(text) < 4 || !strcmp(text, unknown)) WANT(numbers[i], 0); /* it has no text */
         for (int k = 0; k < i; k++)
-            if (!strcmp(text, msg_fault_text(numbers[k])) && numbers[i] != numbers[k]) WANT(numbers[i], numbers[k]);
+            if (!strcmp(text, msg_fault_text(numbers[k])) && numbers[i] != numbers[k])
+                WANT(numbers[i], numbers[k]);
     }
     WANT(COUNT >= 19, 1);
     WANT(msg_version(), MSG_VERSION_NUMBER);
-    WANT(MSG_VERSION_NUMBER, 1000000 * MSG_VERSION_MAJOR + 1000 * MSG_VERSION_MINOR + MSG_VERSION_PATCH);
+    WANT(MSG_VERSION_NUMBER,
+         1000000 * MSG_VERSION_MAJOR + 1000 * MSG_VERSION_MINOR + MSG_VERSION_PATCH);
 }
 
 static void before_start(void)
@@ -76,7 +79,6 @@ static void before_start(void)
     WANT(find(ROOT, false, ONE), 1000 + MSG_CLOSED);
     WANT(find_at_once(ROOT, false, ONE), 1000 + MSG_CLOSED);
     WANT(msg_process_lock(&runtime), MSG_CLOSED);
-    WANT(msg_process_lock_to_change(&runtime), MSG_CLOSED);
     WANT(runtime != NULL, 0);
     msg_process_unlock();
     WANT(msg_process_start(&(msg_config){.classes = 1048577}), MSG_BAD_CONFIG);
@@ -90,7 +92,7 @@ static void finds(void)
 {
     WANT(find(ROOT, false, ONE), 0);
     WANT(find(ROOT, false, 0), 1000 + MSG_NO_SELECTOR);
-    WANT(msg_process_lock_to_change(&runtime), MSG_DONE);
+    WANT(msg_process_lock(&runtime), MSG_DONE);
     WANT(msg_make_root_class(runtime, ROOT), MSG_DONE);
     WANT(msg_make_class(runtime, CHILD, ROOT), MSG_DONE);
     WANT(msg_process_start(NULL), MSG_LOCK_HELD);
@@ -104,15 +106,16 @@ static void finds(void)
         WANT(find(CHILD, false, NOBODYS), 0);
         WANT(find(UNMADE, false, ONE), 0);
         WANT(find(CLASSES, false, ONE), 1000 + MSG_NO_CLASS);
-        WANT(find(CHILD + (1u << 31), false, ONE), 1000 + MSG_NO_CLASS); /* twice of it is twice CHILD */
+        /* twice of it is twice CHILD */
+        WANT(find(CHILD + (1u << 31), false, ONE), 1000 + MSG_NO_CLASS);
         WANT(find(CHILD, false, 0), 1000 + MSG_NO_SELECTOR);
         WANT(find(CHILD, false, UINT32_MAX), 0);
     }
 }
 
-/* A find is answered from what was noted after a change that was refused: the count is the old
- * one again. */
-static void refused(void)
+/* A find is answered from what was noted, also after a change that was refused, and of a class that
+ * a change didn't reach. */
+static void noted(void)
 {
     WANT(set(UNMADE, false, ONE, 13), MSG_NO_SUCH_CLASS);
     WANT(set(ROOT, false, ONE, 0), MSG_NO_SUCH_IMP);
@@ -120,29 +123,35 @@ static void refused(void)
     WANT(find(CHILD, false, ONE), 11);
     WANT(msg_process_own.turns, turns);
     WANT(set(CHILD, false, ONE, 14), MSG_DONE);
+    WANT(find(CHILD, true, ONE), 12);
+    WANT(msg_process_own.turns, turns);
     WANT(find(CHILD, false, ONE), 14);
     WANT(msg_process_own.turns, turns + 1);
     WANT(find(ROOT, false, ONE), 11);
+    WANT(find(CHILD, true, INHERITED), 0); /* a root's metaclass stands below the root */
+    WANT(set(ROOT, false, INHERITED, 19), MSG_DONE);
+    WANT(find(CHILD, true, INHERITED), 19);
 }
 
-/* With the lock, what is noted is found where it is held to ask, and nothing where it is held to
- * change. */
+/* With the lock, what is noted is found; of a class that a change reached nothing, until it is
+ * answered under the lock. */
 static void locked(void)
 {
     uint32_t imp;
     WANT(find(CHILD, false, ONE), 14);
+    WANT(find(CHILD, true, ONE), 12);
     WANT(msg_process_lock(&runtime), MSG_DONE);
     WANT(find(CHILD, false, ONE), 14);
     WANT(find(CHILD, true, TWO), 1000 + MSG_LOCK_HELD);
     WANT(msg_lookup(runtime, CHILD, true, ONE, &imp) ? 0 : imp, 12);
     WANT(msg_process_lock(&runtime), MSG_LOCK_HELD);
-    WANT(msg_process_lock_to_change(&runtime), MSG_LOCK_HELD);
     msg_process_unlock();
     WANT(find(CHILD, true, TWO), 0);
-    WANT(msg_process_lock_to_change(&runtime), MSG_DONE);
+    WANT(msg_process_lock(&runtime), MSG_DONE);
+    WANT(find(CHILD, false, ONE), 14);
     WANT(msg_replace(runtime, CHILD, false, ONE, 15), MSG_DONE);
-    uint32_t found = find(CHILD, false, ONE); /* made, and perhaps not cached yet */
-    WANT(found == 15 || found == 1000 + MSG_LOCK_HELD, 1);
+    WANT(find(CHILD, false, ONE), 1000 + MSG_LOCK_HELD);
+    WANT(find(CHILD, true, ONE), 12);
     msg_process_cache(msg_key(2 * CHILD, ONE));
     WANT(find(CHILD, false, ONE), 15);
     msg_process_cache(msg_key(2 * CLASSES, ONE)); /* of nobody */
@@ -348,7 +357,7 @@ static void fork_and_wait(bool holds)
     pthread_create(&thread, NULL, sit, NULL);
     pthread_barrier_wait(&sits);
     WANT(left(), SENDERS - 2);
-    if (holds) WANT(msg_process_lock_to_change(&runtime), MSG_DONE);
+    if (holds) WANT(msg_process_lock(&runtime), MSG_DONE);
     fflush(stdout);
     pid_t pid = fork();
     if (!pid) child(holds);
@@ -414,7 +423,7 @@ int main(void)
     texts();
     before_start();
     finds();
-    refused();
+    noted();
     locked();
     handlers();
     threads();

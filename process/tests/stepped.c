@@ -9,7 +9,8 @@
 #include <ucontext.h>
 
 #ifdef __x86_64__
-enum { ONE = 1, OTHER = ONE + MSG_NOTES, OF_OTHER = 7, SHORT = 60, BETWEEN = 100, ENDLESS = 100000, TRAP = 1 << 8 };
+enum { ONE = 1, OTHER = ONE + MSG_NOTES, OF_OTHER = 7 };
+enum { SHORT = 60, BETWEEN = 100, ENDLESS = 100000, TRAP = 1 << 8 };
 
 static volatile long step, at, again_at;
 static volatile uint32_t handled, again;
@@ -18,13 +19,15 @@ static bool at_once;
 
 static void want(const char *what, bool holds)
 {
-    if (!holds && wrong++ < 20) fprintf(stderr, "%s: at step %ld, %ld\n", what, (long)at, (long)again_at);
+    if (!holds && wrong++ < 20)
+        fprintf(stderr, "%s: at step %ld, %ld\n", what, (long)at, (long)again_at);
 }
 
 /* The implementation, or a fault behind 1,000,000. */
 static uint32_t find(uint32_t sel)
 {
-    uint32_t imp = 0, fault = (at_once ? msg_process_find_at_once : msg_process_find)(0, false, sel, &imp);
+    uint32_t imp = 0;
+    uint32_t fault = (at_once ? msg_process_find_at_once : msg_process_find)(0, false, sel, &imp);
     return fault ? 1000000 + fault : imp;
 }
 
@@ -66,7 +69,7 @@ static uint32_t find_in_steps(void)
 static uint32_t change(uint32_t imp)
 {
     msg_runtime *runtime;
-    uint32_t fault = msg_process_lock_to_change(&runtime);
+    uint32_t fault = msg_process_lock(&runtime);
     if (!fault) {
         fault = msg_replace(runtime, 0, false, ONE, imp);
         msg_process_unlock();
@@ -126,7 +129,8 @@ static void change_in_steps(uint32_t imp)
         uint32_t fault = change(imp + 1);
         trap(0);
         want("a change in steps", !fault);
-        want("beside the change", !again || again == imp || again == imp + 1 || again == 1000000 + MSG_LOCK_HELD);
+        want("beside the change", !again || again == imp || again == imp + 1 ||
+                                      again == 1000000 + MSG_LOCK_HELD);
         settle(++imp);
         if (step <= next) return;
     }
@@ -137,7 +141,7 @@ static uint32_t open_all(void)
 {
     msg_runtime *runtime;
     uint32_t fault = msg_process_start(NULL);
-    if (!fault) fault = msg_process_lock_to_change(&runtime);
+    if (!fault) fault = msg_process_lock(&runtime);
     if (!fault) fault = msg_make_root_class(runtime, 0);
     if (!fault) fault = msg_replace(runtime, 0, false, OTHER, OF_OTHER);
     msg_process_unlock();

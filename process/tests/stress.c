@@ -5,7 +5,11 @@
  * METHODS + s has to be beyond each point that the thread has seen, and beyond each step that
  * had returned, whose lock may still be held. So no method goes back, and none lags behind
  * another. The methods stand in the roots of TREES trees, on both of their sides: what is cached
- * for one tree outlasts the changes of the others. */
+ * for one tree outlasts the changes of the others.
+ *
+ * What is stored plainly before a change call, who finds what that change gave sees: else
+ * ThreadSanitizer tells a race, too. And a thread may see it, inside the lock, while it still finds
+ * what was before the change: such finds are counted. */
 #define _GNU_SOURCE
 #include "msg_process.h"
 #include <errno.h>
@@ -17,14 +21,16 @@
 #include <time.h>
 #include <unistd.h>
 
-enum { FINDERS = 16, CHANGERS = 4, BEGINNERS = 6, SENDERS = 26, CLASSES = 512, TREES = 4, METHODS = 16, PATIENCE = 60 };
+enum { FINDERS = 16, CHANGERS = 4, BEGINNERS = 6, SENDERS = 26, CLASSES = 512, TREES = 4 };
+enum { METHODS = 16, PATIENCE = 60 };
 #ifndef SECONDS
 #define SECONDS 5
 #endif
 
 static atomic_bool is_over;
-static atomic_long begun, returned, made, answers, held, handled, refused, ended, without, opened, forked, ready;
-static atomic_long wrong;
+static atomic_long begun, returned, made, answers, held, handled, refused, ended, without, opened;
+static atomic_long forked, ready, ahead, wrong;
+static uint32_t before[1 << 20]; /* by steps: what is stored before a step's change call */
 
 static _Thread_local volatile long seen;
 static _Thread_local volatile uint32_t drawn;
@@ -43,9 +49,17 @@ static uint32_t below(uint32_t limit)
 }
 
 /* Two methods of a class are noted at one place. */
-static uint32_t selector(long method) { return 1 + (uint32_t)method % 8 + MSG_NOTES * ((uint32_t)method / 8); }
+static uint32_t selector(long method)
+{
+    return 1 + (uint32_t)method % 8 + MSG_NOTES * ((uint32_t)method / 8);
+}
 static uint32_t root_of(long method) { return (uint32_t)method % TREES; }
 static bool is_of_class(long method) { return method / TREES % 2; }
+/* Whether what was stored before the step's change call is seen. */
+static bool is_stored(long step)
+{
+    return step >= (long)(sizeof before / sizeof *before) || before[step] == step;
+}
 
 /* The class of the method's tree that is near the given one; 0 and so many are made. */
 static uint32_t of_tree(uint32_t class_, long method)
@@ -59,10 +73,11 @@ static uint32_t of_tree(uint32_t class_, long method)
 static void find(uint32_t class_, long method, bool may_hold)
 {
     uint32_t imp;
-    long least = returned;
+    long least = returned, stored = begun;
     if (seen > least) least = seen;
     bool waits = !may_hold || below(2);
-    uint32_t fault = (waits ? msg_process_find : msg_process_find_at_once)(of_tree(class_, method), is_of_class(method), selector(method), &imp);
+    uint32_t fault = (waits ? msg_process_find : msg_process_find_at_once)(
+        of_tree(class_, method), is_of_class(method), selector(method), &imp);
     long most = begun, step = imp;
     if (fault == MSG_LOCK_HELD && may_hold) {
         held++;
@@ -72,7 +87,9 @@ static void find(uint32_t class_, long method, bool may_hold)
     else if (step % METHODS != method) tell("another method's, method", step, method);
     else if (step + METHODS <= least) tell("older than what was seen, seen", step, least);
     else if (step > most) tell("newer than what was begun, begun", step, most);
+    else if (!is_stored(step)) tell("without what was stored before it", step, 0);
     else if (step > seen) seen = step;
+    if (!fault && step + METHODS <= stored) ahead++;
 }
 
 /* The same by two classes, or two methods of a place. */
@@ -112,9 +129,12 @@ static void change(msg_runtime *runtime, int steps)
 {
     for (int i = 0; i < steps; i++) {
         long step = ++begun, method = step % METHODS; /* under the lock */
-        want(msg_replace(runtime, root_of(method), is_of_class(method), selector(method), (uint32_t)step), MSG_DONE);
+        uint32_t root = root_of(method), sel = selector(method);
+        bool meta = is_of_class(method);
+        if (!is_stored(step)) before[step] = (uint32_t)step;
+        want(msg_replace(runtime, root, meta, sel, (uint32_t)step), MSG_DONE);
         returned = step; /* from here on each thread has to see it, though the lock is held */
-        if (below(2)) msg_process_cache(msg_key(2 * root_of(method) + is_of_class(method), selector(method)));
+        if (below(2)) msg_process_cache(msg_key(2 * root + meta, sel));
         seen = step;
         find(below(8), below(2) ? step % METHODS : below(METHODS), true);
     }
@@ -126,7 +146,7 @@ static void change(msg_runtime *runtime, int steps)
 static long change_some(void)
 {
     msg_runtime *runtime;
-    want(msg_process_lock_to_change(&runtime), MSG_DONE);
+    want(msg_process_lock(&runtime), MSG_DONE);
     change(runtime, 1 + (int)below(3));
     long step = begun;
     msg_process_unlock();
@@ -151,7 +171,7 @@ static void *make_on(void *number)
     while (!is_over) {
         msg_runtime *runtime;
         uint32_t next = (uint32_t)made, above = next % TREES + TREES * below(next / TREES);
-        want(msg_process_lock_to_change(&runtime), MSG_DONE);
+        want(msg_process_lock(&runtime), MSG_DONE);
         if (next < CLASSES) want(msg_make_class(runtime, next, above), MSG_DONE);
         else want(msg_make_class(runtime, 1, above), MSG_DUPLICATE_CLASS);
         msg_process_unlock();
@@ -192,8 +212,10 @@ static void open_and_close(void)
     want(msg_process_lock(&runtime), MSG_DONE);
     uint32_t fault = msg_sender_open(runtime, &sender);
     if (!fault) {
-        want(msg_fill(runtime, &sender, root_of(method), is_of_class(method), selector(method), &imp), MSG_DONE);
-        if (imp % METHODS != method || imp + METHODS <= begun || imp > begun) tell("not the newest, begun", imp, begun);
+        bool meta = is_of_class(method);
+        want(msg_fill(runtime, &sender, root_of(method), meta, selector(method), &imp), MSG_DONE);
+        bool is_newest = imp % METHODS == method && imp + METHODS > begun && imp <= begun;
+        if (!is_newest) tell("not the newest, begun", imp, begun);
         want(msg_sender_close(runtime, &sender), MSG_DONE);
         opened++;
     } else want(fault, MSG_NO_SENDER);
@@ -207,7 +229,10 @@ static void *begin_and_end(void *number)
         open_and_close();
         pthread_t threads[BEGINNERS];
         int count = 1 + (int)below(BEGINNERS), are = 0;
-        while (are < count && !pthread_create(&threads[are], NULL, find_and_end, (void *)(i * BEGINNERS + are))) are++;
+        for (; are < count; are++) {
+            void *number_of = (void *)(i * BEGINNERS + are);
+            if (pthread_create(&threads[are], NULL, find_and_end, number_of)) break;
+        }
         if (are < count) tell("no thread", are, count);
         while (are) pthread_join(threads[--are], NULL);
     }
@@ -232,7 +257,8 @@ static long left(void)
 #ifdef SANITIZED_thread
 enum { FORKS = true, THREADS_IN_CHILD = false }; /* ThreadSanitizer has none */
 #elif defined SANITIZED_address
-enum { FORKS = false, THREADS_IN_CHILD = true }; /* of its memory a child may find a lock held by a thread that isn't there: rules.c alone forks */
+/* of its memory a child may find a lock held by a thread that isn't there: rules.c alone forks */
+enum { FORKS = false, THREADS_IN_CHILD = true };
 #else
 enum { FORKS = true, THREADS_IN_CHILD = true };
 #endif
@@ -254,12 +280,16 @@ static void child(bool has_sender)
         find_some(false);
         change_some();
     }
-    if (left() != SENDERS - has_sender) tell("senders that are left in a child", left(), SENDERS - has_sender);
-    want(msg_process_lock_to_change(&runtime), MSG_DONE);
-    uint32_t fault = msg_make_class(runtime, (uint32_t)made, 0); /* a class may have been made whose maker hadn't told it */
+    long wanted = SENDERS - has_sender;
+    if (left() != wanted) tell("senders that are left in a child", left(), wanted);
+    want(msg_process_lock(&runtime), MSG_DONE);
+    uint32_t fault = msg_make_class(runtime, (uint32_t)made, 0);
     msg_process_unlock();
-    if (fault != MSG_DONE && fault != MSG_DUPLICATE_CLASS && made < CLASSES) tell("no class, classes", fault, made);
-    if (THREADS_IN_CHILD && !pthread_create(&thread, NULL, in_thread_of_child, NULL)) pthread_join(thread, NULL);
+    /* a class may have been made whose maker hadn't told it */
+    bool is_made = fault == MSG_DONE || fault == MSG_DUPLICATE_CLASS || made >= CLASSES;
+    if (!is_made) tell("no class, classes", fault, made);
+    if (THREADS_IN_CHILD && !pthread_create(&thread, NULL, in_thread_of_child, NULL))
+        pthread_join(thread, NULL);
     _exit(wrong ? 1 : 0);
 }
 
@@ -296,27 +326,36 @@ static void handle(int signal)
     errno = kept;
 }
 
-static bool is_little(void) { return !refused || !ended || !without || !opened || (FORKS && !forked) || !handled || !held || made < 9; }
+static bool is_little(void)
+{
+    return !refused || !ended || !without || !opened || (FORKS && !forked) || !handled || !held ||
+           !ahead || made < 9;
+}
 
 int main(void)
 {
     enum { THREADS = FINDERS + CHANGERS + 1 };
-    static void *(*const others[])(void *) = {begin_and_end, begin_and_end, FORKS ? fork_on : find_on};
+    static void *(*const others[])(void *) = {begin_and_end, begin_and_end,
+                                              FORKS ? fork_on : find_on};
     pthread_t threads[THREADS], beside[3];
     msg_runtime *runtime;
     msg_config config = {.classes = CLASSES, .senders = SENDERS};
     alarm(PATIENCE + SECONDS);
     pthread_key_create(&ending, at_end);
     want(msg_process_start(&config), MSG_DONE);
-    want(msg_process_lock_to_change(&runtime), MSG_DONE);
+    want(msg_process_lock(&runtime), MSG_DONE);
     for (uint32_t i = 0; i < TREES; i++) want(msg_make_root_class(runtime, i), MSG_DONE);
-    for (uint32_t i = TREES; i < 2 * TREES; i++) want(msg_make_class(runtime, i, i - TREES), MSG_DONE);
+    for (uint32_t i = TREES; i < 2 * TREES; i++)
+        want(msg_make_class(runtime, i, i - TREES), MSG_DONE);
     made = 2 * TREES;
     while (begun < METHODS) change(runtime, 1);
     msg_process_unlock();
 
     sigaction(SIGUSR1, &(struct sigaction){.sa_handler = handle, .sa_flags = SA_RESTART}, NULL);
-    for (long i = 0; i < THREADS; i++) pthread_create(&threads[i], NULL, i < FINDERS ? find_on : i < FINDERS + CHANGERS ? change_on : make_on, (void *)(i + 1));
+    for (long i = 0; i < THREADS; i++)
+        pthread_create(&threads[i], NULL,
+                       i < FINDERS ? find_on : i < FINDERS + CHANGERS ? change_on : make_on,
+                       (void *)(i + 1));
     while (ready < THREADS) usleep(1000);
     for (long i = 0; i < 3; i++) pthread_create(&beside[i], NULL, others[i], (void *)(i + 100));
     time_t end = time(NULL) + SECONDS;
@@ -327,9 +366,14 @@ int main(void)
     is_over = true;
     for (int i = 0; i < THREADS; i++) pthread_join(threads[i], NULL);
     for (int i = 0; i < 3; i++) pthread_join(beside[i], NULL);
-    if (left() != SENDERS) tell("senders that are left", left(), SENDERS); /* this thread has none */
-    fprintf(stderr, "%ld answers beside %ld steps, %ld refused changes, %ld classes, %ld threads (%ld without a sender), %ld senders, %ld forks; %ld signals, %ld answered that the lock is held\n",
-            (long)answers, (long)begun, (long)refused, (long)made, (long)ended, (long)without, (long)opened, (long)forked, (long)handled, (long)held);
+    /* this thread has none */
+    if (left() != SENDERS) tell("senders that are left", left(), SENDERS);
+    fprintf(stderr,
+            "%ld answers beside %ld steps, %ld older than what was stored for the next; "
+            "%ld refused changes, %ld classes, %ld threads (%ld without a sender), %ld senders, "
+            "%ld forks; %ld signals, %ld answered that the lock is held\n",
+            (long)answers, (long)begun, (long)ahead, (long)refused, (long)made, (long)ended,
+            (long)without, (long)opened, (long)forked, (long)handled, (long)held);
     printf("stress: %ld wrong%s\n", (long)wrong, is_little() ? ", and too little was tried" : "");
     return wrong || is_little();
 }

@@ -28,22 +28,27 @@ static void *find_on(void *none)
     uint32_t least = 0;
     for (; !is_over; pairs++) {
         uint32_t a = find(CLASS, A), b = find(OTHER, B);
-        if (b < a) older[is_one_by_one]++; /* asked afterwards: where it isn't yet, there were lists alone */
+        /* asked afterwards: where it isn't yet, there were lists alone */
+        if (b < a) older[is_one_by_one]++;
         if (a < least || find(OTHER, B) < b) wrong++; /* each by itself never goes back */
         least = a;
     }
     return none;
 }
 
-static msg_change part(uint32_t number, uint32_t sel, uint32_t imp) { return (msg_change){.kind = MSG_REPLACES, .number = number, .sel = sel, .imp = imp}; }
+static msg_change part(uint32_t number, uint32_t sel, uint32_t imp)
+{
+    return (msg_change){.kind = MSG_REPLACES, .number = number, .sel = sel, .imp = imp};
+}
 
 static void change(const msg_change *parts, size_t count)
 {
     msg_runtime *runtime;
     size_t place;
-    must(msg_process_lock_to_change(&runtime));
+    must(msg_process_lock(&runtime));
     must(msg_change_all(runtime, parts, count, &place));
-    for (size_t i = 0; i < count; i++) msg_process_cache(msg_key(2 * parts[i].number, parts[i].sel));
+    for (size_t i = 0; i < count; i++)
+        msg_process_cache(msg_key(2 * parts[i].number, parts[i].sel));
     msg_process_unlock();
 }
 
@@ -61,7 +66,7 @@ int main(void)
     pthread_t threads[FINDERS];
     msg_runtime *runtime;
     must(msg_process_start(NULL));
-    must(msg_process_lock_to_change(&runtime));
+    must(msg_process_lock(&runtime));
     must(msg_make_root_class(runtime, CLASS));
     must(msg_make_root_class(runtime, OTHER));
     msg_process_unlock();
@@ -74,7 +79,9 @@ int main(void)
     while (++to <= 2 * SWAPS || (!older[1] && to < 100 * SWAPS)) swap(to);
     is_over = true;
     for (int i = 0; i < FINDERS; i++) pthread_join(threads[i], NULL);
-    fprintf(stderr, "%ld pairs of finds; an old B after a new A: %ld by lists, %ld one by one\n", (long)pairs, (long)older[0], (long)older[1]);
-    printf("swap: %ld wrong, %ld mixed by lists, %s one by one\n", (long)wrong, (long)older[0], older[1] ? "some" : "none");
+    fprintf(stderr, "%ld pairs of finds; an old B after a new A: %ld by lists, %ld one by one\n",
+            (long)pairs, (long)older[0], (long)older[1]);
+    printf("swap: %ld wrong, %ld mixed by lists, %s one by one\n", (long)wrong, (long)older[0],
+           older[1] ? "some" : "none");
     return wrong || older[0] || !older[1];
 }

@@ -13,7 +13,10 @@ static void *keep_block(void *block)
     if (block_count == MOST_BLOCKS) exit(2);
     return block ? blocks[block_count++] = block : NULL;
 }
-static void *cv_calloc(size_t many, size_t size) { return any_bool() ? NULL : keep_block(calloc(many, size)); }
+static void *cv_calloc(size_t many, size_t size)
+{
+    return any_bool() ? NULL : keep_block(calloc(many, size));
+}
 static char *cv_strdup(const char *text) { return any_bool() ? NULL : keep_block(strdup(text)); }
 static void cv_free(void *block)
 {
@@ -26,10 +29,14 @@ static void free_blocks(void) { while (block_count) free(blocks[--block_count]);
 #define strdup cv_strdup
 #define free cv_free
 
-void cv_show_trace(void) { for (int i = 0; i < choice; i++) printf(i ? " %d" : "%d", chosen[i]); putchar('\n'); }
+void cv_show_trace(void)
+{
+    for (int i = 0; i < choice; i++) printf(i ? " %d" : "%d", chosen[i]);
+    putchar('\n');
+}
 
 static int locks;
-void shim_take(bool to_change)
+void shim_take(void)
 {
     __CPROVER_assert(!locks, "the lock isn't taken twice by one thread");
     locks++;

@@ -6,7 +6,9 @@
 #include <stdlib.h>
 #include <string.h>
 enum { MOST_CHOICES = 4096, MOST_FAULTS = 16 };
-static unsigned char chosen[MOST_CHOICES]; static const char *at_place[MOST_CHOICES]; static int at_line[MOST_CHOICES];
+static unsigned char chosen[MOST_CHOICES];
+static const char *at_place[MOST_CHOICES];
+static int at_line[MOST_CHOICES];
 static int choice, choices; static unsigned long long runs; static jmp_buf out_of_run;
 static struct { const char *what; unsigned long long count; } faults[MOST_FAULTS];
 static bool choose(const char *function, int line)
@@ -50,7 +52,10 @@ static int every_choice(int argc, char **argv, void (*afresh)(void), int (*one_r
         chosen[choices - 1] = 1;
         if (most && runs == most) { printf("STOPPED after %llu runs\n", runs); break; }
     }
-    for (int i = 0; i < MOST_FAULTS && faults[i].count; i++) { printf("%llu runs fail: %s\n", faults[i].count, faults[i].what); found = 1; }
+    for (int i = 0; i < MOST_FAULTS && faults[i].count; i++) {
+        printf("%llu runs fail: %s\n", faults[i].count, faults[i].what);
+        found = 1;
+    }
     printf("%s: %llu runs, at most %d choices\n", found ? "FAILED" : "ALL RIGHT", runs, deepest);
     return found;
 }

@@ -50,11 +50,13 @@ static bool allocate(void)
         if (above == had[k] && gone[k]) return false;
     const char *name = names[pick(2)];
     bool taken = objc_lookUpClass(name);
-    Class class_ = objc_allocateClassPair(above, name, any_bool() ? SIZE_MAX - sizeof(struct objc_class) : 8);
+    size_t extra = any_bool() ? SIZE_MAX - sizeof(struct objc_class) : 8;
+    Class class_ = objc_allocateClassPair(above, name, extra);
     __CPROVER_assert(!class_ || !taken, "a name that is taken isn't given again");
     if (!class_) return true;
     had[many++] = class_;
-    __CPROVER_assert(class_isMetaClass(class_->isa) && !class_isMetaClass(class_), "a class and its metaclass");
+    bool is_pair = class_isMetaClass(class_->isa) && !class_isMetaClass(class_);
+    __CPROVER_assert(is_pair, "a class and its metaclass");
     __CPROVER_assert(class_getSuperclass(class_) == above, "its superclass");
     return true;
 }
@@ -86,7 +88,8 @@ static bool list(void)
     int most = pick(3) - 1, count = objc_getClassList(into, most);
     int room = most < 0 ? 0 : most, standing = (int)shim_class_count;
     __CPROVER_assert(count == (room < standing ? room : standing), "as many as there is room for");
-    for (int i = 0; i < 4; i++) __CPROVER_assert(!into[i] == (i >= count), "they are written, and no more");
+    for (int i = 0; i < 4; i++)
+        __CPROVER_assert(!into[i] == (i >= count), "they are written, and no more");
     return true;
 }
 
@@ -94,9 +97,12 @@ static int one_run(void)
 {
     for (int i = 0; i < STEPS; i++) {
         int which = pick(4);
-        if (!(which == 0 ? allocate() : which == 1 ? register_one() : which == 2 ? dispose() : list())) return 0;
+        bool goes_on = which == 0 ? allocate() : which == 1 ? register_one()
+                     : which == 2 ? dispose() : list();
+        if (!goes_on) return 0;
     }
-    __CPROVER_assert(shim_class_count + in_construction <= shim_class_room, "numbers are kept for those in construction");
+    bool has_room = shim_class_count + in_construction <= shim_class_room;
+    __CPROVER_assert(has_room, "numbers are kept for those in construction");
     int standing = 0;
     for (int k = 0; k < many; k++) standing += !gone[k] && !registered[k];
     __CPROVER_assert((int)in_construction == standing, "as many as are in construction");

@@ -10,7 +10,8 @@
 #define LETTERS "{}()[]!bj^@?\"=,1ic_"
 static unsigned long long texts;
 
-#define MUST(is_so) do { if (!(is_so)) { printf("%s: not so: %s\n", text, #is_so); exit(1); } } while (0)
+#define MUST(is_so) \
+    do { if (!(is_so)) { printf("%s: not so: %s\n", text, #is_so); exit(1); } } while (0)
 
 static void call_all(const char *text, size_t length)
 {

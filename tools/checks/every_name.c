@@ -17,7 +17,10 @@ static const char *const types[] = {NULL, "v16@0:8", "v24@0:8", "i"};
 static const uintptr_t functions[] = {1, 2, 0x8000000000000001, 77};
 
 /* Of these types: but for the places. */
-static bool same(const char *one, const char *other) { return one == other || (one && other && *one == *other); }
+static bool same(const char *one, const char *other)
+{
+    return one == other || (one && other && *one == *other);
+}
 
 static SEL ask(int name, int type)
 {
@@ -34,10 +37,12 @@ static void ask_lists(int name)
     __CPROVER_assert(list ? count && !list[count] : !count, "a list ends by NULL");
     for (unsigned i = 0; i < count; i++)
         __CPROVER_assert(!strcmp(sel_getName(list[i]), texts[name]), "a list is of the name");
-    __CPROVER_assert(sel_get_any_uid(texts[name]) == (list ? list[0] : NULL), "the newest of a name");
+    SEL newest = list ? list[0] : NULL;
+    __CPROVER_assert(sel_get_any_uid(texts[name]) == newest, "the newest of a name");
     free(list);
     SEL typed = sel_getTypedSelector(texts[name]);
-    __CPROVER_assert(!typed || (typed->types && !strcmp(sel_getName(typed), texts[name])), "one with types");
+    bool is_typed = !typed || (typed->types && !strcmp(sel_getName(typed), texts[name]));
+    __CPROVER_assert(is_typed, "one with types");
 }
 
 static void ask_functions(void)

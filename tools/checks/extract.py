@@ -49,10 +49,11 @@ runtime = (root / "include/msg_runtime.h").read_text()
 process = (root / "include/msg_process.h").read_text()
 (out / "msg_process.h").write_text(swap(
     process,
-    ("    uint64_t said = note->count == count ? msg_said(note, key) : MSG_SAID_NONE;\n",
-     "    uint64_t cv_seal, cv_count; uint32_t cv_imp;\n    cv_loads(note, &cv_seal, &cv_count, &cv_imp);\n"
-     "    uint64_t said = cv_count == count ? key - cv_seal : MSG_SAID_NONE;\n"),
-    ("said == MSG_SAID_LONG ? note->imp : 0", "said == MSG_SAID_LONG ? cv_imp : 0"),
+    ("    uint64_t stamp = msg_process_stamp(note);\n"
+     "    uint64_t said = note->count >= stamp ? msg_said(note, key) : MSG_SAID_NONE;\n",
+     "    msg_note cv_note; uint64_t stamp;\n    cv_loads(note, &cv_note, &stamp);\n"
+     "    uint64_t said = cv_note.count >= stamp ? key - cv_note.seal : MSG_SAID_NONE;\n"),
+    ("said == MSG_SAID_LONG ? note->imp : 0", "said == MSG_SAID_LONG ? cv_note.imp : 0"),
     ("extern __thread __attribute__((tls_model(MSG_TLS)))", "extern")))
 
 source = (root / "process/msg_process.c").read_text().replace("__thread ", "")
@@ -69,20 +70,22 @@ head, body = source.split("static inline uint32_t take(", 1)
 (out / "msg_process.c").write_text(head + steps("static inline uint32_t take(" + body))
 
 seat = (root / "objc/seat.h").read_text()
-notes = seat[seat.index("static inline uint64_t shim_said_at("):seat.index("static inline uint32_t shim_note(Class")]
+notes = seat[seat.index("static inline uint64_t shim_said_at("):seat.index("#endif\n", seat.index("shim_note(Class"))]
 notes = notes.replace("    uint64_t key = __atomic_load_n(&class_->key, __ATOMIC_ACQUIRE) + sel->name.key;\n", "")
-notes = notes.replace("Class class_, SEL sel", "uint64_t key").replace("(count, class_, sel)", "(count, key)")
+notes = notes.replace(" __attribute__((unused)) =", " =")
+notes = notes.replace("Class class_, SEL sel", "uint64_t key").replace("class_, sel", "key")
 notes = re.sub(r"    MSG_TEST\(.*?;.*?\n", "", notes, flags=re.S)
-notes = re.sub(r"#ifdef __x86_64__\n.*?#else\n(.*?)#endif\n", r"\1", notes, flags=re.S)
+notes = re.sub(r"#ifdef __x86_64__.*?#else\n(.*?)#endif\n", r"\1", notes, flags=re.S)
 notes = swap(
     notes,
-    ("if (__builtin_expect(note->count != count, 0)) return UINT64_MAX;",
-     "if (__atomic_load_n(&note->count, 0) != count) return UINT64_MAX;"),
-    ("    uint64_t said = msg_said(note, key);", "    uint64_t said = key - __atomic_load_n(&note->seal, 0);"),
-    ("    bool is_of = note->count == count && msg_said(note, key) == MSG_SAID_LONG;\n"
-     "    uint32_t number = __atomic_load_n(&note->imp, __ATOMIC_RELAXED);\n",
-     "    uint64_t cv_seal, cv_count; uint32_t number;\n    cv_loads(note, &cv_seal, &cv_count, &number);\n"
-     "    bool is_of = cv_count == count && key - cv_seal == MSG_SAID_LONG;\n"),
-    ("__ATOMIC_RELAXED) == turns ? number", "__ATOMIC_RELAXED) == turns || IS_WEAK ? number"))
+    ("    uint64_t stamp = msg_process_stamp(note);\n"
+     "    if (__builtin_expect(note->count < stamp, 0)) return UINT64_MAX;",
+     "    uint64_t stamp; CV_STAMP_AND_COUNT(note, stamp);\n    if (cv_count < stamp) return UINT64_MAX;"),
+    ("    uint64_t said = msg_said(note, key);", "    uint64_t said = key - CV_SEAL(note);"),
+    ("    bool is_of = note->count >= msg_process_stamp(note) && msg_said(note, key) == said;\n"
+     "    *all = *note;\n",
+     "    uint64_t stamp;\n    cv_loads(note, all, &stamp);\n"
+     "    bool is_of = all->count >= stamp && key - all->seal == said;\n"),
+    ("return is_of && ", "return is_of && (IS_WEAK || "), ("__ATOMIC_RELAXED) == turns;", "__ATOMIC_RELAXED) == turns);"))
 assert "asm" not in notes and "class_" not in notes and "note->imp" not in notes, notes
 (out / "shim_note.h").write_text(notes)

@@ -3,6 +3,8 @@
  * Notes.antt and crates/msg_c/specs/Answers.antt, in 128 bits, where nothing wraps: they share no
  * line with the header. */
 int cv_lock(int *lock), cv_unlock(int *lock);
+#define __atomic_load_n(word, order) \
+    ({ __CPROVER_assert((order) == __ATOMIC_SEQ_CST, "as the library's own loads"); *(word); })
 #define MSG_LOCK_TYPE int
 #define MSG_LOCK(lock) cv_lock(lock)
 #define MSG_UNLOCK(lock) cv_unlock(lock)
@@ -27,17 +29,24 @@ static _Alignas(64) unsigned char bytes[sizeof(msg_sender)];
 static msg_note note_at(size_t at)
 {
     size_t from = 16 + 32 * at;
-    return (msg_note){LOAD(uint64_t, from), LOAD(uint64_t, from + 8), LOAD(uint32_t, from + 16), 0, 0};
+    return (msg_note){LOAD(uint64_t, from), LOAD(uint64_t, from + 8), LOAD(uint32_t, from + 16), 0,
+                      LOAD(uint64_t, from + 24)};
 }
+
+/* The shared words, of any values. The stamp of a note is one of them. */
+static _Alignas(8) unsigned char shared[8 * 16];
+#define WORDS ((const uint64_t *)(const void *)shared)
+static bool has_stamp(msg_note n) { return n.stamp % 8 == 0 && n.stamp < sizeof shared; }
+static uint64_t stamp_of(msg_note n) { return *(const uint64_t *)(const void *)&shared[n.stamp]; }
 
 /* `recalled` of Notes.antt, of a slot below 2^26, in terms of its key: keys_are_the_spec shows that
  * msg_key is key_of, and that place_of is of its low 16 bits. */
 #define NOTHING (~(nat)0) /* None */
 static msg_note noted(uint64_t key) { return note_at((key & 65535) / 32); }
-static nat recalled(uint64_t count, uint64_t key)
+static nat recalled(uint64_t since, uint64_t key)
 {
     msg_note n = noted(key);
-    return n.seal + mark_of(n.imp) == key && n.count >= count ? (nat)n.imp : NOTHING;
+    return n.seal + mark_of(n.imp) == key && n.count >= since ? (nat)n.imp : NOTHING;
 }
 static nat number_of_recalled(nat r) { return r == NOTHING ? 0 : r == 0 ? 4294967296u : r; }
 
@@ -62,7 +71,8 @@ void keys_are_the_spec(void)
     uint64_t key = msg_key(slot, sel);
     __CPROVER_assert((nat)key == key_of(slot, sel), "msg_key is key_of, without wrapping");
     __CPROVER_assert(IS_KEY(key), "a multiple of 32, and above all marks");
-    __CPROVER_assert((uint16_t)key == 32 * place_of(slot, sel), "its low 16 bits are where its note lies");
+    nat place = 32 * place_of(slot, sel);
+    __CPROVER_assert((uint16_t)key == place, "its low 16 bits are where its note lies");
     __CPROVER_assert(slot * MSG_KEY_OF_SLOT + msg_key(0, sel) == key, "it adds up");
 }
 void keys_are_one_to_one(void)
@@ -81,17 +91,17 @@ void keys_are_taken_apart(void)
     __CPROVER_assert(MSG_SEL_OF(key) == sel, "MSG_SEL_OF inverts");
 }
 
-/* ---- recalls: what the proved msg_recall answers, by its contract ---- */
+/* ---- recalls: what the proved msg_recall answers since the stamp, by its contract ---- */
 void recall_key_is_msg_recall(void)
 {
-    ANY(uint64_t, key); ANY(uint64_t, count); /* any key that msg_key may make, and more */
-    __CPROVER_assume(IS_KEY(key) && is_sealed(noted(key), key));
+    ANY(uint64_t, key); /* any key that msg_key may make, and more */
+    __CPROVER_assume(IS_KEY(key) && is_sealed(noted(key), key) && has_stamp(noted(key)));
     const unsigned char *place = (const unsigned char *)MSG_NOTE_OF(SENDER, key);
     __CPROVER_assert(place == bytes + 16 + 32 * ((key & 65535) / 32), "MSG_NOTE_OF is the place");
-    nat said = number_of_recalled(recalled(count, key));
-    uint32_t imp = msg_recall_key(SENDER, key, count);
+    nat said = number_of_recalled(recalled(stamp_of(noted(key)), key));
+    uint32_t imp = msg_recall_key(SENDER, WORDS, key);
     __CPROVER_assert(imp == (said == MSG_NOTED_NONE ? 0 : said), "msg_recall_key is msg_recall");
-    bool is_none = msg_recall_none_key(SENDER, key, count);
+    bool is_none = msg_recall_none_key(SENDER, WORDS, key);
     __CPROVER_assert(is_none == (said == MSG_NOTED_NONE), "msg_recall_none_key is NOTED_NONE");
 }
 /* One load of a seal tells of which lookup it is, and what it says of that. */
@@ -102,15 +112,17 @@ void a_seal_says_key_and_number(void)
     msg_note n = noted(key);
     uint64_t said = msg_said(&n, key);
     bool is_of = n.seal + mark_of(n.imp) == key;
-    __CPROVER_assert((said <= MSG_SAID_NONE) == is_of, "a small number, exactly where it is of the key");
+    bool is_small = said <= MSG_SAID_NONE;
+    __CPROVER_assert(is_small == is_of, "a small number, exactly where it is of the key");
     if (is_of) __CPROVER_assert(said == mark_of(n.imp), "what it says is the mark");
 }
 void recall_inline_is_by_key(void)
 {
     /* any slot: of 2^26 and more nothing is noted */
-    ANY(uint32_t, slot); ANY(uint32_t, sel); ANY(uint64_t, count);
-    uint32_t got = msg_recall_inline(SENDER, slot, sel, count);
-    uint32_t want = slot < 1 << 26 ? msg_recall_key(SENDER, msg_key(slot, sel), count) : 0;
+    ANY(uint32_t, slot); ANY(uint32_t, sel);
+    __CPROVER_assume(slot >= 1 << 26 || has_stamp(noted(msg_key(slot, sel))));
+    uint32_t got = msg_recall_inline(SENDER, WORDS, slot, sel);
+    uint32_t want = slot < 1 << 26 ? msg_recall_key(SENDER, WORDS, msg_key(slot, sel)) : 0;
     __CPROVER_assert(got == want, "msg_recall_inline is msg_recall_key, or 0");
 }
 /* A blank note satisfies what is assumed above, of each key, and so does a note that is kept: the
@@ -120,29 +132,33 @@ void notes_are_sealed(void)
     ANY(uint32_t, slot); ANY(uint32_t, sel); ANY(uint32_t, imp);
     __CPROVER_assume(slot < MSG_SLOTS);
     uint64_t key = msg_key(slot, sel);
-    __CPROVER_assert(is_sealed((msg_note){0, 0, 0, 0, 0}, key), "a blank note");
-    __CPROVER_assert(is_sealed((msg_note){key - mark_of(imp), 0, imp, 0, 0}, key), "one of the key");
+    msg_note blank = {0, 0, 0, 0, 0}, kept = {key - mark_of(imp), 0, imp, 0, 0};
+    __CPROVER_assert(is_sealed(blank, key) && has_stamp(blank), "a blank note");
+    __CPROVER_assert(is_sealed(kept, key), "one of the key");
 }
 /* Must fail: a note of another place may be just so much below the key. */
 void a_note_of_any_place(void)
 {
-    ANY(uint64_t, key); ANY(uint64_t, count);
-    __CPROVER_assume(IS_KEY(key));
-    nat said = number_of_recalled(recalled(count, key));
-    uint32_t imp = msg_recall_key(SENDER, key, count);
+    ANY(uint64_t, key);
+    __CPROVER_assume(IS_KEY(key) && has_stamp(noted(key)));
+    nat said = number_of_recalled(recalled(stamp_of(noted(key)), key));
+    uint32_t imp = msg_recall_key(SENDER, WORDS, key);
     __CPROVER_assert(imp == (said == MSG_NOTED_NONE ? 0 : said), "must fail");
 }
-/* No access outside: of a key that msg_key made, of whatever bytes. */
+/* No access outside: of a key that msg_key made, of whatever bytes whose stamp is a shared word. */
 void recall_reads_inside(void)
 {
-    ANY(uint32_t, slot); ANY(uint32_t, sel); ANY(uint64_t, count); ANY(bool, none);
+    ANY(uint32_t, slot); ANY(uint32_t, sel); ANY(bool, none);
 #ifdef ANY_KEY /* must fail: what is no multiple of 32 reads up to 31 bytes beyond */
     ANY(uint64_t, key);
 #else
     uint64_t key = msg_key(slot, sel); /* also of slots of 2^26 and more */
 #endif
-    if (none) msg_recall_none_key(SENDER, key, count);
-    else msg_recall_key(SENDER, key, count);
+#ifndef ANY_STAMP /* must fail: a stamp beyond the words */
+    __CPROVER_assume(has_stamp(noted(key)));
+#endif
+    if (none) msg_recall_none_key(SENDER, WORDS, key);
+    else msg_recall_key(SENDER, WORDS, key);
 }
 
 /* ---- msg_open, msg_report: the words that the library is given are the fields ---- */
@@ -153,7 +169,8 @@ uint32_t msg_open_words(msg_runtime *runtime, const uint32_t *config, size_t wor
     ANY(size_t, i); ANY(uint32_t, answer);
     __CPROVER_assert(words == 11, "as many words as fields");
     __CPROVER_assume(i < words);
-    uint32_t want = !given ? 0 : i == 0 ? given->classes : i == 1 ? given->senders : given->arrays[i - 2];
+    uint32_t want = !given ? 0 : i == 0 ? given->classes : i == 1 ? given->senders
+                  : given->arrays[i - 2];
     __CPROVER_assert(config[i] == want, "each word is its field");
     return answer;
 }
@@ -171,7 +188,8 @@ uint32_t msg_report_words(msg_runtime *runtime, uint64_t *words, size_t count)
     __CPROVER_assert(count == 17, "as many words as fields");
     __CPROVER_assume(i < count);
     words[i] = value;
-    uint64_t got = i == 0 ? row->fills : i == 1 ? row->growths : i == 2 ? row->flushes : i == 3 ? row->retired : i == 4 ? row->given_again : i == 5 ? row->collections
+    uint64_t got = i == 0 ? row->fills : i == 1 ? row->growths : i == 2 ? row->flushes
+                 : i == 3 ? row->retired : i == 4 ? row->given_again : i == 5 ? row->collections
                  : i == 6 ? row->freed : i < 16 ? row->no_array[i - 7] : row->refused_senders;
     __CPROVER_assert(got == value, "each word is its field");
     return answer;
@@ -190,13 +208,15 @@ static uint32_t probed, filled, first_imp;
 uint32_t msg_probe(msg_sender *s, uint32_t number, bool meta, uint32_t sel, uint32_t *imp)
 {
     ANY(uint32_t, answer); ANY(uint32_t, value);
-    __CPROVER_assume(answer == MSG_DONE || answer == MSG_MISSED || answer == MSG_CLOSED || answer == MSG_NO_CLASS || answer == MSG_NO_SELECTOR);
+    bool is_fault = answer == MSG_CLOSED || answer == MSG_NO_CLASS || answer == MSG_NO_SELECTOR;
+    __CPROVER_assume(answer == MSG_DONE || answer == MSG_MISSED || is_fault);
     if (answer == MSG_DONE) *imp = value; /* left: else it stays */
     probes++;
     probed = answer;
     return answer;
 }
-uint32_t msg_fill(msg_runtime *runtime, msg_sender *s, uint32_t number, bool meta, uint32_t sel, uint32_t *imp)
+uint32_t msg_fill(msg_runtime *runtime, msg_sender *s, uint32_t number, bool meta, uint32_t sel,
+                  uint32_t *imp)
 {
     ANY(uint32_t, answer); ANY(uint32_t, value);
     __CPROVER_assert(held == 1, "a fill is under the lock");
@@ -207,8 +227,19 @@ uint32_t msg_fill(msg_runtime *runtime, msg_sender *s, uint32_t number, bool met
     return answer;
 }
 static int lock_word;
-int cv_lock(int *lock) { __CPROVER_assert(lock == &lock_word && !held, "the host's lock, not held"); held = 1; locks++; return 0; }
-int cv_unlock(int *lock) { __CPROVER_assert(lock == &lock_word && held, "held"); held = 0; return 0; }
+int cv_lock(int *lock)
+{
+    __CPROVER_assert(lock == &lock_word && !held, "the host's lock, not held");
+    held = 1;
+    locks++;
+    return 0;
+}
+int cv_unlock(int *lock)
+{
+    __CPROVER_assert(lock == &lock_word && held, "held");
+    held = 0;
+    return 0;
+}
 void find_asks_in_order(void)
 {
     ANY(uint32_t, number); ANY(bool, meta); ANY(uint32_t, sel); ANY(uint32_t, imp);
@@ -217,7 +248,8 @@ void find_asks_in_order(void)
     held = probes = fills = locks = 0;
     uint32_t before = imp, answer = msg_find(&runtime, &lock_word, SENDER, number, meta, sel, &imp);
     __CPROVER_assert(!held, "the lock is given");
-    __CPROVER_assert(probes == 1 && fills == (probed == MSG_MISSED) && locks == fills, "one probe; a fill after a miss alone");
+    bool is_filled = fills == (probed == MSG_MISSED) && locks == fills;
+    __CPROVER_assert(probes == 1 && is_filled, "one probe; a fill after a miss alone");
     __CPROVER_assert(answer == (fills ? filled : probed) && answer != MSG_MISSED, "its answer");
     __CPROVER_assert(answer == MSG_DONE || imp == before, "nothing is written after a fault");
 }

@@ -1,8 +1,9 @@
 /* What is run of process/msg_process.c and the inline finds: one thread, up to SIGNALS handlers of
  * signals that come before any load or store (each may be interrupted itself, DEPTH deep), and
  * another thread that changes the tables step by step at any time. Sequentially consistent. The
- * library is a model: it says no more than its contracts (msg_refresh, msg_probe, msg_fill: what a
- * lookup finds at a count of changes that the sender has then seen). */
+ * library is a model: it says no more than its contracts (msg_probe, msg_fill: what a lookup finds
+ * at all changes, noted after as many as the stamp of the class says, or more; a change closes the
+ * stamps of what it reaches before it is made). */
 #include <stdatomic.h>
 #include <stdbool.h>
 #include <stdint.h>
@@ -25,12 +26,14 @@ static void other(bool all);
 #undef atomic_signal_fence
 #undef atomic_fetch_add
 #undef atomic_fetch_sub
-/* The other thread's steps commute with all but loads and stores of what it shares: the count, the
+/* The other thread's steps commute with all but loads and stores of what it shares: the stamps, the
  * lock, the library. */
-#define IS_SHARED(p) ((void *)(p) == (void *)&msg_process_changes.begun)
+static unsigned long words[3]; /* the count of changes, and the stamps of two classes */
+#define IS_SHARED(p) ((char *)(p) >= (char *)words && (char *)(p) < (char *)(words + 3))
 #define __atomic_load_n(p, order) (STEP(), IS_SHARED(p) ? other(false) : (void)0, *(p))
 #define __atomic_store_n(p, v, order) cv_store(p, v)
-#define __atomic_exchange_n(p, v, order) ({ STEP(); __typeof__(*(p)) cv_old = *(p); *(p) = (v); cv_old; })
+#define __atomic_exchange_n(p, v, order) \
+    ({ STEP(); __typeof__(*(p)) cv_old = *(p); *(p) = (v); cv_old; })
 #define atomic_load(p) (STEP(), *(p))
 #define atomic_store(p, v) cv_store(p, v)
 #define atomic_load_explicit(p, order) (STEP(), *(p))
@@ -53,7 +56,18 @@ static void other(bool all);
 #endif
 
 #include "msg_runtime.h"
-static void cv_loads(const msg_note *note, uint64_t *seal, uint64_t *count, uint32_t *imp);
+static void cv_loads(const msg_note *note, msg_note *all, uint64_t *stamp);
+static uint64_t cv_stamp_and_count(const msg_note *note, uint64_t *count);
+#ifdef EARLY /* must fail: the seal before the stamp */
+#define CV_STAMP_AND_COUNT(note, stamp) \
+    uint64_t cv_seal = __atomic_load_n(&note->seal, 0), cv_count; \
+    stamp = cv_stamp_and_count(note, &cv_count)
+#define CV_SEAL(note) cv_seal
+#else
+#define CV_STAMP_AND_COUNT(note, stamp) \
+    uint64_t cv_count; stamp = cv_stamp_and_count(note, &cv_count)
+#define CV_SEAL(note) __atomic_load_n(&note->seal, 0)
+#endif
 #ifdef WEAK /* must fail: a number by a load of its own */
 #define IS_WEAK 1
 #else
@@ -66,28 +80,66 @@ void cv_free(struct seat *);
 
 static struct { const char *what; long a, b; int depth; } trace[512]; static int traced;
 static int depth;
-#define SAY(w, x, y) (traced < 512 ? (void)(trace[traced].what = w, trace[traced].a = (long)(x), trace[traced].b = (long)(y), trace[traced++].depth = depth) : (void)0)
-void cv_show_trace(void) { for (int i = 0; i < traced; i++) printf("   %*s%s %ld %ld\n", 4 * trace[i].depth, "", trace[i].what, trace[i].a, trace[i].b); }
+#define SAY(w, x, y) \
+    (traced < 512 ? (void)(trace[traced].what = w, trace[traced].a = (long)(x), \
+                           trace[traced].b = (long)(y), trace[traced++].depth = depth) : (void)0)
+void cv_show_trace(void)
+{
+    for (int i = 0; i < traced; i++)
+        printf("   %*s%s %ld %ld\n", 4 * trace[i].depth, "", trace[i].what, trace[i].a, trace[i].b);
+}
 /* ---- the model of the library ---- */
 enum { A, B };
-#define KEY(i) msg_key(2, 1 + 2048 * (i)) /* of one place */
+#define KEY(i) msg_key(2 + 2 * (i), 1) /* of two classes, but of one place */
+#define CLOSED UINT64_MAX
 static uint64_t made;     /* changes that are made */
-static uint64_t finished; /* the count of them at the last unlock, in the order of all */
+static uint64_t finished; /* the count of them as the last call returned, in the order of all */
+/* Of so many changes the last that reached the class. */
+static uint64_t last_affected[ROUNDS + 2][2];
 static int holder;        /* of the lock: 0, 1 this thread, 2 the other */
-static uint64_t seen_by[3]; static bool opened[3], inside[3];
-static uint32_t answer_of(uint32_t key, uint64_t count) { return key == B && count == 1 ? 0 : 1 + key * 8 + (uint32_t)count; }
-static uint32_t index_of(uint32_t number, bool meta, uint32_t sel) { __CPROVER_assert(number == 1 && !meta && (sel == 1 || sel == 2049), "the parts of the key"); return sel / 2048; }
+static bool opened[3], inside[3];
+static uint32_t answer_of(uint32_t key, uint64_t count)
+{
+    uint64_t since = last_affected[count][key];
+    return key == B && since == 1 ? 0 : 1 + key * 8 + (uint32_t)since;
+}
+static uint32_t index_of(uint32_t number, bool meta, uint32_t sel)
+{
+    bool is_one = (number == 1 || number == 2) && !meta && sel == 1;
+    __CPROVER_assert(is_one, "the parts of the key");
+    return number - 1;
+}
+/* A change reaches the one class, or both. */
+static bool reaches_both;
+static void close_stamps(void)
+{
+    reaches_both = any_bool();
+    words[1 + A] = CLOSED;
+    if (reaches_both) words[1 + B] = CLOSED;
+}
+static void make_change(void)
+{
+    made++;
+    last_affected[made][A] = made;
+    last_affected[made][B] = reaches_both ? made : last_affected[made - 1][B];
+    words[0] = made;
+}
+static void open_stamp(uint32_t key) { if (words[1 + key] == CLOSED) words[1 + key] = made; }
 
 enum { SEATS = 3 };
 static struct seat pool[SEATS]; static int taken;
 #define WHICH(s) ((int)((struct seat *)(s) - pool))
 struct seat *cv_seat(void) { return taken == SEATS || any_refused() ? NULL : &pool[taken++]; }
-void cv_free(struct seat *seat) { __CPROVER_assert(!inside[seat - pool] && !opened[seat - pool], "freed when closed"); }
+void cv_free(struct seat *seat)
+{
+    __CPROVER_assert(!inside[seat - pool] && !opened[seat - pool], "freed when closed");
+}
 
 static void enter(const msg_sender *s)
 {
     other(false);
-    __CPROVER_assert((struct seat *)s >= pool && (struct seat *)s < pool + SEATS, "a sender of a seat");
+    const struct seat *seat = (struct seat *)s;
+    __CPROVER_assert(seat >= pool && seat < pool + SEATS, "a sender of a seat");
     __CPROVER_assert(opened[WHICH(s)], "that is open");
     __CPROVER_assert(!inside[WHICH(s)], "RULE 3: a sender is in one call at a time");
     inside[WHICH(s)] = true;
@@ -106,15 +158,14 @@ static void keep(msg_sender *s, uint32_t key, uint64_t count, uint32_t imp)
 {
     STEP(); s->notes[0].imp = imp;
     STEP(); s->notes[0].seal = KEY(key) - mark_of(imp);
-    STEP(); s->notes[0].count = count;
+    STEP(); s->notes[0].count = count; s->notes[0].stamp = 8 * (1 + key);
     SAY("noted: key, imp", key, imp);
 }
-uint32_t msg_change_count(msg_runtime *r, uint64_t *count) { __CPROVER_assert(holder == 1, "under the lock"); *count = made; return 0; }
 uint32_t msg_sender_open(msg_runtime *r, msg_sender *s)
 {
     __CPROVER_assert(holder == 1, "under the lock");
     if (any_refused()) return MSG_NO_SENDER;
-    opened[WHICH(s)] = true; seen_by[WHICH(s)] = made;
+    opened[WHICH(s)] = true;
     SAY("sender opened", WHICH(s), made);
     return 0;
 }
@@ -122,24 +173,27 @@ uint32_t msg_sender_close(msg_runtime *r, msg_sender *s)
 {
     __CPROVER_assert(holder == 1, "under the lock");
     __CPROVER_assert(!inside[WHICH(s)], "RULE 3: closed in no call");
-    opened[WHICH(s)] = false; s->notes[0].seal = 0; s->notes[0].count = 0; s->notes[0].imp = 0;
+    opened[WHICH(s)] = false; s->notes[0] = (msg_note){0};
     return 0;
 }
-uint32_t msg_refresh(msg_sender *s, uint64_t *count) { enter(s); seen_by[WHICH(s)] = made; leave(s); *count = seen_by[WHICH(s)]; return 0; }
 uint32_t msg_probe(msg_sender *s, uint32_t number, bool meta, uint32_t sel, uint32_t *imp)
 {
     uint32_t answer = MSG_MISSED, key = index_of(number, meta, sel);
     enter(s);
-    if (any_refused()) seen_by[WHICH(s)] = made; /* it may see more, too */
-    if (!any_refused()) { *imp = answer_of(key, seen_by[WHICH(s)]); keep(s, key, seen_by[WHICH(s)], *imp); answer = 0; }
+    if (words[1 + key] != CLOSED && !any_refused()) {
+        *imp = answer_of(key, made);
+        keep(s, key, any_refused() ? words[1 + key] : made, *imp);
+        answer = 0;
+    }
     leave(s);
     return answer;
 }
-uint32_t msg_fill(msg_runtime *r, msg_sender *s, uint32_t number, bool meta, uint32_t sel, uint32_t *imp)
+uint32_t msg_fill(msg_runtime *r, msg_sender *s, uint32_t number, bool meta, uint32_t sel,
+                  uint32_t *imp)
 {
     uint32_t key = index_of(number, meta, sel);
     __CPROVER_assert(holder == 1, "under the lock");
-    enter(s); seen_by[WHICH(s)] = made; *imp = answer_of(key, made); keep(s, key, made, *imp); leave(s);
+    enter(s); *imp = answer_of(key, made); keep(s, key, made, *imp); open_stamp(key); leave(s);
     return 0;
 }
 uint32_t msg_lookup(msg_runtime *r, uint32_t number, bool meta, uint32_t sel, uint32_t *imp)
@@ -149,17 +203,25 @@ uint32_t msg_lookup(msg_runtime *r, uint32_t number, bool meta, uint32_t sel, ui
     return 0;
 }
 uint32_t msg_open_words(msg_runtime *r, const uint32_t *c, size_t n) { return 0; }
+uint32_t msg_words(msg_runtime *r, const uint64_t **w) { *w = words; return 0; }
 
 /* ---- the other thread: takes the lock to change, and each of its stores may come at any time
  * ---- */
 static int state, rounds;
 static void other(bool all)
 {
-    if (state == 0 && holder == 0 && rounds < ROUNDS && !all && any_bool()) { holder = 2; msg_process_changes.begun = BEGUN; state = 1; }
-    /* made, or refused */
-    if (state == 1 && (all || any_bool())) { if (any_bool()) made++; state = 2; SAY("changes made by another thread", made, 0); }
-    if (state == 2 && (all || any_bool())) { msg_process_changes.begun = made; state = 3; }
-    if (state == 3 && (all || any_bool())) { holder = 0; finished = made; rounds++; state = 0; }
+    if (state == 0 && holder == 0 && rounds < ROUNDS && !all && any_bool()) {
+        holder = 2; close_stamps(); state = 1;
+    }
+    if (state == 1 && (all || any_bool())) {
+        make_change(); finished = made; state = 2;
+        SAY("changes made by another thread", made, reaches_both);
+    }
+    /* which may find something before it gives the lock */
+    if (state == 2 && (all || any_bool())) {
+        if (any_bool()) open_stamp(A);
+        holder = 0; rounds++; state = 0;
+    }
 }
 int pthread_mutex_lock(pthread_mutex_t *l)
 {
@@ -170,36 +232,57 @@ int pthread_mutex_lock(pthread_mutex_t *l)
     holder = 1;
     return 0;
 }
-int pthread_mutex_timedlock(pthread_mutex_t *l, const struct timespec *t) { return pthread_mutex_trylock(l); }
-int pthread_mutex_trylock(pthread_mutex_t *l) { STEP(); other(false); if (holder) return 16; holder = 1; return 0; }
-int pthread_mutex_unlock(pthread_mutex_t *l) { STEP(); __CPROVER_assert(holder == 1, "given by who has it"); holder = 0; finished = made; return 0; }
+int pthread_mutex_timedlock(pthread_mutex_t *l, const struct timespec *t)
+{
+    return pthread_mutex_trylock(l);
+}
+int pthread_mutex_trylock(pthread_mutex_t *l)
+{
+    STEP(); other(false);
+    if (holder) return 16;
+    holder = 1;
+    return 0;
+}
+int pthread_mutex_unlock(pthread_mutex_t *l)
+{
+    STEP(); __CPROVER_assert(holder == 1, "given by who has it");
+    holder = 0;
+    return 0;
+}
 int pthread_setspecific(pthread_key_t k, const void *v) { return any_refused(); }
 int pthread_key_create(pthread_key_t *k, void (*f)(void *)) { return 0; }
 int pthread_atfork(void (*a)(void), void (*b)(void), void (*c)(void)) { return 0; }
 int sched_yield(void) { return 0; }
 
-/* Plain loads, between two fences: in any order, as the compiler likes. */
-static void cv_loads(const msg_note *note, uint64_t *seal, uint64_t *count, uint32_t *imp)
+/* The loads before that of the seal: where the stamp lies, the stamp, and the count before or after
+ * them, as the compiler likes. */
+static uint64_t cv_stamp_and_count(const msg_note *note, uint64_t *count)
 {
-    bool has_seal = false, has_count = false, has_imp = false;
-    for (int i = 0; i < 3; i++) {
-        STEP();
-        if (!has_seal && (i == 2 || any_bool())) *seal = note->seal, has_seal = true;
-        else if (!has_count && (has_imp || i == 2 || any_bool())) *count = note->count, has_count = true;
-        else if (!has_imp) *imp = note->imp, has_imp = true;
-        else *count = note->count, has_count = true;
-    }
-    if (!has_seal) *seal = note->seal;
-    if (!has_count) *count = note->count;
-    if (!has_imp) *imp = note->imp;
+    bool is_early = any_bool();
+    if (is_early) { STEP(); *count = note->count; }
+    STEP();
+    uint64_t at = note->stamp, stamp = __atomic_load_n((unsigned long *)((char *)words + at), 0);
+    if (!is_early) { STEP(); *count = note->count; }
+    return stamp;
+}
+/* And the number, which may be loaded at any time. */
+static void cv_loads(const msg_note *note, msg_note *all, uint64_t *stamp)
+{
+    bool is_early = any_bool();
+    if (is_early) { STEP(); all->imp = note->imp; }
+    *stamp = cv_stamp_and_count(note, &all->count);
+    STEP(); all->seal = note->seal;
+    if (!is_early) { STEP(); all->imp = note->imp; }
 }
 
 /* ---- what is claimed ---- */
 static void is_right(uint32_t key, uint64_t least, uint32_t imp, const char *unused)
 {
     bool is_so = false;
-    for (uint64_t c = 0; c <= ROUNDS + 1; c++) is_so = is_so || (least <= c && c <= made && imp == answer_of(key, c));
-    __CPROVER_assert(is_so, "RIGHT: an answer of a count that had been reached, and of no finished change before the call");
+    for (uint64_t c = 0; c <= ROUNDS + 1; c++)
+        is_so = is_so || (least <= c && c <= made && imp == answer_of(key, c));
+    __CPROVER_assert(is_so, "RIGHT: an answer of a count that had been reached, and of no finished "
+                            "change before the call");
 }
 #ifdef ONE_KEY
 #define any_key() A
@@ -217,8 +300,10 @@ static void finds(bool in_handler)
 #endif
     other(false);
     SAY("find of key: waits", key, waits);
-    uint32_t fault = waits ? msg_process_find_key(KEY(key), &imp) : msg_process_find_slowly(KEY(key), MSG_WAITS_NOT, &imp);
-    __CPROVER_assert(fault == MSG_DONE || (fault == MSG_LOCK_HELD && (in_handler || holder == 1)), "it answers");
+    uint32_t fault = waits ? msg_process_find_key(KEY(key), &imp)
+                           : msg_process_find_slowly(KEY(key), MSG_WAITS_NOT, &imp);
+    bool may_be_held = in_handler || holder == 1;
+    __CPROVER_assert(fault == MSG_DONE || (fault == MSG_LOCK_HELD && may_be_held), "it answers");
     SAY("found: fault, imp", fault, imp);
     if (!fault) is_right(key, least, imp, "");
 }
@@ -230,16 +315,17 @@ static void shim_sends(void)
     uint64_t least = finished;
     other(false);
     SAY("send of key", key, 0);
-    uint32_t said = shim_note_at(__atomic_load_n(&msg_process_changes.begun, __ATOMIC_ACQUIRE), KEY(key), &imp);
-    SAY("note says (0 method, 1 none), imp", said, imp);
-    if (said == METHOD || said == NO_METHOD) is_right(key, least, said == METHOD ? imp : 0, "");
+    bool says = shim_note(KEY(key), &imp);
+    SAY("a note says it, imp", says, imp);
+    if (says) is_right(key, least, imp, "");
     /* shim_find of objc/runtime.c: a handler that interrupts it doesn't wait, and where the lock
      * is held it asks the rows, which aren't in this model */
     else {
         STEP();
         bool waits = !cv_finds;
         STEP(); cv_finds = true;
-        uint32_t fault = msg_process_find_slowly(KEY(key), waits ? MSG_WAITS_A_WHILE : MSG_WAITS_NOT, &imp);
+        unsigned how = waits ? MSG_WAITS_A_WHILE : MSG_WAITS_NOT;
+        uint32_t fault = msg_process_find_slowly(KEY(key), how, &imp);
         STEP(); cv_finds = !waits;
         if (!fault) is_right(key, least, imp, "");
         else __CPROVER_assert(fault == MSG_LOCK_HELD, "it answers");
@@ -266,16 +352,15 @@ static void STEP(void)
 static int one_run(void)
 {
     started = true;
-    made = finished = 0;
-    msg_process_changes.begun = 0;
 #if defined SHIM
     if (any_bool()) msg_process_spare();
     shim_sends(); shim_sends();
 #elif defined CHANGES /* the thread changes the tables itself, with msg_process_cache */
     msg_runtime *r; uint32_t imp = 77;
     finds(false);
-    if (!msg_process_lock_to_change(&r)) {
-        STEP(); if (any_bool()) made++;
+    if (!msg_process_lock(&r)) {
+        STEP(); close_stamps();
+        STEP(); make_change(); finished = made;
         msg_process_cache(KEY(A));
         STEP();
         msg_process_unlock();
@@ -291,20 +376,24 @@ static int one_run(void)
 #endif
     __CPROVER_assert(seats == own && (!own || !own->next), "a thread has one sender");
     __CPROVER_assert(taken <= 1 + spare_most, "and opens no more than one, and spare ones");
-    __CPROVER_assert(!own || msg_process_own.sender == &own->sender, "a thread goes on to use its sender");
-    __CPROVER_assert(!inside[0] && !inside[1] && !inside[2] && !holds && holder != 1, "at the end nothing is held");
+    bool is_shown = !own || msg_process_own.sender == &own->sender;
+    __CPROVER_assert(is_shown, "a thread goes on to use its sender");
+    bool is_out = !inside[0] && !inside[1] && !inside[2];
+    __CPROVER_assert(is_out && !holds && holder != 1, "at the end nothing is held");
     return 0;
 }
 
 /* All that a run writes, put back before the next. */
 static void afresh(void)
 {
-    msg_process_changes = (struct msg_process_count){.begun = BEGUN};
+    msg_process_words.at = words;
+    memset(words, 0, sizeof words); memset(last_affected, 0, sizeof last_affected);
     nobody = (msg_sender){0};
     msg_process_own = (struct msg_process_thread){.sender = &nobody};
     runtime = (msg_runtime){0}; seats = spares = NULL; own = NULL;
     forks = spare_count = spare_most = stood = 0; holds = tried = kept = still = cv_finds = false;
     made = finished = 0; holder = 0; taken = state = rounds = depth = signals = 0;
-    memset(seen_by, 0, sizeof seen_by); memset(opened, 0, sizeof opened); memset(inside, 0, sizeof inside); memset(pool, 0, sizeof pool); traced = 0;
+    memset(opened, 0, sizeof opened); memset(inside, 0, sizeof inside);
+    memset(pool, 0, sizeof pool); traced = 0;
 }
 int main(int argc, char **argv) { return every_choice(argc, argv, afresh, one_run); }

@@ -72,7 +72,6 @@ class Calls(unittest.TestCase):
                 self.assertEqual(imp, sender.find(of, selector))
             runtime.change_all([])
             self.assertEqual((5, 5, 5), (runtime.change_count, sender.find(CHILDREN, VALUE), sender.recall(CHILDREN, VALUE, 5)))
-            self.assertEqual(5, runtime._shared.begun, "else no note would be found any more")
 
     def test_the_way_back(self):
         with self.opened() as runtime, runtime.sender() as sender:
@@ -109,7 +108,6 @@ class Calls(unittest.TestCase):
                 self.assertEqual(place, caught.exception.place)
             self.assertRaises(OverflowError, runtime.change_all, [first, Change.add(CHILDREN, TAKE, 2**32)])
             self.assertEqual((4, 1, 1), (runtime.change_count, sender.find(CHILDREN, VALUE), sender.recall(CHILDREN, VALUE, 4)))
-            self.assertEqual(4, runtime._shared.begun)
             runtime.close()
             for changes in ([first], []):
                 with self.assertRaises(yeldrost.Closed) as caught:
@@ -139,10 +137,10 @@ class Calls(unittest.TestCase):
             self.assertEqual((1, 1), (sender.probe(CHILDREN, VALUE), sender.recall(CHILDREN, VALUE, 4)))
             self.assertEqual((4, None), (sender.find(CHILD_ITSELF, NEW), sender.find(CHILDREN, TAKE)))
             runtime.replace(CHILDREN, VALUE, 5)
-            self.assertEqual(5, sender.find_seen(CHILDREN, VALUE))
+            self.assertIsNone(sender.recall(CHILDREN, VALUE, sender.stamp(CHILDREN)))
             self.assertEqual(5, sender.find(CHILDREN, VALUE))
             runtime.replace(CHILDREN, VALUE, 6)
-            self.assertEqual((6, 6), (sender.refresh(), sender.find_seen(CHILDREN, VALUE)))
+            self.assertEqual((6, 6), (sender.refresh(), sender.find(CHILDREN, VALUE)))
             sender.meet()
             self.assertRaises(yeldrost.NoClass, sender.find, instances_of(2**32 - 1), VALUE)
             self.assertRaises(yeldrost.NoSelector, sender.find, CHILDREN, 0)

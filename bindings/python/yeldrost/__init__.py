@@ -118,7 +118,6 @@ class _Shared:
         self.library = _library.load(holds_gil)
         self.handle = _header.msg_runtime()
         self.lock = threading.RLock()
-        self.begun = 0  # how many changes were made or begun
         words = ctypes.cast(ctypes.byref(config), ctypes.POINTER(ctypes.c_uint32))
         _must(self.library.msg_open_words(self.handle, words, ctypes.sizeof(config) // 4))
         weakref.finalize(self, self.library.msg_close, self.handle)
@@ -169,19 +168,10 @@ class Runtime:
         _must(answer)
         return told
 
-    def _change(self, name, *words):
-        _must(self._answer(1, name, *words))
-
-    def _answer(self, changes, name, *words):
-        """No sender goes by a note from before, once the change has begun. `changes`: 1, or 0 for
-        what changes nothing."""
+    def _answer(self, name, *words):
         shared = self._shared
         with shared.lock:
-            shared.begun += changes
-            answer = getattr(shared.library, name)(shared.handle, *words)
-            if answer:
-                shared.begun -= changes
-        return answer
+            return getattr(shared.library, name)(shared.handle, *words)
 
     @property
     def class_count(self):
@@ -218,37 +208,37 @@ class Runtime:
 
     def make_root_class(self, number):
         _checked(number)
-        self._change("msg_make_root_class", number)
+        self._call("msg_make_root_class", number)
 
     def make_class(self, number, superclass):
         _checked(number, superclass)
-        self._change("msg_make_class", number, superclass)
+        self._call("msg_make_class", number, superclass)
 
     def add(self, to, selector, imp):
         """Adds a method that the class doesn't have of its own."""
         _checked(to[0], selector, imp)
-        self._change("msg_add", *to, selector, imp)
+        self._call("msg_add", *to, selector, imp)
 
     def replace(self, of, selector, imp):
         """Replaces the class's own method, or adds it."""
         _checked(of[0], selector, imp)
-        self._change("msg_replace", *of, selector, imp)
+        self._call("msg_replace", *of, selector, imp)
 
     def set_imp(self, of, selector, imp):
         """Sets the implementation of the method that a lookup finds, wherever it stands."""
         _checked(of[0], selector, imp)
-        self._change("msg_set_imp", *of, selector, imp)
+        self._call("msg_set_imp", *of, selector, imp)
 
     def exchange(self, of, selector, other, other_selector):
         """Exchanges the implementations of the methods that two lookups find, in one step."""
         _checked(of[0], selector, other[0], other_selector)
-        self._change("msg_exchange", *of, selector, *other, other_selector)
+        self._call("msg_exchange", *of, selector, *other, other_selector)
 
     def attach(self, number, methods=(), class_methods=()):
         """Attaches pairs of a selector and an implementation, as a category does: before those that
         are there."""
         _checked(number)
-        self._change("msg_attach", number, *_methods(methods), *_methods(class_methods))
+        self._call("msg_attach", number, *_methods(methods), *_methods(class_methods))
 
 
     def change_all(self, changes):
@@ -257,7 +247,7 @@ class Runtime:
         nothing has changed, and the fault that is raised has its `place`."""
         rows, count = _changes(changes)
         place = ctypes.c_size_t()
-        answer = self._answer(min(1, count), "msg_change_all", rows, count, ctypes.byref(place))
+        answer = self._answer("msg_change_all", rows, count, ctypes.byref(place))
         _must_at(answer, place)
 
     def change_all_with_undo(self, changes):
@@ -266,7 +256,7 @@ class Runtime:
         made."""
         rows, count = _changes(changes)
         undo, undone, place = (_header.msg_change * (2 * count + 1))(), ctypes.c_size_t(), ctypes.c_size_t()
-        answer = self._answer(min(1, count), "msg_change_all_with_undo", rows, count, undo, len(undo), ctypes.byref(undone), ctypes.byref(place))
+        answer = self._answer("msg_change_all_with_undo", rows, count, undo, len(undo), ctypes.byref(undone), ctypes.byref(place))
         _must_at(answer, place)
         back = [Change(*(getattr(it, name) for name, _ in it._fields_)) for it in undo[: undone.value]]
         return back if back or not count else None
@@ -342,16 +332,8 @@ class Sender:
             raise RuntimeError("a sender of another thread: open one for each, or let this one adopt it")
 
     def find(self, of, selector):
-        """The implementation by all changes that returned before; None is forwarding."""
-        return self.recall(of, selector, self._shared.begun) or self._find_now(of, selector)
-
-    def _find_now(self, of, selector):
-        self.refresh()
-        return self.find_seen(of, selector)
-
-    def find_seen(self, of, selector):
-        """The same, at what the sender has then seen: no older than what it found before, and maybe
-        no newer. A probe, and after a miss a fill under the lock."""
+        """The implementation by all changes that returned before; None is forwarding. A probe, and
+        after a miss a fill under the lock."""
         found = self._probe(of, selector)
         if found == _MISSED:
             return self.fill(of, selector)
@@ -402,17 +384,17 @@ class Sender:
         _must(self._shared.library.msg_stamp(self._at, of[0], of[1], ctypes.byref(count)))
         return count.value
 
-    def recall(self, of, selector, count):
+    def recall(self, of, selector, since):
         """What is noted after so many changes or more; None where nothing is, or where no method is found."""
         self._own()
         _checked(of[0], selector)
-        return self._shared.library.msg_recall(self._at, 2 * of[0] + of[1], selector, count) % _header.NOTED_NONE or None
+        return self._shared.library.msg_recall(self._at, 2 * of[0] + of[1], selector, since) % _header.NOTED_NONE or None
 
-    def recalls_none(self, of, selector, count):
-        """Whether it is noted that after so many changes no method is found."""
+    def recalls_none(self, of, selector, since):
+        """Whether it is noted that after so many changes or more no method is found."""
         self._own()
         _checked(of[0], selector)
-        return self._shared.library.msg_recall(self._at, 2 * of[0] + of[1], selector, count) == _header.NOTED_NONE
+        return self._shared.library.msg_recall(self._at, 2 * of[0] + of[1], selector, since) == _header.NOTED_NONE
 
 
 class Texts:

@@ -7,7 +7,7 @@ NOTED_NONE = 1 << 32
 
 
 class msg_note(c.Structure):
-    _fields_ = [("seal", c.c_uint64), ("count", c.c_uint64), ("imp", c.c_uint32), ("spare", c.c_uint32), ("spared", c.c_uint64)]
+    _fields_ = [("seal", c.c_uint64), ("count", c.c_uint64), ("imp", c.c_uint32), ("spare", c.c_uint32), ("stamp", c.c_uint64)]
 
 
 class msg_runtime(c.Structure):
@@ -107,6 +107,7 @@ CALLS = {
     "msg_change_all": (_answer, (_runtime, _changes, c.c_size_t, _size)),
     "msg_change_all_with_undo": (_answer, (_runtime, _changes, c.c_size_t, _changes, c.c_size_t, _size, _size)),
     "msg_reach": (_answer, (_runtime, _changes, c.c_size_t, c.POINTER(c.c_bool), c.c_size_t, _size)),
+    "msg_words": (_answer, (_runtime, c.POINTER(_told64))),
     "msg_sender_open": (_answer, (_runtime, _sender)),
     "msg_sender_close": (_answer, (_runtime, _sender)),
     "msg_fill": (_answer, (_runtime, _sender, _number, _meta, _selector, _told32)),
@@ -130,10 +131,11 @@ INLINE = {
     "msg_open": "Runtime",
     "msg_report": "Runtime.report",
     "msg_fault_text": "Fault",
-    "msg_find": "Sender.find_seen",
+    "msg_find": "Sender.find",
     "msg_key": "Sender.recall",
     "msg_said": "Sender.recall",
     "msg_slot": "Sender.recall",
+    "msg_stamp_of": "Sender.stamp",
     "msg_recall_key": "Sender.recall",
     "msg_recall_none_key": "Sender.recalls_none",
     "msg_recall_inline": "Sender.recall",

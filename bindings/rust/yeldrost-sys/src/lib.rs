@@ -3,6 +3,7 @@
 #![no_std]
 #![allow(non_camel_case_types)]
 use core::ffi::c_void;
+use core::sync::atomic::{AtomicU64, Ordering};
 
 pub const MSG_NOTES: usize = 2048;
 /// Of slots below this keys are one to one.
@@ -17,7 +18,7 @@ pub struct msg_note {
     pub count: u64,
     pub imp: u32,
     pub spare: u32,
-    pub spared: u64,
+    pub stamp: u64,
 }
 
 #[repr(C)]
@@ -212,6 +213,7 @@ extern "C" {
         room: usize,
         place: *mut usize,
     ) -> u32;
+    pub fn msg_words(runtime: *mut msg_runtime, words: *mut *const u64) -> u32;
     pub fn msg_sender_open(runtime: *mut msg_runtime, sender: *mut msg_sender) -> u32;
     pub fn msg_sender_close(runtime: *mut msg_runtime, sender: *mut msg_sender) -> u32;
     pub fn msg_fill(
@@ -225,7 +227,7 @@ extern "C" {
     pub fn msg_meet(runtime: *mut msg_runtime, sender: *mut msg_sender) -> u32;
     pub fn msg_version() -> u32;
     pub fn msg_sender_size() -> usize;
-    pub fn msg_recall(sender: *const msg_sender, slot: usize, sel: u32, count: u64) -> usize;
+    pub fn msg_recall(sender: *const msg_sender, slot: usize, sel: u32, since: u64) -> usize;
     pub fn msg_probe(
         sender: *mut msg_sender,
         number: u32,
@@ -333,15 +335,26 @@ pub unsafe fn msg_said(note: *const msg_note, key: u64) -> u64 {
     key.wrapping_sub((*note).seal)
 }
 
-/// What is noted of a key after so many changes, without a call; 0 where nothing is, or forwarding.
+/// The stamp of the class that a note is of, by one load of a shared word: no change after so many has affected it.
 ///
 /// # Safety
-/// The sender is one, and in no call.
+/// The note is of a sender of the runtime whose words these are (`msg_words`), and one of them is open.
 #[inline]
-pub unsafe fn msg_recall_key(sender: *const msg_sender, key: u64, count: u64) -> u32 {
+pub unsafe fn msg_stamp_of(words: *const u64, note: *const msg_note) -> u64 {
+    let stamp = words.byte_add((*note).stamp as usize);
+    (*stamp.cast::<AtomicU64>()).load(Ordering::SeqCst)
+}
+
+/// What is noted of a key since the stamp of its class, without a call; 0 where nothing is, or forwarding.
+///
+/// # Safety
+/// The sender is open and in no call, and the words are its runtime's.
+#[inline]
+pub unsafe fn msg_recall_key(sender: *const msg_sender, words: *const u64, key: u64) -> u32 {
     let note = note_of(sender, key);
+    let stamp = msg_stamp_of(words, note);
     match msg_said(note, key) {
-        _ if (*note).count != count => 0,
+        _ if (*note).count < stamp => 0,
         SAID_LONG => (*note).imp,
         said if said < SAID_LONG => said as u32,
         _ => 0,
@@ -351,21 +364,27 @@ pub unsafe fn msg_recall_key(sender: *const msg_sender, key: u64, count: u64) ->
 /// Whether it is noted that there is no method.
 ///
 /// # Safety
-/// The sender is one, and in no call.
+/// The sender is open and in no call, and the words are its runtime's.
 #[inline]
-pub unsafe fn msg_recall_none_key(sender: *const msg_sender, key: u64, count: u64) -> bool {
+pub unsafe fn msg_recall_none_key(sender: *const msg_sender, words: *const u64, key: u64) -> bool {
     let note = note_of(sender, key);
-    (*note).count == count && msg_said(note, key) == SAID_NONE
+    let stamp = msg_stamp_of(words, note);
+    (*note).count >= stamp && msg_said(note, key) == SAID_NONE
 }
 
 /// The same, of a slot and a selector.
 ///
 /// # Safety
-/// The sender is one, and in no call.
+/// The sender is open and in no call, and the words are its runtime's.
 #[inline]
-pub unsafe fn msg_recall_inline(sender: *const msg_sender, slot: u32, sel: u32, count: u64) -> u32 {
+pub unsafe fn msg_recall_inline(
+    sender: *const msg_sender,
+    words: *const u64,
+    slot: u32,
+    sel: u32,
+) -> u32 {
     if slot < SLOTS {
-        msg_recall_key(sender, msg_key(slot, sel), count)
+        msg_recall_key(sender, words, msg_key(slot, sel))
     } else {
         0
     }

@@ -29,11 +29,10 @@ pub use change::{Change, Refused};
 pub use fault::Fault;
 pub use locked::Locked;
 pub use sender::Sender;
-pub use texts::Texts;
 use std::num::NonZeroU32;
-use std::sync::atomic::AtomicU64;
 use std::sync::{Arc, Mutex, MutexGuard, PoisonError};
 pub use sys::{msg_config as Config, msg_report_row as Report};
+pub use texts::Texts;
 use yeldrost_sys as sys;
 
 /// A selector's number, from 1, which the caller gives.
@@ -93,9 +92,17 @@ pub struct Method {
 #[derive(Debug)]
 struct Shared {
     handle: Mutex<Handle>,
-    /// How many changes were made or begun.
-    begun: AtomicU64,
+    /// The shared words, which lie there as long as the runtime or a sender is open.
+    words: Words,
 }
+
+/// A sender's recall loads them.
+#[derive(Debug)]
+struct Words(*const u64);
+
+// SAFETY: they are loaded atomically.
+unsafe impl Send for Words {}
+unsafe impl Sync for Words {}
 
 struct Handle(sys::msg_runtime);
 
@@ -139,9 +146,12 @@ impl Runtime {
         let mut handle = sys::MSG_RUNTIME_INIT;
         // SAFETY: a closed handle and a config.
         Fault::of(unsafe { sys::msg_open(&mut handle, &config) })?;
+        let mut words = std::ptr::null();
+        // SAFETY: an open handle.
+        Fault::of(unsafe { sys::msg_words(&mut handle, &mut words) })?;
         Ok(Runtime(Arc::new(Shared {
             handle: Mutex::new(Handle(handle)),
-            begun: AtomicU64::new(0),
+            words: Words(words),
         })))
     }
 

@@ -1,7 +1,6 @@
 use crate::{
     Change, ClassRef, Fault, Handle, Imp, Method, Refused, Report, Selector, Sender, Shared,
 };
-use std::sync::atomic::Ordering;
 use std::sync::{Arc, MutexGuard};
 use yeldrost_sys as sys;
 
@@ -174,18 +173,10 @@ impl<'r> Locked<'r> {
     pub fn change_all(&mut self, changes: &[Change]) -> Result<&mut Self, Refused> {
         let rows: Vec<sys::msg_change> = changes.iter().map(|it| it.row()).collect();
         let mut place = 0;
-        let mut made = |runtime: *mut sys::msg_runtime| unsafe {
+        let made = |runtime: *mut sys::msg_runtime| unsafe {
             sys::msg_change_all(runtime, rows.as_ptr(), rows.len(), &mut place)
         };
-        // an empty list is no change
-        let answer = if rows.is_empty() {
-            Fault::of(made(&mut self.handle.0))
-        } else {
-            self.change(made).map(|_| ())
-        };
-        answer
-            .map(|()| self)
-            .map_err(|fault| Refused::of(fault, place))
+        self.change(made).map_err(|fault| Refused::of(fault, place))
     }
 
     /// As [`change_all`](Locked::change_all), and answers what takes the changes back if it is made as one directly
@@ -197,7 +188,7 @@ impl<'r> Locked<'r> {
         let rows: Vec<sys::msg_change> = changes.iter().map(|it| it.row()).collect();
         let mut undo = vec![sys::msg_change::default(); 2 * rows.len()];
         let (mut undone, mut place) = (0, 0);
-        let mut made = |runtime: *mut sys::msg_runtime| unsafe {
+        let made = |runtime: *mut sys::msg_runtime| unsafe {
             let (undo, room) = (undo.as_mut_ptr(), undo.len());
             sys::msg_change_all_with_undo(
                 runtime,
@@ -209,13 +200,8 @@ impl<'r> Locked<'r> {
                 &mut place,
             )
         };
-        // an empty list is no change
-        let answer = if rows.is_empty() {
-            Fault::of(made(&mut self.handle.0))
-        } else {
-            self.change(made).map(|_| ())
-        };
-        answer.map_err(|fault| Refused::of(fault, place))?;
+        self.change(made)
+            .map_err(|fault| Refused::of(fault, place))?;
         if undone == 0 && !rows.is_empty() {
             return Ok(None);
         }
@@ -226,9 +212,7 @@ impl<'r> Locked<'r> {
     /// references and no others. It takes memory for all class numbers.
     pub fn reach(&mut self, changes: &[Change]) -> Result<Vec<ClassRef>, Refused> {
         let rows: Vec<sys::msg_change> = changes.iter().map(|it| it.row()).collect();
-        let classes = self
-            .class_count()
-            .map_err(|fault| Refused::of(fault, 0))?;
+        let classes = self.class_count().map_err(|fault| Refused::of(fault, 0))?;
         let mut reached = vec![false; 2 * classes as usize];
         let mut place = 0;
         Fault::of(unsafe {
@@ -279,42 +263,10 @@ impl<'r> Locked<'r> {
         Fault::of(unsafe { sys::msg_meet(&mut self.handle.0, raw) })
     }
 
-    /// No sender goes by a note from before, once the change has begun.
     fn change(
         &mut self,
         made: impl FnOnce(*mut sys::msg_runtime) -> u32,
     ) -> Result<&mut Self, Fault> {
-        let before = self.shared.begun.load(Ordering::Relaxed);
-        self.shared.begun.store(before + 1, Ordering::Release);
-        let answer = Fault::of(made(&mut self.handle.0));
-        if answer.is_err() {
-            self.shared.begun.store(before, Ordering::Release);
-        }
-        answer.map(|()| self)
-    }
-}
-
-#[cfg(test)]
-mod tests {
-    use crate::{Change, Config, Runtime};
-    use std::sync::atomic::Ordering;
-
-    /// Else no note would be found any more, and each send would be slow.
-    #[test]
-    fn what_was_begun_is_the_count_of_changes() {
-        let runtime = Runtime::open(Config::default()).unwrap();
-        let root = |number| Change::MakeRootClass { number };
-        let lists: [&[Change]; 5] = [
-            &[root(0)],
-            &[],
-            &[root(1), root(0)],
-            &[],
-            &[root(1), root(2)],
-        ];
-        for (list, made) in lists.into_iter().zip([1, 1, 1, 1, 2]) {
-            let _ = runtime.lock().change_all(list);
-            assert_eq!(Ok(made), runtime.lock().change_count());
-            assert_eq!(made, runtime.0.begun.load(Ordering::Relaxed));
-        }
+        Fault::of(made(&mut self.handle.0)).map(|()| self)
     }
 }

@@ -1,6 +1,5 @@
 use crate::{ClassRef, Fault, Imp, Selector, Shared};
 use std::alloc::{alloc_zeroed, handle_alloc_error, Layout};
-use std::sync::atomic::Ordering;
 use std::sync::Arc;
 use yeldrost_sys as sys;
 
@@ -22,7 +21,7 @@ pub struct Sender {
 unsafe impl Send for Sender {}
 
 // SAFETY of the calls below: the handle is of msg_sender_open, in no other call (`&mut`), of the runtime that it is
-// given with, and the runtime's handle is under its lock.
+// given with, whose words lie there since the sender is open, and the runtime's handle is under its lock.
 impl Sender {
     pub(crate) fn of(shared: &Arc<Shared>) -> Result<Sender, Fault> {
         let mut raw = closed();
@@ -36,22 +35,15 @@ impl Sender {
     /// The implementation by all changes that returned before; none is forwarding.
     #[inline]
     pub fn find(&mut self, of: ClassRef, selector: Selector) -> Result<Option<Imp>, Fault> {
-        let begun = self.shared.begun.load(Ordering::Acquire);
-        match self.recall(of, selector, begun) {
-            None => self.find_slowly(of, selector),
+        match self.recall(of, selector) {
+            None => self.find_called(of, selector),
             noted => Ok(noted),
         }
     }
 
+    /// The same by calls: a probe, and after a miss a fill under the lock.
     #[cold]
-    fn find_slowly(&mut self, of: ClassRef, selector: Selector) -> Result<Option<Imp>, Fault> {
-        self.refresh()?;
-        self.find_seen(of, selector)
-    }
-
-    /// The same, at what the sender has then seen: no older than what it found before, and maybe no newer. A probe,
-    /// and after a miss a fill under the lock.
-    pub fn find_seen(&mut self, of: ClassRef, selector: Selector) -> Result<Option<Imp>, Fault> {
+    pub fn find_called(&mut self, of: ClassRef, selector: Selector) -> Result<Option<Imp>, Fault> {
         let mut imp = 0;
         let (number, meta, sel) = (of.number, of.meta, selector.get());
         let mut answer = unsafe { sys::msg_probe(&mut *self.raw, number, meta, sel, &mut imp) };
@@ -78,10 +70,12 @@ impl Sender {
         Ok(Fault::or_none(answer, ())?.map(|()| Imp::new(imp)))
     }
 
-    /// What is noted after so many changes, without a call. Nothing where none is, or where no method is found.
+    /// What is noted since the stamp of the class reference, without a call. Nothing where none is, or where no method
+    /// is found.
     #[inline]
-    pub fn recall(&self, of: ClassRef, selector: Selector, count: u64) -> Option<Imp> {
-        let noted = unsafe { sys::msg_recall_inline(&*self.raw, of.slot(), selector.get(), count) };
+    pub fn recall(&self, of: ClassRef, selector: Selector) -> Option<Imp> {
+        let words = self.shared.words.0;
+        let noted = unsafe { sys::msg_recall_inline(&*self.raw, words, of.slot(), selector.get()) };
         if of.has_slot() {
             Imp::new(noted)
         } else {
@@ -89,19 +83,19 @@ impl Sender {
         }
     }
 
-    /// The same by the library's own code, which is proved.
-    pub fn recall_proved(&self, of: ClassRef, selector: Selector, count: u64) -> Option<Imp> {
+    /// What is noted after so many changes or more, by the library's own code, which is proved.
+    pub fn recall_since(&self, of: ClassRef, selector: Selector, since: u64) -> Option<Imp> {
         let slot = 2 * of.number as usize + of.meta as usize;
-        Imp::new(unsafe { sys::msg_recall(&*self.raw, slot, selector.get(), count) } as u32)
+        Imp::new(unsafe { sys::msg_recall(&*self.raw, slot, selector.get(), since) } as u32)
     }
 
-    /// Whether it is noted that after so many changes no method is found, without a call.
+    /// Whether it is noted since the stamp of the class reference that no method is found, without a call.
     #[inline]
-    pub fn recalls_none(&self, of: ClassRef, selector: Selector, count: u64) -> bool {
+    pub fn recalls_none(&self, of: ClassRef, selector: Selector) -> bool {
         of.has_slot()
             && unsafe {
                 let key = sys::msg_key(of.slot(), selector.get());
-                sys::msg_recall_none_key(&*self.raw, key, count)
+                sys::msg_recall_none_key(&*self.raw, self.shared.words.0, key)
             }
     }
 

@@ -171,7 +171,7 @@ fn lists_of_changes() {
     runtime.lock().change_all(&[]).unwrap();
     assert_eq!(Ok(5), runtime.lock().change_count());
     assert_eq!(Ok(Some(i(5))), sender.find(CHILDREN, s(VALUE)));
-    assert_eq!(Some(i(5)), sender.recall(CHILDREN, s(VALUE), 5));
+    assert_eq!(Some(i(5)), sender.recall(CHILDREN, s(VALUE)));
 }
 
 #[test]
@@ -253,7 +253,7 @@ fn senders() {
         (Ok(None), None),
         (
             sender.probe(ROOTS, s(VALUE)),
-            sender.recall(CHILDREN, s(VALUE), 4)
+            sender.recall(CHILDREN, s(VALUE))
         )
     );
     assert_eq!(
@@ -261,16 +261,16 @@ fn senders() {
         runtime.lock().fill(&mut sender, CHILDREN, s(VALUE))
     );
     assert_eq!(Ok(Some(Some(i(1)))), sender.probe(CHILDREN, s(VALUE)));
-    assert_eq!(Some(i(1)), sender.recall(CHILDREN, s(VALUE), 4));
-    assert_eq!(Some(i(1)), sender.recall_proved(CHILDREN, s(VALUE), 4));
+    assert_eq!(Some(i(1)), sender.recall(CHILDREN, s(VALUE)));
+    assert_eq!(Some(i(1)), sender.recall_since(CHILDREN, s(VALUE), 4));
     assert_eq!(Ok(Some(i(4))), sender.find(CHILD_ITSELF, s(NEW)));
     assert_eq!(Ok(None), sender.find(CHILDREN, s(TAKE)));
     runtime.lock().replace(CHILDREN, s(VALUE), i(5)).unwrap();
-    assert_eq!(Ok(Some(i(5))), sender.find_seen(CHILDREN, s(VALUE)));
+    assert_eq!(None, sender.recall(CHILDREN, s(VALUE)));
     assert_eq!(Ok(Some(i(5))), sender.find(CHILDREN, s(VALUE)));
     runtime.lock().replace(CHILDREN, s(VALUE), i(6)).unwrap();
     assert_eq!(Ok(6), sender.refresh());
-    assert_eq!(Ok(Some(i(6))), sender.find_seen(CHILDREN, s(VALUE)));
+    assert_eq!(Ok(Some(i(6))), sender.find_called(CHILDREN, s(VALUE)));
     runtime.lock().meet(&mut sender).unwrap();
     assert_eq!(
         Err(Fault::NoClass),
@@ -278,7 +278,7 @@ fn senders() {
     );
     assert_eq!(
         None,
-        sender.recall(ClassRef::instances_of(1 << 31 | CHILD), s(VALUE), 6)
+        sender.recall(ClassRef::instances_of(1 << 31 | CHILD), s(VALUE))
     );
     assert_eq!(
         Err(Fault::OtherRuntime),
@@ -293,7 +293,7 @@ fn a_refused_change_is_no_change() {
     let mut sender = runtime.sender().unwrap();
     sender.find(CHILDREN, s(VALUE)).unwrap();
     runtime.lock().make_root_class(ROOT).unwrap_err();
-    assert_eq!(Some(i(1)), sender.recall(CHILDREN, s(VALUE), 4));
+    assert_eq!(Some(i(1)), sender.recall(CHILDREN, s(VALUE)));
     assert_eq!(Ok(Some(i(1))), sender.find(CHILDREN, s(VALUE)));
 }
 

@@ -12,16 +12,16 @@ static int area(int side) { return side * side; }
 static const method methods[] = {forward, four, area};  /* my implementations, from 1 */
 
 static msg_runtime runtime = MSG_RUNTIME_INIT;
-static pthread_mutex_t lock = PTHREAD_MUTEX_INITIALIZER; /* held in each call that takes the runtime */
-static _Alignas(64) msg_sender mine, other; /* one for each thread; 64 KiB, so off the stack; zero bytes are closed */
+/* held in each call that takes the runtime */
+static pthread_mutex_t lock = PTHREAD_MUTEX_INITIALIZER;
+/* one for each thread; 64 KiB, so off the stack; zero bytes are closed */
+static _Alignas(64) msg_sender mine, other;
 
 static void must(uint32_t fault) { if (fault) exit(1); }
 
 static int send(msg_sender *sender, uint32_t selector) /* to a square of side 3 */
 {
-    uint64_t seen;
-    uint32_t imp;
-    must(msg_refresh(sender, &seen)); /* sees each change that has returned */
+    uint32_t imp; /* by each change that has returned */
     must(msg_find(&runtime, &lock, sender, SQUARE, false, selector, &imp));
     return methods[imp](3);
 }
@@ -38,7 +38,8 @@ int main(void)
     must(msg_add(&runtime, SQUARE, false, AREA, 2));
     must(msg_sender_open(&runtime, &mine));
     must(msg_sender_open(&runtime, &other));
-    printf("area %d, sides %d, colour %d\n", send(&mine, AREA), send(&mine, SIDES), send(&mine, COLOUR));
+    printf("area %d, sides %d, ", send(&mine, AREA), send(&mine, SIDES));
+    printf("colour %d\n", send(&mine, COLOUR));
     pthread_create(&thread, NULL, work, &other);
     pthread_mutex_lock(&lock);
     must(msg_replace(&runtime, SQUARE, false, AREA, 1));

@@ -22,7 +22,7 @@ struct Note {
     count: u64,
     imp: u32,
     spare: u32,
-    spared: u64,
+    stamp: u64,
 }
 
 /// A method of a class that is made.
@@ -42,7 +42,7 @@ pub struct Config {
     pub arrays: [u32; 9],
 }
 
-const BLANK: Note = Note { word: 0, count: 0, imp: 0, spare: 0, spared: 0 };
+const BLANK: Note = Note { word: 0, count: 0, imp: 0, spare: 0, stamp: 0 };
 
 const CLOSED: Handle = Handle { at: std::ptr::null_mut(), open: false };
 const DONE: u32 = 0;

@@ -1,4 +1,5 @@
-/* A large process: 60,000 classes made at run time, 120,000 methods, 200,000 changes and 1,024 senders, each lookup compared with a plain model. What it took goes to standard error. */
+/* A large process: 60,000 classes made at run time, 120,000 methods, 200,000 changes and 1,024
+ * senders, each lookup compared with a plain model. What it took goes to standard error. */
 #define _POSIX_C_SOURCE 200809L
 #include "msg_runtime.h"
 #include <stdio.h>
@@ -48,14 +49,15 @@ static uint32_t below(uint32_t limit)
     return (uint32_t)((uint64_t)drawn * limit >> 32);
 }
 
-/* ---- the plain model: of each class and metaclass its rows, and the chain walked row by row ---- */
+/* ---- the plain model: of each class and metaclass its rows, the chain walked row by row ---- */
 
 typedef struct row { uint32_t sel, imp; struct row *next; } row;
 static row *rows[2 * NUMBERS];
 
 static uint32_t slot(uint32_t number, bool meta) { return 2 * number + meta; }
 
-/* Class 0 is the root, and class k stands under (k - 1) / 2. The root's metaclass stands under the root itself. */
+/* Class 0 is the root, and class k stands under (k - 1) / 2. The root's metaclass stands under the
+ * root itself. */
 static bool above(uint32_t *number, bool *meta)
 {
     if (*number) *number = (*number - 1) / 2;
@@ -102,8 +104,10 @@ static void put(uint32_t at, uint32_t sel, uint32_t imp)
 
 static void make(uint32_t number)
 {
-    msg_method methods = {1 + number % SELECTORS, 1 + number}, class_methods = {1 + number % 89, NUMBERS + number};
-    done("make", number ? msg_make_class(&runtime, number, (number - 1) / 2) : msg_make_root_class(&runtime, number));
+    msg_method methods = {1 + number % SELECTORS, 1 + number};
+    msg_method class_methods = {1 + number % 89, NUMBERS + number};
+    done("make", number ? msg_make_class(&runtime, number, (number - 1) / 2)
+                        : msg_make_root_class(&runtime, number));
     done("attach", msg_attach(&runtime, number, &methods, 1, &class_methods, 1));
     put(slot(number, false), methods.sel, methods.imp);
     put(slot(number, true), class_methods.sel, class_methods.imp);
@@ -152,16 +156,25 @@ static void change(void)
 /* ---- the lookups ---- */
 
 static msg_sender *senders;
+static const uint64_t *words;
 
 static uint32_t sent(msg_sender *sender, uint32_t number, bool meta, uint32_t sel)
 {
-    uint32_t imp = 0;
-    uint64_t count;
-    done("refresh", msg_refresh(sender, &count));
+    uint32_t imp = 0, noted = msg_recall_inline(sender, words, slot(number, meta), sel);
     uint32_t answer = msg_probe(sender, number, meta, sel, &imp);
     if (answer == MSG_MISSED) answer = msg_fill(&runtime, sender, number, meta, sel, &imp);
     done("send", answer);
+    if (noted) same("what was noted", noted, imp);
     return imp;
+}
+
+/* Where a note says that its class's stamp lies, that is. */
+static void compare_stamp(msg_sender *sender, uint32_t number, bool meta, uint32_t sel)
+{
+    uint64_t stamp = 0;
+    const msg_note *note = MSG_NOTE_OF(sender, msg_key(slot(number, meta), sel));
+    done("stamp", msg_stamp(sender, number, meta, &stamp));
+    if (msg_stamp_of(words, note) != stamp) puts("a note says the stamp of another class");
 }
 
 static void look(msg_sender *sender)
@@ -169,6 +182,7 @@ static void look(msg_sender *sender)
     uint32_t number = below(CLASSES), sel = 1 + below(SELECTORS), imp;
     bool meta = below(2);
     same("a send", sent(sender, number, meta, sel), model(number, meta, sel));
+    compare_stamp(sender, number, meta, sel);
     done("lookup", msg_lookup(&runtime, number, meta, sel, &imp));
     same("a lookup", imp, model(number, meta, sel));
 }
@@ -186,13 +200,20 @@ int main(void)
     long before = resident();
     double begun = now();
     done("open", msg_open(&runtime, &config));
-    fprintf(stderr, "opened in %.1f ms, %ld KiB\n", 1e-3 * (now() - begun), resident() - before);
-    if (resident() - before > 8192) puts("opening took more than 8 MiB");
+    done("words", msg_words(&runtime, &words));
+    double took = now() - begun;
+    long taken = resident() - before;
+    fprintf(stderr, "opened in %.1f ms, %ld KiB\n", 1e-3 * took, taken);
+    /* 96 bytes a class number, 6 MiB, and 1.7 MiB for arrays. Of the 96 its two stamps take 32, in
+     * the shared words and in the copy of them that is kept under the lock. */
+    if (taken > 10240) puts("opening took more than 10 MiB");
 
     make_all(0, 1000);
-    double first = make_all(1000, 2000), rest = make_all(2000, CLASSES - 1000), last = make_all(CLASSES - 1000, CLASSES);
-    fprintf(stderr, "a class with two methods: the second thousand %.2f us each, the last %.2f; all in %.0f ms\n", 1e-3 * first, 1e-3 * last, 1e-3 * rest);
-    if (last > 20 * first) puts("the last thousand classes took over twenty times as long as the second");
+    double first = make_all(1000, 2000), rest = make_all(2000, CLASSES - 1000);
+    double last = make_all(CLASSES - 1000, CLASSES);
+    fprintf(stderr, "a class with two methods: the second thousand %.2f us each, the last %.2f; "
+                    "all in %.0f ms\n", 1e-3 * first, 1e-3 * last, 1e-3 * rest);
+    if (last > 20 * first) puts("the last thousand classes took over twenty times the second");
     uint32_t imp;
     done("the last number", msg_lookup(&runtime, NUMBERS - 1, false, 1, &imp));
     same("a class that isn't made", imp, 0);
@@ -201,7 +222,8 @@ int main(void)
 
     senders = calloc(SENDERS, sizeof *senders);
     if (!senders) exit(2);
-    for (int sender = 0; sender < SENDERS; sender++) done("sender", msg_sender_open(&runtime, &senders[sender]));
+    for (int sender = 0; sender < SENDERS; sender++)
+        done("sender", msg_sender_open(&runtime, &senders[sender]));
     msg_sender *one_more = calloc(1, sizeof *one_more);
     if (!one_more) exit(2);
     same("one sender more", msg_sender_open(&runtime, one_more), MSG_NO_SENDER);
@@ -213,7 +235,8 @@ int main(void)
         change();
         if (changes % 2 == 0) look(&senders[below(SENDERS)]);
     }
-    fprintf(stderr, "replacements, sets and exchanges with a compared lookup beside every other: %.2f us each\n", (now() - begun) / (CHANGES - 2 * CLASSES));
+    fprintf(stderr, "replacements, sets and exchanges with a compared lookup beside every other: "
+                    "%.2f us each\n", (now() - begun) / (CHANGES - 2 * CLASSES));
     for (int sender = 0; sender < SENDERS; sender++) look(&senders[sender]);
     uint64_t count;
     done("count", msg_change_count(&runtime, &count));

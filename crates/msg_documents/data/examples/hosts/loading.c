@@ -1,10 +1,15 @@
-/* A host in C that has its classes by name in arrays, as a loader has them: it numbers the names itself, and makes each class after its superclass. */
+/* A host in C that has its classes by name in arrays, as a loader has them: it numbers the names
+ * itself, and makes each class after its superclass. */
 #include "msg_runtime.h"
 #include <stdio.h>
 #include <stdlib.h>
 
 typedef struct { const char *selector; uint32_t (*body)(uint32_t side); } method_row;
-typedef struct { const char *name, *superclass; const method_row *methods; size_t count; } class_row;
+typedef struct {
+    const char *name, *superclass;
+    const method_row *methods;
+    size_t count;
+} class_row;
 
 static uint32_t forward(uint32_t side) { (void)side; return 404; }
 static uint32_t shape_area(uint32_t side) { (void)side; return 0; }
@@ -73,7 +78,10 @@ static void attach(uint32_t number)
     const class_row *row = &classes[number];
     msg_method methods[METHODS];
     if (row->count > METHODS) exit(2);
-    for (size_t i = 0; i < row->count; i++) methods[i] = (msg_method){selector(row->methods[i].selector), implementation(row->methods[i].body)};
+    for (size_t i = 0; i < row->count; i++) {
+        const method_row *method = &row->methods[i];
+        methods[i] = (msg_method){selector(method->selector), implementation(method->body)};
+    }
     want(msg_attach(&runtime, number, methods, row->count, methods, 0));
 }
 
@@ -87,8 +95,10 @@ static uint32_t load(void)
         for (uint32_t number = 0; number < CLASSES; number++) {
             const char *above = classes[number].superclass;
             if (made[number]) continue;
-            uint32_t answer = above ? msg_make_class(&runtime, number, class_named(above)) : msg_make_root_class(&runtime, number);
-            if (answer == MSG_NO_SUCH_CLASS) continue; /* the superclass isn't made, or there is none of the name */
+            uint32_t answer = above ? msg_make_class(&runtime, number, class_named(above))
+                                    : msg_make_root_class(&runtime, number);
+            /* the superclass isn't made, or there is none of the name */
+            if (answer == MSG_NO_SUCH_CLASS) continue;
             want(answer);
             attach(number);
             made[number] = again = true;
@@ -109,8 +119,10 @@ static void tell(const char *when)
 {
     struct msg_report_row report;
     want(msg_report(&runtime, &report));
-    printf("%s: %u filled in, %u arrays installed and %u taken away, %u of them by flushes, %u given again\n", when, (unsigned)report.fills, (unsigned)report.growths,
-           (unsigned)report.retired, (unsigned)report.flushes, (unsigned)report.given_again);
+    printf("%s: %u filled in, %u arrays installed and %u taken away, ", when,
+           (unsigned)report.fills, (unsigned)report.growths, (unsigned)report.retired);
+    printf("%u of them by flushes, %u given again\n", (unsigned)report.flushes,
+           (unsigned)report.given_again);
 }
 
 int main(void)
@@ -123,10 +135,12 @@ int main(void)
     printf("class numbers: %u\n", count);
     want(msg_sender_open(&runtime, &sender));
     tell("at first");
-    printf("area %u, sides %u, of a tile %u\n", send("Square", "area"), send("Square", "sides"), send("Tile", "area"));
+    printf("area %u, sides %u, ", send("Square", "area"), send("Square", "sides"));
+    printf("of a tile %u\n", send("Tile", "area"));
     printf("a method that isn't there: %u\n", send("Square", "volume"));
     tell("after sends");
-    want(msg_replace(&runtime, class_named("Square"), false, selector("sides"), implementation(square_area)));
+    uint32_t square = class_named("Square"), imp = implementation(square_area);
+    want(msg_replace(&runtime, square, false, selector("sides"), imp));
     want(msg_meet(&runtime, &sender));
     printf("replaced: sides %u, of a tile %u\n", send("Square", "sides"), send("Tile", "sides"));
     tell("after a change");

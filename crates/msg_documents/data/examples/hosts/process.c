@@ -1,4 +1,5 @@
-/* process.c: three threads send while a method is swapped, with no lock and no sender of the host's own */
+/* process.c: three threads send while a method is swapped, without a lock or senders of the
+ * host's */
 #include <msg_process.h>
 #include <stdio.h>
 #include <stdlib.h>
@@ -12,7 +13,8 @@ static void must(uint32_t fault)
     exit(1);
 }
 
-static void *work(void *wrong) /* until it finds the last implementation; each is to be no older than the one before */
+/* until it finds the last implementation; each is to be no older than the one before */
+static void *work(void *wrong)
 {
     for (uint32_t imp = FIRST, before = FIRST; imp < FIRST + SWAPS; before = imp) {
         must(msg_process_find(SQUARE, false, AREA, &imp));
@@ -28,13 +30,14 @@ int main(void)
     msg_runtime *runtime;
     must(msg_process_start(NULL));
     for (uint32_t i = 0; i <= SWAPS; i++) {
-        must(msg_process_lock_to_change(&runtime));
+        must(msg_process_lock(&runtime));
         if (i == 0) must(msg_make_root_class(runtime, SQUARE));
         must(msg_replace(runtime, SQUARE, false, AREA, FIRST + i));
         msg_process_unlock();
         if (i < THREADS) pthread_create(&threads[i], NULL, work, &wrong[i]);
     }
     for (int i = 0; i < THREADS; i++) pthread_join(threads[i], NULL);
-    printf("%d swaps beside %d threads: %zu wrong answers\n", SWAPS, THREADS, wrong[0] + wrong[1] + wrong[2]);
+    printf("%d swaps beside %d threads: %zu wrong answers\n", SWAPS, THREADS,
+           wrong[0] + wrong[1] + wrong[2]);
     return 0;
 }

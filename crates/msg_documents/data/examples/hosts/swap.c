@@ -19,9 +19,7 @@ static void must(uint32_t fault)
 
 static uint32_t area(msg_sender *sender)
 {
-    uint64_t seen;
-    uint32_t imp;
-    must(msg_refresh(sender, &seen));                        /* else it may go by what it saw before */
+    uint32_t imp; /* by each swap that has returned */
     must(msg_find(&runtime, &lock, sender, SQUARE, false, AREA, &imp));
     return imp;
 }

@@ -1,4 +1,5 @@
-/* texts.c: a host whose selectors have names: a name's number is the selector, and its colons are its arguments */
+/* texts.c: a host whose selectors have names: a name's number is the selector, and its colons are
+ * its arguments */
 #include <msg_runtime.h>
 #include <stdio.h>
 #include <stdlib.h>

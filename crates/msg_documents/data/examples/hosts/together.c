@@ -1,4 +1,5 @@
-/* together.c: four threads send while three methods of two classes are swapped as one, a thousand times */
+/* together.c: four threads send while three methods of two classes are swapped as one, a thousand
+ * times */
 #include <msg_runtime.h>
 #include <stdatomic.h>
 #include <stdio.h>
@@ -38,12 +39,14 @@ static bool is_fake(msg_sender *sender, uint32_t number, uint32_t sel)
     return imp >= FAKES;
 }
 
-/* How many of the three are fakes; or 0 where a swap came between two lookups, as it may. It never comes into one. */
+/* How many of the three are fakes; or 0 where a swap came between two lookups, as it may. It never
+ * comes into one. */
 static int fakes(msg_sender *sender)
 {
     uint64_t before, after;
     must(msg_refresh(sender, &before));
-    int count = is_fake(sender, CLOCK, NOW) + is_fake(sender, STORE, WRITTEN) + is_fake(sender, STORE, NAME);
+    int count = is_fake(sender, CLOCK, NOW) + is_fake(sender, STORE, WRITTEN);
+    count += is_fake(sender, STORE, NAME);
     must(msg_refresh(sender, &after));
     return before == after ? count : 0;
 }
@@ -76,10 +79,12 @@ int main(void)
         pthread_join(threads[i], &more);
         wrong += (size_t)more;
     }
-    printf("%d swaps of three methods beside %d threads: %zu wrong answers\n", SWAPS, THREADS, wrong);
+    printf("%d swaps of three methods beside %d threads: ", SWAPS, THREADS);
+    printf("%zu wrong answers\n", wrong);
 
     uint32_t fault = swap(TRUE_ONES, MSG_ADDS, &place);
-    printf("part %zu is refused: %s\n%d of 3 are fakes still\n", place, msg_fault_text(fault), fakes(&seats[0].sender));
+    printf("part %zu is refused: %s\n", place, msg_fault_text(fault));
+    printf("%d of 3 are fakes still\n", fakes(&seats[0].sender));
     for (int i = 0; i < THREADS; i++) must(msg_sender_close(&runtime, &seats[i].sender));
     return 0;
 }
