@@ -41,6 +41,7 @@ array_end z = 1 + 2 * z.classes + total z.capacities
 abbrev pub stamps : Layout → ℕ
 stamps z = array_end z + 8
 
+-- where the stamp of a class reference stands
 abbrev pub stamp_at : Layout → ClassRef → ℕ
 stamp_at z c = stamps z + slot_of c
 
