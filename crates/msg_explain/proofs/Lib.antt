@@ -1,2 +1,4 @@
 pub mod PlaceLemmas
 pub mod FaultLemmas
+pub mod WalkLemmas
+pub mod JudgingLemmas

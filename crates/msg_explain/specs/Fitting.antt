@@ -10,7 +10,7 @@ use Rattle.msg_form.specs.Shape.{args_of, category_form_of, change_form_of, chan
 use Rattle.msg_explain.specs.declared.part.Edition.{Edition}
 use Rattle.msg_explain.specs.declared.part.Edition.TheVariants.{First, Second, Third}
 use Rattle.msg_explain.specs.declared.part.Part.{Part}
-use Rattle.msg_explain.specs.declared.part.Part.TheVariants.{Document, Version, Class, Category, Object, Imp, Item, Name, Superclass, Pair, Truth, Args, Body, Send, Changes, Change, Constant, Selector, Index}
+use Rattle.msg_explain.specs.declared.part.Part.TheVariants.{Document, Version, Class, Category, Object, Imp, Item, Name, Superclass, MadeUnder, Pair, Attached, Truth, Args, Body, Send, Changes, Change, Constant, Selector, Index}
 use Rattle.msg_explain.specs.declared.part.Wanted.{Wanted}
 use Rattle.msg_explain.specs.declared.part.Wanted.TheVariants.{One, Many}
 
@@ -34,9 +34,11 @@ is_part Category d = is_some (category_form_of d)
 is_part Object d = is_some (object_form_of d)
 is_part Imp d = is_some (imp_form_of d)
 is_part (Item e) d = is_item e (item_form_of d)
-is_part Name d = is_some (name_of d)
+is_part (Name n) d = is_some (name_of d)
 is_part Superclass d = is_some (superclass_of d)
+is_part MadeUnder d = is_some (superclass_of d)
 is_part Pair d = is_some (pair_form_of d)
+is_part Attached d = is_some (pair_form_of d)
 is_part Truth d = is_some (as_bool d)
 is_part Args d = is_some (args_of d)
 is_part Body d = is_some (expression_of d)

@@ -3,3 +3,5 @@ pub mod Tables
 pub mod Places
 pub mod Telling
 pub mod Explaining
+pub mod Judging
+pub mod Walks

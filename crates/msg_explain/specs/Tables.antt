@@ -10,8 +10,9 @@ use Rattle.msg_form.specs.Version.{is_second, is_third}
 use Rattle.msg_form.specs.declared.form.Operator.{Operator}
 use Rattle.msg_explain.specs.declared.part.Edition.{Edition}
 use Rattle.msg_explain.specs.declared.part.Edition.TheVariants.{First, Second, Third}
+use Rattle.msg_explain.specs.declared.part.Naming.TheVariants as names
 use Rattle.msg_explain.specs.declared.part.Part.{Part}
-use Rattle.msg_explain.specs.declared.part.Part.TheVariants.{Document, Version, Class, Category, Object, Imp, Item, Name, Superclass, Pair, Truth, Args, Body, Send, Changes, Change, Constant, Selector, Index}
+use Rattle.msg_explain.specs.declared.part.Part.TheVariants.{Document, Version, Class, Category, Object, Imp, Item, Name, Superclass, MadeUnder, Pair, Attached, Truth, Args, Body, Send, Changes, Change, Constant, Selector, Index}
 use Rattle.msg_explain.specs.declared.part.Wanted.{Wanted}
 use Rattle.msg_explain.specs.declared.part.Wanted.TheVariants.{One, Many}
 
@@ -29,7 +30,7 @@ abbrev pub version_key : Key
 version_key = (codes "version", One Version)
 
 abbrev pub made_key : Key
-made_key = (codes "made", Many Name)
+made_key = (codes "made", Many (Name names.NewClass))
 
 -- the lists that each document has
 abbrev pub list_keys : Edition → List Key
@@ -46,10 +47,10 @@ abbrev pub part_keys : Part → List Key
 part_keys (Document First) = version_key ∷ list_keys First
 part_keys (Document Second) = version_key ∷ made_key ∷ list_keys Second
 part_keys (Document Third) = version_key ∷ made_key ∷ list_keys Third
-part_keys Class = (codes "name", One Name) ∷ (codes "super", One Superclass) ∷ (codes "methods", Many Pair) ∷ (codes "class_methods", Many Pair) ∷ []
-part_keys Category = (codes "class", One Name) ∷ (codes "methods", Many Pair) ∷ (codes "class_methods", Many Pair) ∷ []
-part_keys Object = (codes "name", One Name) ∷ (codes "class", One Name) ∷ []
-part_keys Imp = (codes "name", One Name) ∷ (codes "class", One Name) ∷ (codes "meta", One Truth) ∷ (codes "args", One Args) ∷ (codes "body", One Body) ∷ []
+part_keys Class = (codes "name", One (Name names.NewClass)) ∷ (codes "super", One Superclass) ∷ (codes "methods", Many Pair) ∷ (codes "class_methods", Many Pair) ∷ []
+part_keys Category = (codes "class", One (Name names.Listed)) ∷ (codes "methods", Many Pair) ∷ (codes "class_methods", Many Pair) ∷ []
+part_keys Object = (codes "name", One (Name names.NewObject)) ∷ (codes "class", One (Name names.Class)) ∷ []
+part_keys Imp = (codes "name", One (Name names.NewImp)) ∷ (codes "class", One (Name names.Listed)) ∷ (codes "meta", One Truth) ∷ (codes "args", One Args) ∷ (codes "body", One Body) ∷ []
 part_keys (Item e) = (codes "send", One Send) ∷ (codes "change", One (Changes e)) ∷ []
 part_keys p = []
 
@@ -67,8 +68,8 @@ only p i = if i == 1 then Some (One p) else None
 -- `["obj",N]`, `["class",N]` or `["sel",S]`
 abbrev pub at_constant : Text → ℕ → Option Wanted
 at_constant word i =
-    if is_word word (codes "obj") then only Name i else
-    (if is_word word (codes "class") then only Name i else
+    if is_word word (codes "obj") then only (Name names.Object) i else
+    (if is_word word (codes "class") then only (Name names.Class) i else
     (if is_word word (codes "sel") then only Selector i else
     None))
 
@@ -95,7 +96,7 @@ at_body word i =
 
 -- `N,meta,S`, from a place on
 abbrev pub at_method : ℕ → ℕ → Option Wanted
-at_method from i = if i == from then Some (One Name) else (if i == from + 1 then Some (One Truth) else (if i == from + 2 then Some (One Selector) else None))
+at_method from i = if i == from then Some (One (Name names.Class)) else (if i == from + 1 then Some (One Truth) else (if i == from + 2 then Some (One Selector) else None))
 
 abbrev pub is_edit : Text → Bool
 is_edit word = is_word word (codes "add") || is_word word (codes "replace") || is_word word (codes "set")
@@ -103,10 +104,10 @@ is_edit word = is_word word (codes "add") || is_word word (codes "replace") || i
 -- a change X
 abbrev pub at_change : Text → ℕ → Option Wanted
 at_change word i =
-    if is_edit word then (if i == 4 then Some (One Name) else at_method 1 i) else
+    if is_edit word then (if i == 4 then Some (One (Name names.Imp)) else at_method 1 i) else
     (if is_word word (codes "exchange") then (if nat_le 4 i then at_method 4 i else at_method 1 i) else
-    (if is_word word (codes "attach") then (if i == 1 then Some (One Name) else (if i == 2 || i == 3 then Some (Many Pair) else None)) else
-    (if is_word word (codes "make") then (if i == 1 then Some (One Name) else (if i == 2 then Some (One Superclass) else None)) else
+    (if is_word word (codes "attach") then (if i == 1 then Some (One (Name names.Class)) else (if i == 2 || i == 3 then Some (Many Attached) else None)) else
+    (if is_word word (codes "make") then (if i == 1 then Some (One (Name names.Class)) else (if i == 2 then Some (One MadeUnder) else None)) else
     None)))
 
 -- `["all",X,X,..]` of version 3, or a change X
@@ -117,10 +118,11 @@ at_changes Third word i = if is_word word (codes "all") then (if nat_le 1 i then
 
 -- an entry `[S,N]`
 abbrev pub at_pair : ℕ → Option Wanted
-at_pair i = if i == 0 then Some (One Selector) else only Name i
+at_pair i = if i == 0 then Some (One Selector) else only (Name names.Imp) i
 
 abbrev pub at_part : Part → Text → ℕ → Option Wanted
 at_part Pair word i = at_pair i
+at_part Attached word i = at_pair i
 at_part Body word i = at_body word i
 at_part Send word i = if i == 1 then Some (One Selector) else Some (One Constant)
 at_part (Changes e) word i = at_changes e word i

@@ -6,15 +6,17 @@ ghost use Rattle.msg_form.specs.declared.faults.DocumentFault.TheVariants as doc
 ghost use Rattle.msg_image.specs.Answer.{IsAnswer};
 ghost use Rattle.msg_explain.specs.Explaining.{IsAnswered, SaysFault};
 
+use crate::place::Place;
 use crate::position::{Position, end_of_json, position_of};
 use crate::search::misplaced;
 use crate::telling::{push_path, push_reason};
+use crate::walk::faulty;
 use msg_devices::{
     Program, RunFault, Sink, Source, complain, push_digits, read_whole, write_whole,
 };
-use msg_form::DocumentFault;
-use msg_image::read_document;
-use msg_json::{Bump, Scratch, read};
+use msg_form::{DocumentFault, Form, FormNames};
+use msg_image::{MOST_BYTES, read_document};
+use msg_json::{Bump, Scratch, Tree, read};
 use std::alloc::{AllocError, Global};
 use std::str;
 
@@ -82,16 +84,21 @@ fn say<W: Sink, E: Sink>(sink: &mut W, errors: &mut E, text: &[u8], status: u8) 
     }
 }
 
-/// Where the JSON ends to be JSON, or the places of a fault of form, a line for each. Of another
-/// fault no place is told.
+/// Where the JSON ends to be JSON, or the places that have the fault, a line for each.
 fn places_text(alloc: Global, bytes: &[u8], fault: DocumentFault) -> Result<Vec<u8>, AllocError> {
     let mut text = Vec::new(alloc);
     match fault {
         DocumentFault::NotJson => push_end_of_json(alloc, &mut text, bytes)?,
-        DocumentFault::Shape => push_places(alloc, &mut text, bytes)?,
-        _ => (),
+        DocumentFault::Limit if bytes.len() > MOST_BYTES => push_most_bytes(&mut text)?,
+        _ => push_places(alloc, &mut text, bytes, fault)?,
     }
     Ok(text)
+}
+
+fn push_most_bytes(text: &mut Vec<u8>) -> Result<(), AllocError> {
+    text.extend_from_slice(b"the document: wanted no more than ")?;
+    push_digits(text, MOST_BYTES)?;
+    text.extend_from_slice(b" bytes\n")
 }
 
 fn push_end_of_json(alloc: Global, text: &mut Vec<u8>, bytes: &[u8]) -> Result<(), AllocError> {
@@ -103,14 +110,19 @@ fn push_end_of_json(alloc: Global, text: &mut Vec<u8>, bytes: &[u8]) -> Result<(
     Ok(())
 }
 
-fn push_places(alloc: Global, text: &mut Vec<u8>, bytes: &[u8]) -> Result<(), AllocError> {
+fn push_places(
+    alloc: Global,
+    text: &mut Vec<u8>,
+    bytes: &[u8],
+    fault: DocumentFault,
+) -> Result<(), AllocError> {
     let mut scratch = Scratch::new(alloc);
     let mut room = Scratch::new(alloc);
     let bump = Bump::new(alloc);
     let Ok(document) = read(alloc, &bump, bytes, &mut scratch) else {
         return Ok(());
     };
-    let places = misplaced(alloc, &bump, &document)?;
+    let places = places_of(alloc, &bump, &document, fault)?;
     for place in places.iter().take(MOST_PLACES) {
         let words = str::from_utf8(bytes).unwrap_or("");
         if let Some(position) = position_of(words, &mut room, &document, &place.path) {
@@ -119,13 +131,27 @@ fn push_places(alloc: Global, text: &mut Vec<u8>, bytes: &[u8]) -> Result<(), Al
         }
         push_path(text, &place.path)?;
         text.extend_from_slice(b": ")?;
-        push_reason(text, place)?;
+        push_reason(text, place, fault)?;
         text.push(b'\n')?;
     }
     if places.len() > MOST_PLACES {
         text.extend_from_slice(b"and more\n")?;
     }
     Ok(())
+}
+
+/// The places that have the fault.
+fn places_of<'t, 'b>(
+    alloc: Global,
+    bump: &'t Bump,
+    document: &Tree<'t, 'b>,
+    fault: DocumentFault,
+) -> Result<Vec<Place<'t, 'b>>, AllocError> {
+    let Ok(form) = Form::read(alloc, bump, document) else {
+        return misplaced(alloc, bump, document);
+    };
+    let names = FormNames::of(alloc, &form)?;
+    faulty(alloc, bump, document, &form, &names, fault)
 }
 
 fn push_position(text: &mut Vec<u8>, position: Position) -> Result<(), AllocError> {

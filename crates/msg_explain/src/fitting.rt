@@ -67,14 +67,14 @@ fn is_part<'v>(
         Part::Object => spells::<Object>(alloc, bump, value),
         Part::Imp => spells::<Imp>(alloc, bump, value),
         Part::Item(edition) => is_item(alloc, bump, edition, value),
-        Part::Name => spells::<&str>(alloc, bump, value),
-        Part::Pair => spells::<Pair>(alloc, bump, value),
+        Part::Name(_) => spells::<&str>(alloc, bump, value),
+        Part::Pair | Part::Attached => spells::<Pair>(alloc, bump, value),
         Part::Body => spells::<Expr>(alloc, bump, value),
         Part::Send => is_send(alloc, bump, value),
         Part::Changes(edition) => are_changes(alloc, bump, edition, value),
         Part::Change => spells::<Change>(alloc, bump, value),
         Part::Constant => spells::<Constant>(alloc, bump, value),
-        Part::Superclass => is_superclass(alloc, bump, value),
+        Part::Superclass | Part::MadeUnder => is_superclass(alloc, bump, value),
         Part::Version | Part::Truth | Part::Args | Part::Selector | Part::Index => {
             Ok(is_plain(part, value))
         }

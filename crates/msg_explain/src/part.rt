@@ -8,6 +8,21 @@ pub enum Edition {
     Third,
 }
 
+/// What a name is the name of.
+#[derive(Clone, Copy, Debug, PartialEq, Eq)]
+pub enum Naming {
+    /// A class that gets the name, listed or made.
+    NewClass,
+    NewObject,
+    NewImp,
+    /// A class that has to be listed.
+    Listed,
+    /// A class, listed or made.
+    Class,
+    Object,
+    Imp,
+}
+
 /// A part of a document, by its row in the format's table.
 #[derive(Clone, Copy, Debug, PartialEq, Eq)]
 pub enum Part {
@@ -18,11 +33,15 @@ pub enum Part {
     Object,
     Imp,
     Item(Edition),
-    Name,
-    /// A name, or null.
+    Name(Naming),
+    /// The superclass of a listed class: a name, or null.
     Superclass,
-    /// An entry of a method list.
+    /// The superclass of a class that is made.
+    MadeUnder,
+    /// An entry of a method list of a class or category that is listed.
     Pair,
+    /// An entry of a method list of a category that is attached.
+    Attached,
     Truth,
     /// How many arguments an implementation takes.
     Args,

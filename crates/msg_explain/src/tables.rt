@@ -5,13 +5,17 @@ ghost use Rattle.msg_json.specs.View.{view};
 ghost use Rattle.msg_explain.specs.Tables as spec;
 ghost use Rattle.msg_explain.specs.declared.part.Part.TheVariants as part;
 
-use crate::part::{Edition, Part, Wanted};
+use crate::part::{Edition, Naming, Part, Wanted};
 use msg_json::{Tree, get, whole};
 
 /// A key, and what is wanted there.
 pub type Key = (&'static str, Wanted);
 
-const NAME: Wanted = Wanted::One(Part::Name);
+const NEW_CLASS: Part = Part::Name(Naming::NewClass);
+
+const LISTED: Wanted = Wanted::One(Part::Name(Naming::Listed));
+
+const CLASS: Wanted = Wanted::One(Part::Name(Naming::Class));
 
 const PAIRS: Wanted = Wanted::Many(Part::Pair);
 
@@ -22,20 +26,23 @@ pub fn keys(wanted: Wanted) -> &'static [Key]
     match wanted {
         Wanted::One(Part::Document(edition)) => document_keys(edition),
         Wanted::One(Part::Class) => &[
-            ("name", NAME),
+            ("name", Wanted::One(NEW_CLASS)),
             ("super", Wanted::One(Part::Superclass)),
             ("methods", PAIRS),
             ("class_methods", PAIRS),
         ],
         Wanted::One(Part::Category) => &[
-            ("class", NAME),
+            ("class", LISTED),
             ("methods", PAIRS),
             ("class_methods", PAIRS),
         ],
-        Wanted::One(Part::Object) => &[("name", NAME), ("class", NAME)],
+        Wanted::One(Part::Object) => &[
+            ("name", Wanted::One(Part::Name(Naming::NewObject))),
+            ("class", CLASS),
+        ],
         Wanted::One(Part::Imp) => &[
-            ("name", NAME),
-            ("class", NAME),
+            ("name", Wanted::One(Part::Name(Naming::NewImp))),
+            ("class", LISTED),
             ("meta", Wanted::One(Part::Truth)),
             ("args", Wanted::One(Part::Args)),
             ("body", Wanted::One(Part::Body)),
@@ -59,7 +66,7 @@ fn document_keys(edition: Edition) -> &'static [Key]
         ],
         Edition::Second => &[
             ("version", Wanted::One(Part::Version)),
-            ("made", Wanted::Many(Part::Name)),
+            ("made", Wanted::Many(NEW_CLASS)),
             ("classes", Wanted::Many(Part::Class)),
             ("categories", Wanted::Many(Part::Category)),
             ("objects", Wanted::Many(Part::Object)),
@@ -68,7 +75,7 @@ fn document_keys(edition: Edition) -> &'static [Key]
         ],
         Edition::Third => &[
             ("version", Wanted::One(Part::Version)),
-            ("made", Wanted::Many(Part::Name)),
+            ("made", Wanted::Many(NEW_CLASS)),
             ("classes", Wanted::Many(Part::Class)),
             ("categories", Wanted::Many(Part::Category)),
             ("objects", Wanted::Many(Part::Object)),
@@ -103,9 +110,9 @@ pub fn at_place(wanted: Wanted, word: &str, place: usize) -> Option<Wanted>
 {
     match wanted {
         Wanted::Many(part) => Some(Wanted::One(part)),
-        Wanted::One(Part::Pair) => match place {
+        Wanted::One(Part::Pair | Part::Attached) => match place {
             0 => Some(Wanted::One(Part::Selector)),
-            _ => only(Part::Name, place),
+            _ => only(Part::Name(Naming::Imp), place),
         },
         Wanted::One(Part::Body) => at_body(word, place),
         Wanted::One(Part::Send) => match place {
@@ -130,7 +137,8 @@ fn at_constant(word: &str, place: usize) -> Option<Wanted>
     ensures { result ≡ spec.at_constant word.now place }
 {
     match word {
-        "obj" | "class" => only(Part::Name, place),
+        "obj" => only(Part::Name(Naming::Object), place),
+        "class" => only(Part::Name(Naming::Class), place),
         "sel" => only(Part::Selector, place),
         _ => None,
     }
@@ -185,18 +193,18 @@ fn at_change(word: &str, place: usize) -> Option<Wanted>
 {
     match word {
         "add" | "replace" | "set" => match place {
-            4 => Some(NAME),
+            4 => Some(Wanted::One(Part::Name(Naming::Imp))),
             _ => at_method(1, place),
         },
         "exchange" => at_method(if place >= 4 { 4 } else { 1 }, place),
         "attach" => match place {
-            1 => Some(NAME),
-            2 | 3 => Some(PAIRS),
+            1 => Some(CLASS),
+            2 | 3 => Some(Wanted::Many(Part::Attached)),
             _ => None,
         },
         "make" => match place {
-            1 => Some(NAME),
-            2 => Some(Wanted::One(Part::Superclass)),
+            1 => Some(CLASS),
+            2 => Some(Wanted::One(Part::MadeUnder)),
             _ => None,
         },
         _ => None,
@@ -209,7 +217,7 @@ fn at_method(from: usize, place: usize) -> Option<Wanted>
     ensures { result ≡ spec.at_method from place }
 {
     if place == from {
-        Some(NAME)
+        Some(CLASS)
     } else if place == from + 1 {
         Some(Wanted::One(Part::Truth))
     } else if place == from + 2 {

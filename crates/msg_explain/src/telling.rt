@@ -4,11 +4,12 @@ ghost use Rattle.std.specs.Prelude.{◌≡◌, ◌++◌, OnOk};
 ghost use Rattle.msg_devices.specs.Writing.{Gains};
 ghost use Rattle.msg_explain.specs.Telling as spec;
 
-use crate::part::{Edition, Part, Wanted};
+use crate::part::{Edition, Naming, Part, Wanted};
 use crate::place::{Place, Step};
 use crate::search::word_of;
 use crate::tables::keys;
 use msg_devices::push_digits;
+use msg_form::DocumentFault;
 use msg_json::{Tree, get};
 use std::alloc::AllocError;
 
@@ -62,17 +63,84 @@ pub fn push_path(text: &mut Vec<u8>, path: &[Step]) -> Result<(), AllocError>
     }
 }
 
-/// Appends what is wanted at a place, and what was found.
-pub(crate) fn push_reason(text: &mut Vec<u8>, place: &Place<'_, '_>) -> Result<(), AllocError> {
+/// Appends what is wanted at a place, where the document has the fault, and what was found.
+pub(crate) fn push_reason(
+    text: &mut Vec<u8>,
+    place: &Place<'_, '_>,
+    fault: DocumentFault,
+) -> Result<(), AllocError> {
     push(text, "wanted ")?;
-    push(text, wanted_text(place.wanted))?;
+    push(
+        text,
+        match fault {
+            DocumentFault::Shape => wanted_text(place.wanted),
+            DocumentFault::Limit => limit_text(place.wanted),
+            _ => rule_text(fault, place.wanted),
+        },
+    )?;
     push(text, "; found ")?;
     push_found(text, &place.found)?;
-    if let Tree::Object(members) = place.found {
-        push_lacking(text, place)?;
-        push_others(text, place.wanted, members)?;
+    match (fault, place.found) {
+        (DocumentFault::Shape, Tree::Object(members)) => {
+            push_lacking(text, place)?;
+            push_others(text, place.wanted, members)
+        }
+        (_, Tree::Object(_)) => push_name(text, &place.found),
+        _ => Ok(()),
     }
-    Ok(())
+}
+
+/// Appends the name of an object that has one.
+fn push_name(text: &mut Vec<u8>, found: &Tree<'_, '_>) -> Result<(), AllocError> {
+    match get(found, "name") {
+        Some(Tree::Text(name)) => {
+            push(text, " of the name ")?;
+            push_quoted(text, *name)
+        }
+        _ => Ok(()),
+    }
+}
+
+/// What is said of a limit.
+fn limit_text(wanted: Wanted) -> &'static str {
+    match wanted {
+        Wanted::Many(Part::Class) => "no more than 1024 classes, listed and made",
+        Wanted::Many(Part::Category) => "no more than 1024 categories",
+        Wanted::Many(Part::Object) => "no more than 4096 objects",
+        Wanted::Many(Part::Imp) => "no more than 4096 implementations",
+        Wanted::Many(_) => "no more than 65536 items",
+        Wanted::One(_) =>
+            "no more than 16384 entries in method lists, and 4096 different selectors",
+    }
+}
+
+/// What is said of what a fault forbids.
+fn rule_text(fault: DocumentFault, wanted: Wanted) -> &'static str {
+    match fault {
+        DocumentFault::Version => "version 1, 2 or 3",
+        DocumentFault::DuplicateClass => "a name that no other class has",
+        DocumentFault::UnknownSuperclass if wanted == Wanted::One(Part::Imp) => {
+            "no super send in a method of a root class"
+        }
+        DocumentFault::UnknownSuperclass => {
+            "a superclass that is listed, and in version 1 before the class"
+        }
+        DocumentFault::UnknownClass if wanted == Wanted::One(Part::Name(Naming::Listed)) => {
+            "the name of a listed class"
+        }
+        DocumentFault::UnknownClass => "the name of a class",
+        DocumentFault::DuplicateObject => "a name that no other object has",
+        DocumentFault::UnknownObject => "the name of an object",
+        DocumentFault::DuplicateImp => "a name that no other implementation has",
+        DocumentFault::UnknownImp => "the name of an implementation",
+        DocumentFault::BadSelector => "a selector",
+        DocumentFault::DuplicateSelector => "no selector twice in a list",
+        DocumentFault::ArgumentCount => "an argument for each colon of the selector",
+        DocumentFault::ArgumentIndex => "a body that reads arguments below args",
+        DocumentFault::BodyTooDeep =>
+            "a body no more than 32 deep, of no more than 256 expressions",
+        _ => "a class that doesn't stand above itself",
+    }
 }
 
 /// What is said of what is wanted, in the letters of the format's page.
@@ -94,9 +162,10 @@ fn wanted_text(wanted: Wanted) -> &'static str {
                 r#"an implementation {"name":N,"class":N,"meta":true or false,"args":0 to 4,"body":E}"#
             }
             Part::Item(_) => r#"an item {"send":[C,S,C,..]} or {"change":X}"#,
-            Part::Name => "a name, of 1 to 64 letters, digits and _, no digit first",
-            Part::Superclass => "a name or null",
-            Part::Pair => "a pair [S,N]: a selector, the name of an implementation",
+            Part::Name(_) => "a name, of 1 to 64 letters, digits and _, no digit first",
+            Part::Superclass | Part::MadeUnder => "a name or null",
+            Part::Pair | Part::Attached =>
+                "a pair [S,N]: a selector, the name of an implementation",
             Part::Truth => "true or false",
             Part::Args => "a whole number from 0 to 4",
             Part::Body => "an expression E",

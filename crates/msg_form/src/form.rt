@@ -37,7 +37,7 @@ pub(crate) fn is_third(version: i64) -> bool
 }
 
 /// Whether documents of the version name the classes that they may make.
-pub(crate) fn makes_classes(version: i64) -> bool
+pub fn makes_classes(version: i64) -> bool
     ensures { result ≡ spec.makes_classes version }
 {
     is_second(version) || is_third(version)

@@ -22,6 +22,7 @@ mod cycle;
 mod limits;
 mod lists;
 mod names;
+mod parts;
 mod selectors;
 
 use crate::faults::DocumentFault;
@@ -32,9 +33,12 @@ use bodies::body_faults;
 pub(crate) use bodies::{BodyFaults, looked_at};
 use classes::has_unknown_superclass;
 use counts::has_wrong_argument_count;
+pub use counts::is_miscounted_send;
 use cycle::has_class_cycle;
-use limits::{is_other_version, is_over_limit};
+use limits::is_over_limit;
+pub use limits::{has_many_entries, is_other_version};
 use names::{has_unknown_class, has_unknown_imp, has_unknown_object};
+pub use parts::has_selector_twice;
 use selectors::{has_bad_selector, has_duplicate_selector};
 use std::alloc::{AllocError, Global};
 

@@ -19,10 +19,12 @@ mod walk;
 pub use faults::{DocumentFault, ReadFault};
 pub use form::{
     BinaryExpr, Category, Change, Class, Constant, Expr, Form, IfExpr, Imp, Item, MethodName,
-    Object, Operator, Pair, SendExpr, SuperExpr,
+    Object, Operator, Pair, SendExpr, SuperExpr, makes_classes,
 };
 pub use form_names::FormNames;
-pub use judge::fault_by;
+pub use judge::{
+    fault_by, has_many_entries, has_selector_twice, is_miscounted_send, is_other_version,
+};
 pub use limits::{
     MAX_CATEGORIES, MAX_CLASSES, MAX_DEPTH, MAX_ENTRIES, MAX_EXPRESSIONS, MAX_IMPS, MAX_ITEMS,
     MAX_OBJECTS,

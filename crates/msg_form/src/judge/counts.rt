@@ -94,7 +94,8 @@ fn colons(text: &str) -> usize
     text.as_bytes().iter().filter(|b| **b == b':').count()
 }
 
-pub(super) fn is_miscounted_send(selector: &str, count: usize) -> bool
+/// Whether so many arguments don't fit the selector's colons.
+pub fn is_miscounted_send(selector: &str, count: usize) -> bool
     ensures { result ≡ spec.is_miscounted_send (selector.now, count) }
 {
     count != colons(selector)

@@ -14,8 +14,9 @@ use crate::name_set::NameSet;
 use msg_names::MAX_NAMES;
 use std::alloc::{AllocError, Global};
 
+/// Whether the version is none of 1, 2 and 3.
 #[tactic(auto, unfolding(crate::specs::Faults::is_other_version))]
-pub(super) fn is_other_version(form: &Form) -> bool
+pub fn is_other_version(form: &Form) -> bool
     ensures { result ≡ spec.is_other_version (form_view form.now) }
 {
     form.version != 1 && !makes_classes(form.version)
@@ -50,8 +51,9 @@ fn has_long_list(form: &Form) -> bool
         || form.items.len() > MAX_ITEMS
 }
 
+/// Whether the method lists of classes and categories have too many entries.
 #[tactic(auto, unfolding(crate::specs::Faults::has_many_entries))]
-fn has_many_entries(alloc: Global, form: &Form) -> Result<bool, AllocError>
+pub fn has_many_entries(alloc: Global, form: &Form) -> Result<bool, AllocError>
     ensures { IfOk result (λ b. b ≡ spec.has_many_entries (form_view form.now)) }
 {
     let lists = method_lists(alloc, form)?;
