@@ -23,9 +23,11 @@ root_names_in classes = map (λ c. c.name) (filter (λ c. is_none c.superclass) 
 abbrev pub root_names : Form → List Text
 root_names f = root_names_in f.classes
 
+-- the names of the objects
 abbrev pub object_names : Form → List Text
 object_names f = map (λ o. o.name) f.objects
 
+-- the names of the implementations
 abbrev pub imp_names : Form → List Text
 imp_names f = map (λ i. i.name) f.imps
 

@@ -21,6 +21,7 @@ use Rattle.msg_form.specs.declared.form.Pair.{Pair}
 abbrev pub pair_view : Pair → PairForm
 pair_view p = record { selector = p.selector.now; imp = p.imp.now }
 
+-- the methods of a list without their pointers
 abbrev pub pairs_view : List Pair → List PairForm
 pairs_view ps = map pair_view ps
 

@@ -10,6 +10,7 @@ use Rattle.msg_form.specs.Text.{Text}
 abbrev pub forwarding_text : Text
 forwarding_text = codes "forwardingTargetForSelector:"
 
+-- the selectors of a list of pairs
 abbrev pub list_texts : List PairForm → List Text
 list_texts pairs = map (λ p. p.selector) pairs
 
