@@ -133,6 +133,24 @@ static void noted(void)
     WANT(find(CHILD, true, INHERITED), 19);
 }
 
+/* A list reaches the classes of all its parts. The second gives back what was there. */
+static void listed(void)
+{
+    const msg_change parts[] = {
+        {.kind = MSG_REPLACES, .number = CHILD, .sel = ONE, .imp = 15},
+        {.kind = MSG_REPLACES, .number = ROOT, .meta = true, .sel = ONE, .imp = 16},
+        {.kind = MSG_REPLACES, .number = CHILD, .sel = ONE, .imp = 14},
+        {.kind = MSG_REPLACES, .number = ROOT, .meta = true, .sel = ONE, .imp = 12}};
+    for (int i = 0; i < 4; i += 2) {
+        size_t place;
+        WANT(msg_process_lock(&runtime), MSG_DONE);
+        WANT(msg_change_all(runtime, parts + i, 2, &place), MSG_DONE);
+        msg_process_unlock();
+        WANT(find(CHILD, false, ONE), parts[i].imp);
+        WANT(find(CHILD, true, ONE), parts[i + 1].imp);
+    }
+}
+
 /* With the lock, what is noted is found; of a class that a change reached nothing, until it is
  * answered under the lock. */
 static void locked(void)
@@ -424,6 +442,7 @@ int main(void)
     before_start();
     finds();
     noted();
+    listed();
     locked();
     handlers();
     threads();
