@@ -111,7 +111,10 @@ typedef struct { uint32_t sel; uint32_t imp; } msg_method;
  *   MSG_ADDS, MSG_REPLACES, MSG_SETS_IMP   number, meta, sel, imp
  *   MSG_EXCHANGES            number, meta, sel, other, other_meta, other_sel
  *   MSG_MAKES_CLASS          number, and other, which is the superclass
- *   MSG_MAKES_ROOT_CLASS     number */
+ *   MSG_MAKES_ROOT_CLASS     number
+ *   MSG_REMOVES              number, meta, sel
+ *   MSG_DISPOSES_CLASS       number
+ *   MSG_COVERS               number, meta, sel, imp: msg_attach of one method */
 typedef struct {
     uint32_t kind;
     uint32_t number;
@@ -128,7 +131,10 @@ enum {
     MSG_SETS_IMP = 3,
     MSG_EXCHANGES = 4,
     MSG_MAKES_CLASS = 5,
-    MSG_MAKES_ROOT_CLASS = 6
+    MSG_MAKES_ROOT_CLASS = 6,
+    MSG_REMOVES = 7,
+    MSG_DISPOSES_CLASS = 8,
+    MSG_COVERS = 9
 };
 
 /* How much a runtime has room for. Fields have 32 bits, and 0 is the default.
@@ -169,6 +175,7 @@ enum {
     MSG_LIMIT = 6,          /* 2^48 changes, 2^32 methods or 2^32 - 1 texts */
     MSG_CHANGE_MEMORY = 7,  /* no memory for the change */
     MSG_DUPLICATE_CLASS = 8, /* the class is made already */
+    MSG_CLASS_IN_USE = 9, /* a class is below it */
     /* Faults of any call. */
     MSG_CLOSED = 64,        /* a handle isn't open */
     MSG_ALREADY_OPEN = 65,  /* the handle is open already */
@@ -263,6 +270,15 @@ uint32_t msg_make_class(msg_runtime *runtime, uint32_t number,
                         uint32_t superclass);
 /* Makes a root class and its metaclass, without methods. */
 uint32_t msg_make_root_class(msg_runtime *runtime, uint32_t number);
+/* Takes the method away that a class has of its own (class_removeMethod). One
+ * that it hid counts again: a category's hides its class's. MSG_NO_METHOD if
+ * the class itself has none. */
+uint32_t msg_remove(msg_runtime *runtime, uint32_t number, bool meta,
+                    uint32_t sel);
+/* Takes a class away (objc_disposeClassPair), with its metaclass and the
+ * methods of both. Its number may be used again. MSG_CLASS_IN_USE if a class
+ * is below it. */
+uint32_t msg_dispose_class(msg_runtime *runtime, uint32_t number);
 
 /* ---- changing several as one, under the lock ---- */
 
@@ -280,9 +296,10 @@ uint32_t msg_change_all(msg_runtime *runtime, const msg_change *changes,
 /* msg_change_all that also writes a way back: `undone` parts in `undo` which,
  * made as one directly afterwards, take the list back.
  *
- * `undone` is 0 if there is no way back, since a method was added or a class
- * made. `room` is at least twice `count`, or MSG_NO_ROOM is returned and not
- * even `place` is written. */
+ * Each accepted list has a way back. It has a part for each method that the
+ * list adds, writes or takes away, and for each class that it makes or takes
+ * away. If that is more than `room`, MSG_NO_ROOM is returned, nothing is made,
+ * and `undone` says how much room is wanted. */
 uint32_t msg_change_all_with_undo(msg_runtime *runtime,
                                   const msg_change *changes, size_t count,
                                   msg_change *undo, size_t room, size_t *undone,
@@ -439,6 +456,7 @@ static inline const char *msg_fault_text(uint32_t fault)
     case MSG_LIMIT: return "as many changes or methods as there may be";
     case MSG_CHANGE_MEMORY: return "no memory for the change";
     case MSG_DUPLICATE_CLASS: return "the class is made already";
+    case MSG_CLASS_IN_USE: return "a class is below it";
     case MSG_CLOSED: return "a handle isn't open";
     case MSG_ALREADY_OPEN: return "the handle is open already";
     case MSG_NO_CLASS: return "no such class number";

@@ -21,7 +21,7 @@ import weakref
 from . import _header, _library
 
 __all__ = ["Runtime", "Sender", "Texts", "ClassRef", "Change", "Fault", "instances_of", "class_itself", *_header.FAULTS]
-_NONE, _MISSED = _header.FAULTS["None_"][0], _header.FAULTS["Missed"][0]
+_NONE, _MISSED, _NO_ROOM = (_header.FAULTS[name][0] for name in ("None_", "Missed", "NoRoom"))
 _MOST = 2**32 - 1
 
 
@@ -109,6 +109,19 @@ class Change(typing.NamedTuple):
     @classmethod
     def make_root_class(cls, number):
         return cls(_header.KINDS["MAKES_ROOT_CLASS"], number)
+
+    @classmethod
+    def remove(cls, of, selector):
+        return cls(_header.KINDS["REMOVES"], *of, selector)
+
+    @classmethod
+    def dispose_class(cls, number):
+        return cls(_header.KINDS["DISPOSES_CLASS"], number)
+
+    @classmethod
+    def cover(cls, of, selector, imp):
+        """As `Runtime.attach` of one method: it stands before the one that is there."""
+        return cls(_header.KINDS["COVERS"], *of, selector, imp)
 
 
 class _Shared:
@@ -240,6 +253,15 @@ class Runtime:
         _checked(number)
         self._call("msg_attach", number, *_methods(methods), *_methods(class_methods))
 
+    def remove(self, of, selector):
+        """Takes away the method that the class has of its own. One that it hid counts again."""
+        _checked(of[0], selector)
+        self._call("msg_remove", *of, selector)
+
+    def dispose_class(self, number):
+        """Takes a class away that no class is below, with its metaclass and the methods of both."""
+        _checked(number)
+        self._call("msg_dispose_class", number)
 
     def change_all(self, changes):
         """Makes several changes as one: each lookup answers from before all of them or after all.
@@ -252,14 +274,16 @@ class Runtime:
 
     def change_all_with_undo(self, changes):
         """The same, and answers the changes that take these back if `change_all` makes them
-        directly afterwards; None where there is no way back, since a method was added or a class
-        made."""
+        directly afterwards."""
         rows, count = _changes(changes)
-        undo, undone, place = (_header.msg_change * (2 * count + 1))(), ctypes.c_size_t(), ctypes.c_size_t()
-        answer = self._answer("msg_change_all_with_undo", rows, count, undo, len(undo), ctypes.byref(undone), ctypes.byref(place))
+        undone, place = ctypes.c_size_t(2 * count + 1), ctypes.c_size_t()
+        answer = _NO_ROOM
+        with self._shared.lock:
+            while answer == _NO_ROOM:  # nothing was made: `undone` places are wanted
+                undo = (_header.msg_change * undone.value)()
+                answer = self._answer("msg_change_all_with_undo", rows, count, undo, len(undo), ctypes.byref(undone), ctypes.byref(place))
         _must_at(answer, place)
-        back = [Change(*(getattr(it, name) for name, _ in it._fields_)) for it in undo[: undone.value]]
-        return back if back or not count else None
+        return [Change(*(getattr(it, name) for name, _ in it._fields_)) for it in undo[: undone.value]]
 
     def reach(self, changes):
         """Which lookups `change_all` would alter, without making the changes: those of these class

@@ -69,6 +69,7 @@ refusal_text refusals.NoMethod = codes "no method"
 refusal_text refusals.Limit = codes "limit"
 refusal_text refusals.Memory = codes "out of memory"
 refusal_text refusals.DuplicateClass = codes "duplicate class"
+refusal_text refusals.ClassInUse = codes "class in use"
 
 -- where several were to be made as one, the place of the first that would be refused is told, from
 -- 0

@@ -127,6 +127,7 @@ fn refusal_text(fault: ChangeFault) -> &'static str
         ChangeFault::Limit => "limit",
         ChangeFault::Memory => "out of memory",
         ChangeFault::DuplicateClass => "duplicate class",
+        ChangeFault::ClassInUse => "class in use",
     }
 }
 

@@ -32,4 +32,6 @@ mod texts;
 mod texts_handle;
 #[cfg(test)]
 mod texts_tests;
+#[cfg(test)]
+mod undo_tests;
 mod version;
