@@ -213,11 +213,7 @@ pub(crate) enum RowsUnmade {
 impl HostedRuntime {
     // Makes the changes of rows as one, where their way back has at most so many, or says why not
     // and changes nothing. What they wrote is noted.
-    pub(crate) fn change_rows(
-        &mut self,
-        rows: &[ChangeRow],
-        most: usize,
-    ) -> Result<(), RowsUnmade>
+    pub(crate) fn change_rows(&mut self, rows: &[ChangeRow], most: usize) -> Result<(), RowsUnmade>
         ensures arena { self.new.arena ≡ self.old.arena }
         ensures given { self.new.keeper.given ≡ self.old.keeper.given }
         ensures made { OnOk result (MakesRows rows.now self.old self.new) }

@@ -12,11 +12,7 @@ use crate::runtime::HostedRuntime;
 impl HostedRuntime {
     // Marks what the changes of rows may alter if they are made as one, or says why they would be
     // refused.
-    fn rows_reach(
-        &mut self,
-        rows: &[ChangeRow],
-        reached: &mut [bool],
-    ) -> Result<(), RowFault>
+    fn rows_reach(&mut self, rows: &[ChangeRow], reached: &mut [bool]) -> Result<(), RowFault>
         requires { length reached.old ≡ 2 * classes self.old.arena }
         ensures same { IsLeft self.old self.new }
         ensures reached { OnOk result (ReachesRowsOf self.old rows.now reached.old reached.new) }
@@ -38,12 +34,7 @@ impl HostedRuntime {
     /// place of the row: of one that means no change, and then nothing is marked, or of the first
     /// that would be refused, and then what those before it may alter is. Where memory is wanting
     /// the marks say nothing.
-    pub fn reach_rows(
-        &mut self,
-        rows: &[ChangeRow],
-        reached: &mut [bool],
-        place: &mut usize,
-    ) -> u32
+    pub fn reach_rows(&mut self, rows: &[ChangeRow], reached: &mut [bool], place: &mut usize) -> u32
         ensures same { IsLeft self.old self.new }
         ensures reached { result ≡ 0 → ReachesRowsOf self.old rows.now reached.old reached.new }
         ensures room { length reached.old ≢ 2 * classes self.old.arena → result ≡ want_of_room }

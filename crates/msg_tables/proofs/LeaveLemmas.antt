@@ -161,7 +161,6 @@ module _ (depth : ℕ → ℕ) (next : ℕ → Option ℕ) (k : ℕ) (ys : List 
         same [] = refl
         same (z ∷ zs) = refl
 
-
 -- ---- where it stands
 
 pub record Splits (ks : List ℕ) (k : ℕ) : Type 0 where

@@ -31,12 +31,12 @@ returns c = λ config v w rows undo n is (xs, meant, made, held) (zs, also, back
     let means : AreMeant (take n undo) ys = subst (λ us. AreMeant (take n undo) (undo_all (table h) us)) same back in
     let longer : log w.keeper.history ≡ and_all h xs = ap log made.history ∙ log-as_one v.keeper.history xs in
     let ready : IsMadeAt h xs = record {
-        sound = subst IsSound (sym is.origin) (host_origin_sound config (few-classes config is.within));
-        fit = subst AreFit (sym is.origin) (host-fit config);
-        log = is.log;
-        accepted = c.parts_are_accepted_one_after_another.ensures.accepted h xs 0 made.accepted;
-        numbered = rows-numbered rows xs meant;
-      } in
+      sound = subst IsSound (sym is.origin) (host_origin_sound config (few-classes config is.within));
+      fit = subst AreFit (sym is.origin) (host-fit config);
+      log = is.log;
+      accepted = c.parts_are_accepted_one_after_another.ensures.accepted h xs 0 made.accepted;
+      numbered = rows-numbered rows xs meant;
+    } in
     record {
       changes = ys;
       meant = means;
