@@ -185,6 +185,18 @@ uint32_t msg_lookup(msg_runtime *runtime, uint32_t number, bool meta, uint32_t s
     return MSG_DONE;
 }
 
+uint32_t msg_superclass(msg_runtime *runtime, uint32_t number, bool meta, msg_class *above)
+{
+    if (!runtime->open) return MSG_CLOSED;
+    const struct tables *tables = runtime->at;
+    if (number >= tables->classes) return MSG_NO_CLASS;
+    const struct class *class = &tables->of[number];
+    if (!class->made || (class->above < 0 && !meta)) return MSG_NONE;
+    *above = class->above < 0 ? (msg_class){number, false}
+                              : (msg_class){(uint32_t)class->above, meta};
+    return MSG_DONE;
+}
+
 uint32_t msg_holder(msg_runtime *runtime, uint32_t number, bool meta, uint32_t sel, msg_class *at)
 {
     if (!runtime->open) return MSG_CLOSED;
