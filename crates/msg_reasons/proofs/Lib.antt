@@ -1,0 +1,3 @@
+pub mod DispatchLemmas
+pub mod ExplanationLemmas
+pub mod NotedLemmas
