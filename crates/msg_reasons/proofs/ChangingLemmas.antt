@@ -45,22 +45,22 @@ stands-made : (item : ItemParts) (h : History) (new : TablesView) → outcome_at
 stands-made item h new made stands =
     subst (λ (o : Outcome). StandsAt new (log (longer_by h (changes_in item) o))) (sym made) (subst (StandsAt new) (sym (made-log h (changes_in item))) stands)
 
-pub one-changed : (x : Change) (old new : TablesView) (r : Option Refused) → IsMadeOrRefused (x ∷ []) old new r → IsChanged (ChangeItem x) old new (answered_one r)
-one-changed x old new None made = λ h st.
+pub one_changed : (x : Change) (old new : TablesView) (r : Option Refused) → IsMadeOrRefused (x ∷ []) old new r → IsChanged (ChangeItem x) old new (answered_one r)
+one_changed x old new None made = λ h st.
     let (none, stands) = made (log h) st in
     let is = one-answered (refusal (log h) x) None none in
     (sym is, stands-made (ChangeItem x) h new is stands)
-one-changed x old new (Some r) made = λ h st.
+one_changed x old new (Some r) made = λ h st.
     let (first, stands) = made (log h) st in
     let is = one-answered (refusal (log h) x) (Some r) first in
     (sym is, subst (λ (o : Outcome). StandsAt new (log (longer_by h (x ∷ []) o))) (sym is) stands)
 
-pub all-changed : (xs : List Change) (old new : TablesView) (r : Option Refused) → IsMadeOrRefused xs old new r → IsChanged (ChangeAllItem xs) old new (answered_all r)
-all-changed xs old new None made = λ h st.
+pub all_changed : (xs : List Change) (old new : TablesView) (r : Option Refused) → IsMadeOrRefused xs old new r → IsChanged (ChangeAllItem xs) old new (answered_all r)
+all_changed xs old new None made = λ h st.
     let (none, stands) = made (log h) st in
     let is = ap outcome_of_first none in
     (sym is, stands-made (ChangeAllItem xs) h new is stands)
-all-changed xs old new (Some r) made = λ h st.
+all_changed xs old new (Some r) made = λ h st.
     let (first, stands) = made (log h) st in
     let is = ap outcome_of_first first ∙ first-answered (Some r) in
     (sym is, subst (λ (o : Outcome). StandsAt new (log (longer_by h xs o))) (sym is) stands)

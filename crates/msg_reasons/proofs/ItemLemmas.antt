@@ -1,23 +1,35 @@
 -- Items that are explained, one after another.
-use Rattle.std.proofs.Common.{◌≡◌, ◌≤◌, ◌+◌, ℕ, List, [], ◌∷◌, ◌++◌, append_assoc, drop, map, length, refl, sym, ap, ap₂, ◌∙◌}
+use Rattle.std.proofs.Common.{◌≡◌, ◌≤◌, ◌<◌, ◌+◌, ℕ, suc, List, [], ◌∷◌, ◌++◌, All, append_assoc, drop, drop-cons, add-one, get_or, map, length, sym, ap, ap₂, subst, ◌∙◌}
 use Rattle.std.specs.List.{flat_map}
 use Rattle.std.proofs.lemmas.List.{drop_all, append-nil, length-map}
-use Rattle.msg_image.specs.Items.{ItemParts, DocumentParts}
+use Rattle.std.proofs.lemmas.List.Elements.{All-head, All-tail}
+use Rattle.msg_names.specs.declared.value.Selector.{Selector}
+use Rattle.msg_names.specs.declared.value.Value.{Value}
+use Rattle.msg_image.specs.Items.{ItemParts, SendItem, ChangeItem, ChangeAllItem, DocumentParts}
 use Rattle.msg_image.specs.Opened.{origin_of}
 use Rattle.msg_image.specs.Parts.{ImageParts, ClassParts, ImpParts, class_total}
 use Rattle.msg_image.specs.Plain.{item_parts}
+use Rattle.msg_image.specs.Sound.{IsSoundItem}
 use Rattle.msg_image.specs.declared.change.Item.{Item}
 use Rattle.msg_tables.specs.History.{History, empty, log}
 use Rattle.msg_tables.specs.Opening.{HasClassesOf}
 use Rattle.msg_tables.specs.Origin.{last_imp}
 use Rattle.msg_tables.specs.Stands.{StandsAt}
 use Rattle.msg_tables.specs.View.{TablesView}
+use Rattle.msg_tables.specs.declared.change.Change.{Change}
+use Rattle.msg_eval.specs.declared.reply.Reply.{Reply}
+use Rattle.msg_eval.specs.Evaluation.{send_of}
 use Rattle.msg_eval.specs.Finder.{Sizes, sizes_of, table_sizes}
-use Rattle.msg_answers.specs.Serial.{history_after}
-use Rattle.msg_reasons.specs.Changing.{KeepsSizes}
+use Rattle.msg_answers.specs.Serial.{history_after, outcome_at}
+use Rattle.msg_answers.specs.Text.{line_of, outcome_text, reply_text}
+use Rattle.msg_answers.specs.declared.outcome.Outcome.{Outcome}
+use Rattle.msg_reasons.specs.Changing.{IsChanged, KeepsSizes}
+use Rattle.msg_reasons.specs.Explained.{IsExplained, all_looked}
+use Rattle.msg_reasons.specs.Lookups.{Looked}
+use Rattle.msg_reasons.specs.declared.notes.Lookup.{Lookup}
 use Rattle.msg_reasons.specs.Explanation.{reason_at, reasons_from}
 use Rattle.msg_reasons.specs.Items.{ExplainsItem}
-use Rattle.msg_reasons.specs.Text.{explanation_text, reason_lines}
+use Rattle.msg_reasons.specs.Text.{explanation_text, lookups_text, reason_lines}
 
 -- the tables stand at the history after the items before, and the text with the lines of those left
 -- is the whole
@@ -26,11 +38,15 @@ pub record IsSoFar (d : DocumentParts) (tables : TablesView) (text : List ℕ) (
   pub stands : StandsAt tables (log history)
   pub whole : text ++ flat_map (reason_lines d.image) (reasons_from d.image history left) ≡ explanation_text d
 
-pub at_start : (d : DocumentParts) (tables : TablesView) → StandsAt tables (log (empty (origin_of d.image))) → IsSoFar d tables [] d.items
+pub at_start : (d : DocumentParts) (tables : TablesView) (text : List ℕ) → text ≡ [] → StandsAt tables (log (empty (origin_of d.image))) → IsSoFar d tables text d.items
 unfolding explanation_text
-at_start d tables stands = record { history = empty (origin_of d.image); stands = stands; whole = refl }
+at_start d tables text none stands = record {
+  history = empty (origin_of d.image);
+  stands = stands;
+  whole = ap (λ t. t ++ flat_map (reason_lines d.image) (reasons_from d.image (empty (origin_of d.image)) d.items)) none;
+}
 
-pub step : (d : DocumentParts) (old new : TablesView) (text more : List ℕ) (item : ItemParts) (left : List ItemParts) → IsSoFar d old text (item ∷ left) → ExplainsItem d.image item old new text more → IsSoFar d new more left
+step : (d : DocumentParts) (old new : TablesView) (text more : List ℕ) (item : ItemParts) (left : List ItemParts) → IsSoFar d old text (item ∷ left) → ExplainsItem d.image item old new text more → IsSoFar d new more left
 step d old new text more item left so_far explains =
     let (added, stands) = explains so_far.history so_far.stands in
     let line = reason_lines d.image (reason_at d.image so_far.history item) in
@@ -40,6 +56,24 @@ step d old new text more item left so_far explains =
       stands = stands;
       whole = ap (λ t. t ++ rest) added ∙ append_assoc text line rest ∙ so_far.whole;
     }
+
+-- the items from one on
+drop-next : (items : List Item) (i : ℕ) (x : Item) → i < length items → x ≡ get_or items i x → drop i items ≡ x ∷ drop (i + 1) items
+drop-next items i x lt is =
+    drop-cons items i x lt ∙ ap (λ (y : Item). y ∷ drop (suc i) items) (sym is) ∙ ap (λ n. x ∷ drop n items) (sym (add-one i))
+
+pub sound-here : (image : ImageParts) (items : List Item) (i : ℕ) (x : Item) → i < length items → x ≡ get_or items i x → All (IsSoundItem image) (map item_parts (drop i items)) → IsSoundItem image (item_parts x)
+sound-here image items i x lt is all =
+    All-head (IsSoundItem image) (item_parts x) (map item_parts (drop (i + 1) items)) (subst (λ (ys : List Item). All (IsSoundItem image) (map item_parts ys)) (drop-next items i x lt is) all)
+
+pub sound-next : (image : ImageParts) (items : List Item) (i : ℕ) (x : Item) → i < length items → x ≡ get_or items i x → All (IsSoundItem image) (map item_parts (drop i items)) → All (IsSoundItem image) (map item_parts (drop (i + 1) items))
+sound-next image items i x lt is all =
+    All-tail (IsSoundItem image) (item_parts x) (map item_parts (drop (i + 1) items)) (subst (λ (ys : List Item). All (IsSoundItem image) (map item_parts ys)) (drop-next items i x lt is) all)
+
+pub next : (d : DocumentParts) (old new : TablesView) (text more : List ℕ) (items : List Item) (i : ℕ) (x : Item) → i < length items → x ≡ get_or items i x
+    → IsSoFar d old text (map item_parts (drop i items)) → ExplainsItem d.image (item_parts x) old new text more → IsSoFar d new more (map item_parts (drop (i + 1) items))
+next d old new text more items i x lt is so_far explains =
+    step d old new text more (item_parts x) (map item_parts (drop (i + 1) items)) (subst (λ (ys : List Item). IsSoFar d old text (map item_parts ys)) (drop-next items i x lt is) so_far) explains
 
 pub at_end : (d : DocumentParts) (tables : TablesView) (text : List ℕ) (items : List Item) (i : ℕ) → length items ≤ i → IsSoFar d tables text (map item_parts (drop i items)) → text ≡ explanation_text d
 at_end d tables text items i past so_far =
@@ -61,3 +95,23 @@ sizes-opened image t classes stands =
 pub sizes-kept : (image : ImageParts) (old new : TablesView) → KeepsSizes old new → table_sizes old ≡ sizes_of image → table_sizes new ≡ sizes_of image
 sizes-kept image old new kept sizes =
     sizes-are (length new.supers) (last_imp new.counts) (length old.supers) (last_imp old.counts) kept.0 (ap last_imp kept.1) ∙ sizes
+
+-- ---- one item
+
+pub sent-explained : (image : ImageParts) (receiver : Value) (s : Selector) (xs : List Value) (tables : TablesView) (text mid more : List ℕ) (ls : List Lookup) (reply : Reply)
+    → IsExplained tables (send_of image receiver s xs) (all_looked ls) reply → mid ≡ text ++ line_of (reply_text image reply) → more ≡ mid ++ lookups_text image (all_looked ls) → ExplainsItem image (SendItem receiver s xs) tables tables text more
+sent-explained image receiver s xs tables text mid more ls reply explained first second = λ h st.
+    let (lookups, replied) = explained h st in
+    (second ∙ ap (λ t. t ++ lookups_text image (all_looked ls)) first
+    ∙ append_assoc text (line_of (reply_text image reply)) (lookups_text image (all_looked ls))
+    ∙ ap₂ (λ (r : Reply) (seen : List Looked). text ++ (line_of (reply_text image r) ++ lookups_text image seen)) replied lookups, st)
+
+pub change-explained : (image : ImageParts) (x : Change) (old new : TablesView) (text more : List ℕ) (o : Outcome) → IsChanged (ChangeItem x) old new o → more ≡ text ++ line_of (outcome_text o) → ExplainsItem image (ChangeItem x) old new text more
+change-explained image x old new text more o changed gained = λ h st.
+    let (is, stands) = changed h st in
+    (gained ∙ ap (λ (q : Outcome). text ++ line_of (outcome_text q)) is ∙ ap (λ t. text ++ t) (sym (append-nil (line_of (outcome_text (outcome_at h (ChangeItem x)))))), stands)
+
+pub changes-explained : (image : ImageParts) (xs : List Change) (old new : TablesView) (text more : List ℕ) (o : Outcome) → IsChanged (ChangeAllItem xs) old new o → more ≡ text ++ line_of (outcome_text o) → ExplainsItem image (ChangeAllItem xs) old new text more
+changes-explained image xs old new text more o changed gained = λ h st.
+    let (is, stands) = changed h st in
+    (gained ∙ ap (λ (q : Outcome). text ++ line_of (outcome_text q)) is ∙ ap (λ t. text ++ t) (sym (append-nil (line_of (outcome_text (outcome_at h (ChangeAllItem xs)))))), stands)

@@ -1,13 +1,11 @@
 //! Changes of a document, made in tables.
 
 ghost use Rattle.std.specs.Prelude.{IfOk};
-ghost use Rattle.msg_image.specs.Plain.{item_parts};
-ghost use Rattle.msg_reasons.specs.Changing.{IsChanged, IsMadeOrRefused};
-ghost use Rattle.msg_reasons.specs.Changing.{KeepsSizes};
+ghost use Rattle.msg_image.specs.Items.{ChangeItem, ChangeAllItem};
+ghost use Rattle.msg_reasons.specs.Changing.{IsChanged, IsMadeOrRefused, KeepsSizes};
 
 use msg_answers::Outcome;
-use msg_image::{Change, Item};
-use msg_tables::{ChangeFault, Refused, Tables, Written};
+use msg_tables::{Change, ChangeFault, Refused, Tables, Written};
 use std::alloc::AllocError;
 use std::slice::from_ref;
 
@@ -29,24 +27,32 @@ fn make(
     }
 }
 
-// Makes an item's changes, and says what became of them. A send has none.
-pub(crate) fn change_by(
+// Makes a change, and says what became of it.
+pub(crate) fn change_one(
     tables: &mut Tables,
-    item: &Item,
+    change: &Change,
     written: &mut Written,
 ) -> Result<Outcome, AllocError>
-    ensures changed { IfOk result (IsChanged (item_parts item.now) tables.old tables.new) }
+    ensures changed { IfOk result (IsChanged (ChangeItem change.now) tables.old tables.new) }
     ensures sizes { KeepsSizes tables.old tables.new }
 {
-    match item {
-        Item::Send { .. } => Ok(Outcome::Made),
-        Item::Change(change) => match make(tables, from_ref(change), written)? {
-            None => Ok(Outcome::Made),
-            Some(refused) => Ok(Outcome::Refused(refused.fault)),
-        },
-        Item::ChangeAll(changes) => match make(tables, changes, written)? {
-            None => Ok(Outcome::Made),
-            Some(refused) => Ok(Outcome::RefusedAt(refused)),
-        },
+    match make(tables, from_ref(change), written)? {
+        None => Ok(Outcome::Made),
+        Some(refused) => Ok(Outcome::Refused(refused.fault)),
+    }
+}
+
+// Makes changes as one, and says what became of them.
+pub(crate) fn change_as_one(
+    tables: &mut Tables,
+    changes: &[Change],
+    written: &mut Written,
+) -> Result<Outcome, AllocError>
+    ensures changed { IfOk result (IsChanged (ChangeAllItem changes.now) tables.old tables.new) }
+    ensures sizes { KeepsSizes tables.old tables.new }
+{
+    match make(tables, changes, written)? {
+        None => Ok(Outcome::Made),
+        Some(refused) => Ok(Outcome::RefusedAt(refused)),
     }
 }
