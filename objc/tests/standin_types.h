@@ -2,17 +2,17 @@
  * moves on. */
 #include <string.h>
 
-enum { DEEPEST = 200, LARGEST = 1 << 28, BITS = 8, NONE = -1 };
+enum { DEEPEST = 200, LARGEST = 1 << 28, A_BYTE = 8, ENDED = -1 };
 
 struct reader { const uint8_t *at, *end; };
 
 /* Of a bit-field also its bits, from `first` to before `last`, which is 0 elsewhere. */
-struct measure { uint64_t size, align; bool is_bits; uint64_t first, last; };
+struct shape { uint64_t size, align; bool is_bits; uint64_t first, last; };
 
-static struct measure measured(struct reader *text, int left);
+static struct shape read_type(struct reader *text, int left);
 
 static uint64_t at_most(uint64_t size) { return size < LARGEST ? size : LARGEST; }
-static int front(const struct reader *text) { return text->at < text->end ? *text->at : NONE; }
+static int front(const struct reader *text) { return text->at < text->end ? *text->at : ENDED; }
 static bool is_of(const char *letters, int letter) { return letter > 0 && strchr(letters, letter); }
 static void skip(struct reader *text, int letter) { text->at += front(text) == letter; }
 static void skip_all(struct reader *text, const char *these)
@@ -21,7 +21,7 @@ static void skip_all(struct reader *text, const char *these)
 }
 static void skip_to(struct reader *text, int one, int other)
 {
-    while (front(text) != NONE && front(text) != one && front(text) != other) text->at++;
+    while (front(text) != ENDED && front(text) != one && front(text) != other) text->at++;
 }
 static void skip_name(struct reader *text)
 {
@@ -37,71 +37,74 @@ static uint64_t number(struct reader *text)
     return number;
 }
 
-static struct measure plain(uint64_t size) { return (struct measure){.size = size, .align = size ? size : 1}; }
-static struct measure rows(struct measure row, uint64_t count)
+static struct shape plain(uint64_t size)
 {
-    return (struct measure){.size = at_most(row.size * count), .align = row.align};
+    return (struct shape){.size = size, .align = size ? size : 1};
 }
-static uint64_t round_up(uint64_t bits, uint64_t align)
+static struct shape rows(struct shape row, uint64_t count)
 {
-    uint64_t bytes = at_most(bits / BITS + (bits % BITS != 0));
+    return (struct shape){.size = at_most(row.size * count), .align = row.align};
+}
+static uint64_t rounded(uint64_t bits, uint64_t align)
+{
+    uint64_t bytes = at_most(bits / A_BYTE + (bits % A_BYTE != 0));
     return (bytes + align - 1) / align * align;
 }
-static void lie_at(const struct measure *it, uint64_t before, uint64_t *first, uint64_t *last)
+static void lie_at(const struct shape *it, uint64_t before, uint64_t *first, uint64_t *last)
 {
-    *first = it->is_bits ? it->first : BITS * round_up(before, it->align);
-    *last = it->is_bits ? it->last : *first + BITS * it->size;
+    *first = it->is_bits ? it->first : A_BYTE * rounded(before, it->align);
+    *last = it->is_bits ? it->last : *first + A_BYTE * it->size;
 }
 
-static struct measure members(struct reader *text, int close, int left)
+static struct shape members(struct reader *text, int close, int left)
 {
     uint64_t end = 0, align = 1, first, last;
     skip_to(text, '=', close);
     skip(text, '=');
-    for (skip_name(text); front(text) != NONE && front(text) != close; skip_name(text)) {
-        struct measure it = measured(text, left);
+    for (skip_name(text); front(text) != ENDED && front(text) != close; skip_name(text)) {
+        struct shape it = read_type(text, left);
         lie_at(&it, close == ')' ? 0 : end, &first, &last);
         if (last > end) end = last;
         if (it.align > align) align = it.align;
     }
     skip(text, close);
-    return (struct measure){.size = at_most(round_up(end, align)), .align = align};
+    return (struct shape){.size = at_most(rounded(end, align)), .align = align};
 }
 
-static struct measure vector(struct reader *text, int left)
+static struct shape vector(struct reader *text, int left)
 {
     skip(text, '[');
     uint64_t size = number(text);
     skip(text, ',');
     uint64_t align = number(text);
-    measured(text, left);
+    read_type(text, left);
     skip(text, ']');
-    return (struct measure){.size = size, .align = align ? align : 1};
+    return (struct shape){.size = size, .align = align ? align : 1};
 }
 
-static struct measure bit_field(struct reader *text, int left)
+static struct shape bit_field(struct reader *text, int left)
 {
     uint64_t first = number(text);
-    struct measure it = measured(text, left);
-    return (struct measure){it.size, it.align, true, first, first + number(text)};
+    struct shape it = read_type(text, left);
+    return (struct shape){it.size, it.align, true, first, first + number(text)};
 }
 
-static struct measure array(struct reader *text, int left)
+static struct shape array(struct reader *text, int left)
 {
     uint64_t count = number(text);
-    struct measure row = measured(text, left);
+    struct shape row = read_type(text, left);
     skip(text, ']');
     return rows(row, count);
 }
 
-static struct measure pointer(struct reader *text, int left)
+static struct shape pointer(struct reader *text, int left)
 {
     skip_all(text, "^rnNoORV|");
-    measured(text, left);
+    read_type(text, left);
     return plain(8);
 }
 
-static struct measure object(struct reader *text)
+static struct shape object(struct reader *text)
 {
     skip(text, '?');
     skip_name(text);
@@ -117,18 +120,18 @@ static uint64_t size_of(int letter)
     return 0;
 }
 
-static struct measure measured(struct reader *text, int left)
+static struct shape read_type(struct reader *text, int left)
 {
     if (left) skip_all(text, "rnNoORV|");
     else text->at = text->end;
     int letter = front(text);
-    text->at += letter != NONE;
+    text->at += letter != ENDED;
     switch (letter) {
     case '{': return members(text, '}', left - 1);
     case '(': return members(text, ')', left - 1);
     case '[': return array(text, left - 1);
     case '!': return vector(text, left - 1);
-    case 'j': return rows(measured(text, left - 1), 2);
+    case 'j': return rows(read_type(text, left - 1), 2);
     case 'b': return bit_field(text, left - 1);
     case '^': return pointer(text, left - 1);
     case '@': return object(text);
@@ -139,7 +142,7 @@ static struct measure measured(struct reader *text, int left)
 size_t msg_type_first(const uint8_t *text, size_t length, uint64_t *size, uint64_t *align)
 {
     struct reader rest = {text, text + length};
-    struct measure it = measured(&rest, DEEPEST);
+    struct shape it = read_type(&rest, DEEPEST);
     *size = it.size;
     *align = it.align;
     return (size_t)(rest.at - text);
@@ -150,9 +153,9 @@ uint32_t msg_type_member(const uint8_t *text, size_t length, uint64_t before, si
 {
     struct reader rest = {text, text + length};
     skip_name(&rest);
-    if (front(&rest) == NONE || front(&rest) == '}' || front(&rest) == ')') return MSG_NONE;
+    if (front(&rest) == ENDED || front(&rest) == '}' || front(&rest) == ')') return MSG_NONE;
     *begin = (size_t)(rest.at - text);
-    struct measure it = measured(&rest, DEEPEST);
+    struct shape it = read_type(&rest, DEEPEST);
     lie_at(&it, before, first, last);
     *align = it.align;
     *end = (size_t)(rest.at - text);
