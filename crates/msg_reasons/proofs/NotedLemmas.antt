@@ -1,0 +1,48 @@
+-- What is noted of a send.
+use Rattle.std.proofs.Common.{◌≡◌, ◌<◌, ◌-◌, ◌+◌, ℕ, zero, suc, List, [], ◌∷◌, ◌++◌, Some, map, refl, sym, ap, subst, ◌∙◌, append_assoc, append-nil, arith}
+use Rattle.std.specs.Prelude.{Result, Ok, Err}
+use Rattle.msg_names.specs.declared.value.ClassRef.{ClassRef}
+use Rattle.msg_tables.specs.History.{History, lookup, holder}
+use Rattle.msg_eval.specs.declared.reply.Reply.{Reply}
+use Rattle.msg_eval.specs.declared.reply.SendFault.{SendFault}
+use Rattle.msg_eval.specs.declared.reply.SendFault.TheVariants.{Budget}
+use Rattle.msg_eval.specs.Meaning.{Meaning, Ends, Asks, ask, fault}
+use Rattle.msg_eval.specs.Points.{plain_reply}
+use Rattle.msg_reasons.specs.Explained.{all_looked, explained, looked}
+use Rattle.msg_reasons.specs.Lookups.{Looked, looked_at, lookups_of}
+use Rattle.msg_reasons.specs.declared.notes.Lookup.{Lookup}
+
+-- a send's lookups come after those before it
+explained-after : (h : History) (done : List Looked) (send : Meaning) → explained h done send ≡ (done ++ lookups_of h send, plain_reply h send)
+explained-after h done (Ends r) = ap (λ (ls : List Looked). (let p : List Looked × Reply = (ls, r) in p)) (sym (append-nil done))
+explained-after h done (Asks c s go) =
+    explained-after h (done ++ looked_at h c s ∷ []) (go (lookup h c s))
+    ∙ ap (λ (ls : List Looked). (let p : List Looked × Reply = (ls, plain_reply h (go (lookup h c s))) in p)) (append_assoc done (looked_at h c s ∷ []) (lookups_of h (go (lookup h c s))))
+
+-- what a send that has ended noted, and its reply
+pub explained-whole : (h : History) (send : Meaning) (ls : List Looked) (r : Reply) → explained h [] send ≡ (ls, r) → (ls ≡ lookups_of h send) × (r ≡ plain_reply h send)
+explained-whole h send ls r e =
+    let both = sym e ∙ explained-after h [] send in
+    (ap (λ (p : List Looked × Reply). p.0) both, ap (λ (p : List Looked × Reply). p.1) both)
+
+-- where no lookup is left
+pub none_left : (c : ClassRef) (s n : ℕ) (k : ℕ → ℕ → Meaning) → n ≡ 0 → ask c s n k ≡ fault Budget
+none_left c s zero k e = refl
+none_left c s (suc n) k e = absurd (omega (arith, e))
+
+-- where one is left
+one_left : (c : ClassRef) (s n m : ℕ) (k : ℕ → ℕ → Meaning) → n ≡ m + 1 → ask c s n k ≡ Asks c s (λ i. k i m)
+one_left c s zero m k e = absurd (omega (arith, e))
+one_left c s (suc n) m k e = let same : n ≡ m = omega (arith, e) in ap (λ x. Asks c s (λ i. k i x)) same
+
+all-looked-append : (ls : List Lookup) (l : Lookup) → all_looked (ls ++ l ∷ []) ≡ all_looked ls ++ looked l ∷ []
+all-looked-append [] l = refl
+all-looked-append (x ∷ xs) l = ap (λ (ls : List Looked). looked x ∷ ls) (all-looked-append xs l)
+
+-- a lookup was noted as it was made
+pub noted-lookup : (h : History) (old new : List Lookup) (l : Lookup) (c : ClassRef) (s n m i : ℕ) (k : ℕ → ℕ → Meaning) → new ≡ old ++ l ∷ [] → looked l ≡ looked_at h c s → i ≡ lookup h c s → n ≡ m + 1
+    → explained h (all_looked old) (ask c s n k) ≡ explained h (all_looked new) (k i m)
+noted-lookup h old new l c s n m i k is same found left =
+    ap (explained h (all_looked old)) (one_left c s n m k left)
+    ∙ ap (λ (ls : List Looked). explained h ls (k (lookup h c s) m)) (sym (ap all_looked is ∙ all-looked-append old l ∙ ap (λ (x : Looked). all_looked old ++ x ∷ []) same))
+    ∙ ap (λ j. explained h (all_looked new) (k j m)) (sym found)

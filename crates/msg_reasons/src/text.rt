@@ -1,0 +1,125 @@
+//! How lookups are told.
+
+ghost use Rattle.std.specs.Prelude.{◌≡◌, ◌<◌, ◌≤◌, ◌^◌, length, IfSome, OnOk};
+ghost use Rattle.msg_devices.specs.Writing.{Gains};
+ghost use Rattle.msg_names.specs.Number.{selector_number, imp_number};
+ghost use Rattle.msg_tables.specs.declared.origin.Category.{Category};
+ghost use Rattle.msg_reasons.specs.Categories as categories;
+ghost use Rattle.msg_reasons.specs.Explained.{all_looked, looked};
+ghost use Rattle.msg_reasons.specs.Text as spec;
+
+use crate::notes::Lookup;
+use msg_answers::{class_name, push_method};
+use msg_devices::push_digits;
+use msg_image::{Category, Image};
+use msg_names::{ClassRef, ImpRef, Selector};
+use std::alloc::AllocError;
+
+fn push(text: &mut Vec<u8>, part: &str) -> Result<(), AllocError>
+    ensures { OnOk result (Gains text.old text.new part.now) }
+{
+    text.extend_from_slice(part.as_bytes())
+}
+
+// Whether a category gives a class reference this implementation of the selector.
+fn gives(category: &Category, class: ClassRef, sel: Selector, imp: ImpRef) -> bool
+    ensures { result ≡ categories.gives class (selector_number sel) (imp_number imp) category.now }
+{
+    if category.class != class.class {
+        return false;
+    }
+    let methods = if class.meta {
+        category.class_methods.as_slice()
+    } else {
+        category.methods.as_slice()
+    };
+    methods
+        .iter()
+        .any(|method| method.0 == sel && method.1 == imp)
+}
+
+/// The place of the document's category of which a method is that stands at a class reference. Of
+/// two that list it the one listed last counts.
+pub fn category_of(image: &Image, class: ClassRef, sel: Selector, imp: ImpRef) -> Option<usize>
+    ensures { result
+        ≡ categories.category_of image.now.categories class (selector_number sel) (imp_number imp) }
+{
+    let mut found = None;
+    for (place, category) in image.categories().iter().enumerate() {
+        if gives(category, class, sel, imp) {
+            found = Some(place);
+        }
+    }
+    found
+}
+
+fn push_category(text: &mut Vec<u8>, category: Option<usize>) -> Result<(), AllocError>
+    ensures { OnOk result (Gains text.old text.new (spec.category_text category)) }
+{
+    match category {
+        Some(place) => {
+            push(text, " of categories[")?;
+            push_digits(text, place)?;
+            push(text, "]")
+        }
+        None => Ok(()),
+    }
+}
+
+fn push_place(text: &mut Vec<u8>, image: &Image, class: ClassRef) -> Result<(), AllocError>
+    ensures { OnOk result (Gains text.old text.new (spec.place_text image.now class)) }
+{
+    push(
+        text,
+        if class.meta {
+            " found in metaclass "
+        } else {
+            " found in "
+        },
+    )?;
+    push(text, class_name(image, class.class))
+}
+
+fn push_found(text: &mut Vec<u8>, image: &Image, lookup: &Lookup) -> Result<(), AllocError>
+    ensures { OnOk result
+        (Gains text.old text.new (spec.found_text image.now (looked lookup.now) lookup.now.holder)) }
+{
+    match lookup.holder {
+        Some(class) => {
+            push_place(text, image, class)?;
+            push(text, ": imps[")?;
+            push_digits(text, (lookup.imp.number() as usize).saturating_sub(1))?;
+            push(text, "]")?;
+            push_category(text, category_of(image, class, lookup.sel, lookup.imp))
+        }
+        None => push(text, " not found"),
+    }
+}
+
+/// Appends the line of a lookup.
+pub fn push_lookup(text: &mut Vec<u8>, image: &Image, lookup: &Lookup) -> Result<(), AllocError>
+    ensures { OnOk result
+        (Gains text.old text.new (spec.lookup_line image.now (looked lookup.now))) }
+{
+    push(text, "  ")?;
+    push_method(text, image, lookup.class, lookup.sel)?;
+    push_found(text, image, lookup)?;
+    push(text, "\n")
+}
+
+// Appends the lines of a send's lookups, and how many they are.
+pub(crate) fn push_lookups(
+    text: &mut Vec<u8>,
+    image: &Image,
+    lookups: &[Lookup],
+) -> Result<(), AllocError>
+    ensures { OnOk result
+        (Gains text.old text.new (spec.lookups_text image.now (all_looked lookups.now))) }
+{
+    for lookup in lookups {
+        push_lookup(text, image, lookup)?;
+    }
+    push(text, "  lookups: ")?;
+    push_digits(text, lookups.len())?;
+    push(text, "\n")
+}
