@@ -1,5 +1,5 @@
 -- What becomes of an item's changes.
-use Rattle.std.specs.Prelude.{◌≡◌, ℕ, List, Option, Some, None}
+use Rattle.std.specs.Prelude.{◌≡◌, ℕ, List, length, Option, Some, None}
 use Rattle.msg_image.specs.Items.{ItemParts}
 use Rattle.msg_tables.specs.History.{History, log}
 use Rattle.msg_tables.specs.Log.{Log}
@@ -9,7 +9,6 @@ use Rattle.msg_tables.specs.View.{TablesView}
 use Rattle.msg_tables.specs.declared.apply_all.Refused.{Refused}
 use Rattle.msg_tables.specs.declared.change.Change.{Change}
 use Rattle.msg_tables.specs.declared.fault.ChangeFault.{ChangeFault}
-use Rattle.msg_eval.specs.Finder.{table_sizes}
 use Rattle.msg_answers.specs.Serial.{history_after, outcome_at}
 use Rattle.msg_answers.specs.declared.outcome.Outcome.{Outcome}
 
@@ -33,4 +32,4 @@ IsChanged item old new outcome = (h : History) → StandsAt old (log h) → (out
 
 -- there are as many classes and implementations as before
 abbrev pub KeepsSizes : TablesView → TablesView → Type 0
-KeepsSizes old new = table_sizes new ≡ table_sizes old
+KeepsSizes old new = (length new.supers ≡ length old.supers) × (new.counts ≡ old.counts)

@@ -1,6 +1,6 @@
 //! Changes of a document, made in tables.
 
-ghost use Rattle.std.specs.Prelude.{◌≡◌, length, IfOk, OnOk};
+ghost use Rattle.std.specs.Prelude.{IfOk};
 ghost use Rattle.msg_image.specs.Plain.{item_parts};
 ghost use Rattle.msg_reasons.specs.Changing.{IsChanged, IsMadeOrRefused};
 ghost use Rattle.msg_reasons.specs.Changing.{KeepsSizes};

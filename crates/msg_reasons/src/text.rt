@@ -1,10 +1,10 @@
 //! How lookups are told.
 
-ghost use Rattle.std.specs.Prelude.{◌≡◌, ◌<◌, ◌≤◌, ◌^◌, length, IfSome, OnOk};
+ghost use Rattle.std.specs.Prelude.{◌≡◌, OnOk};
 ghost use Rattle.msg_devices.specs.Writing.{Gains};
 ghost use Rattle.msg_names.specs.Number.{selector_number, imp_number};
-ghost use Rattle.msg_tables.specs.declared.origin.Category.{Category};
-ghost use Rattle.msg_reasons.specs.Categories as categories;
+ghost use Rattle.msg_tables.specs.Methods.{method_numbers};
+ghost use Rattle.msg_reasons.specs.Categories as chosen;
 ghost use Rattle.msg_reasons.specs.Explained.{all_looked, looked};
 ghost use Rattle.msg_reasons.specs.Text as spec;
 
@@ -15,42 +15,66 @@ use msg_image::{Category, Image};
 use msg_names::{ClassRef, ImpRef, Selector};
 use std::alloc::AllocError;
 
+const NEWLINE: u8 = b'\n';
+
 fn push(text: &mut Vec<u8>, part: &str) -> Result<(), AllocError>
     ensures { OnOk result (Gains text.old text.new part.now) }
 {
     text.extend_from_slice(part.as_bytes())
 }
 
+// Whether a method list has this implementation of the selector.
+fn has_method(methods: &[(Selector, ImpRef)], sel: Selector, imp: ImpRef) -> bool
+    ensures { result
+        ≡ chosen.has_method (selector_number sel) (imp_number imp) (method_numbers methods.now) }
+{
+    for method in methods {
+        if method.0.number() == sel.number() && method.1.number() == imp.number() {
+            return true;
+        }
+    }
+    false
+}
+
 // Whether a category gives a class reference this implementation of the selector.
 fn gives(category: &Category, class: ClassRef, sel: Selector, imp: ImpRef) -> bool
-    ensures { result ≡ categories.gives class (selector_number sel) (imp_number imp) category.now }
+    ensures { result ≡ chosen.gives class (selector_number sel) (imp_number imp) category.now }
 {
     if category.class != class.class {
         return false;
     }
-    let methods = if class.meta {
-        category.class_methods.as_slice()
+    if class.meta {
+        has_method(category.class_methods.as_slice(), sel, imp)
     } else {
-        category.methods.as_slice()
-    };
-    methods
-        .iter()
-        .any(|method| method.0 == sel && method.1 == imp)
+        has_method(category.methods.as_slice(), sel, imp)
+    }
+}
+
+fn last_that_gives(
+    categories: &[Category],
+    class: ClassRef,
+    sel: Selector,
+    imp: ImpRef,
+) -> Option<usize>
+    ensures { result
+        ≡ chosen.category_of categories.now class (selector_number sel) (imp_number imp) }
+{
+    let mut found = None;
+    for (place, category) in categories.iter().enumerate() {
+        if gives(category, class, sel, imp) {
+            found = Some(place);
+        }
+    }
+    found
 }
 
 /// The place of the document's category of which a method is that stands at a class reference. Of
 /// two that list it the one listed last counts.
 pub fn category_of(image: &Image, class: ClassRef, sel: Selector, imp: ImpRef) -> Option<usize>
     ensures { result
-        ≡ categories.category_of image.now.categories class (selector_number sel) (imp_number imp) }
+        ≡ chosen.category_of image.now.categories class (selector_number sel) (imp_number imp) }
 {
-    let mut found = None;
-    for (place, category) in image.categories().iter().enumerate() {
-        if gives(category, class, sel, imp) {
-            found = Some(place);
-        }
-    }
-    found
+    last_that_gives(image.categories(), class, sel, imp)
 }
 
 fn push_category(text: &mut Vec<u8>, category: Option<usize>) -> Result<(), AllocError>
@@ -104,7 +128,8 @@ pub fn push_lookup(text: &mut Vec<u8>, image: &Image, lookup: &Lookup) -> Result
     push(text, "  ")?;
     push_method(text, image, lookup.class, lookup.sel)?;
     push_found(text, image, lookup)?;
-    push(text, "\n")
+    text.push(NEWLINE)?;
+    Ok(())
 }
 
 // Appends the lines of a send's lookups, and how many they are.
@@ -121,5 +146,6 @@ pub(crate) fn push_lookups(
     }
     push(text, "  lookups: ")?;
     push_digits(text, lookups.len())?;
-    push(text, "\n")
+    text.push(NEWLINE)?;
+    Ok(())
 }
