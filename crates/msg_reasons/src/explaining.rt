@@ -65,14 +65,7 @@ impl Explainer {
             args,
         } = item
         {
-            let reply = send(
-                &self.tables,
-                image,
-                *receiver,
-                *sel,
-                args,
-                &mut self.notes,
-            );
+            let reply = send(&self.tables, image, *receiver, *sel, args, &mut self.notes);
             push_reply(text, image, reply)?;
             return push_lookups(text, image, &self.notes.lookups);
         }
