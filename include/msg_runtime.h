@@ -400,6 +400,24 @@ uint32_t msg_texts_text(msg_texts *texts, uint32_t number, uint8_t *into,
  * named so; or MSG_NONE. */
 uint32_t msg_texts_colons(msg_texts *texts, uint32_t number, size_t *count);
 
+/* ---- types by their encodings, without a lock ----
+ *
+ * As GCC's @encode spells types, on x86-64. A text is any bytes: a letter that
+ * is unknown has no size, what is nested more than 200 deep ends the text, and
+ * no size or alignment is above 2^28. Cost: a text is read once. */
+
+/* The size and alignment of a text's first type, in bytes. Returns the place
+ * behind it (objc_skip_typespec), which is above 0 where there is a text. */
+size_t msg_type_first(const uint8_t *text, size_t length, uint64_t *size,
+                      uint64_t *align);
+/* The member of a structure in front of a text, where those before it end
+ * before this bit; of a union, 0. Its type is from `begin`, behind its name, to
+ * before `end`; it takes the bits from `first` to before `last`. MSG_NONE where
+ * the structure or the text ends. */
+uint32_t msg_type_member(const uint8_t *text, size_t length, uint64_t before,
+                         size_t *begin, size_t *end, uint64_t *first,
+                         uint64_t *last, uint64_t *align);
+
 #ifdef __cplusplus
 }
 #endif

@@ -496,6 +496,29 @@ private:
     msg_texts handle = MSG_TEXTS_INIT;
 };
 
+// Of the first type of a text, as GCC's @encode spells types: its size and alignment in bytes, and the place behind it.
+struct encoded_type { std::uint64_t size, align; std::size_t end; };
+
+inline encoded_type first_type(std::string_view text) noexcept
+{
+    encoded_type it{};
+    auto bytes = reinterpret_cast<const std::uint8_t *>(text.data());
+    it.end = msg_type_first(bytes, text.size(), &it.size, &it.align);
+    return it;
+}
+
+// Of a member of a structure: where its type is in the text, and its bits from the first to before the last.
+struct encoded_member { std::size_t begin, end; std::uint64_t first, last, align; };
+
+// The one in front of a text, where those before it end before this bit; of a union, 0.
+inline std::optional<encoded_member> next_member(std::string_view text, std::uint64_t before) noexcept
+{
+    encoded_member it{};
+    auto bytes = reinterpret_cast<const std::uint8_t *>(text.data());
+    auto answer = msg_type_member(bytes, text.size(), before, &it.begin, &it.end, &it.first, &it.last, &it.align);
+    return answer ? std::nullopt : std::optional(it);
+}
+
 } // namespace msg
 
 #endif

@@ -255,6 +255,15 @@ static void texts()
     FAULT(MSG_CLOSED, texts.text(1));
 }
 
+static void types()
+{
+    auto type = msg::first_type("{inner=cs}8@0");
+    CHECK(type.size == 4 && type.align == 2 && type.end == 10 && msg::first_type({}).end == 0);
+    auto member = msg::next_member("\"s\"s}", 8);
+    CHECK(member && member->begin == 3 && member->end == 4 && member->first == 16 && member->last == 32);
+    CHECK(member->align == 2 && !msg::next_member("}", 8));
+}
+
 int main()
 {
     questions();
@@ -266,6 +275,7 @@ int main()
     moves_and_closes();
     threads_beside_changes();
     texts();
+    types();
     std::puts("9 tests passed");
     return 0;
 }

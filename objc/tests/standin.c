@@ -7,6 +7,7 @@
 #include "msg_runtime.h"
 #include <stdatomic.h>
 #include <stdlib.h>
+#include "standin_types.h"
 
 enum { CLASSES = 1 << 20, SENDERS = 1 << 14, ARRAYS = 65535, PLACES = 8192 };
 #define CHANGES (UINT64_C(1) << 48)

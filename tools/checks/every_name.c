@@ -5,6 +5,7 @@
 #define abort() longjmp(out_of_run, 1)
 #define fprintf(...) ((void)0)
 #include "encoding.c"
+#include "standin_types.h"
 #include "names.c"
 #undef fprintf
 #undef abort

@@ -234,6 +234,12 @@ class Calls(unittest.TestCase):
             self.assertEqual((0, 2, None), (texts.colons(1), texts.colons(2), texts.colons(4)))
         self.assertRaises(yeldrost.Closed, texts.intern, b"value")
 
+    def test_types(self):
+        self.assertEqual((4, 2, 10), yeldrost.first_type(b"{inner=cs}8@0"))
+        self.assertEqual((0, 1, 0), yeldrost.first_type(b""))
+        self.assertEqual((3, 4, 16, 32, 2), yeldrost.next_member(b'"s"s}', 8))
+        self.assertIsNone(yeldrost.next_member(b"}", 8))
+
 
 class WithoutTheLock(Calls):
     holds_gil = False

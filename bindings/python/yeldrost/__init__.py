@@ -20,7 +20,7 @@ import weakref
 
 from . import _header, _library
 
-__all__ = ["Runtime", "Sender", "Texts", "ClassRef", "Change", "Fault", "instances_of", "class_itself", *_header.FAULTS]
+__all__ = ["Runtime", "Sender", "Texts", "ClassRef", "Change", "Fault", "EncodedType", "EncodedMember", "first_type", "next_member", "instances_of", "class_itself", *_header.FAULTS]
 _NONE, _MISSED, _NO_ROOM = (_header.FAULTS[name][0] for name in ("None_", "Missed", "NoRoom"))
 _MOST = 2**32 - 1
 
@@ -478,3 +478,39 @@ class Texts:
 def _bytes(text):
     """An array of the text's bytes, never without a place, and how many they are."""
     return (ctypes.c_uint8 * max(1, len(text)))(*text), len(text)
+
+
+class EncodedType(typing.NamedTuple):
+    """The first type of a text, as GCC's @encode spells types: its size and alignment in bytes, and
+    the place behind it."""
+
+    size: int
+    align: int
+    end: int
+
+
+class EncodedMember(typing.NamedTuple):
+    """A member of a structure: where its type is in the text, the bits that it takes from the first
+    to before the last, and its alignment in bytes."""
+
+    begin: int
+    end: int
+    first: int
+    last: int
+    align: int
+
+
+def first_type(text):
+    """The `EncodedType` in front of a text."""
+    size, align = ctypes.c_uint64(), ctypes.c_uint64()
+    end = _library.load(True).msg_type_first(*_bytes(text), size, align)
+    return EncodedType(size.value, align.value, end)
+
+
+def next_member(text, before):
+    """The `EncodedMember` in front of a text, where those before it end before this bit; of a
+    union, 0. None where the structure or the text ends."""
+    places, bits = (ctypes.c_size_t * 2)(), (ctypes.c_uint64 * 3)()
+    told = [ctypes.pointer(kind.from_buffer(of, ctypes.sizeof(kind) * at)) for kind, of in ((ctypes.c_size_t, places), (ctypes.c_uint64, bits)) for at in range(len(of))]
+    answer = _library.load(True).msg_type_member(*_bytes(text), before, *told)
+    return None if answer else EncodedMember(*places, *bits)

@@ -127,6 +127,8 @@ CALLS = {
     "msg_texts_find": (_answer, (_texts, _bytes, c.c_size_t, _told32)),
     "msg_texts_text": (_answer, (_texts, _number, _bytes, c.c_size_t, _size)),
     "msg_texts_colons": (_answer, (_texts, _number, _size)),
+    "msg_type_first": (c.c_size_t, (_bytes, c.c_size_t, _told64, _told64)),
+    "msg_type_member": (_answer, (_bytes, c.c_size_t, c.c_uint64, _size, _size, _told64, _told64, _told64)),
 }
 
 # What stands for the calls that the header has inline, which a shared library doesn't export.

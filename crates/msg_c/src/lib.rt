@@ -11,6 +11,9 @@ mod changing;
 #[cfg(test)]
 mod config_tests;
 mod crossing;
+mod encodings;
+#[cfg(test)]
+mod encodings_tests;
 mod listing;
 #[cfg(test)]
 mod memory_tests;

@@ -21,8 +21,10 @@ ghost use Rattle.msg_reasons.specs.Explained.{Explains, HasRoom, IsExplained, Is
 
 use crate::lookups::ask;
 use crate::notes::Notes;
-use msg_eval::{Args, Frame, Message, MAX_BODIES, MAX_LOOKUPS, Operation, Reply, SendFault};
-use msg_eval::{class_of, is_no, new_receiver, operate};
+use msg_eval::{
+    Args, Frame, MAX_BODIES, MAX_LOOKUPS, Message, Operation, Reply, SendFault, class_of, is_no,
+    new_receiver, operate,
+};
 use msg_image::{Expr, Image};
 use msg_names::{ClassRef, ImpRef, Selector, Value};
 use msg_tables::Tables;

@@ -265,6 +265,22 @@ extern "C" {
         length: *mut usize,
     ) -> u32;
     pub fn msg_texts_colons(texts: *mut msg_texts, number: u32, count: *mut usize) -> u32;
+    pub fn msg_type_first(
+        text: *const u8,
+        length: usize,
+        size: *mut u64,
+        align: *mut u64,
+    ) -> usize;
+    pub fn msg_type_member(
+        text: *const u8,
+        length: usize,
+        before: u64,
+        begin: *mut usize,
+        end: *mut usize,
+        first: *mut u64,
+        last: *mut u64,
+        align: *mut u64,
+    ) -> u32;
 }
 
 /// Opens a runtime by a config.

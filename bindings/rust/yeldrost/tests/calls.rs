@@ -385,3 +385,14 @@ fn texts() {
     );
     assert_eq!(Ok(None), texts.colons(4));
 }
+
+#[test]
+fn types_are_read() {
+    let type_ = yeldrost::first_type(b"{inner=cs}8@0");
+    assert_eq!((4, 2, 10), (type_.size, type_.align, type_.end));
+    assert_eq!(0, yeldrost::first_type(b"").end);
+    let member = yeldrost::next_member(b"\"s\"s}", 8).unwrap();
+    assert_eq!((3, 4), (member.begin, member.end));
+    assert_eq!((16, 32, 2), (member.first, member.last, member.align));
+    assert_eq!(None, yeldrost::next_member(b"}", 8));
+}

@@ -49,7 +49,7 @@ dispatch-loop-imp-preserved t c = record {
       let (u, le, so_far) = c.loop-imp.invariant.rest in
       let none : imp_number c.in_ok-imp.imp ≡ 0 = omega (arith, c.number.ensures, c.if-number-ne0.false) in
       starts_again c.args.tables.now c.args.message.now.image.now (bodies c.args.message.now.image.now c.args.message.now.depth) c.loop-imp.me c.loop-imp.class c.loop-imp.from c.args.message.now.sel c.args.message.now.args.now.items
-    c.args.notes.now c.loop-imp.notes c.ask.new.notes (dispatched c.args.message.now c.args.notes.now.left c.args.me c.args.class c.args.from c.args.notes.now.left) u le so_far c.forward.new.notes (imp_number c.in_ok-imp.imp) (c.in_ok-target.target, c.in_ok-target.target_class) none c.in_ok-imp.ensures.fewer c.forward.ensures.no_more c.in_ok-imp.ensures.meaning c.in_ok-target.ensures.meaning;
+      c.args.notes.now c.loop-imp.notes c.ask.new.notes (dispatched c.args.message.now c.args.notes.now.left c.args.me c.args.class c.args.from c.args.notes.now.left) u le so_far c.forward.new.notes (imp_number c.in_ok-imp.imp) (c.in_ok-target.target, c.in_ok-target.target_class) none c.in_ok-imp.ensures.fewer c.forward.ensures.no_more c.in_ok-imp.ensures.meaning c.in_ok-target.ensures.meaning;
 }
 
 pub enter-returns-then-message-eq0-clause-meaning : goal.enter-returns-then-message-eq0-clause-meaning
