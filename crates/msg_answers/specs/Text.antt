@@ -22,6 +22,7 @@ use Rattle.msg_answers.specs.declared.outcome.Outcome.TheVariants as outcomes
 
 -- ---- names, and nothing for a number that the image doesn't have
 
+-- the name of a class
 abbrev pub class_name : ImageParts → ℕ → List ℕ
 class_name image k = unwrap_or (slice_get (class_names image) k) []
 
