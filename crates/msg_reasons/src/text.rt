@@ -83,7 +83,8 @@ fn push_place_of_category(text: &mut Vec<u8>, place: usize) -> Result<(), AllocE
 {
     push(text, "categories[")?;
     push_digits(text, place)?;
-    push(text, "]")
+    text.push(b']')?;
+    Ok(())
 }
 
 fn push_category(text: &mut Vec<u8>, category: Option<usize>) -> Result<(), AllocError>
