@@ -101,10 +101,12 @@ sizes-kept image old new kept sizes =
 pub sent-explained : (image : ImageParts) (receiver : Value) (s : Selector) (xs : List Value) (tables : TablesView) (text mid more : List ℕ) (ls : List Lookup) (reply : Reply)
     → IsExplained tables (send_of image receiver s xs) (all_looked ls) reply → mid ≡ text ++ line_of (reply_text image reply) → more ≡ mid ++ lookups_text image (all_looked ls) → ExplainsItem image (SendItem receiver s xs) tables tables text more
 sent-explained image receiver s xs tables text mid more ls reply explained first second = λ h st.
-    let (lookups, replied) = explained h st in
-    (second ∙ ap (λ t. t ++ lookups_text image (all_looked ls)) first
-    ∙ append_assoc text (line_of (reply_text image reply)) (lookups_text image (all_looked ls))
-    ∙ ap₂ (λ (r : Reply) (seen : List Looked). text ++ (line_of (reply_text image r) ++ lookups_text image seen)) replied lookups, st)
+    let (lookups, replied) = explained h st in (
+      second ∙ ap (λ t. t ++ lookups_text image (all_looked ls)) first
+          ∙ append_assoc text (line_of (reply_text image reply)) (lookups_text image (all_looked ls))
+          ∙ ap₂ (λ (r : Reply) (seen : List Looked). text ++ (line_of (reply_text image r) ++ lookups_text image seen)) replied lookups,
+      st,
+    )
 
 pub change-explained : (image : ImageParts) (x : Change) (old new : TablesView) (text more : List ℕ) (o : Outcome) → IsChanged (ChangeItem x) old new o → more ≡ text ++ line_of (outcome_text o) → ExplainsItem image (ChangeItem x) old new text more
 change-explained image x old new text more o changed gained = λ h st.
