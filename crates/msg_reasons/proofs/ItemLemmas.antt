@@ -88,8 +88,8 @@ sizes-are a b c d e f = ap₂ (λ x y. (let s : Sizes = record { classes = x; im
 pub sizes-opened : (image : ImageParts) (t : TablesView) → HasClassesOf (origin_of image) t → StandsAt t (log (empty (origin_of image))) → table_sizes t ≡ sizes_of image
 sizes-opened image t classes stands =
     sizes-are (length t.supers) (last_imp t.counts) (class_total image) (length image.imps)
-    (classes ∙ ap (λ n. n + length image.made) (length-map (λ (c : ClassParts). c.superclass) image.classes))
-    (ap last_imp stands.counts ∙ length-map (λ (m : ImpParts). m.args) image.imps)
+    (classes ∙ ap (λ n. n + length image.made) (length-map image.classes (λ (c : ClassParts). c.superclass)))
+    (ap last_imp stands.counts ∙ length-map image.imps (λ (m : ImpParts). m.args))
 
 -- and keep them
 pub sizes-kept : (image : ImageParts) (old new : TablesView) → KeepsSizes old new → table_sizes old ≡ sizes_of image → table_sizes new ≡ sizes_of image

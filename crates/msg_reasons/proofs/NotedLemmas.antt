@@ -1,5 +1,5 @@
 -- What is noted of a send.
-use Rattle.std.proofs.Common.{◌≡◌, ◌<◌, ◌-◌, ◌+◌, ℕ, zero, suc, List, [], ◌∷◌, ◌++◌, Some, map, refl, sym, ap, subst, ◌∙◌, append_assoc, append-nil, arith}
+use Rattle.std.proofs.Common.{◌≡◌, ◌<◌, ◌-◌, ◌+◌, ℕ, zero, suc, List, [], ◌∷◌, ◌++◌, length, refl, sym, ap, subst, ◌∙◌, append_assoc, append-nil, arith}
 use Rattle.std.specs.Prelude.{Result, Ok, Err}
 use Rattle.msg_names.specs.declared.value.ClassRef.{ClassRef}
 use Rattle.msg_tables.specs.History.{History, lookup, holder}
@@ -46,3 +46,8 @@ noted-lookup h old new l c s n m i k is same found left =
     ap (explained h (all_looked old)) (one_left c s n m k left)
     ∙ ap (λ (ls : List Looked). explained h ls (k (lookup h c s) m)) (sym (ap all_looked is ∙ all-looked-append old l ∙ ap (λ (x : Looked). all_looked old ++ x ∷ []) same))
     ∙ ap (λ j. explained h (all_looked new) (k j m)) (sym found)
+
+-- as many were looked up as were noted
+pub count_looked : (ls : List Lookup) → length (all_looked ls) ≡ length ls
+count_looked [] = refl
+count_looked (l ∷ ls) = ap suc (count_looked ls)

@@ -20,16 +20,24 @@ asked_text image c s = (if c.meta then codes "+[" else codes "-[") ++ class_name
 abbrev pub place_text : ImageParts → ClassRef → List ℕ
 place_text image c = (if c.meta then codes " found in metaclass " else codes " found in ") ++ class_name image c.class
 
+-- a category, by its place in the document
+abbrev pub place_of_category : ℕ → List ℕ
+place_of_category place = codes "categories[" ++ digits place ++ codes "]"
+
 -- the category of which it is, if it is of one of the document's
 abbrev pub category_text : Option ℕ → List ℕ
 category_text None = []
-category_text (Some place) = codes " of categories[" ++ digits place ++ codes "]"
+category_text (Some place) = codes " of " ++ place_of_category place
 
--- What a lookup found: the class reference where the method stands, its implementation, by its
--- place in the document, and the category of which it is.
+-- the implementation of a method that stands at a class reference, by its place in the document, and
+-- the category of which it is
+abbrev pub listed_text : ImageParts → Looked → ClassRef → List ℕ
+listed_text image l c = codes ": imps[" ++ digits (l.imp - 1) ++ codes "]" ++ category_text (category_of image.categories c l.sel l.imp)
+
+-- what a lookup found, and where
 abbrev pub found_text : ImageParts → Looked → Option ClassRef → List ℕ
 found_text image l None = codes " not found"
-found_text image l (Some c) = place_text image c ++ codes ": imps[" ++ digits (l.imp - 1) ++ codes "]" ++ category_text (category_of image.categories c l.sel l.imp)
+found_text image l (Some c) = place_text image c ++ listed_text image l c
 
 -- a lookup, on a line
 abbrev pub lookup_line : ImageParts → Looked → List ℕ

@@ -1,6 +1,7 @@
 //! How lookups are told.
 
 ghost use Rattle.std.specs.Prelude.{◌≡◌, OnOk};
+ghost use Rattle.std.specs.List.{flat_map};
 ghost use Rattle.msg_devices.specs.Writing.{Gains};
 ghost use Rattle.msg_names.specs.Number.{selector_number, imp_number};
 ghost use Rattle.msg_tables.specs.Methods.{method_numbers};
@@ -77,14 +78,22 @@ pub fn category_of(image: &Image, class: ClassRef, sel: Selector, imp: ImpRef) -
     last_that_gives(image.categories(), class, sel, imp)
 }
 
+fn push_place_of_category(text: &mut Vec<u8>, place: usize) -> Result<(), AllocError>
+    ensures { OnOk result (Gains text.old text.new (spec.place_of_category place)) }
+{
+    push(text, "categories[")?;
+    push_digits(text, place)?;
+    text.push(b']')?;
+    Ok(())
+}
+
 fn push_category(text: &mut Vec<u8>, category: Option<usize>) -> Result<(), AllocError>
     ensures { OnOk result (Gains text.old text.new (spec.category_text category)) }
 {
     match category {
         Some(place) => {
-            push(text, " of categories[")?;
-            push_digits(text, place)?;
-            push(text, "]")
+            push(text, " of ")?;
+            push_place_of_category(text, place)
         }
         None => Ok(()),
     }
@@ -104,6 +113,21 @@ fn push_place(text: &mut Vec<u8>, image: &Image, class: ClassRef) -> Result<(), 
     push(text, class_name(image, class.class))
 }
 
+fn push_listed(
+    text: &mut Vec<u8>,
+    image: &Image,
+    lookup: &Lookup,
+    class: ClassRef,
+) -> Result<(), AllocError>
+    ensures { OnOk result
+        (Gains text.old text.new (spec.listed_text image.now (looked lookup.now) class)) }
+{
+    push(text, ": imps[")?;
+    push_digits(text, (lookup.imp.number() as usize).saturating_sub(1))?;
+    push(text, "]")?;
+    push_category(text, category_of(image, class, lookup.sel, lookup.imp))
+}
+
 fn push_found(text: &mut Vec<u8>, image: &Image, lookup: &Lookup) -> Result<(), AllocError>
     ensures { OnOk result
         (Gains text.old text.new (spec.found_text image.now (looked lookup.now) lookup.now.holder)) }
@@ -111,10 +135,7 @@ fn push_found(text: &mut Vec<u8>, image: &Image, lookup: &Lookup) -> Result<(), 
     match lookup.holder {
         Some(class) => {
             push_place(text, image, class)?;
-            push(text, ": imps[")?;
-            push_digits(text, (lookup.imp.number() as usize).saturating_sub(1))?;
-            push(text, "]")?;
-            push_category(text, category_of(image, class, lookup.sel, lookup.imp))
+            push_listed(text, image, lookup, class)
         }
         None => push(text, " not found"),
     }
@@ -132,7 +153,28 @@ pub fn push_lookup(text: &mut Vec<u8>, image: &Image, lookup: &Lookup) -> Result
     Ok(())
 }
 
+// Appends a line for each lookup.
+fn push_lines(text: &mut Vec<u8>, image: &Image, lookups: &[Lookup]) -> Result<(), AllocError>
+    ensures { OnOk result
+        (Gains text.old text.new (flat_map (spec.lookup_line image.now) (all_looked lookups.now))) }
+{
+    for lookup in lookups {
+        push_lookup(text, image, lookup)?;
+    }
+    Ok(())
+}
+
+fn push_count(text: &mut Vec<u8>, count: usize) -> Result<(), AllocError>
+    ensures { OnOk result (Gains text.old text.new (spec.count_line count)) }
+{
+    push(text, "  lookups: ")?;
+    push_digits(text, count)?;
+    text.push(NEWLINE)?;
+    Ok(())
+}
+
 // Appends the lines of a send's lookups, and how many they are.
+#[tactic(auto, using(crate::proofs::NotedLemmas::count_looked))]
 pub(crate) fn push_lookups(
     text: &mut Vec<u8>,
     image: &Image,
@@ -141,11 +183,7 @@ pub(crate) fn push_lookups(
     ensures { OnOk result
         (Gains text.old text.new (spec.lookups_text image.now (all_looked lookups.now))) }
 {
-    for lookup in lookups {
-        push_lookup(text, image, lookup)?;
-    }
-    push(text, "  lookups: ")?;
-    push_digits(text, lookups.len())?;
-    text.push(NEWLINE)?;
+    push_lines(text, image, lookups)?;
+    push_count(text, lookups.len())?;
     Ok(())
 }
