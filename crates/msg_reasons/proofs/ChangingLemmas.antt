@@ -5,7 +5,7 @@ use Rattle.msg_image.specs.Items.{ItemParts, ChangeItem, ChangeAllItem}
 use Rattle.msg_tables.specs.History.{History, log}
 use Rattle.msg_tables.specs.Made.{and_as_one}
 use Rattle.msg_tables.specs.Refusal.{refusal}
-use Rattle.msg_tables.specs.Several.{and_all, refused_from}
+use Rattle.msg_tables.specs.Several.{and_all}
 use Rattle.msg_tables.specs.Stands.{StandsAt}
 use Rattle.msg_tables.specs.View.{TablesView}
 use Rattle.msg_tables.specs.declared.apply_all.Refused.{Refused}
@@ -15,7 +15,7 @@ use Rattle.msg_tables.proofs.HistoryLemmas.{log-all}
 use Rattle.msg_answers.specs.Serial.{changes_in, history_after, longer_by, outcome_at, outcome_of, outcome_of_first}
 use Rattle.msg_answers.specs.declared.outcome.Outcome.{Outcome}
 use Rattle.msg_answers.specs.declared.outcome.Outcome.TheVariants as outcomes
-use Rattle.msg_reasons.specs.Changing.{IsChanged, IsMadeOrRefused, log_after, place_and_fault}
+use Rattle.msg_reasons.specs.Changing.{IsChanged, IsMadeOrRefused, place_and_fault}
 
 -- what is answered of one change, and of several that are made as one
 abbrev pub answered_one : Option Refused → Outcome

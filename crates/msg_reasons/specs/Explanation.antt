@@ -1,5 +1,5 @@
 -- Why a document is answered as it is: each answer, and the lookups behind it.
-use Rattle.std.specs.Prelude.{ℕ, List, [], ◌∷◌, map}
+use Rattle.std.specs.Prelude.{List, [], ◌∷◌, map}
 use Rattle.msg_image.specs.Items.{ItemParts, SendItem, DocumentParts}
 use Rattle.msg_image.specs.Opened.{origin_of}
 use Rattle.msg_image.specs.Parts.{ImageParts}

@@ -1,5 +1,5 @@
 -- How the answers of a document are explained: under each line its lookups, and how many they are.
-use Rattle.std.specs.Prelude.{ℕ, ◌-◌, List, [], ◌∷◌, ◌++◌, Option, Some, None, codes, if◌then◌else◌, length, slice_get, unwrap_or}
+use Rattle.std.specs.Prelude.{ℕ, ◌-◌, List, [], ◌++◌, Option, Some, None, codes, if◌then◌else◌, length, unwrap_or}
 use Rattle.std.specs.List.{flat_map}
 use Rattle.msg_names.specs.Numbering.{name_at}
 use Rattle.msg_names.specs.declared.value.ClassRef.{ClassRef}

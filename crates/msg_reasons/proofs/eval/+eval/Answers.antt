@@ -1,17 +1,15 @@
-use Rattle.std.proofs.Common.{rules, IfOk, ◌≡◌, ◌<◌, ◌≤◌, ◌+◌, ◌-◌, List, length, sym, ap, ◌∙◌, subst, arith}
+use Rattle.std.proofs.Common.{rules, ◌≡◌, ◌<◌, ◌≤◌, ◌+◌, ◌-◌, List, length, sym, ap, ◌∙◌, subst, arith}
 use Rattle.std.proofs.lemmas.Result.{err_from_is_err_and}
 use Rattle.msg_names.specs.Number.{imp_number}
 use Rattle.msg_image.specs.Parts.{Send, Super}
 use Rattle.msg_image.specs.Plain.{plain, plain_all}
 use Rattle.msg_image.specs.Sizes.{count, count_all}
-use Rattle.msg_image.specs.Sound.{IsExpressionOf, IsOf}
+use Rattle.msg_image.specs.Sound.{IsExpressionOf}
 use Rattle.msg_image.specs.declared.expr.Expr.{Expr}
 use Rattle.msg_eval.specs.Evaluated.{dispatched}
 use Rattle.msg_eval.specs.Evaluation.{bodies}
-use Rattle.msg_eval.specs.Operation.{op_of}
 use Rattle.msg_eval.proofs.DispatchLemmas.{no_body, body_of}
 use Rattle.msg_eval.proofs.ExprLemmas.{arity-plain_all, plain-Send, plain-Super}
-use Rattle.msg_eval.proofs.OperationLemmas.{result_is_of}
 use Rattle.msg_reasons.specs.Explained.{explained, noted}
 use Rattle.msg_reasons.proofs.DispatchLemmas.{lookup_fails, body_gives, forwarding_fails, starts_again}
 use Rattle.msg_reasons.proofs.eval.+eval.Goals as goal
