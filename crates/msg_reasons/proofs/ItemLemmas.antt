@@ -84,14 +84,7 @@ at_end d tables text items i past so_far =
 sizes-are : (a b c d : ℕ) → a ≡ c → b ≡ d → (let s : Sizes = record { classes = a; imps = b } in s) ≡ record { classes = c; imps = d }
 sizes-are a b c d e f = ap₂ (λ x y. (let s : Sizes = record { classes = x; imps = y } in s)) e f
 
--- tables have the sizes of the image of which they were opened
-pub sizes-opened : (image : ImageParts) (t : TablesView) → HasClassesOf (origin_of image) t → StandsAt t (log (empty (origin_of image))) → table_sizes t ≡ sizes_of image
-sizes-opened image t classes stands =
-    sizes-are (length t.supers) (last_imp t.counts) (class_total image) (length image.imps)
-    (classes ∙ ap (λ n. n + length image.made) (length-map image.classes (λ (c : ClassParts). c.superclass)))
-    (ap last_imp stands.counts ∙ length-map image.imps (λ (m : ImpParts). m.args))
-
--- and keep them
+-- tables keep the sizes of the image of which they were opened
 pub sizes-kept : (image : ImageParts) (old new : TablesView) → KeepsSizes old new → table_sizes old ≡ sizes_of image → table_sizes new ≡ sizes_of image
 sizes-kept image old new kept sizes =
     sizes-are (length new.supers) (last_imp new.counts) (length old.supers) (last_imp old.counts) kept.0 (ap last_imp kept.1) ∙ sizes
@@ -107,13 +100,3 @@ sent-explained image receiver s xs tables text mid more ls reply explained first
           ∙ ap₂ (λ (r : Reply) (seen : List Looked). text ++ (line_of (reply_text image r) ++ lookups_text image seen)) replied lookups,
       st,
     )
-
-pub change-explained : (image : ImageParts) (x : Change) (old new : TablesView) (text more : List ℕ) (o : Outcome) → IsChanged (ChangeItem x) old new o → more ≡ text ++ line_of (outcome_text o) → ExplainsItem image (ChangeItem x) old new text more
-change-explained image x old new text more o changed gained = λ h st.
-    let (is, stands) = changed h st in
-    (gained ∙ ap (λ (q : Outcome). text ++ line_of (outcome_text q)) is ∙ ap (λ t. text ++ t) (sym (append-nil (line_of (outcome_text (outcome_at h (ChangeItem x)))))), stands)
-
-pub changes-explained : (image : ImageParts) (xs : List Change) (old new : TablesView) (text more : List ℕ) (o : Outcome) → IsChanged (ChangeAllItem xs) old new o → more ≡ text ++ line_of (outcome_text o) → ExplainsItem image (ChangeAllItem xs) old new text more
-changes-explained image xs old new text more o changed gained = λ h st.
-    let (is, stands) = changed h st in
-    (gained ∙ ap (λ (q : Outcome). text ++ line_of (outcome_text q)) is ∙ ap (λ t. text ++ t) (sym (append-nil (line_of (outcome_text (outcome_at h (ChangeAllItem xs)))))), stands)

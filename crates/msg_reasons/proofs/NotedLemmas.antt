@@ -37,14 +37,6 @@ all-looked-append : (ls : List Lookup) (l : Lookup) → all_looked (ls ++ l ∷ 
 all-looked-append [] l = refl
 all-looked-append (x ∷ xs) l = ap (λ (ls : List Looked). looked x ∷ ls) (all-looked-append xs l)
 
--- a lookup was noted as it was made
-pub noted-lookup : (h : History) (old new : List Lookup) (l : Lookup) (c : ClassRef) (s n m i : ℕ) (k : ℕ → ℕ → Meaning) → new ≡ old ++ l ∷ [] → looked l ≡ looked_at h c s → i ≡ lookup h c s → n ≡ m + 1
-    → explained h (all_looked old) (ask c s n k) ≡ explained h (all_looked new) (k i m)
-noted-lookup h old new l c s n m i k is same found left =
-    ap (explained h (all_looked old)) (one_left c s n m k left)
-    ∙ ap (λ (ls : List Looked). explained h ls (k (lookup h c s) m)) (sym (ap all_looked is ∙ all-looked-append old l ∙ ap (λ (x : Looked). all_looked old ++ x ∷ []) same))
-    ∙ ap (λ j. explained h (all_looked new) (k j m)) (sym found)
-
 -- as many were looked up as were noted
 pub count_looked : (ls : List Lookup) → length (all_looked ls) ≡ length ls
 count_looked [] = refl
