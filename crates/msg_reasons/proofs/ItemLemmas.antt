@@ -1,29 +1,26 @@
 -- Items that are explained, one after another.
 use Rattle.std.proofs.Common.{◌≡◌, ◌≤◌, ◌<◌, ◌+◌, ℕ, suc, List, [], ◌∷◌, ◌++◌, All, append_assoc, drop, drop-cons, add-one, get_or, map, length, sym, ap, ap₂, subst, ◌∙◌}
 use Rattle.std.specs.List.{flat_map}
-use Rattle.std.proofs.lemmas.List.{drop_all, append-nil, length-map}
+use Rattle.std.proofs.lemmas.List.{drop_all, append-nil}
 use Rattle.std.proofs.lemmas.List.Elements.{All-head, All-tail}
 use Rattle.msg_names.specs.declared.value.Selector.{Selector}
 use Rattle.msg_names.specs.declared.value.Value.{Value}
-use Rattle.msg_image.specs.Items.{ItemParts, SendItem, ChangeItem, ChangeAllItem, DocumentParts}
+use Rattle.msg_image.specs.Items.{ItemParts, SendItem, DocumentParts}
 use Rattle.msg_image.specs.Opened.{origin_of}
-use Rattle.msg_image.specs.Parts.{ImageParts, ClassParts, ImpParts, class_total}
+use Rattle.msg_image.specs.Parts.{ImageParts}
 use Rattle.msg_image.specs.Plain.{item_parts}
 use Rattle.msg_image.specs.Sound.{IsSoundItem}
 use Rattle.msg_image.specs.declared.change.Item.{Item}
 use Rattle.msg_tables.specs.History.{History, empty, log}
-use Rattle.msg_tables.specs.Opening.{HasClassesOf}
 use Rattle.msg_tables.specs.Origin.{last_imp}
 use Rattle.msg_tables.specs.Stands.{StandsAt}
 use Rattle.msg_tables.specs.View.{TablesView}
-use Rattle.msg_tables.specs.declared.change.Change.{Change}
 use Rattle.msg_eval.specs.declared.reply.Reply.{Reply}
 use Rattle.msg_eval.specs.Evaluation.{send_of}
 use Rattle.msg_eval.specs.Finder.{Sizes, sizes_of, table_sizes}
-use Rattle.msg_answers.specs.Serial.{history_after, outcome_at}
-use Rattle.msg_answers.specs.Text.{line_of, outcome_text, reply_text}
-use Rattle.msg_answers.specs.declared.outcome.Outcome.{Outcome}
-use Rattle.msg_reasons.specs.Changing.{IsChanged, KeepsSizes}
+use Rattle.msg_answers.specs.Serial.{history_after}
+use Rattle.msg_answers.specs.Text.{line_of, reply_text}
+use Rattle.msg_reasons.specs.Changing.{KeepsSizes}
 use Rattle.msg_reasons.specs.Explained.{IsExplained, all_looked}
 use Rattle.msg_reasons.specs.Lookups.{Looked}
 use Rattle.msg_reasons.specs.declared.notes.Lookup.{Lookup}

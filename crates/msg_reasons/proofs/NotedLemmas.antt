@@ -28,15 +28,6 @@ pub none_left : (c : ClassRef) (s n : ℕ) (k : ℕ → ℕ → Meaning) → n �
 none_left c s zero k e = refl
 none_left c s (suc n) k e = absurd (omega (arith, e))
 
--- where one is left
-one_left : (c : ClassRef) (s n m : ℕ) (k : ℕ → ℕ → Meaning) → n ≡ m + 1 → ask c s n k ≡ Asks c s (λ i. k i m)
-one_left c s zero m k e = absurd (omega (arith, e))
-one_left c s (suc n) m k e = let same : n ≡ m = omega (arith, e) in ap (λ x. Asks c s (λ i. k i x)) same
-
-all-looked-append : (ls : List Lookup) (l : Lookup) → all_looked (ls ++ l ∷ []) ≡ all_looked ls ++ looked l ∷ []
-all-looked-append [] l = refl
-all-looked-append (x ∷ xs) l = ap (λ (ls : List Looked). looked x ∷ ls) (all-looked-append xs l)
-
 -- as many were looked up as were noted
 pub count_looked : (ls : List Lookup) → length (all_looked ls) ≡ length ls
 count_looked [] = refl
