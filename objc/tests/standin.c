@@ -313,7 +313,7 @@ static void unlink_class(struct tables *tables, uint32_t number)
     class->made = false;
     if (class->above < 0) return;
     int64_t *at = &tables->of[class->above].below;
-    while (*at != (int64_t)number) at = &tables->of[*at].beside;
+    for (; *at != (int64_t)number; at = &tables->of[*at].beside) must(*at >= 0);
     *at = class->beside;
 }
 
