@@ -32,5 +32,3 @@ mod sets;
 mod tables;
 #[cfg(test)]
 mod trees;
-#[cfg(test)]
-mod ways;
