@@ -5,7 +5,7 @@ use Rattle.msg_explain.proofs.explaining.explain_bytes.Goals.{in-Ok, in-Err}
 pub returns-clause-answered : goal.returns-clause-answered
 returns-clause-answered g c zero =
     elim c.match-read_document.branch [
-      | in-Ok w ↦ (_, w.in-Ok.ensures.ok, rw w.sink-is (w.tell_reasons.ensures.told (sym w.result-is ∙ zero)))
+      | in-Ok w ↦ (_, w.in-Ok.ensures.ok)
       | in-Err w ↦ absurd (omega (arith, zero, w.result-is, w.refuse.ensures.status))
     ]
 

@@ -1,5 +1,0 @@
-pub mod ChangingLemmas
-pub mod DispatchLemmas
-pub mod ExplanationLemmas
-pub mod ItemLemmas
-pub mod NotedLemmas
