@@ -11,9 +11,6 @@ mod changing;
 #[cfg(test)]
 mod config_tests;
 mod crossing;
-mod encodings;
-#[cfg(test)]
-mod encodings_tests;
 mod listing;
 #[cfg(test)]
 mod memory_tests;
@@ -35,6 +32,4 @@ mod texts;
 mod texts_handle;
 #[cfg(test)]
 mod texts_tests;
-#[cfg(test)]
-mod undo_tests;
 mod version;

@@ -16,7 +16,6 @@ use crate::machine::Machine;
 use crate::state::{Standing, Whereabouts};
 use msg_names::ClassRef;
 use msg_tables::Change;
-use std::slice::from_ref;
 
 // ---- one word, or what one word means
 
@@ -183,8 +182,7 @@ impl Machine {
         ensures memory { IfErr result (λ fault. fault ≡ EventFault.Memory) }
     {
         self.changes.reserve(1)?;
-        let made = self.tables.apply_all(&from_ref(&change), &mut self.written);
-        if made.is_err() {
+        if self.tables.apply(&change).is_err() {
             return Err(EventFault::Memory);
         }
         let pushed: Result<_, _> = self.changes.push(change);

@@ -135,12 +135,6 @@ pub enum Change<'v> {
         class: &'v str,
         superclass: Option<&'v str>,
     },
-    Remove {
-        method: MethodName<'v>,
-    },
-    Dispose {
-        class: &'v str,
-    },
 }
 
 #[derive(Clone, Copy)]

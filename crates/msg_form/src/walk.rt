@@ -128,8 +128,7 @@ impl<'v> HasSelectors<'v> for Change<'v> {
         match self {
             Change::Add { method, .. }
             | Change::Replace { method, .. }
-            | Change::SetImp { method, .. }
-            | Change::Remove { method } => push_text(method.selector, texts),
+            | Change::SetImp { method, .. } => push_text(method.selector, texts),
             Change::Exchange { method, other } => {
                 push_text(method.selector, texts)?;
                 push_text(other.selector, texts)
@@ -142,7 +141,7 @@ impl<'v> HasSelectors<'v> for Change<'v> {
                 push_list(methods, texts)?;
                 push_list(class_methods, texts)
             }
-            Change::Make { .. } | Change::Dispose { .. } => Ok(()),
+            Change::Make { .. } => Ok(()),
         }
     }
 }

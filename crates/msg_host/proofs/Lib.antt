@@ -2,4 +2,3 @@ pub mod ChangingLemmas
 pub mod ConfigLemmas
 pub mod CrossingLemmas
 pub mod ListingLemmas
-pub mod WayBackLemmas

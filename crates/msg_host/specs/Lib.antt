@@ -5,4 +5,3 @@ pub mod Listing
 pub mod Named
 pub mod Opening
 pub mod View
-pub mod WayBack

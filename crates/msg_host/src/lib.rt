@@ -10,7 +10,6 @@ mod changing;
 mod config;
 mod crossing;
 mod fault;
-pub mod laws;
 mod listing;
 mod opening;
 mod reaching;

@@ -15,7 +15,7 @@ use msg_answers::{Outcome, is_send};
 use msg_devices::Program;
 use msg_dispatch::{ArenaName, Changer};
 use msg_image::{Change, Item};
-use msg_tables::{ChangeFault, Written};
+use msg_tables::ChangeFault;
 use std::alloc::{AllocError, Global};
 use std::sync::Wait;
 
@@ -70,8 +70,7 @@ fn change_as_one<'d, N: ArenaName, R: Wait>(
     ensures history { IfOk result
         (λ outcome. changer.new ≡ longer_by changer.old changes.now outcome) }
 {
-    let mut written = Written::none(alloc);
-    match changer.change_all(rt, &changes, &mut written) {
+    match changer.change_all(alloc, rt, changes) {
         Ok(_) => Ok(Outcome::Made),
         Err(refused) => match refused.fault {
             ChangeFault::Memory => Err(AllocError),

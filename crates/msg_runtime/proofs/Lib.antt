@@ -1,3 +1,2 @@
 pub mod CrossingLemmas
-pub mod OneLemmas
-pub mod AloneLemmas
+pub mod ReachLemmas

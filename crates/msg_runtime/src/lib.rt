@@ -6,7 +6,5 @@ mod caching;
 mod flushing;
 mod flushing_all;
 mod runtime;
-mod unmade;
 
-pub use runtime::Runtime;
-pub use unmade::Unmade;
+pub use runtime::{Made, Runtime};
