@@ -111,7 +111,10 @@ typedef struct { uint32_t sel; uint32_t imp; } msg_method;
  *   MSG_ADDS, MSG_REPLACES, MSG_SETS_IMP   number, meta, sel, imp
  *   MSG_EXCHANGES            number, meta, sel, other, other_meta, other_sel
  *   MSG_MAKES_CLASS          number, and other, which is the superclass
- *   MSG_MAKES_ROOT_CLASS     number */
+ *   MSG_MAKES_ROOT_CLASS     number
+ *   MSG_REMOVES              number, meta, sel
+ *   MSG_DISPOSES_CLASS       number
+ *   MSG_COVERS               number, meta, sel, imp: msg_attach of one method */
 typedef struct {
     uint32_t kind;
     uint32_t number;
@@ -128,7 +131,10 @@ enum {
     MSG_SETS_IMP = 3,
     MSG_EXCHANGES = 4,
     MSG_MAKES_CLASS = 5,
-    MSG_MAKES_ROOT_CLASS = 6
+    MSG_MAKES_ROOT_CLASS = 6,
+    MSG_REMOVES = 7,
+    MSG_DISPOSES_CLASS = 8,
+    MSG_COVERS = 9
 };
 
 /* How much a runtime has room for. Fields have 32 bits, and 0 is the default.
@@ -169,6 +175,7 @@ enum {
     MSG_LIMIT = 6,          /* 2^48 changes, 2^32 methods or 2^32 - 1 texts */
     MSG_CHANGE_MEMORY = 7,  /* no memory for the change */
     MSG_DUPLICATE_CLASS = 8, /* the class is made already */
+    MSG_CLASS_IN_USE = 9, /* a class is below it */
     /* Faults of any call. */
     MSG_CLOSED = 64,        /* a handle isn't open */
     MSG_ALREADY_OPEN = 65,  /* the handle is open already */
@@ -263,6 +270,15 @@ uint32_t msg_make_class(msg_runtime *runtime, uint32_t number,
                         uint32_t superclass);
 /* Makes a root class and its metaclass, without methods. */
 uint32_t msg_make_root_class(msg_runtime *runtime, uint32_t number);
+/* Takes the method away that a class has of its own (class_removeMethod). One
+ * that it hid counts again: a category's hides its class's. MSG_NO_METHOD if
+ * the class itself has none. */
+uint32_t msg_remove(msg_runtime *runtime, uint32_t number, bool meta,
+                    uint32_t sel);
+/* Takes a class away (objc_disposeClassPair), with its metaclass and the
+ * methods of both. Its number may be used again. MSG_CLASS_IN_USE if a class
+ * is below it. */
+uint32_t msg_dispose_class(msg_runtime *runtime, uint32_t number);
 
 /* ---- changing several as one, under the lock ---- */
 
@@ -280,9 +296,10 @@ uint32_t msg_change_all(msg_runtime *runtime, const msg_change *changes,
 /* msg_change_all that also writes a way back: `undone` parts in `undo` which,
  * made as one directly afterwards, take the list back.
  *
- * `undone` is 0 if there is no way back, since a method was added or a class
- * made. `room` is at least twice `count`, or MSG_NO_ROOM is returned and not
- * even `place` is written. */
+ * Each accepted list has a way back. It has a part for each method that the
+ * list adds, writes or takes away, and for each class that it makes or takes
+ * away. If that is more than `room`, MSG_NO_ROOM is returned, nothing is made,
+ * and `undone` says how much room is wanted. */
 uint32_t msg_change_all_with_undo(msg_runtime *runtime,
                                   const msg_change *changes, size_t count,
                                   msg_change *undo, size_t room, size_t *undone,
@@ -383,6 +400,24 @@ uint32_t msg_texts_text(msg_texts *texts, uint32_t number, uint8_t *into,
  * named so; or MSG_NONE. */
 uint32_t msg_texts_colons(msg_texts *texts, uint32_t number, size_t *count);
 
+/* ---- types by their encodings, without a lock ----
+ *
+ * As GCC's @encode spells types, on x86-64. A text is any bytes: a letter that
+ * is unknown has no size, what is nested more than 200 deep ends the text, and
+ * no size or alignment is above 2^28. Cost: a text is read once. */
+
+/* The size and alignment of a text's first type, in bytes. Returns the place
+ * behind it (objc_skip_typespec), which is above 0 where there is a text. */
+size_t msg_type_first(const uint8_t *text, size_t length, uint64_t *size,
+                      uint64_t *align);
+/* The member of a structure in front of a text, where those before it end
+ * before this bit; of a union, 0. Its type is from `begin`, behind its name, to
+ * before `end`; it takes the bits from `first` to before `last`. MSG_NONE where
+ * the structure or the text ends. */
+uint32_t msg_type_member(const uint8_t *text, size_t length, uint64_t before,
+                         size_t *begin, size_t *end, uint64_t *first,
+                         uint64_t *last, uint64_t *align);
+
 #ifdef __cplusplus
 }
 #endif
@@ -439,6 +474,7 @@ static inline const char *msg_fault_text(uint32_t fault)
     case MSG_LIMIT: return "as many changes or methods as there may be";
     case MSG_CHANGE_MEMORY: return "no memory for the change";
     case MSG_DUPLICATE_CLASS: return "the class is made already";
+    case MSG_CLASS_IN_USE: return "a class is below it";
     case MSG_CLOSED: return "a handle isn't open";
     case MSG_ALREADY_OPEN: return "the handle is open already";
     case MSG_NO_CLASS: return "no such class number";

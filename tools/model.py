@@ -208,15 +208,18 @@ def expression(value):
 
 
 CHANGES = {"add": (name, truth, text, name), "replace": (name, truth, text, name), "set": (name, truth, text, name), "exchange": (name, truth, text, name, truth, text), "attach": (name, pairs, pairs)}
+LATER = {"make": (name, name_or_none)}
+NEWEST = {"remove": (name, truth, text), "dispose": (name,)}
 
 
-def change(value, version):
+def change(value, version, may_all=True):
     shaped(isinstance(value, list) and value and isinstance(value[0], str))
     kind, *rest = value
-    if kind == "all" and version == 3:
+    if kind == "all" and version == 3 and may_all:
         shaped(len(rest) >= 2)
-        return kind, [change(it, 2) for it in rest]
-    forms = (name, name_or_none) if kind == "make" and version > 1 else CHANGES.get(kind, ())
+        return kind, [change(it, version, False) for it in rest]
+    known = CHANGES | (LATER if version > 1 else {}) | (NEWEST if version == 3 else {})
+    forms = known.get(kind, ())
     shaped(forms and len(forms) == len(rest))
     return (kind, *(form(it) for form, it in zip(forms, rest)))
 
@@ -322,7 +325,7 @@ class Document:
         yield from (it[0] for it in self.sends())
         yield from (it[1] for it in self.constants() if isinstance(it, tuple) and it[0] == "sel")
         for it in self.changes():
-            yield from (it[3], it[6]) if it[0] == "exchange" else (it[3],) if it[0] in ("add", "replace", "set") else ()
+            yield from (it[3], it[6]) if it[0] == "exchange" else (it[3],) if it[0] in ("add", "replace", "set", "remove") else ()
 
     def is_beyond(self):
         entries = sum(map(len, self.lists(False)))
@@ -371,6 +374,7 @@ class Tables:
 
     def __init__(self, document):
         self.above = {it[0]: it[1] for it in document.classes}
+        self.listed = frozenset(self.above)
         self.rows = {(it, meta): [] for it in [*self.above, *document.made] for meta in (False, True)}
         self.args, self.changes = {it[0]: it[3] for it in document.imps}, 0
         for title, _, *lists in document.classes:
@@ -428,8 +432,20 @@ class Tables:
         else:
             self.rows[title, meta].insert(0, [selector, imp])
 
+    def remove(self, title, meta, selector):
+        rows = self.rows[title, meta]
+        place = next((place for place, row in enumerate(rows) if row[0] == selector), None)
+        self.refuse(("no class", title not in self.above), ("no method", place is None), ("limit", self.changes == MOST_CHANGES))
+        del rows[place]
+
+    def dispose(self, title):
+        in_use = title in self.listed or title in self.above.values()
+        self.refuse(("no class", title not in self.above), ("limit", self.changes == MOST_CHANGES), ("class in use", in_use))
+        del self.above[title]
+        self.rows[title, False], self.rows[title, True] = [], []
+
     def change(self, kind, *rest):
-        if kind in ("make", "exchange"):
+        if kind in ("make", "exchange", "remove", "dispose"):
             getattr(self, kind)(*rest)
         elif kind == "attach":
             self.attached(*rest)

@@ -137,8 +137,9 @@ static void load(char *text, size_t size, int number)
     char path[512], digits[8];
     snprintf(digits, sizeof digits, "%04d", number);
     snprintf(path, sizeof path, "%s.made.%s.so", MODULES, digits);
-    for (size_t i = 5; i + 4 <= size; i++) /* but for the symbol, which is found by its hash */
-        if (!memcmp(text + i, "0000", 4) && memchr("kedn", text[i - 1], 4) && text[i - 5] != '_')
+    for (size_t i = 5; i + 4 <= size; i++) /* but for symbols, which are found by their hashes */
+        if (!memcmp(text + i, "0000", 4) && memchr("kedn", text[i - 1], 4) &&
+            !memchr("_e", text[i - 5], 2))
             memcpy(text + i, digits, 4);
     FILE *file = fopen(path, "wb");
     if (!file || fwrite(text, 1, size, file) != size || fclose(file)) count(&wrong);

@@ -5,6 +5,7 @@
 #include <stdlib.h>
 #include <string.h>
 #include "encoding.c"
+#include "tests/standin_types.h" /* in place of the proved reader */
 
 /* One of each kind: digits are one kind, as simple types and qualifiers are. */
 #define LETTERS "{}()[]!bj^@?\"=,1ic_"

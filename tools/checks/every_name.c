@@ -2,9 +2,10 @@
  * own; 3 functions), run for every sequence of STEPS names, as programs and modules ask for them,
  * with memory refused at each place, under sanitizers. */
 #include "blocks.h"
-#define abort() longjmp(out_of_run, 1)
+#define abort() longjmp(search->out_of_run, 1)
 #define fprintf(...) ((void)0)
 #include "encoding.c"
+#include "standin_types.h"
 #include "names.c"
 #undef fprintf
 #undef abort

@@ -34,7 +34,7 @@ class msg_change(c.Structure):
     _fields_ = [(name, c.c_uint32) for name in ("kind", "number", "meta", "sel", "imp", "other", "other_meta", "other_sel")]
 
 
-KINDS = {"ADDS": 1, "REPLACES": 2, "SETS_IMP": 3, "EXCHANGES": 4, "MAKES_CLASS": 5, "MAKES_ROOT_CLASS": 6}
+KINDS = {"ADDS": 1, "REPLACES": 2, "SETS_IMP": 3, "EXCHANGES": 4, "MAKES_CLASS": 5, "MAKES_ROOT_CLASS": 6, "REMOVES": 7, "DISPOSES_CLASS": 8, "COVERS": 9}
 
 
 class msg_config(c.Structure):
@@ -66,6 +66,7 @@ FAULTS = {
     "Limit": (6, "as many changes or methods as there may be"),
     "ChangeMemory": (7, "no memory for the change"),
     "DuplicateClass": (8, "the class is made already"),
+    "ClassInUse": (9, "a class is below it"),
     "Closed": (64, "a handle isn't open"),
     "AlreadyOpen": (65, "the handle is open already"),
     "NoClass": (66, "no such class number"),
@@ -104,6 +105,8 @@ CALLS = {
     "msg_attach": (_answer, (_runtime, _number, _methods, c.c_size_t, _methods, c.c_size_t)),
     "msg_make_class": (_answer, (_runtime, _number, _number)),
     "msg_make_root_class": (_answer, (_runtime, _number)),
+    "msg_remove": (_answer, (_runtime, _number, _meta, _selector)),
+    "msg_dispose_class": (_answer, (_runtime, _number)),
     "msg_change_all": (_answer, (_runtime, _changes, c.c_size_t, _size)),
     "msg_change_all_with_undo": (_answer, (_runtime, _changes, c.c_size_t, _changes, c.c_size_t, _size, _size)),
     "msg_reach": (_answer, (_runtime, _changes, c.c_size_t, c.POINTER(c.c_bool), c.c_size_t, _size)),
@@ -124,6 +127,8 @@ CALLS = {
     "msg_texts_find": (_answer, (_texts, _bytes, c.c_size_t, _told32)),
     "msg_texts_text": (_answer, (_texts, _number, _bytes, c.c_size_t, _size)),
     "msg_texts_colons": (_answer, (_texts, _number, _size)),
+    "msg_type_first": (c.c_size_t, (_bytes, c.c_size_t, _told64, _told64)),
+    "msg_type_member": (_answer, (_bytes, c.c_size_t, c.c_uint64, _size, _size, _told64, _told64, _told64)),
 }
 
 # What stands for the calls that the header has inline, which a shared library doesn't export.

@@ -20,7 +20,7 @@ use Rattle.msg_runtime.specs.View.{RuntimeView}
 use Rattle.msg_host.specs.declared.changing.MethodRow.{MethodRow}
 use Rattle.msg_host.specs.declared.config.HostConfig.{HostConfig}
 use Rattle.msg_host.specs.declared.listing.ChangeRow.{ChangeRow}
-use Rattle.msg_c.specs.Answers.{SeesOn, fault_in, runtime_arena, runtime_given, runtime_history, sender_arena, sender_front}
+use Rattle.msg_c.specs.Answers.{SeesOn, fault_in, runtime_arena, runtime_beside_room, runtime_given, runtime_history, runtime_rooms, runtime_written, sender_arena, sender_front}
 use Rattle.msg_c.specs.Interned.{TextsView}
 use Rattle.msg_c.specs.declared.answer.TheConstants.{MISSED, NOT_NOTED, NOTED_NONE}
 use Rattle.msg_c.specs.declared.runtime_handle.RuntimeHandle.{RuntimeHandle}
@@ -47,9 +47,16 @@ OpensIn config r = IfSome r.held.state (λ v. OpensAs config v)
 abbrev pub IfOpen : RuntimeHandle → (RuntimeView → Type 0) → Type 0
 IfOpen r is_so = (v : RuntimeView) → r.held.state ≡ Some v → is_so v
 
--- it has the arena and the history that it had, open or closed
-abbrev pub StaysAt : RuntimeHandle → RuntimeHandle → Type 0
-StaysAt was is = (runtime_arena is.held.state ≡ runtime_arena was.held.state) × (runtime_history is.held.state ≡ runtime_history was.held.state)
+-- it has the arena, the history and the room that it had, open or closed
+pub record StaysAt (was is : RuntimeHandle) : Type 0 where
+  pub arena : runtime_arena is.held.state ≡ runtime_arena was.held.state
+  pub history : runtime_history is.held.state ≡ runtime_history was.held.state
+  pub rooms : runtime_rooms is.held.state ≡ runtime_rooms was.held.state
+  pub written : runtime_written is.held.state ≡ runtime_written was.held.state
+
+-- what it holds has not changed, but that there may be more room
+abbrev pub Leaves : RuntimeHandle → RuntimeHandle → Type 0
+Leaves was is = runtime_beside_room is.held.state ≡ runtime_beside_room was.held.state
 
 -- the same sender numbers are out
 abbrev pub LeavesNumbers : RuntimeHandle → RuntimeHandle → Type 0
@@ -109,20 +116,21 @@ abbrev pub AttachesIn : RuntimeHandle → RuntimeHandle → ℕ → List MethodR
 AttachesIn was is class methods class_methods n = n ≡ 0 → Changes was is (attachment class methods class_methods) 0
 
 -- another answer says why not
-abbrev pub RefusesAttachmentIn : RuntimeHandle → ℕ → List MethodRow → List MethodRow → ℕ → Type 0
-RefusesAttachmentIn r class methods class_methods n = IfOpen r (λ v. TellsAttachFault v class methods class_methods n)
+abbrev pub RefusesAttachmentIn : RuntimeHandle → RuntimeHandle → ℕ → List MethodRow → List MethodRow → ℕ → Type 0
+RefusesAttachmentIn was is class methods class_methods n = (v w : RuntimeView) → was.held.state ≡ Some v → is.held.state ≡ Some w → TellsAttachFault v w class methods class_methods n
 
 -- the changes that rows mean took what a handle holds from was to is, as one
 abbrev pub MakesRowsIn : List ChangeRow → RuntimeHandle → RuntimeHandle → Type 0
-MakesRowsIn rows was is = (v w : RuntimeView) → was.held.state ≡ Some v → is.held.state ≡ Some w → MakesRows rows v.keeper.history w.keeper.history
+MakesRowsIn rows was is = (v w : RuntimeView) → was.held.state ≡ Some v → is.held.state ≡ Some w → MakesRows rows v w
 
 -- rows are refused by the runtime in a handle: that of this place, for the fault of this number
 abbrev pub RefusesRowsIn : RuntimeHandle → List ChangeRow → ℕ → ℕ → Type 0
 RefusesRowsIn r rows place n = IfOpen r (λ v. AreRefusedRows rows v.keeper.history place n)
 
--- where memory was wanting, nothing else speaks against them up to that of this place
+-- where memory was wanting, nothing else speaks against them up to that of this place, and there is
+-- too little room for these
 abbrev pub LacksMemoryIn : RuntimeHandle → List ChangeRow → ℕ → ℕ → Type 0
-LacksMemoryIn r rows place n = IfOpen r (λ v. LackMemoryIf rows v.keeper.history place n)
+LacksMemoryIn r rows place n = IfOpen r (λ v. LackMemoryIf rows v place n)
 
 -- the runtime in a handle says why it doesn't tell what rows would reach, and marks what those
 -- before would, or nothing

@@ -11,6 +11,9 @@ mod changing;
 #[cfg(test)]
 mod config_tests;
 mod crossing;
+mod encodings;
+#[cfg(test)]
+mod encodings_tests;
 mod listing;
 #[cfg(test)]
 mod memory_tests;
@@ -32,4 +35,6 @@ mod texts;
 mod texts_handle;
 #[cfg(test)]
 mod texts_tests;
+#[cfg(test)]
+mod undo_tests;
 mod version;

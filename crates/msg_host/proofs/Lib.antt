@@ -2,3 +2,4 @@ pub mod ChangingLemmas
 pub mod ConfigLemmas
 pub mod CrossingLemmas
 pub mod ListingLemmas
+pub mod WayBackLemmas

@@ -5,3 +5,4 @@ pub mod Listing
 pub mod Named
 pub mod Opening
 pub mod View
+pub mod WayBack

@@ -10,6 +10,7 @@ mod changing;
 mod config;
 mod crossing;
 mod fault;
+pub mod laws;
 mod listing;
 mod opening;
 mod reaching;

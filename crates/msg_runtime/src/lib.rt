@@ -6,5 +6,7 @@ mod caching;
 mod flushing;
 mod flushing_all;
 mod runtime;
+mod unmade;
 
-pub use runtime::{Made, Runtime};
+pub use runtime::Runtime;
+pub use unmade::Unmade;
