@@ -119,7 +119,7 @@ impl Desk {
             keeper,
             tables,
             turn,
-            written: Written::none(alloc),
+            written: Written::with_room(alloc, 1).expect(rt, "memory"),
         };
         Box::new(alloc, desk).expect(rt, "memory")
     }

@@ -17,6 +17,7 @@ ghost use Rattle.msg_reader.specs.Notes.{AreNotesOf, IsNoted, StayStamped};
 ghost use Rattle.msg_runtime.specs.Calls.{AllAreOut, CachesAnswer, CountsRefusalUnless, HasKeeper, HoldsRoomFor, KeepsAtLeastRoom, KeepsCaches, KeepsRoom, LacksRoomFor, LendsTurnIf, MarksAllReached, WantsRoom, WantsRoomIf};
 ghost use Rattle.msg_runtime.specs.Changed.{IsAccepted, IsMadeAt, IsRefusedAt, IsUnmade};
 ghost use Rattle.msg_runtime.specs.Parts.{IsKeeperOf, IsNew, keeper_history};
+ghost use Rattle.msg_runtime.specs.declared.runtime.TheConstants.{OPENING_ENTRIES};
 
 use crate::caching::cache_found;
 use crate::flushing_all::flush_changed;
@@ -39,7 +40,8 @@ use std::snapshot::Snapshot;
 ///
 /// It is what is used by one thread at a time, while senders probe the arena beside it. It has no
 /// lock of its own and waits for nobody: whoever has threads puts a lock round it. Once it is
-/// opened nothing but a change takes memory: for rows, and for what it notes of them.
+/// opened nothing but a change takes memory: for rows, and for what it notes of them. A row that
+/// is set or removed, an exchange and a class that is made take none.
 #[derive(Drop)]
 pub struct Runtime {
     keeper: Keeper,
@@ -49,6 +51,9 @@ pub struct Runtime {
     classes: u32,
     arena: Snapshot<Arena>,
 }
+
+/// A runtime is opened with room for what an exchange notes.
+pub const OPENING_ENTRIES: usize = 2;
 
 impl Model for Runtime {
     ghost use Rattle.msg_runtime.specs.View.{RuntimeView};
@@ -80,6 +85,7 @@ impl Runtime {
         ensures arena { IfOk result (λ r. r.arena ≡ arena.now) }
         ensures history { IfOk result (λ r. r.keeper.history ≡ empty (C.given given.now)) }
         ensures keeper { IfOk result (HasKeeper keeper) }
+        ensures entries { IfOk result (λ r. OPENING_ENTRIES ≤ r.written.room) }
     {
         Runtime::of(alloc, arena, keeper, given.origin())
     }
@@ -96,6 +102,7 @@ impl Runtime {
         ensures arena { IfOk result (λ r. r.arena ≡ arena.now) }
         ensures history { IfOk result (λ r. r.keeper.history ≡ empty origin.now) }
         ensures keeper { IfOk result (HasKeeper keeper) }
+        ensures entries { IfOk result (λ r. OPENING_ENTRIES ≤ r.written.room) }
     {
         let tables = Tables::open(alloc, origin)?;
         let below = tables.room_below(alloc)?;
@@ -103,7 +110,7 @@ impl Runtime {
             keeper,
             tables,
             below,
-            written: Written::none(alloc),
+            written: Written::with_room(alloc, OPENING_ENTRIES)?,
             classes: origin.class_count(),
             arena: Snapshot::of(arena),
         })
