@@ -434,7 +434,9 @@ static int one_run(void)
     __CPROVER_assert(!ended || !own, "a thread that ends has no sender from then on");
     __CPROVER_assert(seats == own && (!own || !own->next), "a thread has one sender");
     unsigned many = taken[0] + taken[1] + taken[2] + taken[3];
-    /* a handler may open one and find another thread with the lock, which it would sit down under */
+    __CPROVER_assert(many == spare_count + (own != NULL), "each open sender is its own or spare");
+    /* One that a handler opens stays spare where another thread then has the lock, which it would
+     * sit down under. The find that it interrupted may have seen before that none was spare. */
     unsigned left = ROUNDS + FINDS ? signals : 0;
     __CPROVER_assert(many <= 1 + spare_most + left, "and opens no more than one, and spare ones");
     bool is_shown = !own || msg_process_own.sender == &own->sender;

@@ -52,8 +52,8 @@ impl Frame<'_> {
         }
     }
 
-    /// The value of an expression that has no parts: a constant, the receiver or an argument.
-    pub fn leaf(&self, expr: &Expr) -> Option<Value>
+    // The value of an expression that has no parts: a constant, the receiver or an argument.
+    pub(crate) fn leaf(&self, expr: &Expr) -> Option<Value>
         requires expr_of { IsExpressionOf self.now.image.now (plain expr.now) }
         ensures value_of { IfSome result (IsOf self.now.image.now) }
         ensures meaning { IfSome result (IsValue self.now (plain expr.now)) }
