@@ -28,6 +28,14 @@ enum {
     GROWTH = 16384
 };
 
+/* The address sanitizer's allocator isn't held over a fork: of a program that only allocates, one
+ * child in ten waits for a lock that no thread of it has. */
+#ifdef SANITIZED_address
+enum { FORKS = 0 };
+#else
+enum { FORKS = 1 };
+#endif
+
 /* Each is one class's for one selector, in one version. */
 #define F(n) static int f##n(id self, SEL sel) { (void)self; (void)sel; return 0##n; }
 #define EIGHT(n, k) k(n##0) k(n##1) k(n##2) k(n##3) k(n##4) k(n##5) k(n##6) k(n##7)
@@ -181,6 +189,10 @@ static void wait_for(pid_t child)
 static void *fork_on(void *at)
 {
     for (; !get(&over); count(at)) {
+        if (!FORKS) {
+            usleep(1000);
+            continue;
+        }
         pid_t child = fork();
         if (!child) {
             for (unsigned i = 0; i < CLASSES * OWN; i++) look(i);
@@ -287,6 +299,6 @@ int main(int words, char **word)
     grown = 0;
 #endif
     printf("each went on %d, wrong %ld, hung %ld, grown %d\n",
-           modules > 0 && forks > 0 && changes > 0, wrong, hung, grown > GROWTH);
+           modules > 0 && (forks > 0) == FORKS && changes > 0, wrong, hung, grown > GROWTH);
     return 0;
 }
