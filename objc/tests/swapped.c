@@ -21,7 +21,9 @@ static void *send_on(void *none)
 {
     for (long least = 0; !get(&over); count(&sends)) {
         long one = look(&root, first), other = look(&child, second);
-        if (other < one) count(&half[get(&one_by_one)]); /* asked afterwards: where it isn't yet, there were lists alone */
+        if (other < one)
+            count(&half[get(
+                &one_by_one)]); /* asked afterwards: where it isn't yet, there were lists alone */
         if (one < least || look(&child, second) < other) count(&wrong);
         least = one;
     }
@@ -31,7 +33,8 @@ static void *send_on(void *none)
 static void swap(long to)
 {
     IMP imp = (IMP)(BEGIN + to);
-    struct objc_method_swap rows[] = {{&root_meta, first, imp, "@16@0:8"}, {&child_meta, second, imp, "@16@0:8"}};
+    struct objc_method_swap rows[] = {{&root_meta, first, imp, "@16@0:8"},
+                                      {&child_meta, second, imp, "@16@0:8"}};
     if (get(&one_by_one)) {
         class_replaceMethod(&root_meta, first, imp, "@16@0:8");
         class_replaceMethod(&child_meta, second, imp, "@16@0:8");
@@ -54,7 +57,8 @@ int main(void)
     while (++to <= 2 * LISTS || (!told(&half[1]) && to < 20 * LISTS)) swap(to);
     __atomic_store_n(&over, 1, __ATOMIC_SEQ_CST);
     for (int i = 0; i < THREADS; i++) pthread_join(threads[i], NULL);
-    fprintf(stderr, "%ld pairs; half of a swap: %ld by lists, %ld one by one\n", sends, half[0], half[1]);
+    fprintf(stderr, "%ld pairs; half of a swap: %ld by lists, %ld one by one\n", sends, half[0],
+            half[1]);
     printf("wrong %ld; by lists %ld, one by one %s\n", wrong, half[0], half[1] ? "some" : "none");
     return 0;
 }

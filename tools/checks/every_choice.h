@@ -86,7 +86,8 @@ static void keep_variables(bool back)
 {
     size_t size = (size_t)(&_end - &__data_start);
     if (!search->variables) search->variables = malloc(size);
-    memcpy(back ? &__data_start : search->variables, back ? search->variables : &__data_start, size);
+    memcpy(back ? &__data_start : search->variables, back ? search->variables : &__data_start,
+           size);
 }
 #else
 #define choose next_choice
@@ -96,7 +97,8 @@ static void keep_variables(bool back)
 static void fail(const char *what, int line)
 {
     int i = 0;
-    while (i < MOST_FAULTS - 1 && search->faults[i].what && strcmp(search->faults[i].what, what)) i++;
+    while (i < MOST_FAULTS - 1 && search->faults[i].what && strcmp(search->faults[i].what, what))
+        i++;
     if (!search->faults[i].count) {
         search->faults[i].what = what;
         printf("FAILS, run %llu, line %d: %s\n", search->runs, line, what);

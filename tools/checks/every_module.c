@@ -1,5 +1,5 @@
-/* All of objc/ over the stand-in: three objects with modules are loaded, closed and loaded again, in
- * every order of so many steps, each in a process of its own, under sanitizers. The loader is a
+/* All of objc/ over the stand-in: three objects with modules are loaded, closed and loaded again,
+ * in every order of so many steps, each in a process of its own, under sanitizers. The loader is a
  * model: an object that isn't kept goes with its memory when it is closed, and comes anew. After
  * each step each class is there that can be, with the methods that it has by then; +load was sent
  * once, a superclass's first. */
@@ -70,7 +70,8 @@ static char *text(struct object *of, const char *said)
 static struct method_list *list(struct object *of, struct methods *into, const char *name, IMP imp)
 {
     if (!imp) return NULL;
-    *into = (struct methods){NULL, 1, {{.name.text = text(of, name), .types = "i16@0:8", .imp = imp}}};
+    *into =
+        (struct methods){NULL, 1, {{.name.text = text(of, name), .types = "i16@0:8", .imp = imp}}};
     return (struct method_list *)into;
 }
 
@@ -131,7 +132,13 @@ static void close_object(int i)
 
 static const char *steps;
 #define MUST(is_so) \
-    do { if (!(is_so)) { printf("%s, line %d: not so: %s\n", steps, __LINE__, #is_so); fflush(stdout); _exit(1); } } while (0)
+    do { \
+        if (!(is_so)) { \
+            printf("%s, line %d: not so: %s\n", steps, __LINE__, #is_so); \
+            fflush(stdout); \
+            _exit(1); \
+        } \
+    } while (0)
 
 static int send(Class class_, const char *name)
 {

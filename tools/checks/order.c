@@ -377,7 +377,8 @@ static void changes(void)
     STEP();
     msg_process_unlock();
 }
-/* The thread ends: what finds after it, as a destructor of the thread's may, goes under the lock. */
+/* The thread ends: what finds after it, as a destructor of the thread's may, goes under the
+ * lock. */
 static bool ended;
 static void ends(void)
 {
