@@ -34,9 +34,10 @@
  *     So are calls that take a msg_texts, under this lock or another. Calls
  *     that take only a msg_sender want no lock: any number of senders may be in
  *     them at once, while one thread has the lock.
- *   - A thread that holds the runtime lock does not call msg_find, which takes
- *     the lock after a miss: it would wait for itself. Under the lock
- *     msg_lookup or msg_fill looks up, and MSG_CHECK tells the mistake.
+ *   - A thread that holds the runtime lock does not call msg_find or
+ *     msg_find_all, which take the lock after a miss: it would wait for itself.
+ *     Under the lock msg_lookup or msg_fill looks up, and MSG_CHECK tells the
+ *     mistake.
  *   - A handle goes to another thread by something that orders memory: a lock,
  *     a thread's start or join.
  *   - A sender goes only to calls on the runtime that it was opened from. (This
@@ -136,6 +137,9 @@ enum {
     MSG_DISPOSES_CLASS = 8,
     MSG_COVERS = 9
 };
+
+/* A lookup, as one of several: by a class, or by its metaclass if meta is 1. */
+typedef struct { uint32_t number; uint32_t meta; uint32_t sel; } msg_lookup_row;
 
 /* How much a runtime has room for. Fields have 32 bits, and 0 is the default.
  * Later fields come at the end. */
@@ -334,6 +338,13 @@ uint32_t msg_sender_close(msg_runtime *runtime, msg_sender *sender);
  * after msg_probe has missed, or let msg_find do both. */
 uint32_t msg_fill(msg_runtime *runtime, msg_sender *sender, uint32_t number,
                   bool meta, uint32_t sel, uint32_t *imp);
+/* Looks up several after all changes so far, which the sender has then seen.
+ * What it has not noted is cached, if there is room, and noted. Parameters and
+ * faults are those of msg_probe_all. Call it after that has missed, or let
+ * msg_find_all do both. */
+uint32_t msg_fill_all(msg_runtime *runtime, msg_sender *sender,
+                      const msg_lookup_row *lookups, size_t count,
+                      uint32_t *imps, size_t room, size_t *place);
 /* Shows the sender all changes so far. It forgets nothing. */
 uint32_t msg_meet(msg_runtime *runtime, msg_sender *sender);
 
@@ -363,6 +374,20 @@ size_t msg_recall(const msg_sender *sender, size_t slot, uint32_t sel,
  * lookup has taken the place of the note. Cost: a few loads, and no lock. */
 uint32_t msg_probe(msg_sender *sender, uint32_t number, bool meta, uint32_t sel,
                    uint32_t *imp);
+/* What several lookups find, all at one version: after the same changes, which
+ * the sender has then seen, and which are no fewer than before. `imps` has as
+ * many entries as there are lookups, or MSG_NO_ROOM is returned. A change of
+ * several parts that was made as one is in all of the answers or in none.
+ *
+ * MSG_MISSED if the sender's notes and the shared cache lack one of them, or if
+ * a change of one's class falls among them. A change of other classes does not
+ * matter. After MSG_MISSED what is in `imps` means nothing. MSG_NO_CLASS,
+ * MSG_NO_SELECTOR and MSG_BAD_CHANGE (meta above 1) come with the `place` of
+ * the first lookup that is at fault, and nothing is looked up. Cost: a load of
+ * a shared word, and for each lookup another one and a few loads; no lock. */
+uint32_t msg_probe_all(msg_sender *sender, const msg_lookup_row *lookups,
+                       size_t count, uint32_t *imps, size_t room,
+                       size_t *place);
 /* How many changes there are. The sender has then seen them: nothing older is
  * found by it from then on, and it forgets nothing. Cost: one load of a shared
  * word. */
@@ -438,6 +463,8 @@ MSG_IS_SO(sizeof(msg_change) == 32);
 MSG_IS_SO(offsetof(msg_change, number) == 4 && offsetof(msg_change, sel) == 12);
 MSG_IS_SO(offsetof(msg_change, other) == 20);
 MSG_IS_SO(offsetof(msg_change, other_sel) == 28);
+MSG_IS_SO(sizeof(msg_lookup_row) == 12);
+MSG_IS_SO(offsetof(msg_lookup_row, sel) == 8);
 MSG_IS_SO(__BYTE_ORDER__ == __ORDER_LITTLE_ENDIAN__);
 
 /* ---- inline: opening, reporting, texts of faults ---- */
@@ -653,6 +680,26 @@ static inline uint32_t msg_find(msg_runtime *runtime, MSG_LOCK_TYPE *lock,
     MSG_LOCK(lock);
     MSG_TEST(runtime->open == (runtime->at != 0));
     answer = msg_fill(runtime, sender, number, meta, sel, imp);
+    MSG_UNLOCK(lock);
+    return answer;
+}
+
+/* Finds several as one: what msg_probe_all says, and after a miss msg_fill_all
+ * under the lock, once. Two calls of msg_find may be from before and after a
+ * change; these never are. `imps` has `count` entries. Trusted: this code, and
+ * the lock. */
+static inline uint32_t msg_find_all(msg_runtime *runtime, MSG_LOCK_TYPE *lock,
+                                    msg_sender *sender,
+                                    const msg_lookup_row *lookups, size_t count,
+                                    uint32_t *imps, size_t *place)
+{
+    MSG_TEST(runtime && lock && sender && place);
+    MSG_TEST(sender->open == (sender->at != 0));
+    uint32_t answer = msg_probe_all(sender, lookups, count, imps, count, place);
+    if (answer != MSG_MISSED) return answer;
+    MSG_LOCK(lock);
+    MSG_TEST(runtime->open == (runtime->at != 0));
+    answer = msg_fill_all(runtime, sender, lookups, count, imps, count, place);
     MSG_UNLOCK(lock);
     return answer;
 }

@@ -53,6 +53,12 @@ constexpr class_ref class_itself(std::uint32_t number) noexcept { return {number
 constexpr bool operator==(class_ref one, class_ref other) noexcept { return one.slot() == other.slot(); }
 constexpr bool operator!=(class_ref one, class_ref other) noexcept { return !(one == other); }
 
+// A lookup, as one of those that sender::find_all finds as one.
+constexpr msg_lookup_row lookup(class_ref of, std::uint32_t selector) noexcept
+{
+    return {of.number, of.meta, selector};
+}
+
 // The changes of a list that locked::change_all makes as one, each what the call of its name makes alone.
 namespace change {
 constexpr msg_change add(class_ref to, std::uint32_t selector, std::uint32_t imp) noexcept
@@ -357,6 +363,27 @@ public:
         }
         must(answer);
         return imp;
+    }
+    // Several as one, as msg_find_all: all at one version, which the sender has then seen. A fault has the place of
+    // the lookup that isn't asked.
+    template <class Lookups> std::vector<std::uint32_t> find_all(const Lookups &lookups)
+    {
+        std::size_t count = std::size(lookups), place = 0;
+        std::vector<std::uint32_t> imps(count + 1); // never NULL
+        const msg_lookup_row *rows = locked::pointer<msg_lookup_row>(lookups);
+        shared();
+        std::uint32_t answer = msg_probe_all(own.get(), rows, count, imps.data(), count, &place);
+        if (answer == MSG_MISSED) {
+            std::lock_guard<std::mutex> held(at->lock);
+            answer = msg_fill_all(&at->handle, own.get(), rows, count, imps.data(), count, &place);
+        }
+        locked::listed(answer, place);
+        imps.resize(count);
+        return imps;
+    }
+    std::vector<std::uint32_t> find_all(std::initializer_list<msg_lookup_row> lookups)
+    {
+        return find_all<std::initializer_list<msg_lookup_row>>(lookups);
     }
     // Noted or cached, at what the sender has then seen; or nothing, and then ask locked::fill.
     std::optional<std::uint32_t> probe(class_ref of, std::uint32_t selector)

@@ -219,6 +219,24 @@ static void moves_and_closes()
     CHECK(second.lookup(child, NAME) == 3);
 }
 
+static void several_as_one()
+{
+    msg::runtime runtime = opened();
+    msg::sender sender(runtime);
+    using imps = std::vector<std::uint32_t>;
+    const std::vector<msg_lookup_row> three = {msg::lookup(child, NAME), msg::lookup(msg::class_itself(child.number), NEW),
+                                               msg::lookup(child, TAKE)};
+    CHECK(sender.find_all(three) == imps({3, 4, 0}) && sender.find_all(three) == imps({3, 4, 0}));
+    runtime.lock().replace(child, NAME, 8);
+    CHECK(sender.find_all(three) == imps({8, 4, 0}) && sender.find_all({}).empty());
+    try {
+        sender.find_all({msg::lookup(child, NAME), msg::lookup(child, 0)});
+        CHECK(false);
+    } catch (const msg::fault &fault) {
+        CHECK(fault.number() == MSG_NO_SELECTOR && fault.place() == 1u);
+    }
+}
+
 static void threads_beside_changes()
 {
     msg::runtime runtime = opened();
@@ -273,9 +291,10 @@ int main()
     senders();
     a_refused_change_is_no_change();
     moves_and_closes();
+    several_as_one();
     threads_beside_changes();
     texts();
     types();
-    std::puts("9 tests passed");
+    std::puts("11 tests passed");
     return 0;
 }

@@ -740,6 +740,66 @@ uint32_t msg_probe(msg_sender *sender, uint32_t number, bool meta, uint32_t sel,
     return answer;
 }
 
+/* Why lookups aren't answered as one, or MSG_DONE. */
+static uint32_t judge_all(const struct tables *tables, const msg_lookup_row *lookups, size_t count,
+                          size_t room, size_t *place)
+{
+    if (room != count) return MSG_NO_ROOM;
+    for (size_t i = 0; i < count; i++) {
+        bool bad = lookups[i].meta > 1;
+        uint32_t fault = fault_of(tables, lookups[i].number, lookups[i].sel);
+        if (!bad && !fault) continue;
+        *place = i;
+        return bad ? MSG_BAD_CHANGE : fault;
+    }
+    return MSG_DONE;
+}
+
+/* What a lookup found after so many changes, if none after them has affected its class. */
+static uint32_t probe_after(struct asker *asker, msg_sender *sender, uint64_t count,
+                            msg_lookup_row it, uint32_t *imp)
+{
+    uint32_t slot = 2 * it.number + it.meta, answer = MSG_DONE;
+    uint64_t since = stamp(asker->tables, slot);
+    if (since > count) return MSG_MISSED;
+    if (is_noted(sender, slot, it.sel, since))
+        *imp = note_at(sender, slot, it.sel)->imp;
+    else
+        answer = probe(asker, sender, slot, it.sel, imp);
+    return answer || stamp(asker->tables, slot) > count ? MSG_MISSED : MSG_DONE;
+}
+
+uint32_t msg_probe_all(msg_sender *sender, const msg_lookup_row *lookups, size_t count,
+                       uint32_t *imps, size_t room, size_t *place)
+{
+    if (!sender->open) return MSG_CLOSED;
+    struct asker *asker = sender->at;
+    must(asker);
+    uint32_t answer = judge_all(asker->tables, lookups, count, room, place);
+    if (answer) return answer;
+    sender->at = NULL;
+    uint64_t counted = asker->seen = version(asker->tables);
+    for (size_t i = 0; !answer && i < count; i++)
+        answer = probe_after(asker, sender, counted, lookups[i], &imps[i]);
+    sender->at = asker;
+    return answer;
+}
+
+uint32_t msg_fill_all(msg_runtime *runtime, msg_sender *sender, const msg_lookup_row *lookups,
+                      size_t count, uint32_t *imps, size_t room, size_t *place)
+{
+    if (!runtime->open || !sender->open) return MSG_CLOSED;
+    struct asker *asker = sender->at;
+    must(asker && runtime->at == asker->tables);
+    uint32_t fault = judge_all(asker->tables, lookups, count, room, place);
+    if (fault) return fault;
+    asker->seen = version(asker->tables);
+    for (size_t i = 0; i < count; i++)
+        must(!msg_fill(runtime, sender, lookups[i].number, lookups[i].meta, lookups[i].sel,
+                       &imps[i]));
+    return MSG_DONE;
+}
+
 uint32_t msg_refresh(msg_sender *sender, uint64_t *count)
 {
     if (!sender->open) return MSG_CLOSED;

@@ -165,6 +165,16 @@ class Calls(unittest.TestCase):
             self.assertRaises(yeldrost.DuplicateClass, runtime.make_root_class, ROOT)
             self.assertEqual(6, sender.recall(CHILDREN, VALUE, 6), "a refused change is no change")
 
+    def test_several_as_one(self):
+        with self.opened() as runtime, runtime.sender() as sender:
+            three = [(CHILDREN, NAME), (CHILD_ITSELF, NEW), (CHILDREN, TAKE)]
+            self.assertEqual(([3, 4, None], [3, 4, None]), (sender.find_all(three), sender.find_all(three)))
+            runtime.replace(CHILDREN, NAME, 8)
+            self.assertEqual(([8, 4, None], []), (sender.find_all(three), sender.find_all([])))
+            with self.assertRaises(yeldrost.NoSelector) as refused:
+                sender.find_all([(CHILDREN, NAME), (CHILDREN, 0)])
+            self.assertEqual(1, refused.exception.place)
+
     def test_closing(self):
         runtime = self.opened()
         sender = runtime.sender()

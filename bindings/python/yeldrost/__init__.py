@@ -311,6 +311,14 @@ def _changes(changes):
     return (_header.msg_change * max(1, len(changes)))(*changes), len(changes)
 
 
+def _lookups(pairs):
+    """A list of the header's lookups, never without a place, and how many there are."""
+    rows = [(*of, selector) for of, selector in pairs]
+    for it in rows:
+        _checked(*it)
+    return (_header.msg_lookup_row * max(1, len(rows)))(*rows), len(rows)
+
+
 def _methods(pairs):
     """A list of the header's methods, never without a place, and how many there are."""
     pairs = list(pairs)
@@ -368,6 +376,20 @@ class Sender:
         self._own()
         _checked(of[0], selector)
         return self._shared.library.msg_probe(self._at, *of, selector, ctypes.byref(self._imp))
+
+    def find_all(self, lookups):
+        """Several as one, each a pair of a class reference and a selector: all at one version, which
+        the sender has then seen. The fault of one that isn't asked has its `place`."""
+        self._own()
+        rows, count = _lookups(lookups)
+        shared, imps, place = self._shared, (ctypes.c_uint32 * max(1, count))(), ctypes.c_size_t()
+        words = (self._at, rows, count, imps, count, ctypes.byref(place))
+        answer = shared.library.msg_probe_all(*words)
+        if answer == _MISSED:
+            with shared.lock:
+                answer = shared.library.msg_fill_all(shared.handle, *words)
+        _must_at(answer, place)
+        return [imp or None for imp in imps[:count]]
 
     def probe(self, of, selector):
         """Noted or cached, at what the sender has then seen: an implementation, or 0 for none. None

@@ -11,6 +11,7 @@ use Rattle.msg_reader.specs.Kept.{FindsUnprobed, HaveNotedSince, LoadsStamp}
 use Rattle.msg_reader.specs.Notes.{HaveNoted, IsRecalledSince}
 use Rattle.msg_host.specs.Asking.{AnswersChange}
 use Rattle.msg_host.specs.Listing.{AreRefusedRows, LackMemoryIf, MakesRows, ReachesRows, RefusesToReach}
+use Rattle.msg_host.specs.Lookups.{AreRefusedLookups, AreRowsFound, AreTakenLookups, RowsLackOne, RowsMissOne}
 use Rattle.msg_host.specs.Named.{TellsAttachFault, attachment, exchange, ref_of}
 use Rattle.msg_host.specs.Opening.{OpensAs}
 use Rattle.msg_host.specs.View.{SenderView}
@@ -20,6 +21,7 @@ use Rattle.msg_runtime.specs.View.{RuntimeView}
 use Rattle.msg_host.specs.declared.changing.MethodRow.{MethodRow}
 use Rattle.msg_host.specs.declared.config.HostConfig.{HostConfig}
 use Rattle.msg_host.specs.declared.listing.ChangeRow.{ChangeRow}
+use Rattle.msg_host.specs.declared.lookups.LookupRow.{LookupRow}
 use Rattle.msg_c.specs.Answers.{SeesOn, fault_in, runtime_arena, runtime_beside_room, runtime_given, runtime_history, runtime_rooms, runtime_written, sender_arena, sender_front}
 use Rattle.msg_c.specs.Interned.{TextsView}
 use Rattle.msg_c.specs.declared.answer.TheConstants.{MISSED, NOT_NOTED, NOTED_NONE}
@@ -180,6 +182,30 @@ HasNotedAt s r c sel imp = IfAt r (λ h. HaveNoted s.notes h c sel imp)
 -- so it is with that sender's arena
 abbrev pub IfOfArena : SenderHandle → (ArenaView → Type 0) → Type 0
 IfOfArena s is_so = (a : ArenaView) → sender_arena s.held.state ≡ Some a → is_so a
+
+-- the lookups of rows are found, all at one history: no older than what the sender of an open
+-- handle had seen, and it has seen that then
+abbrev pub FindsRowsIn : SenderHandle → SenderHandle → List LookupRow → List ℕ → Type 0
+FindsRowsIn was is rows imps = IfSenders was is (λ u w. AreRowsFound u.seen w.seen rows imps)
+
+-- its notes had nothing of one of them since a stamp of its class reference that was loaded, or that
+-- says more changes than it had seen
+abbrev pub LacksRowIn : SenderHandle → SenderHandle → List LookupRow → Type 0
+LacksRowIn was is rows = IfSenders was is (λ u w. RowsLackOne u.arena was.notes rows u.seen w.seen)
+
+-- one of them is missed by a probe, or the stamp of its class reference that was loaded last says
+-- more changes than it had seen
+abbrev pub MissesRowIn : SenderHandle → SenderHandle → List LookupRow → Type 0
+MissesRowIn was is rows = IfSenders was is (λ u w. RowsMissOne u.arena rows u.seen w.seen)
+
+-- as many answers as rows have a place, each row means a lookup of its classes, and no place of a
+-- row is told
+abbrev pub TakesLookupsIn : SenderHandle → List LookupRow → ℕ → ℕ → ℕ → Type 0
+TakesLookupsIn s rows places old new = IfOfArena s (λ a. AreTakenLookups (classes a) rows places old new)
+
+-- another number has, or a row means none, and its place is told
+abbrev pub RefusesLookupsIn : SenderHandle → List LookupRow → ℕ → ℕ → ℕ → ℕ → Type 0
+RefusesLookupsIn s rows places old new n = IfOfArena s (λ a. AreRefusedLookups (classes a) rows places old new n)
 
 -- this is forwarding, or an implementation that the origin of its classes has
 abbrev pub IsListedIn : SenderHandle → ℕ → Type 0

@@ -15,6 +15,9 @@ mod encodings;
 #[cfg(test)]
 mod encodings_tests;
 mod listing;
+mod lookups;
+#[cfg(test)]
+mod lookups_tests;
 #[cfg(test)]
 mod memory_tests;
 mod opening;

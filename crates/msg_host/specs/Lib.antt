@@ -2,6 +2,7 @@ pub mod Asking
 pub mod Config
 pub mod Inside
 pub mod Listing
+pub mod Lookups
 pub mod Named
 pub mod Opening
 pub mod View

@@ -14,6 +14,7 @@ ghost use Rattle.msg_address.specs.Address.{IsNotNull};
 ghost use Rattle.msg_cache.specs.Views.{classes, layout};
 ghost use Rattle.msg_reader.specs.Kept.{KeepOthers};
 ghost use Rattle.msg_reader.specs.Notes.{AreNotesOf, HaveNotedFor, StayStamped};
+ghost use Rattle.msg_reader.specs.Several.{AreAsked, AreFoundAt};
 ghost use Rattle.msg_runtime.specs.Changed.{IsAccepted, IsMadeAt, IsRefusedAt, IsUnmade};
 ghost use Rattle.msg_runtime.specs.Calls.{AllAreOut, CachesAnswer, HoldsRoomFor, KeepsAtLeastRoom, KeepsRoom, LacksRoomFor, MarksAllReached, WantsRoom, WantsRoomIf};
 ghost use Rattle.msg_host.specs.Asking.{IsLeft};
@@ -30,8 +31,8 @@ use crate::sender::HostedSender;
 use msg_cache::laws::{a_fill_changes_caches_alone, an_opening_changes_a_stamp_alone};
 use msg_cache::{Arena, Report, Turn};
 use msg_names::{ClassRef, ImpRef, Selector};
-use msg_reader::Notes;
 use msg_reader::laws::a_slot_of_few_classes_is_short;
+use msg_reader::{LookupList, Notes};
 use msg_runtime::{Runtime, Unmade};
 use msg_tables::{Change, ChangeFault, ChangeList, Refused, Written};
 use std::alloc::Global;
@@ -249,6 +250,34 @@ impl HostedRuntime {
         an_opening_changes_a_stamp_alone();
         self.runtime
             .answer_noted(&self.arena, &mut sender.reader, notes, class, sel)
+    }
+
+    // Answers several lookups, all at the whole history, which the sender has then seen.
+    pub(crate) fn answer_all<L: LookupList>(
+        &mut self,
+        sender: &mut HostedSender,
+        notes: &mut Notes,
+        lookups: &L,
+        imps: &mut [u32],
+    )
+        requires sender { sender.old.arena ≡ self.old.arena }
+        requires notes { AreNotesOf sender.old.seen.front notes.old }
+        requires asked { AreAsked self.old.arena (L.lookups lookups.now) }
+        requires places { length imps.old ≡ length (L.lookups lookups.now) }
+        ensures same { self.new.arena ≡ self.old.arena }
+        ensures history { self.new.keeper.history ≡ self.old.keeper.history }
+        ensures remembered { self.new.remembered ≡ self.old.remembered }
+        ensures room { KeepsRoom self.old self.new }
+        ensures arena { sender.new.arena ≡ sender.old.arena }
+        ensures begins { BeginsWith self.old.keeper.history sender.old.seen.front }
+        ensures front { sender.new.seen.front ≡ self.old.keeper.history }
+        ensures found { AreFoundAt self.old.keeper.history (L.lookups lookups.now) imps.new }
+        ensures notes { AreNotesOf self.old.keeper.history notes.new }
+        ensures stamped { StayStamped (layout self.old.arena) notes.old notes.new }
+    {
+        let reader = &mut sender.reader;
+        self.runtime
+            .answer_all(&self.arena, &mut self.turn, reader, notes, lookups, imps);
     }
 
     /// A sender has then seen the whole history, which begins with what it had seen.

@@ -19,6 +19,7 @@ ghost use Rattle.msg_names.specs.Number.{imp_number, selector_number};
 ghost use Rattle.msg_reader.specs.Found.{IsListed};
 ghost use Rattle.msg_reader.specs.Kept.{FindsRecalled, FindsUnprobed, HasLoaded, IsNotedFound, KeepOthers, LoadsMore, LoadsStamp, MissesAfter, MissesUnlessChanged, RecallsSince};
 ghost use Rattle.msg_reader.specs.Notes.{AreNotesOf, StayStamped};
+ghost use Rattle.msg_reader.specs.Several.{IsFoundAfter};
 
 use crate::laws::notes_are_of_longer_histories;
 use crate::notes::Notes;
@@ -256,7 +257,7 @@ impl Reader {
     // As `find`, of what the notes lack, where so many changes were counted: a hit is noted at that
     // count.
     #[inline(always)]
-    fn find_at(
+    pub(crate) fn find_at(
         &mut self,
         arena: &Arena,
         notes: &mut Notes,
@@ -271,6 +272,7 @@ impl Reader {
         ensures reader { IsSenderOf arena.now self.new }
         ensures begins { BeginsWith self.new.sender.front self.old.sender.front }
         ensures some { IfSome result (IsFoundAt self.new.sender.front class sel) }
+        ensures counted { IfSome result (IsFoundAfter count self.new.sender.front class sel) }
         ensures listed { IfSome result (IsListed self.new.sender.front) }
         ensures notes { AreNotesOf self.new.sender.front notes.new }
         ensures stamped { StayStamped (layout arena.now) notes.old notes.new }

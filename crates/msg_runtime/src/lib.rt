@@ -6,6 +6,7 @@ mod caching;
 mod flushing;
 mod flushing_all;
 mod runtime;
+mod several;
 mod unmade;
 
 pub use runtime::Runtime;

@@ -67,6 +67,14 @@ pub struct msg_change {
     pub other_sel: u32,
 }
 
+#[repr(C)]
+#[derive(Clone, Copy, Debug, Default, PartialEq, Eq)]
+pub struct msg_lookup_row {
+    pub number: u32,
+    pub meta: u32,
+    pub sel: u32,
+}
+
 pub const MSG_ADDS: u32 = 1;
 pub const MSG_REPLACES: u32 = 2;
 pub const MSG_SETS_IMP: u32 = 3;
@@ -230,6 +238,15 @@ extern "C" {
         sel: u32,
         imp: *mut u32,
     ) -> u32;
+    pub fn msg_fill_all(
+        runtime: *mut msg_runtime,
+        sender: *mut msg_sender,
+        lookups: *const msg_lookup_row,
+        count: usize,
+        imps: *mut u32,
+        room: usize,
+        place: *mut usize,
+    ) -> u32;
     pub fn msg_meet(runtime: *mut msg_runtime, sender: *mut msg_sender) -> u32;
     pub fn msg_version() -> u32;
     pub fn msg_sender_size() -> usize;
@@ -240,6 +257,14 @@ extern "C" {
         meta: bool,
         sel: u32,
         imp: *mut u32,
+    ) -> u32;
+    pub fn msg_probe_all(
+        sender: *mut msg_sender,
+        lookups: *const msg_lookup_row,
+        count: usize,
+        imps: *mut u32,
+        room: usize,
+        place: *mut usize,
     ) -> u32;
     pub fn msg_refresh(sender: *mut msg_sender, count: *mut u64) -> u32;
     pub fn msg_stamp(sender: *mut msg_sender, number: u32, meta: bool, stamp: *mut u64) -> u32;
@@ -416,3 +441,4 @@ use core::mem::size_of;
 const _: () =
     assert!(size_of::<msg_note>() == 32 && size_of::<msg_sender>() == 16 + 32 * MSG_NOTES);
 const _: () = assert!(size_of::<msg_change>() == 32);
+const _: () = assert!(size_of::<msg_lookup_row>() == 12);

@@ -318,6 +318,29 @@ fn senders() {
 }
 
 #[test]
+fn several_as_one() {
+    let runtime = opened();
+    let mut sender = runtime.sender().unwrap();
+    let three = [
+        (CHILDREN, s(NAME)),
+        (CHILD_ITSELF, s(NEW)),
+        (CHILDREN, s(TAKE)),
+    ];
+    let found = |imp| Ok(vec![Some(i(imp)), Some(i(4)), None]);
+    assert_eq!(found(3), sender.find_all(&three));
+    assert_eq!(found(3), sender.find_all(&three));
+    runtime.lock().replace(CHILDREN, s(NAME), i(8)).unwrap();
+    assert_eq!(found(8), sender.find_all(&three));
+    assert_eq!(Ok(vec![]), sender.find_all(&[]));
+    let beyond = [(CHILDREN, s(NAME)), (ClassRef::instances_of(u32::MAX), s(NAME))];
+    let refused = Refused {
+        fault: Fault::NoClass,
+        place: Some(1),
+    };
+    assert_eq!(Err(refused), sender.find_all(&beyond));
+}
+
+#[test]
 fn a_refused_change_is_no_change() {
     let runtime = opened();
     let mut sender = runtime.sender().unwrap();
