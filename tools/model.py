@@ -386,14 +386,18 @@ class Tables:
         for meta, them in ((False, methods), (True, class_methods)):
             self.rows[title, meta][:0] = [list(it) for it in them]
 
-    def find(self, at, selector):
-        """The method that a lookup finds, where it stands; or None."""
+    def held(self, at, selector):
+        """The method that a lookup finds, after the class reference where it stands; or None twice."""
         while at and at[0] in self.above:
             for row in self.rows[at]:
                 if row[0] == selector:
-                    return row
+                    return at, row
             at = self.superclass(at)
-        return None
+        return None, None
+
+    def find(self, at, selector):
+        """The method that a lookup finds, where it stands; or None."""
+        return self.held(at, selector)[1]
 
     def superclass(self, at):
         above = self.above[at[0]]
@@ -453,6 +457,10 @@ class Tables:
             self.one_method(kind, *rest)
 
 
+def method(at, selector):
+    return f"{'+' if at[1] else '-'}[{at[0]} {selector}]"
+
+
 class Run:
     """The items of a document, one after another."""
 
@@ -460,10 +468,29 @@ class Run:
         self.document, self.tables = document, Tables(document)
         self.imps, self.class_of = {it[0]: it for it in document.imps}, dict(document.objects)
         self.lookups = self.active = 0
+        self.seen = []
 
     def lines(self):
         for kind, *rest in self.document.items:
             yield self.changed(rest[0]) if kind == "change" else self.sent(*rest)
+
+    def reasons(self):
+        """The lines, and under each answer to a send those of its lookups, and their count."""
+        for line, (kind, *_) in zip(self.lines(), self.document.items):
+            yield line
+            if kind == "send":
+                yield from map(self.reason, self.seen)
+                yield f"  lookups: {len(self.seen)}"
+
+    def reason(self, looked):
+        at, selector, holder, imp = looked
+        asked = f"  {method(at, selector)}"
+        if not holder:
+            return f"{asked} not found"
+        place = [it[0] for it in self.document.imps].index(imp)
+        listed = [number for number, (title, *lists) in enumerate(self.document.categories) if title == holder[0] and (selector, imp) in lists[holder[1]]]
+        category = f" of categories[{listed[-1]}]" if listed else ""
+        return f"{asked} found in {'metaclass ' if holder[1] else ''}{holder[0]}: imps[{place}]{category}"
 
     def changed(self, given):
         before, place = copy.deepcopy((self.tables.above, self.tables.rows)), 0
@@ -477,7 +504,7 @@ class Run:
         return "ok"
 
     def sent(self, receiver, selector, values):
-        self.lookups, self.active = 10_000, 0
+        self.lookups, self.active, self.seen = 10_000, 0, []
         try:
             answer = self.send(receiver, selector, values)
         except SendFault as fault:
@@ -492,7 +519,9 @@ class Run:
         if not self.lookups:
             raise SendFault("budget")
         self.lookups -= 1
-        row = self.tables.find(at, selector)
+        holder, row = self.tables.held(at, selector)
+        # (what stands in the row is changed by later items)
+        self.seen.append((at, selector, holder, row and row[1]))
         return row and row[1]
 
     def send(self, receiver, selector, values, at=None):
@@ -505,7 +534,7 @@ class Run:
             asked = self.lookup(own, FORWARDING)
             target = self.body(asked, receiver, [("sel", selector)]) if asked else None
             if target is None or target == receiver:
-                raise SendFault(f"unrecognized {'+' if own[1] else '-'}[{own[0]} {selector}]")
+                raise SendFault(f"unrecognized {method(own, selector)}")
             if is_whole(target) or target[0] == "sel":
                 raise SendFault("target not an object")
             receiver, at = target, None
@@ -546,11 +575,21 @@ class Run:
         return answer
 
 
-def answer(data):
-    """What msgrun writes to standard output and to standard error, and its status."""
+def written(data, lines):
+    """What is written to standard output and to standard error, and the status."""
     try:
         document = Document(data)
     except DocumentFault as fault:
         number = fault.args[0]
         return b"", f"msgrun: document fault {number}: {TEXTS[number]}\n".encode(), 2
-    return "".join(line + "\n" for line in Run(document).lines()).encode(), b"", 0
+    return "".join(line + "\n" for line in lines(Run(document))).encode(), b"", 0
+
+
+def answer(data):
+    """What msgrun writes to standard output and to standard error, and its status."""
+    return written(data, Run.lines)
+
+
+def explanation(data):
+    """What `./msgrun --explain` writes of a document that is answered."""
+    return written(data, Run.reasons)
