@@ -64,7 +64,8 @@ pub extern "C" fn msg_change_all_with_undo(
     ensures made { result ≡ 0 → MakesRowsIn changes.now runtime.old runtime.new }
     ensures undo { result ≡ 0 → IfOpen runtime.old (λ v. UndoesRows changes.now v.keeper.history undo.new undone.new) }
     ensures room { result ≡ want_of_room → length undo.old < undone.new }
-    ensures wanted { result ≡ want_of_room → IfOpen runtime.old (λ v. WeighRows changes.now v.keeper.history undone.new) }
+    ensures wanted { result ≡ want_of_room
+        → IfOpen runtime.old (λ v. WeighRows changes.now v.keeper.history undone.new) }
     ensures within { result ≡ 0 → undone.new ≤ length undo.new }
     ensures unwritten { result ≢ 0 → undo.new ≡ undo.old }
     ensures untold { result ≢ 0 → result ≢ want_of_room → undone.new ≡ undone.old }
@@ -96,7 +97,8 @@ pub extern "C" fn msg_reach(
     place: &mut usize,
 ) -> u32
     ensures same { Leaves runtime.old runtime.new }
-    ensures closed { runtime.old.held.state ≡ None → (result ≡ CLOSED) × (reached.new ≡ reached.old) × (place.new ≡ place.old) }
+    ensures closed { runtime.old.held.state ≡ None
+        → (result ≡ CLOSED) × (reached.new ≡ reached.old) × (place.new ≡ place.old) }
     ensures reached { result ≡ 0 → ReachesRowsIn runtime.old changes.now reached.old reached.new }
     ensures room { IfOpen runtime.old (λ v. length reached.old ≢ 2 * classes v.arena → result ≡ want_of_room) }
     ensures short { result ≡ want_of_room → IfOpen runtime.old (λ v. length reached.old ≢ 2 * classes v.arena) }

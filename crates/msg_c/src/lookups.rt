@@ -33,8 +33,10 @@ pub extern "C" fn msg_probe_all(
     ensures unnoted { result ≢ 0 → result ≢ MISSED → sender.new.notes ≡ sender.old.notes }
     ensures begins { SeesMore sender.old sender.new }
     ensures hit { result ≡ 0 → FindsRowsIn sender.old sender.new lookups.now imps.new }
-    ensures taken { (result ≡ 0) ⊎ (result ≡ MISSED) → TakesLookupsIn sender.old lookups.now (length imps.old) place.old place.new }
-    ensures fault { result ≢ 0 → result ≢ MISSED → RefusesLookupsIn sender.old lookups.now (length imps.old) place.old place.new result }
+    ensures taken { (result ≡ 0) ⊎ (result ≡ MISSED)
+        → TakesLookupsIn sender.old lookups.now (length imps.old) place.old place.new }
+    ensures fault { result ≢ 0 → result ≢ MISSED
+        → RefusesLookupsIn sender.old lookups.now (length imps.old) place.old place.new result }
     ensures recalled { result ≡ MISSED → LacksRowIn sender.old sender.new lookups.now }
     ensures missed { result ≡ MISSED → MissesRowIn sender.old sender.new lookups.now }
 {
@@ -75,7 +77,8 @@ pub extern "C" fn msg_fill_all(
     ensures front { result ≡ 0 → HasSeenAll sender.new runtime.old }
     ensures begins { result ≡ 0 → SeesMore sender.old sender.new }
     ensures taken { result ≡ 0 → TakesLookupsIn sender.old lookups.now (length imps.old) place.old place.new }
-    ensures fault { HasRuntime runtime.old → result ≢ 0 → RefusesLookupsIn sender.old lookups.now (length imps.old) place.old place.new result }
+    ensures fault { HasRuntime runtime.old → result ≢ 0
+        → RefusesLookupsIn sender.old lookups.now (length imps.old) place.old place.new result }
 {
     let Some(mut held) = runtime.take(alloc) else {
         return CLOSED;

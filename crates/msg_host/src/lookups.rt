@@ -113,10 +113,13 @@ impl HostedSender {
         ensures arena { self.new.arena ≡ self.old.arena }
         ensures begins { BeginsWith self.new.seen.front self.old.seen.front }
         ensures found { result ≡ Ok true → AreRowsFound self.old.seen self.new.seen rows.now imps.new }
-        ensures recalled { result ≡ Ok false → RowsLackOne self.old.arena notes.old rows.now self.old.seen self.new.seen }
+        ensures recalled { result ≡ Ok false
+            → RowsLackOne self.old.arena notes.old rows.now self.old.seen self.new.seen }
         ensures missed { result ≡ Ok false → RowsMissOne self.old.arena rows.now self.old.seen self.new.seen }
-        ensures ok { OnOk result (AreTakenLookups (classes self.old.arena) rows.now (length imps.old) place.old place.new) }
-        ensures err { IfErr result (AreRefusedLookups (classes self.old.arena) rows.now (length imps.old) place.old place.new) }
+        ensures ok { OnOk result
+            (AreTakenLookups (classes self.old.arena) rows.now (length imps.old) place.old place.new) }
+        ensures err { IfErr result
+            (AreRefusedLookups (classes self.old.arena) rows.now (length imps.old) place.old place.new) }
         ensures left { OnErr result ((self.new ≡ self.old) × (notes.new ≡ notes.old) × (imps.new ≡ imps.old)) }
         ensures notes { AreNotesOf self.new.seen.front notes.new }
         ensures stamped { StayStamped (layout self.old.arena) notes.old notes.new }
@@ -150,8 +153,10 @@ impl HostedRuntime {
         ensures begins { OnOk result (BeginsWith self.old.keeper.history sender.old.seen.front) }
         ensures front { OnOk result (sender.new.seen.front ≡ self.old.keeper.history) }
         ensures found { OnOk result (AreRowsFoundAt self.old.keeper.history rows.now imps.new) }
-        ensures ok { OnOk result (AreTakenLookups (classes self.old.arena) rows.now (length imps.old) place.old place.new) }
-        ensures err { IfErr result (AreRefusedLookups (classes self.old.arena) rows.now (length imps.old) place.old place.new) }
+        ensures ok { OnOk result
+            (AreTakenLookups (classes self.old.arena) rows.now (length imps.old) place.old place.new) }
+        ensures err { IfErr result
+            (AreRefusedLookups (classes self.old.arena) rows.now (length imps.old) place.old place.new) }
         ensures left { OnErr result ((sender.new ≡ sender.old) × (notes.new ≡ notes.old) × (imps.new ≡ imps.old)) }
         ensures notes { AreNotesOf sender.new.seen.front notes.new }
         ensures stamped { StayStamped (layout self.old.arena) notes.old notes.new }

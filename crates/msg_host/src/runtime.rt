@@ -150,7 +150,8 @@ impl HostedRuntime {
         ensures arena { self.new.arena ≡ self.old.arena }
         ensures ok { OnOk result (AreMade (L.changes changes.now) self.old.keeper.history self.new.keeper.history) }
         ensures count { IfOk result (λ count. count ≡ length self.new.keeper.history.changes) }
-        ensures back { OnOk result (TellsWayBack (L.changes changes.now) self.old.keeper.history self.new.written.entries) }
+        ensures back { OnOk result
+            (TellsWayBack (L.changes changes.now) self.old.keeper.history self.new.written.entries) }
         ensures fits { OnOk result (length self.new.written.entries ≤ most) }
         ensures held { OnOk result (HoldsRoomFor self.old self.new (L.changes changes.now)) }
         ensures room { KeepsAtLeastRoom self.old self.new }
@@ -204,7 +205,8 @@ impl HostedRuntime {
         ensures given { IfOk result (λ s. IsNew s.seen self.old.keeper self.new.keeper) }
         ensures report { OnOk result (self.new.report ≡ self.old.report) }
         ensures left { OnErr result (self.new.keeper ≡ self.old.keeper) }
-        ensures none { IsErrOf result SenderFault.NoneFree → AllAreOut self.old × (self.new.report ≡ after_refusal self.old.report) }
+        ensures none { IsErrOf result SenderFault.NoneFree
+            → AllAreOut self.old × (self.new.report ≡ after_refusal self.old.report) }
         ensures memory { IsErrOf result SenderFault.Memory → self.new ≡ self.old }
     {
         let arena = Arc::try_clone(&self.arena)?;

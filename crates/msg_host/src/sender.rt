@@ -97,8 +97,10 @@ impl HostedSender {
         ensures noted { IfSome result (HaveNotedLast notes.new self.new class sel) }
         ensures others { KeepOthers notes.old notes.new class sel }
         ensures stamped { StayStamped (layout self.old.arena) notes.old notes.new }
-        ensures unprobed { FindsUnprobed notes.old class (selector_number sel) self.old.seen self.new.seen (option_map imp_number result) }
-        ensures missed { IfNone result (MissesUnlessChanged self.new.arena class (selector_number sel) self.old.seen self.new.seen) }
+        ensures unprobed { FindsUnprobed notes.old class (selector_number sel)
+            self.old.seen self.new.seen (option_map imp_number result) }
+        ensures missed { IfNone result
+            (MissesUnlessChanged self.new.arena class (selector_number sel) self.old.seen self.new.seen) }
     {
         a_slot_of_few_classes_is_short();
         self.reader.find_counted(&self.arena, notes, class, sel)

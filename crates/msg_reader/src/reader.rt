@@ -141,7 +141,8 @@ impl Reader {
         ensures found { IfSome result (IsFoundAt self.new.sender.front class sel) }
         ensures listed { IfSome result (IsListed self.new.sender.front) }
         ensures notes { AreNotesOf self.new.sender.front notes.now }
-        ensures exact { RecallsSince notes.now class (selector_number sel) self.old.sender self.new.sender (option_map imp_number result) }
+        ensures exact { RecallsSince notes.now class (selector_number sel)
+            self.old.sender self.new.sender (option_map imp_number result) }
     {
         notes_are_of_longer_histories();
         let since = self.stamp(arena, class);
@@ -171,8 +172,10 @@ impl Reader {
         ensures stamped { StayStamped (layout arena.now) notes.old notes.new }
         ensures noted { IfSome result (IsNotedFound notes.new class sel self.new.sender) }
         ensures others { KeepOthers notes.old notes.new class sel }
-        ensures private { FindsRecalled notes.old notes.new class (selector_number sel) self.old.sender self.new.sender (option_map imp_number result) }
-        ensures missed { IfNone result (MissesUnlessChanged arena.now class (selector_number sel) self.old.sender self.new.sender) }
+        ensures private { FindsRecalled notes.old notes.new class (selector_number sel)
+            self.old.sender self.new.sender (option_map imp_number result) }
+        ensures missed { IfNone result
+            (MissesUnlessChanged arena.now class (selector_number sel) self.old.sender self.new.sender) }
     {
         notes_are_of_longer_histories();
         let since = self.stamp(arena, class);
@@ -206,7 +209,8 @@ impl Reader {
         ensures noted { IfSome result (IsNotedFound notes.new class sel self.new.sender) }
         ensures others { KeepOthers notes.old notes.new class sel }
         ensures stamps { LoadsMore self.old.sender self.new.sender }
-        ensures missed { IfNone result (MissesUnlessChanged arena.now class (selector_number sel) self.old.sender self.new.sender) }
+        ensures missed { IfNone result
+            (MissesUnlessChanged arena.now class (selector_number sel) self.old.sender self.new.sender) }
     {
         notes_are_of_longer_histories();
         let count = self.refresh(arena);
@@ -236,8 +240,10 @@ impl Reader {
         ensures stamped { StayStamped (layout arena.now) notes.old notes.new }
         ensures noted { IfSome result (IsNotedFound notes.new class sel self.new.sender) }
         ensures others { KeepOthers notes.old notes.new class sel }
-        ensures unprobed { FindsUnprobed notes.old class (selector_number sel) self.old.sender self.new.sender (option_map imp_number result) }
-        ensures missed { IfNone result (MissesUnlessChanged arena.now class (selector_number sel) self.old.sender self.new.sender) }
+        ensures unprobed { FindsUnprobed notes.old class (selector_number sel)
+            self.old.sender self.new.sender (option_map imp_number result) }
+        ensures missed { IfNone result
+            (MissesUnlessChanged arena.now class (selector_number sel) self.old.sender self.new.sender) }
     {
         notes_are_of_longer_histories();
         let count = self.refresh(arena);

@@ -81,8 +81,10 @@ impl Reader {
         ensures notes { AreNotesOf self.new.sender.front notes.new }
         ensures stamped { StayStamped (layout arena.now) notes.old notes.new }
         ensures stamps { LoadsMore self.old.sender self.new.sender }
-        ensures recalled { (IsSome result × (notes.new ≡ notes.old)) ⊎ LacksIt notes.old count lookup self.old.sender self.new.sender }
-        ensures missed { IfNone result (MissesAfter arena.now lookup.class (selector_number lookup.sel) count self.new.sender) }
+        ensures recalled { (IsSome result × (notes.new ≡ notes.old))
+            ⊎ LacksIt notes.old count lookup self.old.sender self.new.sender }
+        ensures missed { IfNone result
+            (MissesAfter arena.now lookup.class (selector_number lookup.sel) count self.new.sender) }
     {
         notes_are_of_longer_histories();
         let since = self.stamp(arena, lookup.class);

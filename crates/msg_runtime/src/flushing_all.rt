@@ -133,7 +133,8 @@ pub(crate) fn flush_changed<L: ChangeList>(
     ensures arena { IsKeeperOf arena.now keeper.new }
     ensures history { keeper_history keeper.new ≡ keeper_history keeper.old }
     ensures given { keeper_given keeper.new ≡ keeper_given keeper.old }
-    ensures flushed { FirstAreFlushed classes arena.now tables.now keeper.new (λ h. is_flushed tables.now.counts (L.changes changes.now) h written.now.entries) }
+    ensures flushed { FirstAreFlushed classes arena.now tables.now keeper.new
+        (λ h. is_flushed tables.now.counts (L.changes changes.now) h written.now.entries) }
     ensures room { classes ≤ below.new.room }
 {
     if flushes_all(tables, changes) {

@@ -237,7 +237,8 @@ impl Runtime {
         ensures turn { turn.new.table ≡ self.old.arena.table }
         ensures was { turn.old.history ≡ self.old.keeper.history }
         ensures is { turn.new.history ≡ self.old.keeper.history }
-        ensures same { self.new ≡ record self.old { keeper = lent self.old.keeper; rooms = self.new.rooms; written = self.new.written } }
+        ensures same { self.new ≡ record self.old
+            { keeper = lent self.old.keeper; rooms = self.new.rooms; written = self.new.written } }
         ensures room { KeepsAtLeastRoom self.old self.new }
         ensures wanting { IfErr result (WantsRoom self.old (L.changes changes.now)) }
         ensures ok { OnOk result (refused_from 0 (log self.old.keeper.history) (L.changes changes.now) ≡ None) }
@@ -311,7 +312,8 @@ impl Runtime {
         ensures is { turn.new.history ≡ self.new.keeper.history }
         ensures ok { OnOk result (AreMade (L.changes changes.now) self.old.keeper.history self.new.keeper.history) }
         ensures count { IfOk result (λ count. count ≡ length self.new.keeper.history.changes) }
-        ensures back { OnOk result (TellsWayBack (L.changes changes.now) self.old.keeper.history self.new.written.entries) }
+        ensures back { OnOk result
+            (TellsWayBack (L.changes changes.now) self.old.keeper.history self.new.written.entries) }
         ensures held { OnOk result (HoldsRoomFor self.old self.new (L.changes changes.now)) }
         ensures room { KeepsAtLeastRoom self.old self.new }
         ensures wanting { IfErr result (WantsRoom self.old (L.changes changes.now)) }
@@ -346,7 +348,8 @@ impl Runtime {
         ensures is { turn.new.history ≡ self.new.keeper.history }
         ensures ok { OnOk result (AreMade (L.changes changes.now) self.old.keeper.history self.new.keeper.history) }
         ensures count { IfOk result (λ count. count ≡ length self.new.keeper.history.changes) }
-        ensures back { OnOk result (TellsWayBack (L.changes changes.now) self.old.keeper.history self.new.written.entries) }
+        ensures back { OnOk result
+            (TellsWayBack (L.changes changes.now) self.old.keeper.history self.new.written.entries) }
         ensures fits { OnOk result (length self.new.written.entries ≤ most) }
         ensures held { OnOk result (HoldsRoomFor self.old self.new (L.changes changes.now)) }
         ensures room { KeepsAtLeastRoom self.old self.new }
