@@ -22,7 +22,6 @@ invariant_of-sender-clause-noted c =
     notes_left c.args.sender.now.held.state c.put.new.self.state c.take-asker.result.value c.deref_mut-2.result.now c.fill_all-found.new.sender c.args.sender.now.notes c.fill_all-found.new.notes
     c.args.sender.now.noted c.take-asker.ensures.taken c.deref_mut-2.ensures.value c.fill_all-found.ensures.arena c.fill_all-found.ensures.notes stay c.put.ensures
 
-
 pub returns-in-Ok-clause-taken : goal.returns-in-Ok-clause-taken
 returns-in-Ok-clause-taken c done a arena =
     let runtime : runtime_arena c.args.runtime.now.held.state ≡ Some c.deref_mut.result.now.arena = ap runtime_arena (sym c.in-Some.ensures.taken) ∙ ap (λ (v : RuntimeView). Some v.arena) (sym c.deref_mut.ensures.value) in
