@@ -800,6 +800,15 @@ uint32_t msg_fill_all(msg_runtime *runtime, msg_sender *sender, const msg_lookup
     return MSG_DONE;
 }
 
+uint32_t msg_meet(msg_runtime *runtime, msg_sender *sender)
+{
+    if (!runtime->open || !sender->open) return MSG_CLOSED;
+    struct asker *asker = sender->at;
+    must(asker && runtime->at == asker->tables);
+    asker->seen = version(asker->tables);
+    return MSG_DONE;
+}
+
 uint32_t msg_refresh(msg_sender *sender, uint64_t *count)
 {
     if (!sender->open) return MSG_CLOSED;
