@@ -94,14 +94,14 @@ fn lookups_that_are_not_asked_are_told(rt: HostRuntime) -> Result<(), Fail> {
         ),
         76,
     );
-    answers(&rt, place as u32, 99);
+    same(&rt, place, 99);
     let bad = [row(ROOT, 0, VALUE), row(ROOT, 2, VALUE)];
     answers(
         &rt,
         msg_probe_all(alloc, &mut sender, &bad, &mut imps, &mut place),
         75,
     );
-    answers(&rt, place as u32, 1);
+    same(&rt, place, 1);
     let bad = [row(BEYOND, 0, VALUE), row(ROOT, 0, 0)];
     answers(
         &rt,
@@ -115,7 +115,7 @@ fn lookups_that_are_not_asked_are_told(rt: HostRuntime) -> Result<(), Fail> {
         ),
         66,
     );
-    answers(&rt, place as u32, 0);
+    same(&rt, place, 0);
     let bad = [row(ROOT, 0, VALUE), row(ROOT, 0, 0)];
     answers(
         &rt,
