@@ -78,6 +78,11 @@ void msg_process_spare(void);
 enum { MSG_WAITS_NOT, MSG_WAITS, MSG_WAITS_A_WHILE };
 uint32_t msg_process_find_slowly(uint64_t key, unsigned waits, uint32_t *imp);
 
+/* What several lookups find, all at one version, as msg_find_all says. `imps` has `count` entries.
+ * Faults are those of msg_probe_all, and MSG_LOCK_HELD; then what is in `imps` means nothing. */
+uint32_t msg_process_find_all(const msg_lookup_row *lookups, size_t count, uint32_t *imps,
+                              size_t *place);
+
 /* What the inline call goes by. `turns`: how often the thread was on the slow way. `sender`: its
  * own; or one without notes while that is in use, and where it has none. */
 struct msg_process_thread { const msg_sender *sender; uint64_t turns; };

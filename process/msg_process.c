@@ -138,6 +138,8 @@ static struct seat *pop_spare(void)
     return seat;
 }
 
+static uint64_t own_number(void) { return (uint64_t)syscall(SYS_gettid); }
+
 /* Zeros, which take memory page by page as notes are written: most threads need a few. */
 static struct seat *new_seat(void)
 {
@@ -167,7 +169,7 @@ static void close_others(void)
     while (spares && spare_count > spare_most) close_seat(pop_spare());
     stays = stays_on ? &stay : NULL;
     stay.next = NULL;
-    stay.thread = (uint64_t)syscall(SYS_gettid);
+    stay.thread = own_number();
 }
 
 /* A seat is another thread's next, with what is noted there, which is right for any. */
@@ -184,7 +186,7 @@ static void stand_up(void)
 
 /* ---- who may be in old code, under the lock ---- */
 
-static void leave(void)
+static void end_stay(void)
 {
     struct stay **at = &stays;
     if (!stays_on) return;
@@ -193,10 +195,10 @@ static void leave(void)
     stays_on = false;
 }
 
-static void come(void)
+static void begin_stay(void)
 {
     if (stays_on || is_over) return;
-    stay.thread = (uint64_t)syscall(SYS_gettid);
+    stay.thread = own_number();
     msg_change_count(&runtime, &stay.changes);
     stay.next = stays;
     stays = &stay;
@@ -204,10 +206,10 @@ static void come(void)
 }
 
 /* Without a seat. Nobody would take a thread away whose end isn't told. */
-static void come_alone(void)
+static void begin_stay_alone(void)
 {
     bool is_told = own || stays_on || is_over || !pthread_setspecific(key, &stay);
-    if (is_told) come();
+    if (is_told) begin_stay();
     else is_unsure = true;
 }
 
@@ -235,7 +237,7 @@ static void at_thread_end(void *unused)
     hide();
     take(MSG_WAITS); /* or the thread ends with the lock, which is given below */
     stand_up();
-    leave();
+    end_stay();
     is_over = true;
     give();
 }
@@ -278,7 +280,7 @@ static struct seat *sit_down(unsigned waits)
     if (own) push(&seats, own);
     tried = own != NULL; /* or another thread was quicker */
     if (own && pthread_setspecific(key, &stay)) stand_up();
-    if (own) come();
+    if (own) begin_stay();
     give();
     return own;
 }
@@ -289,7 +291,7 @@ static struct seat *come_back(unsigned waits)
     if (take(waits)) return NULL;
     is_away = false;
     msg_meet(&runtime, &own->sender);
-    come();
+    begin_stay();
     give();
     return own;
 }
@@ -305,10 +307,18 @@ static uint32_t probe(struct seat *seat, uint64_t key, uint32_t *imp)
     return answer;
 }
 
+/* The seat that is hidden meanwhile; or NULL. */
+static struct seat *seat_by(unsigned waits)
+{
+    struct seat *seat = hide();
+    if (seat || !waits) return seat;
+    return own && is_away ? come_back(waits) : sit_down(waits);
+}
+
 static inline uint32_t fill(struct seat *seat, uint64_t key, uint32_t *imp)
 {
     if (!seat) {
-        come_alone();
+        begin_stay_alone();
         return msg_lookup(&runtime, PARTS_OF(key), imp);
     }
     uint32_t fault = msg_fill(&runtime, &seat->sender, PARTS_OF(key), imp);
@@ -321,11 +331,56 @@ static inline uint32_t fill(struct seat *seat, uint64_t key, uint32_t *imp)
 uint32_t msg_process_find_slowly(uint64_t key, unsigned waits, uint32_t *imp)
 {
     if (!atomic_load_explicit(&started, memory_order_acquire)) return MSG_CLOSED;
-    struct seat *seat = hide();
-    if (!seat && waits) seat = own && is_away ? come_back(waits) : sit_down(waits);
+    struct seat *seat = seat_by(waits);
     uint32_t answer = seat ? probe(seat, key, imp) : (uint32_t)MSG_MISSED;
     if (answer == MSG_MISSED && !(answer = take(waits))) {
         answer = fill(seat, key, imp);
+        give();
+    }
+    show(seat);
+    return answer;
+}
+
+/* ---- finding several as one ---- */
+
+struct several { const msg_lookup_row *lookups; size_t count; uint32_t *imps; size_t *place; };
+
+static uint32_t probe_all(struct seat *seat, const struct several *s)
+{
+    uint32_t answer = MSG_MISSED;
+    atomic_store(&seat->asks, true);
+    if (!atomic_load(&forks))
+        answer = msg_probe_all(&seat->sender, s->lookups, s->count, s->imps, s->count, s->place);
+    atomic_store_explicit(&seat->asks, false, memory_order_release);
+    return answer;
+}
+
+/* Under one lock all are of one version. */
+static uint32_t fill_all(struct seat *seat, const struct several *s)
+{
+    size_t count = s->count;
+    if (seat)
+        return msg_fill_all(&runtime, &seat->sender, s->lookups, count, s->imps, count, s->place);
+    begin_stay_alone();
+    for (size_t i = 0; i < count; i++) {
+        const msg_lookup_row *row = &s->lookups[i];
+        uint32_t fault = MSG_BAD_CHANGE;
+        if (row->meta <= 1)
+            fault = msg_lookup(&runtime, row->number, row->meta, row->sel, &s->imps[i]);
+        if (fault) return *s->place = i, fault;
+    }
+    return MSG_DONE;
+}
+
+uint32_t msg_process_find_all(const msg_lookup_row *lookups, size_t count, uint32_t *imps,
+                              size_t *place)
+{
+    const struct several all = {lookups, count, imps, place};
+    if (!atomic_load_explicit(&started, memory_order_acquire)) return MSG_CLOSED;
+    struct seat *seat = seat_by(MSG_WAITS);
+    uint32_t answer = seat ? probe_all(seat, &all) : (uint32_t)MSG_MISSED;
+    if (answer == MSG_MISSED && !(answer = take(MSG_WAITS))) {
+        answer = fill_all(seat, &all);
         give();
     }
     show(seat);
@@ -362,7 +417,7 @@ static uint32_t rest(bool goes)
     struct seat *seat = hide();
     if (seat) msg_meet(&runtime, &seat->sender);
     msg_change_count(&runtime, &stay.changes);
-    if (goes) leave();
+    if (goes) end_stay();
     is_away = is_away || (goes && seat);
     give();
     if (!goes) show(seat);

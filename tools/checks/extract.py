@@ -12,7 +12,7 @@ import sys
 
 root, out = map(pathlib.Path, sys.argv[1:3])
 out.mkdir(parents=True, exist_ok=True)
-SHARED = re.compile(r"\b(holds|tried|kept|own|seats|stood|msg_process_own)\b")
+SHARED = re.compile(r"\b(holds|tried|kept|own|seats|stood|stay|stays_on|is_away|is_over|msg_process_own)\b")
 NO_STATEMENT = ("}", "else", "//", "/*", "*", "case", "#", "static ", "_Alignas")
 
 
@@ -64,6 +64,7 @@ source = swap(
     ("return seat == MAP_FAILED ? NULL : seat;",
      "return seat ? *(struct seat *)seat = (struct seat){0}, seat : NULL;"),
     ("munmap(seat, sizeof *seat)", "cv_free(seat)"),
+    ("(uint64_t)syscall(SYS_gettid)", "1"),
     ("SPARES = 2, PATIENCE = 64", "SPARES = 1, PATIENCE = 2"),
     ("SLICES = 1000 }", "SLICES = 1 }"))
 head, body = source.split("static inline uint32_t take(", 1)

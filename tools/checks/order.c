@@ -227,14 +227,42 @@ uint32_t msg_lookup(msg_runtime *r, uint32_t number, bool meta, uint32_t sel, ui
     *imp = answer_of(index_of(number, meta, sel), made);
     return 0;
 }
+uint32_t msg_change_count(msg_runtime *r, uint64_t *count)
+{
+    __CPROVER_assert(holder == 1, "under the lock");
+    *count = made;
+    return 0;
+}
+uint32_t msg_meet(msg_runtime *r, msg_sender *s)
+{
+    __CPROVER_assert(holder == 1, "under the lock");
+    enter(s); leave(s);
+    return 0;
+}
 uint32_t msg_open_words(msg_runtime *r, const uint32_t *c, size_t n) { return 0; }
 uint32_t msg_words(msg_runtime *r, const uint64_t **w) { *w = words; return 0; }
 
 /* ---- the other thread: takes the lock to change, and each of its stores may come at any time
  * ---- */
 static int state, rounds, others_finds;
+/* Of each lookup the oldest answer that the thread had since it rested: the change that brought it.
+ * And the most that msg_process_seen_by_all told. */
+static uint64_t in_use[2], told;
+#define NOTHING UINT64_MAX
+static void tell_what_is_seen(void)
+{
+    uint64_t least = made;
+    if (holder || is_unsure) return;
+    for (struct stay *one = stays; one; one = one->next)
+        if (one->changes < least) least = one->changes;
+    if (least > told) told = least;
+    for (int key = A; key <= B; key++)
+        __CPROVER_assert(in_use[key] == NOTHING || last_affected[told][key] <= in_use[key],
+                         "SEEN: nobody is in what a change took away that is seen by all");
+}
 static void other(bool all)
 {
+    tell_what_is_seen();
     /* a find that missed: it fills under the lock, so stamps are opened */
     if (state == 0 && holder == 0 && others_finds < FINDS && !all && any_bool()) {
         holder = 2; others_finds++; state = 3;
@@ -317,6 +345,10 @@ static void is_right(uint32_t key, uint64_t least, uint64_t before, uint32_t imp
     bool is_so = false;
     uint64_t since = since_of(key, imp);
     __CPROVER_assert(since >= before, "RIGHT: no answer is older than one that the thread had");
+    if (!is_over) { /* then nobody asks what it is in */
+        __CPROVER_assert(last_affected[told][key] <= since, "SEEN: nor is answered it any more");
+        if (!depth && since < in_use[key]) in_use[key] = since;
+    }
     if (since > newest[key]) newest[key] = since;
     for (uint64_t c = 0; c <= made; c++)
         is_so = is_so || (least <= c && c <= made && imp == answer_of(key, c));
@@ -382,10 +414,21 @@ static void changes(void)
 static bool ended;
 static void ends(void)
 {
+    in_use[A] = in_use[B] = NOTHING;
     at_thread_end(NULL);
     ended = true;
     unsigned open = opened[0] + opened[1] + opened[2] + opened[3];
     __CPROVER_assert(!own && !seats && open == spare_count, "its seat is given back");
+}
+/* The thread rests, or goes away. */
+static void rests(void)
+{
+    bool goes = any_bool();
+    in_use[A] = in_use[B] = NOTHING;
+    SAY("rests: and goes", goes, 0);
+    uint32_t fault = goes ? msg_process_away() : msg_process_rest();
+    __CPROVER_assert(fault == MSG_DONE, "a rest is made");
+    other(false);
 }
 /* Each way of a find or a send; and what a thread does between them. */
 static void any_way(bool in_handler)
@@ -394,6 +437,7 @@ static void any_way(bool in_handler)
     else if (any_bool()) finds(true, in_handler);
     else if (in_handler || any_bool()) finds(false, in_handler);
     else if (any_bool()) changes();
+    else if (any_bool()) rests();
     else if (any_bool()) ends();
     else msg_process_spare();
 }
@@ -429,6 +473,9 @@ static int one_run(void)
     finds(true, false); changes(); finds(true, false);
 #elif defined ENDS
     finds(true, false); ends(); finds(true, false);
+#elif defined RESTS
+    finds(any_bool(), false); rests(); finds(any_bool(), false);
+    for (int i = 0; i < 4; i++) other(false); /* a change, and what is told after it */
 #else
     finds(true, false); finds(true, false);
 #endif
@@ -440,7 +487,7 @@ static int one_run(void)
      * sit down under. The find that it interrupted may have seen before that none was spare. */
     unsigned left = ROUNDS + FINDS ? signals : 0;
     __CPROVER_assert(many <= 1 + spare_most + left, "and opens no more than one, and spare ones");
-    bool is_shown = !own || msg_process_own.sender == &own->sender;
+    bool is_shown = !own || is_away || msg_process_own.sender == &own->sender;
     __CPROVER_assert(is_shown, "a thread goes on to use its sender");
     bool is_out = !inside[0] && !inside[1] && !inside[2] && !inside[3];
     __CPROVER_assert(is_out && !holds && holder != 1, "at the end nothing is held");
@@ -451,5 +498,6 @@ static void afresh(void)
 {
     msg_process_words.at = words;
     msg_process_own = (struct msg_process_thread){.sender = &nobody};
+    in_use[A] = in_use[B] = NOTHING;
 }
 int main(int argc, char **argv) { return every_choice(argc, argv, afresh, one_run); }
