@@ -227,6 +227,35 @@ uint32_t msg_lookup(msg_runtime *r, uint32_t number, bool meta, uint32_t sel, ui
     *imp = answer_of(index_of(number, meta, sel), made);
     return 0;
 }
+/* Both at one count. */
+static void find_both(msg_sender *s, const msg_lookup_row *rows, size_t count, uint32_t *imps)
+{
+    uint64_t now = made;
+    for (size_t i = 0; i < count; i++) {
+        uint32_t key = index_of(rows[i].number, rows[i].meta, rows[i].sel);
+        imps[i] = answer_of(key, now);
+        keep(s, key, now, imps[i]);
+    }
+}
+uint32_t msg_probe_all(msg_sender *s, const msg_lookup_row *rows, size_t count, uint32_t *imps,
+                       size_t room, size_t *place)
+{
+    uint32_t answer = MSG_MISSED;
+    enter(s);
+    if (words[1 + A] != CLOSED && words[1 + B] != CLOSED && !any_refused()) {
+        find_both(s, rows, count, imps);
+        answer = 0;
+    }
+    leave(s);
+    return answer;
+}
+uint32_t msg_fill_all(msg_runtime *r, msg_sender *s, const msg_lookup_row *rows, size_t count,
+                      uint32_t *imps, size_t room, size_t *place)
+{
+    __CPROVER_assert(holder == 1, "under the lock");
+    enter(s); find_both(s, rows, count, imps); open_stamp(A); open_stamp(B); leave(s);
+    return 0;
+}
 uint32_t msg_change_count(msg_runtime *r, uint64_t *count)
 {
     __CPROVER_assert(holder == 1, "under the lock");
@@ -373,6 +402,26 @@ static void finds(bool waits, bool in_handler)
     SAY("found: fault, imp", fault, imp);
     if (!fault) is_right(key, least, before, imp);
 }
+/* Both lookups as one. */
+static void finds_all(bool in_handler)
+{
+    static const msg_lookup_row rows[] = {{1, 0, 1}, {2, 0, 1}};
+    uint32_t imps[2] = {77, 77};
+    uint64_t least = finished, before[2] = {newest[A], newest[B]};
+    size_t place;
+    bool is_one = false;
+    other(false);
+    SAY("finds both", 0, 0);
+    uint32_t fault = msg_process_find_all(rows, 2, imps, &place);
+    bool may_be_held = in_handler || holder == 1;
+    __CPROVER_assert(fault == MSG_DONE || (fault == MSG_LOCK_HELD && may_be_held), "it answers");
+    if (fault) return;
+    for (uint64_t c = least; c <= made; c++)
+        is_one = is_one || (imps[A] == answer_of(A, c) && imps[B] == answer_of(B, c));
+    __CPROVER_assert(is_one, "ONE: both are of one count");
+    is_right(A, least, before[A], imps[A]);
+    is_right(B, least, before[B], imps[B]);
+}
 /* The way of a send in the shim (objc/seat.h). */
 static bool cv_finds;
 static void shim_sends(void)
@@ -435,6 +484,7 @@ static void any_way(bool in_handler)
 {
     if (any_bool()) shim_sends();
     else if (any_bool()) finds(true, in_handler);
+    else if (any_bool()) finds_all(in_handler);
     else if (in_handler || any_bool()) finds(false, in_handler);
     else if (any_bool()) changes();
     else if (any_bool()) rests();
