@@ -289,11 +289,12 @@ static struct seat *sit_down(unsigned waits)
 static struct seat *come_back(unsigned waits)
 {
     if (take(waits)) return NULL;
+    bool is_first = is_away; /* or a handler came back, and has shown the sender */
     is_away = false;
-    msg_meet(&runtime, &own->sender);
+    if (is_first) msg_meet(&runtime, &own->sender);
     begin_stay();
     give();
-    return own;
+    return is_first ? own : hide();
 }
 
 /* ---- finding ---- */
