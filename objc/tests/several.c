@@ -86,6 +86,22 @@ static void exchange(void)
     printf("none: %zu %zu\n", objc_replace_methods(NULL, 0), objc_exchange_methods(NULL, 0));
 }
 
+static void look_up(void)
+{
+    Class constructed = objc_allocateClassPair(&root, "Constructed", 0);
+    struct objc_method_lookup rows[] = {
+        {&root, first, NULL}, {&child, new_one, NULL}, {&root, sel_registerName("nobodys"), NULL}};
+    struct objc_method_lookup wrong[] = {{&root, first, NULL}, {constructed, first, NULL}};
+    printf("%zu", objc_lookup_methods(rows, 3));
+    printf(" looked up: %d %d %d\n", rows[0].imp == one, rows[1].imp == three,
+           rows[2].imp == NULL);
+    printf("in construction: at %zu", objc_lookup_methods(wrong, 2));
+    wrong[0].sel = NULL;
+    printf(", no selector: at %zu, none: %zu\n", objc_lookup_methods(wrong, 2),
+           objc_lookup_methods(NULL, 0));
+    objc_disposeClassPair(constructed);
+}
+
 int main(void)
 {
     take();
@@ -99,6 +115,7 @@ int main(void)
     add_one();
     refuse_each();
     exchange();
+    look_up();
     object_dispose(object);
     object_dispose(of_child);
     return 0;
