@@ -1,5 +1,5 @@
 /* What the shim of Objective-C's runtime has and GCC's libobjc hasn't: methods of several
- * classes that are changed at once. Include <objc/runtime.h> first. TRUSTED, as all of objc/.
+ * classes that are changed at once, or looked up at once. Include <objc/runtime.h> first. TRUSTED, as all of objc/.
  * No message of any thread is answered by one of them as it was, once one has been answered by
  * another as it becomes. (A thread that sends two messages may have the change come between
  * them.) A handler of a signal that interrupts a send or change of its own thread may see them
@@ -33,6 +33,16 @@ struct objc_method_pair { Method one, other; };
  * the first pair that can't be, and nothing has changed: a method that is NULL or stands in no
  * class that is registered. */
 size_t objc_exchange_methods(const struct objc_method_pair *pairs, size_t count);
+
+struct objc_method_lookup { Class class_; SEL sel; IMP imp; };
+
+/* What the objects of each row's class are answered by, or its class where the row names the
+ * metaclass; all of them at once. So what one list above replaced is found all as it was, or all as
+ * it became. Sets `imp` of each row, NULL where there is no method, and answers `count`. Else the
+ * place of the first row that can't be asked: without a class that is registered, or a selector; 0
+ * also in a handler of a signal that interrupted a change of its own thread. It sends nothing, nor
+ * +initialize, and calls malloc. */
+size_t objc_lookup_methods(struct objc_method_lookup *rows, size_t count);
 
 #ifdef __cplusplus
 }

@@ -51,6 +51,22 @@ void msg_process_unlock(void);
  * nothing where that has no sender. */
 void msg_process_cache(uint64_t key);
 
+/* Where no old code is in use. A thread that was answered by a find may be in code that it was
+ * answered, until it rests: it says by this call that it is in none, nor keeps a number to call.
+ * It costs two loads where nothing has changed since the last rest, and the lock once after a
+ * change. Not in a handler, nor under the lock, where it answers MSG_LOCK_HELD. */
+uint32_t msg_process_rest(void);
+/* A rest before the thread waits for long: until its next find, which takes the lock, it holds
+ * nobody back. */
+uint32_t msg_process_away(void);
+/* How many changes there had been at the last rest of each thread that may be in old code, the
+ * least of them; all, where no thread may be. From then on nobody is in code that a change up to
+ * that count took away, nor will be answered it. A thread that ends, is away, or was never
+ * answered counts no more. `thread`: the kernel's number of the one that holds the others back, or
+ * 0. MSG_NONE where a thread was answered whose end the C library can't tell. Cost: a walk over
+ * those threads, under the lock. */
+uint32_t msg_process_seen_by_all(uint64_t *changes, uint64_t *thread);
+
 /* By a thread that may take memory, outside the lock: so that a thread's first find has a sender
  * and takes no memory. It costs a load where senders are spare. A program's start, and what it does
  * where it allocates, are places to call it. */
@@ -61,6 +77,11 @@ void msg_process_spare(void);
  * most, and ends where a fork has the lock. */
 enum { MSG_WAITS_NOT, MSG_WAITS, MSG_WAITS_A_WHILE };
 uint32_t msg_process_find_slowly(uint64_t key, unsigned waits, uint32_t *imp);
+
+/* What several lookups find, all at one version, as msg_find_all says. `imps` has `count` entries.
+ * Faults are those of msg_probe_all, and MSG_LOCK_HELD; then what is in `imps` means nothing. */
+uint32_t msg_process_find_all(const msg_lookup_row *lookups, size_t count, uint32_t *imps,
+                              size_t *place);
 
 /* What the inline call goes by. `turns`: how often the thread was on the slow way. `sender`: its
  * own; or one without notes while that is in use, and where it has none. */

@@ -34,9 +34,10 @@
  *     So are calls that take a msg_texts, under this lock or another. Calls
  *     that take only a msg_sender want no lock: any number of senders may be in
  *     them at once, while one thread has the lock.
- *   - A thread that holds the runtime lock does not call msg_find, which takes
- *     the lock after a miss: it would wait for itself. Under the lock
- *     msg_lookup or msg_fill looks up, and MSG_CHECK tells the mistake.
+ *   - A thread that holds the runtime lock does not call msg_find or
+ *     msg_find_all, which take the lock after a miss: it would wait for itself.
+ *     Under the lock msg_lookup or msg_fill looks up, and MSG_CHECK tells the
+ *     mistake.
  *   - A handle goes to another thread by something that orders memory: a lock,
  *     a thread's start or join.
  *   - A sender goes only to calls on the runtime that it was opened from. (This
@@ -111,7 +112,10 @@ typedef struct { uint32_t sel; uint32_t imp; } msg_method;
  *   MSG_ADDS, MSG_REPLACES, MSG_SETS_IMP   number, meta, sel, imp
  *   MSG_EXCHANGES            number, meta, sel, other, other_meta, other_sel
  *   MSG_MAKES_CLASS          number, and other, which is the superclass
- *   MSG_MAKES_ROOT_CLASS     number */
+ *   MSG_MAKES_ROOT_CLASS     number
+ *   MSG_REMOVES              number, meta, sel
+ *   MSG_DISPOSES_CLASS       number
+ *   MSG_COVERS               number, meta, sel, imp: msg_attach of one method */
 typedef struct {
     uint32_t kind;
     uint32_t number;
@@ -128,8 +132,14 @@ enum {
     MSG_SETS_IMP = 3,
     MSG_EXCHANGES = 4,
     MSG_MAKES_CLASS = 5,
-    MSG_MAKES_ROOT_CLASS = 6
+    MSG_MAKES_ROOT_CLASS = 6,
+    MSG_REMOVES = 7,
+    MSG_DISPOSES_CLASS = 8,
+    MSG_COVERS = 9
 };
+
+/* A lookup, as one of several: by a class, or by its metaclass if meta is 1. */
+typedef struct { uint32_t number; uint32_t meta; uint32_t sel; } msg_lookup_row;
 
 /* How much a runtime has room for. Fields have 32 bits, and 0 is the default.
  * Later fields come at the end. */
@@ -169,6 +179,7 @@ enum {
     MSG_LIMIT = 6,          /* 2^48 changes, 2^32 methods or 2^32 - 1 texts */
     MSG_CHANGE_MEMORY = 7,  /* no memory for the change */
     MSG_DUPLICATE_CLASS = 8, /* the class is made already */
+    MSG_CLASS_IN_USE = 9, /* a class is below it */
     /* Faults of any call. */
     MSG_CLOSED = 64,        /* a handle isn't open */
     MSG_ALREADY_OPEN = 65,  /* the handle is open already */
@@ -263,6 +274,15 @@ uint32_t msg_make_class(msg_runtime *runtime, uint32_t number,
                         uint32_t superclass);
 /* Makes a root class and its metaclass, without methods. */
 uint32_t msg_make_root_class(msg_runtime *runtime, uint32_t number);
+/* Takes the method away that a class has of its own (class_removeMethod). One
+ * that it hid counts again: a category's hides its class's. MSG_NO_METHOD if
+ * the class itself has none. */
+uint32_t msg_remove(msg_runtime *runtime, uint32_t number, bool meta,
+                    uint32_t sel);
+/* Takes a class away (objc_disposeClassPair), with its metaclass and the
+ * methods of both. Its number may be used again. MSG_CLASS_IN_USE if a class
+ * is below it. */
+uint32_t msg_dispose_class(msg_runtime *runtime, uint32_t number);
 
 /* ---- changing several as one, under the lock ---- */
 
@@ -280,9 +300,10 @@ uint32_t msg_change_all(msg_runtime *runtime, const msg_change *changes,
 /* msg_change_all that also writes a way back: `undone` parts in `undo` which,
  * made as one directly afterwards, take the list back.
  *
- * `undone` is 0 if there is no way back, since a method was added or a class
- * made. `room` is at least twice `count`, or MSG_NO_ROOM is returned and not
- * even `place` is written. */
+ * Each accepted list has a way back. It has a part for each method that the
+ * list adds, writes or takes away, and for each class that it makes or takes
+ * away. If that is more than `room`, MSG_NO_ROOM is returned, nothing is made,
+ * and `undone` says how much room is wanted. */
 uint32_t msg_change_all_with_undo(msg_runtime *runtime,
                                   const msg_change *changes, size_t count,
                                   msg_change *undo, size_t room, size_t *undone,
@@ -317,6 +338,13 @@ uint32_t msg_sender_close(msg_runtime *runtime, msg_sender *sender);
  * after msg_probe has missed, or let msg_find do both. */
 uint32_t msg_fill(msg_runtime *runtime, msg_sender *sender, uint32_t number,
                   bool meta, uint32_t sel, uint32_t *imp);
+/* Looks up several after all changes so far, which the sender has then seen.
+ * What it has not noted is cached, if there is room, and noted. Parameters and
+ * faults are those of msg_probe_all. Call it after that has missed, or let
+ * msg_find_all do both. */
+uint32_t msg_fill_all(msg_runtime *runtime, msg_sender *sender,
+                      const msg_lookup_row *lookups, size_t count,
+                      uint32_t *imps, size_t room, size_t *place);
 /* Shows the sender all changes so far. It forgets nothing. */
 uint32_t msg_meet(msg_runtime *runtime, msg_sender *sender);
 
@@ -346,6 +374,20 @@ size_t msg_recall(const msg_sender *sender, size_t slot, uint32_t sel,
  * lookup has taken the place of the note. Cost: a few loads, and no lock. */
 uint32_t msg_probe(msg_sender *sender, uint32_t number, bool meta, uint32_t sel,
                    uint32_t *imp);
+/* What several lookups find, all at one version: after the same changes, which
+ * the sender has then seen, and which are no fewer than before. `imps` has as
+ * many entries as there are lookups, or MSG_NO_ROOM is returned. A change of
+ * several parts that was made as one is in all of the answers or in none.
+ *
+ * MSG_MISSED if the sender's notes and the shared cache lack one of them, or if
+ * a change of one's class falls among them. A change of other classes does not
+ * matter. After MSG_MISSED what is in `imps` means nothing. MSG_NO_CLASS,
+ * MSG_NO_SELECTOR and MSG_BAD_CHANGE (meta above 1) come with the `place` of
+ * the first lookup that is at fault, and nothing is looked up. Cost: a load of
+ * a shared word, and for each lookup another one and a few loads; no lock. */
+uint32_t msg_probe_all(msg_sender *sender, const msg_lookup_row *lookups,
+                       size_t count, uint32_t *imps, size_t room,
+                       size_t *place);
 /* How many changes there are. The sender has then seen them: nothing older is
  * found by it from then on, and it forgets nothing. Cost: one load of a shared
  * word. */
@@ -383,6 +425,24 @@ uint32_t msg_texts_text(msg_texts *texts, uint32_t number, uint8_t *into,
  * named so; or MSG_NONE. */
 uint32_t msg_texts_colons(msg_texts *texts, uint32_t number, size_t *count);
 
+/* ---- types by their encodings, without a lock ----
+ *
+ * As GCC's @encode spells types, on x86-64. A text is any bytes: a letter that
+ * is unknown has no size, what is nested more than 200 deep ends the text, and
+ * no size or alignment is above 2^28. Cost: a text is read once. */
+
+/* The size and alignment of a text's first type, in bytes. Returns the place
+ * behind it (objc_skip_typespec), which is above 0 where there is a text. */
+size_t msg_type_first(const uint8_t *text, size_t length, uint64_t *size,
+                      uint64_t *align);
+/* The member of a structure in front of a text, where those before it end
+ * before this bit; of a union, 0. Its type is from `begin`, behind its name, to
+ * before `end`; it takes the bits from `first` to before `last`. MSG_NONE where
+ * the structure or the text ends. */
+uint32_t msg_type_member(const uint8_t *text, size_t length, uint64_t before,
+                         size_t *begin, size_t *end, uint64_t *first,
+                         uint64_t *last, uint64_t *align);
+
 #ifdef __cplusplus
 }
 #endif
@@ -403,6 +463,8 @@ MSG_IS_SO(sizeof(msg_change) == 32);
 MSG_IS_SO(offsetof(msg_change, number) == 4 && offsetof(msg_change, sel) == 12);
 MSG_IS_SO(offsetof(msg_change, other) == 20);
 MSG_IS_SO(offsetof(msg_change, other_sel) == 28);
+MSG_IS_SO(sizeof(msg_lookup_row) == 12);
+MSG_IS_SO(offsetof(msg_lookup_row, sel) == 8);
 MSG_IS_SO(__BYTE_ORDER__ == __ORDER_LITTLE_ENDIAN__);
 
 /* ---- inline: opening, reporting, texts of faults ---- */
@@ -439,6 +501,7 @@ static inline const char *msg_fault_text(uint32_t fault)
     case MSG_LIMIT: return "as many changes or methods as there may be";
     case MSG_CHANGE_MEMORY: return "no memory for the change";
     case MSG_DUPLICATE_CLASS: return "the class is made already";
+    case MSG_CLASS_IN_USE: return "a class is below it";
     case MSG_CLOSED: return "a handle isn't open";
     case MSG_ALREADY_OPEN: return "the handle is open already";
     case MSG_NO_CLASS: return "no such class number";
@@ -617,6 +680,26 @@ static inline uint32_t msg_find(msg_runtime *runtime, MSG_LOCK_TYPE *lock,
     MSG_LOCK(lock);
     MSG_TEST(runtime->open == (runtime->at != 0));
     answer = msg_fill(runtime, sender, number, meta, sel, imp);
+    MSG_UNLOCK(lock);
+    return answer;
+}
+
+/* Finds several as one: what msg_probe_all says, and after a miss msg_fill_all
+ * under the lock, once. Two calls of msg_find may be from before and after a
+ * change; these never are. `imps` has `count` entries. Trusted: this code, and
+ * the lock. */
+static inline uint32_t msg_find_all(msg_runtime *runtime, MSG_LOCK_TYPE *lock,
+                                    msg_sender *sender,
+                                    const msg_lookup_row *lookups, size_t count,
+                                    uint32_t *imps, size_t *place)
+{
+    MSG_TEST(runtime && lock && sender && place);
+    MSG_TEST(sender->open == (sender->at != 0));
+    uint32_t answer = msg_probe_all(sender, lookups, count, imps, count, place);
+    if (answer != MSG_MISSED) return answer;
+    MSG_LOCK(lock);
+    MSG_TEST(runtime->open == (runtime->at != 0));
+    answer = msg_fill_all(runtime, sender, lookups, count, imps, count, place);
     MSG_UNLOCK(lock);
     return answer;
 }

@@ -3,7 +3,7 @@
  * it no longer says, nobody has found before by them, since what was changed is found anew under
  * the lock alone. Trusted: this order, that rows and tables say the same after each change, and
  * that of what a module brings no name is found before the tables have all of it. */
-#include "shim.h"
+#include "seat.h"
 #include "msg_objc.h"
 
 /* A method that gets a function, which has that number: of the record's class, or, where there is
@@ -278,6 +278,28 @@ size_t objc_replace_methods(struct objc_method_swap *rows, size_t count)
     free(parts);
     free(all);
     return place;
+}
+
+static bool plan_lookup(const struct objc_method_lookup *it, msg_lookup_row *row)
+{
+    const struct record *record = it->class_ ? it->class_->record : NULL;
+    if (!record || !record->number || !it->sel) return false;
+    *row = (msg_lookup_row){record->number, record->meta, shim_sel(it->sel)};
+    return true;
+}
+
+/* Not under the lock: the thread's own sender finds them. */
+size_t objc_lookup_methods(struct objc_method_lookup *rows, size_t count)
+{
+    msg_lookup_row *all = shim_memory(count * sizeof *all);
+    uint32_t *imps = shim_memory(count * sizeof *imps);
+    size_t place = 0;
+    while (place < count && plan_lookup(&rows[place], &all[place])) place++;
+    bool found = place == count && !msg_process_find_all(all, count, imps, &place);
+    for (size_t i = 0; found && i < count; i++) rows[i].imp = shim_function(imps[i]);
+    free(all);
+    free(imps);
+    return found || place < count ? place : 0;
 }
 
 static Method instance_method(Class class_, uint32_t sel)

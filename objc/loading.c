@@ -164,14 +164,14 @@ static void send_loads(void)
 
 /* Names, classes and methods are used where they lie, so no dlclose takes what brings a module
  * away. Once for each: the modules of one come in turn. The program itself has no name. */
-static void keep_loaded(const void *module)
+static void keep_loaded(const struct module *module)
 {
     static _Atomic(struct link_map *) last;
-    struct link_map *of;
-    Dl_info unused;
-    if (!dladdr1(module, &unused, (void **)&of, RTLD_DL_LINKMAP)) return;
-    if (atomic_exchange(&last, of) == of) return;
-    void *handle = *of->l_name ? dlopen(of->l_name, RTLD_LAZY | RTLD_NOLOAD | RTLD_NODELETE) : NULL;
+    struct dl_find_object found;
+    if (_dl_find_object((void *)module, &found)) return;
+    struct link_map *of = found.dlfo_link_map;
+    if (atomic_exchange(&last, of) == of || !*of->l_name) return;
+    void *handle = dlopen(of->l_name, RTLD_LAZY | RTLD_NOLOAD | RTLD_NODELETE);
     if (handle) dlclose(handle);
 }
 

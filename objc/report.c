@@ -34,7 +34,8 @@ static void tell(FILE *to, const struct msg_report_row *report, uint32_t classes
                 (unsigned long long)number_at(report, fields[i].at), fields[i].says);
     size_t sizes = sizeof report->no_array / sizeof *report->no_array;
     for (size_t i = 0; i < sizes; i++)
-        fprintf(to, "objc: no_array %llu: entries that weren't cached, since no array of %u was free\n",
+        fprintf(to,
+                "objc: no_array %llu: entries that weren't cached, since no array of %u was free\n",
                 (unsigned long long)report->no_array[i], FEWEST << i);
 }
 

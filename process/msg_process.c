@@ -33,19 +33,27 @@
  *     only after PATIENCE of these it opens one itself. A thread has one try at that, and none
  *     waits for a number.
  *  8. `started` is stored by a release, and loaded by an acquire before all else: who goes on has
- *     the key of threads. */
+ *     the key of threads.
+ *  9. A thread stands among `stays` before it is first given an answer, under the lock, with the
+ *     count of changes at its last rest. It leaves them at its end, and while it is away; then its
+ *     sender isn't shown, so that its next find comes by the lock. Each find answers by all changes
+ *     that had returned: of one that begins after a rest nothing is from before that count. */
 #define _DEFAULT_SOURCE 1 /* for MAP_ANONYMOUS */
 #include "msg_process.h"
 #include <sched.h>
 #include <stdatomic.h>
 #include <sys/mman.h>
+#include <sys/syscall.h>
 #include <time.h>
+#include <unistd.h>
 
 #define PARTS_OF(key) MSG_SLOT_OF(key) / 2, MSG_SLOT_OF(key) % 2, MSG_SEL_OF(key)
 enum { SPARES = 2, PATIENCE = 64 };
 enum { SLICE = 1000000, SLICES = 1000 }; /* of a wait for a while: nanoseconds, and how many */
 
 struct seat { _Alignas(64) msg_sender sender; struct seat *next; atomic_bool asks; };
+/* Of a thread that may be in code that it was answered: the changes at its last rest. */
+struct stay { struct stay *next; uint64_t changes, thread; };
 
 _Alignas(64) struct msg_process_words msg_process_words = {.at = &msg_process_words.none};
 static _Alignas(64) msg_sender nobody; /* closed, without notes */
@@ -55,6 +63,8 @@ static pthread_mutex_t lock = PTHREAD_MUTEX_INITIALIZER;
 /* Under the lock. */
 static msg_runtime runtime = MSG_RUNTIME_INIT;
 static struct seat *seats, *spares; /* threads', and nobody's, which are open */
+static struct stay *stays;
+static bool is_unsure; /* a thread was answered whose end isn't told */
 static atomic_uint spare_count, spare_most; /* read without it; none before msg_process_spare */
 
 static atomic_bool started;
@@ -64,6 +74,8 @@ static pthread_key_t key;
 static __thread struct seat *own;
 static __thread volatile bool holds, tried, kept; /* `kept`: the lock was held before the fork */
 static __thread volatile unsigned stood;          /* finds without a seat, while none was spare */
+static __thread struct stay stay;
+static __thread volatile bool stays_on, is_away, is_over; /* among `stays`; as said; at its end */
 
 /* POSIX has it, and a source that includes this may have asked for less. */
 int pthread_mutex_timedlock(pthread_mutex_t *, const struct timespec *);
@@ -126,6 +138,8 @@ static struct seat *pop_spare(void)
     return seat;
 }
 
+static uint64_t own_number(void) { return (uint64_t)syscall(SYS_gettid); }
+
 /* Zeros, which take memory page by page as notes are written: most threads need a few. */
 static struct seat *new_seat(void)
 {
@@ -153,6 +167,9 @@ static void close_others(void)
         else if (!kept || !seat->asks) close_seat(seat);
     }
     while (spares && spare_count > spare_most) close_seat(pop_spare());
+    stays = stays_on ? &stay : NULL;
+    stay.next = NULL;
+    stay.thread = own_number();
 }
 
 /* A seat is another thread's next, with what is noted there, which is right for any. */
@@ -165,6 +182,35 @@ static void stand_up(void)
     own = NULL;
     if (spare_count < spare_most) push_spare(seat);
     else close_seat(seat);
+}
+
+/* ---- who may be in old code, under the lock ---- */
+
+static void end_stay(void)
+{
+    struct stay **at = &stays;
+    if (!stays_on) return;
+    while (*at != &stay) at = &(*at)->next;
+    *at = stay.next;
+    stays_on = false;
+}
+
+static void begin_stay(void)
+{
+    if (stays_on || is_over) return;
+    stay.thread = own_number();
+    msg_change_count(&runtime, &stay.changes);
+    stay.next = stays;
+    stays = &stay;
+    stays_on = true;
+}
+
+/* Without a seat. Nobody would take a thread away whose end isn't told. */
+static void begin_stay_alone(void)
+{
+    bool is_told = own || stays_on || is_over || !pthread_setspecific(key, &stay);
+    if (is_told) begin_stay();
+    else is_unsure = true;
 }
 
 /* ---- a thread's seat ---- */
@@ -191,6 +237,8 @@ static void at_thread_end(void *unused)
     hide();
     take(MSG_WAITS); /* or the thread ends with the lock, which is given below */
     stand_up();
+    end_stay();
+    is_over = true;
     give();
 }
 
@@ -231,9 +279,22 @@ static struct seat *sit_down(unsigned waits)
     own = pop_spare();
     if (own) push(&seats, own);
     tried = own != NULL; /* or another thread was quicker */
-    if (own && pthread_setspecific(key, own)) stand_up();
+    if (own && pthread_setspecific(key, &stay)) stand_up();
+    if (own) begin_stay();
     give();
     return own;
+}
+
+/* The thread's seat at its first find after it was away; or NULL. */
+static struct seat *come_back(unsigned waits)
+{
+    if (take(waits)) return NULL;
+    bool is_first = is_away; /* or a handler came back, and has shown the sender */
+    is_away = false;
+    if (is_first) msg_meet(&runtime, &own->sender);
+    begin_stay();
+    give();
+    return is_first ? own : hide();
 }
 
 /* ---- finding ---- */
@@ -247,9 +308,20 @@ static uint32_t probe(struct seat *seat, uint64_t key, uint32_t *imp)
     return answer;
 }
 
+/* The seat that is hidden meanwhile; or NULL. */
+static struct seat *seat_by(unsigned waits)
+{
+    struct seat *seat = hide();
+    if (seat || !waits) return seat;
+    return own && is_away ? come_back(waits) : sit_down(waits);
+}
+
 static inline uint32_t fill(struct seat *seat, uint64_t key, uint32_t *imp)
 {
-    if (!seat) return msg_lookup(&runtime, PARTS_OF(key), imp);
+    if (!seat) {
+        begin_stay_alone();
+        return msg_lookup(&runtime, PARTS_OF(key), imp);
+    }
     uint32_t fault = msg_fill(&runtime, &seat->sender, PARTS_OF(key), imp);
     if (!fault)
         MSG_TEST_STAMP(&seat->sender, msg_process_words.at, key,
@@ -260,11 +332,56 @@ static inline uint32_t fill(struct seat *seat, uint64_t key, uint32_t *imp)
 uint32_t msg_process_find_slowly(uint64_t key, unsigned waits, uint32_t *imp)
 {
     if (!atomic_load_explicit(&started, memory_order_acquire)) return MSG_CLOSED;
-    struct seat *seat = hide();
-    if (!seat && waits) seat = sit_down(waits);
+    struct seat *seat = seat_by(waits);
     uint32_t answer = seat ? probe(seat, key, imp) : (uint32_t)MSG_MISSED;
     if (answer == MSG_MISSED && !(answer = take(waits))) {
         answer = fill(seat, key, imp);
+        give();
+    }
+    show(seat);
+    return answer;
+}
+
+/* ---- finding several as one ---- */
+
+struct several { const msg_lookup_row *lookups; size_t count; uint32_t *imps; size_t *place; };
+
+static uint32_t probe_all(struct seat *seat, const struct several *s)
+{
+    uint32_t answer = MSG_MISSED;
+    atomic_store(&seat->asks, true);
+    if (!atomic_load(&forks))
+        answer = msg_probe_all(&seat->sender, s->lookups, s->count, s->imps, s->count, s->place);
+    atomic_store_explicit(&seat->asks, false, memory_order_release);
+    return answer;
+}
+
+/* Under one lock all are of one version. */
+static uint32_t fill_all(struct seat *seat, const struct several *s)
+{
+    size_t count = s->count;
+    if (seat)
+        return msg_fill_all(&runtime, &seat->sender, s->lookups, count, s->imps, count, s->place);
+    begin_stay_alone();
+    for (size_t i = 0; i < count; i++) {
+        const msg_lookup_row *row = &s->lookups[i];
+        uint32_t fault = MSG_BAD_CHANGE;
+        if (row->meta <= 1)
+            fault = msg_lookup(&runtime, row->number, row->meta, row->sel, &s->imps[i]);
+        if (fault) return *s->place = i, fault;
+    }
+    return MSG_DONE;
+}
+
+uint32_t msg_process_find_all(const msg_lookup_row *lookups, size_t count, uint32_t *imps,
+                              size_t *place)
+{
+    const struct several all = {lookups, count, imps, place};
+    if (!atomic_load_explicit(&started, memory_order_acquire)) return MSG_CLOSED;
+    struct seat *seat = seat_by(MSG_WAITS);
+    uint32_t answer = seat ? probe_all(seat, &all) : (uint32_t)MSG_MISSED;
+    if (answer == MSG_MISSED && !(answer = take(MSG_WAITS))) {
+        answer = fill_all(seat, &all);
         give();
     }
     show(seat);
@@ -290,6 +407,48 @@ uint32_t msg_process_lock(msg_runtime **taken)
 }
 
 void msg_process_unlock(void) { if (holds) give(); }
+
+/* ---- resting ---- */
+
+/* The sender that is hidden stays so while the thread is away. */
+static uint32_t rest(bool goes)
+{
+    if (!atomic_load_explicit(&started, memory_order_acquire)) return MSG_CLOSED;
+    if (take(MSG_WAITS)) return MSG_LOCK_HELD;
+    struct seat *seat = hide();
+    if (seat) msg_meet(&runtime, &seat->sender);
+    msg_change_count(&runtime, &stay.changes);
+    if (goes) end_stay();
+    is_away = is_away || (goes && seat);
+    give();
+    if (!goes) show(seat);
+    return MSG_DONE;
+}
+
+uint32_t msg_process_rest(void)
+{
+    const uint64_t *words = __atomic_load_n(&msg_process_words.at, __ATOMIC_RELAXED);
+    bool is_seen = !stays_on || stay.changes == __atomic_load_n(words, __ATOMIC_SEQ_CST);
+    return is_seen && !holds ? (uint32_t)MSG_DONE : rest(false);
+}
+
+uint32_t msg_process_away(void) { return rest(true); }
+
+uint32_t msg_process_seen_by_all(uint64_t *changes, uint64_t *thread)
+{
+    uint64_t least, last = 0;
+    if (!atomic_load_explicit(&started, memory_order_acquire)) return MSG_CLOSED;
+    if (take(MSG_WAITS)) return MSG_LOCK_HELD;
+    bool is_told = !is_unsure;
+    msg_change_count(&runtime, &least);
+    for (struct stay *one = stays; one; one = one->next)
+        if (one->changes < least) least = one->changes, last = one->thread;
+    give();
+    if (!is_told) return MSG_NONE;
+    *changes = least;
+    *thread = last;
+    return MSG_DONE;
+}
 
 /* ---- forks ---- */
 

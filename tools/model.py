@@ -208,15 +208,18 @@ def expression(value):
 
 
 CHANGES = {"add": (name, truth, text, name), "replace": (name, truth, text, name), "set": (name, truth, text, name), "exchange": (name, truth, text, name, truth, text), "attach": (name, pairs, pairs)}
+LATER = {"make": (name, name_or_none)}
+NEWEST = {"remove": (name, truth, text), "dispose": (name,)}
 
 
-def change(value, version):
+def change(value, version, may_all=True):
     shaped(isinstance(value, list) and value and isinstance(value[0], str))
     kind, *rest = value
-    if kind == "all" and version == 3:
+    if kind == "all" and version == 3 and may_all:
         shaped(len(rest) >= 2)
-        return kind, [change(it, 2) for it in rest]
-    forms = (name, name_or_none) if kind == "make" and version > 1 else CHANGES.get(kind, ())
+        return kind, [change(it, version, False) for it in rest]
+    known = CHANGES | (LATER if version > 1 else {}) | (NEWEST if version == 3 else {})
+    forms = known.get(kind, ())
     shaped(forms and len(forms) == len(rest))
     return (kind, *(form(it) for form, it in zip(forms, rest)))
 
@@ -322,7 +325,7 @@ class Document:
         yield from (it[0] for it in self.sends())
         yield from (it[1] for it in self.constants() if isinstance(it, tuple) and it[0] == "sel")
         for it in self.changes():
-            yield from (it[3], it[6]) if it[0] == "exchange" else (it[3],) if it[0] in ("add", "replace", "set") else ()
+            yield from (it[3], it[6]) if it[0] == "exchange" else (it[3],) if it[0] in ("add", "replace", "set", "remove") else ()
 
     def is_beyond(self):
         entries = sum(map(len, self.lists(False)))
@@ -371,6 +374,7 @@ class Tables:
 
     def __init__(self, document):
         self.above = {it[0]: it[1] for it in document.classes}
+        self.listed = frozenset(self.above)
         self.rows = {(it, meta): [] for it in [*self.above, *document.made] for meta in (False, True)}
         self.args, self.changes = {it[0]: it[3] for it in document.imps}, 0
         for title, _, *lists in document.classes:
@@ -382,14 +386,18 @@ class Tables:
         for meta, them in ((False, methods), (True, class_methods)):
             self.rows[title, meta][:0] = [list(it) for it in them]
 
-    def find(self, at, selector):
-        """The method that a lookup finds, where it stands; or None."""
+    def held(self, at, selector):
+        """The method that a lookup finds, after the class reference where it stands; or None twice."""
         while at and at[0] in self.above:
             for row in self.rows[at]:
                 if row[0] == selector:
-                    return row
+                    return at, row
             at = self.superclass(at)
-        return None
+        return None, None
+
+    def find(self, at, selector):
+        """The method that a lookup finds, where it stands; or None."""
+        return self.held(at, selector)[1]
 
     def superclass(self, at):
         above = self.above[at[0]]
@@ -428,13 +436,29 @@ class Tables:
         else:
             self.rows[title, meta].insert(0, [selector, imp])
 
+    def remove(self, title, meta, selector):
+        rows = self.rows[title, meta]
+        place = next((place for place, row in enumerate(rows) if row[0] == selector), None)
+        self.refuse(("no class", title not in self.above), ("no method", place is None), ("limit", self.changes == MOST_CHANGES))
+        del rows[place]
+
+    def dispose(self, title):
+        in_use = title in self.listed or title in self.above.values()
+        self.refuse(("no class", title not in self.above), ("limit", self.changes == MOST_CHANGES), ("class in use", in_use))
+        del self.above[title]
+        self.rows[title, False], self.rows[title, True] = [], []
+
     def change(self, kind, *rest):
-        if kind in ("make", "exchange"):
+        if kind in ("make", "exchange", "remove", "dispose"):
             getattr(self, kind)(*rest)
         elif kind == "attach":
             self.attached(*rest)
         else:
             self.one_method(kind, *rest)
+
+
+def method(at, selector):
+    return f"{'+' if at[1] else '-'}[{at[0]} {selector}]"
 
 
 class Run:
@@ -444,10 +468,29 @@ class Run:
         self.document, self.tables = document, Tables(document)
         self.imps, self.class_of = {it[0]: it for it in document.imps}, dict(document.objects)
         self.lookups = self.active = 0
+        self.seen = []
 
     def lines(self):
         for kind, *rest in self.document.items:
             yield self.changed(rest[0]) if kind == "change" else self.sent(*rest)
+
+    def reasons(self):
+        """The lines, and under each answer to a send those of its lookups, and their count."""
+        for line, (kind, *_) in zip(self.lines(), self.document.items):
+            yield line
+            if kind == "send":
+                yield from map(self.reason, self.seen)
+                yield f"  lookups: {len(self.seen)}"
+
+    def reason(self, looked):
+        at, selector, holder, imp = looked
+        asked = f"  {method(at, selector)}"
+        if not holder:
+            return f"{asked} not found"
+        place = [it[0] for it in self.document.imps].index(imp)
+        listed = [number for number, (title, *lists) in enumerate(self.document.categories) if title == holder[0] and (selector, imp) in lists[holder[1]]]
+        category = f" of categories[{listed[-1]}]" if listed else ""
+        return f"{asked} found in {'metaclass ' if holder[1] else ''}{holder[0]}: imps[{place}]{category}"
 
     def changed(self, given):
         before, place = copy.deepcopy((self.tables.above, self.tables.rows)), 0
@@ -461,7 +504,7 @@ class Run:
         return "ok"
 
     def sent(self, receiver, selector, values):
-        self.lookups, self.active = 10_000, 0
+        self.lookups, self.active, self.seen = 10_000, 0, []
         try:
             answer = self.send(receiver, selector, values)
         except SendFault as fault:
@@ -476,7 +519,9 @@ class Run:
         if not self.lookups:
             raise SendFault("budget")
         self.lookups -= 1
-        row = self.tables.find(at, selector)
+        holder, row = self.tables.held(at, selector)
+        # (what stands in the row is changed by later items)
+        self.seen.append((at, selector, holder, row and row[1]))
         return row and row[1]
 
     def send(self, receiver, selector, values, at=None):
@@ -489,7 +534,7 @@ class Run:
             asked = self.lookup(own, FORWARDING)
             target = self.body(asked, receiver, [("sel", selector)]) if asked else None
             if target is None or target == receiver:
-                raise SendFault(f"unrecognized {'+' if own[1] else '-'}[{own[0]} {selector}]")
+                raise SendFault(f"unrecognized {method(own, selector)}")
             if is_whole(target) or target[0] == "sel":
                 raise SendFault("target not an object")
             receiver, at = target, None
@@ -530,11 +575,21 @@ class Run:
         return answer
 
 
-def answer(data):
-    """What msgrun writes to standard output and to standard error, and its status."""
+def written(data, lines):
+    """What is written to standard output and to standard error, and the status."""
     try:
         document = Document(data)
     except DocumentFault as fault:
         number = fault.args[0]
         return b"", f"msgrun: document fault {number}: {TEXTS[number]}\n".encode(), 2
-    return "".join(line + "\n" for line in Run(document).lines()).encode(), b"", 0
+    return "".join(line + "\n" for line in lines(Run(document))).encode(), b"", 0
+
+
+def answer(data):
+    """What msgrun writes to standard output and to standard error, and its status."""
+    return written(data, Run.lines)
+
+
+def explanation(data):
+    """What `./msgrun --explain` writes of a document that is answered."""
+    return written(data, Run.reasons)

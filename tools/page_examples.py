@@ -81,6 +81,12 @@ def part_by_part(page):
     return "".join(parts).encode(), answers.encode()
 
 
+def explained(page):
+    """The document of which the page shows the lookups behind its answers, and what it shows."""
+    document, lines = blocks(sections(page)["Why a document is answered so"])
+    return document.encode(), lines.encode()
+
+
 def read():
     with open(PAGE, encoding="utf-8") as it:
         return it.read()

@@ -53,6 +53,12 @@ constexpr class_ref class_itself(std::uint32_t number) noexcept { return {number
 constexpr bool operator==(class_ref one, class_ref other) noexcept { return one.slot() == other.slot(); }
 constexpr bool operator!=(class_ref one, class_ref other) noexcept { return !(one == other); }
 
+// A lookup, as one of those that sender::find_all finds as one.
+constexpr msg_lookup_row lookup(class_ref of, std::uint32_t selector) noexcept
+{
+    return {of.number, of.meta, selector};
+}
+
 // The changes of a list that locked::change_all makes as one, each what the call of its name makes alone.
 namespace change {
 constexpr msg_change add(class_ref to, std::uint32_t selector, std::uint32_t imp) noexcept
@@ -79,6 +85,19 @@ constexpr msg_change make_class(std::uint32_t number, std::uint32_t superclass) 
 constexpr msg_change make_root_class(std::uint32_t number) noexcept
 {
     return {MSG_MAKES_ROOT_CLASS, number, 0, 0, 0, 0, 0, 0};
+}
+constexpr msg_change remove(class_ref of, std::uint32_t selector) noexcept
+{
+    return {MSG_REMOVES, of.number, of.meta, selector, 0, 0, 0, 0};
+}
+constexpr msg_change dispose_class(std::uint32_t number) noexcept
+{
+    return {MSG_DISPOSES_CLASS, number, 0, 0, 0, 0, 0, 0};
+}
+// As attach of one method: it stands before the one that is there.
+constexpr msg_change cover(class_ref of, std::uint32_t selector, std::uint32_t imp) noexcept
+{
+    return {MSG_COVERS, of.number, of.meta, selector, imp, 0, 0, 0};
 }
 } // namespace change
 
@@ -150,6 +169,16 @@ public:
     {
         must(msg_exchange(&at->handle, of.number, of.meta, selector, other.number, other.meta, other_selector));
     }
+    // Takes away the method that the class has of its own. One that it hid counts again.
+    void remove(class_ref of, std::uint32_t selector)
+    {
+        must(msg_remove(&at->handle, of.number, of.meta, selector));
+    }
+    // Takes a class away that no class is below, with its metaclass and the methods of both.
+    void dispose_class(std::uint32_t number)
+    {
+        must(msg_dispose_class(&at->handle, number));
+    }
     // Lists of msg_method that lie in one piece: an array, a std::vector, an initializer list.
     template <class Methods, class ClassMethods>
     void attach(std::uint32_t number, const Methods &methods, const ClassMethods &class_methods)
@@ -179,14 +208,20 @@ public:
     {
         change_all<std::initializer_list<msg_change>>(changes);
     }
-    // The same, and what takes them back if change_all makes it directly afterwards; none where there is no way back,
-    // since a method was added or a class made.
+    // The same, and what takes them back if change_all makes it directly afterwards.
     template <class Changes> std::vector<msg_change> change_all_with_undo(const Changes &changes)
     {
         std::vector<msg_change> undo(2 * std::size(changes) + 1);
         std::size_t place = 0, undone = 0;
-        std::uint32_t answer = msg_change_all_with_undo(&at->handle, pointer<msg_change>(changes), std::size(changes),
-                                                        undo.data(), undo.size(), &undone, &place);
+        auto make = [&] {
+            return msg_change_all_with_undo(&at->handle, pointer<msg_change>(changes), std::size(changes), undo.data(),
+                                            undo.size(), &undone, &place);
+        };
+        std::uint32_t answer = make();
+        if (answer == MSG_NO_ROOM) { // and nothing was made
+            undo.resize(undone);
+            answer = make();
+        }
         listed(answer, place);
         undo.resize(undone);
         return undo;
@@ -329,6 +364,27 @@ public:
         must(answer);
         return imp;
     }
+    // Several as one, as msg_find_all: all at one version, which the sender has then seen. A fault has the place of
+    // the lookup that isn't asked.
+    template <class Lookups> std::vector<std::uint32_t> find_all(const Lookups &lookups)
+    {
+        std::size_t count = std::size(lookups), place = 0;
+        std::vector<std::uint32_t> imps(count + 1); // never NULL
+        const msg_lookup_row *rows = locked::pointer<msg_lookup_row>(lookups);
+        shared();
+        std::uint32_t answer = msg_probe_all(own.get(), rows, count, imps.data(), count, &place);
+        if (answer == MSG_MISSED) {
+            std::lock_guard<std::mutex> held(at->lock);
+            answer = msg_fill_all(&at->handle, own.get(), rows, count, imps.data(), count, &place);
+        }
+        locked::listed(answer, place);
+        imps.resize(count);
+        return imps;
+    }
+    std::vector<std::uint32_t> find_all(std::initializer_list<msg_lookup_row> lookups)
+    {
+        return find_all<std::initializer_list<msg_lookup_row>>(lookups);
+    }
     // Noted or cached, at what the sender has then seen; or nothing, and then ask locked::fill.
     std::optional<std::uint32_t> probe(class_ref of, std::uint32_t selector)
     {
@@ -466,6 +522,29 @@ private:
     }
     msg_texts handle = MSG_TEXTS_INIT;
 };
+
+// Of the first type of a text, as GCC's @encode spells types: its size and alignment in bytes, and the place behind it.
+struct encoded_type { std::uint64_t size, align; std::size_t end; };
+
+inline encoded_type first_type(std::string_view text) noexcept
+{
+    encoded_type it{};
+    auto bytes = reinterpret_cast<const std::uint8_t *>(text.data());
+    it.end = msg_type_first(bytes, text.size(), &it.size, &it.align);
+    return it;
+}
+
+// Of a member of a structure: where its type is in the text, and its bits from the first to before the last.
+struct encoded_member { std::size_t begin, end; std::uint64_t first, last, align; };
+
+// The one in front of a text, where those before it end before this bit; of a union, 0.
+inline std::optional<encoded_member> next_member(std::string_view text, std::uint64_t before) noexcept
+{
+    encoded_member it{};
+    auto bytes = reinterpret_cast<const std::uint8_t *>(text.data());
+    auto answer = msg_type_member(bytes, text.size(), before, &it.begin, &it.end, &it.first, &it.last, &it.align);
+    return answer ? std::nullopt : std::optional(it);
+}
 
 } // namespace msg
 

@@ -114,7 +114,7 @@ static void lists_of_changes()
         return false;
     };
     CHECK(refused(MSG_NO_METHOD, 1));
-    changes[2].kind = 7; // found before any is made
+    changes[2].kind = MSG_COVERS + 1; // found before any is made
     CHECK(refused(MSG_BAD_CHANGE, 2));
     CHECK(runtime.lock().change_count() == 5 && sender.recall(child, VALUE, 5) == 5 && sender.find(child, VALUE) == 5);
     CHECK(runtime.lock().reach({change::replace(child, VALUE, 8)}) == std::vector<msg::class_ref>({child, other}));
@@ -123,7 +123,20 @@ static void lists_of_changes()
     runtime.lock().change_all(undo);
     CHECK(sender.find(child, VALUE) == 5);
     CHECK(runtime.lock().change_count() == 7);
-    CHECK(runtime.lock().change_all_with_undo({change::add(other, 99, 8)}).empty());
+    undo = runtime.lock().change_all_with_undo({change::add(other, 99, 8)});
+    CHECK(undo.size() == 1 && undo[0].kind == MSG_REMOVES);
+    FAULT(MSG_CLASS_IN_USE, runtime.lock().dispose_class(CHILD));
+    for (std::uint32_t selector = 100; selector < 105; selector++) runtime.lock().add(other, selector, 8);
+    undo = runtime.lock().change_all_with_undo({change::dispose_class(OTHER)});
+    CHECK(undo.size() == 8 && undo[0].kind == MSG_MAKES_CLASS && sender.find(other, TAKE) == 0);
+    runtime.lock().change_all(undo);
+    CHECK(sender.find(other, TAKE) == 7 && sender.find(other, 104) == 8);
+    runtime.lock().change_all({change::cover(other, TAKE, 9)});
+    CHECK(sender.find(other, TAKE) == 9);
+    runtime.lock().remove(other, TAKE);
+    CHECK(sender.find(other, TAKE) == 7);
+    runtime.lock().change_all({change::remove(other, TAKE)});
+    CHECK(sender.find(other, TAKE) == 0);
     runtime.close();
     FAULT(MSG_CLOSED, runtime.lock().change_all({change::replace(child, VALUE, 8)}));
     FAULT(MSG_CLOSED, runtime.lock().change_all({}));
@@ -206,6 +219,24 @@ static void moves_and_closes()
     CHECK(second.lookup(child, NAME) == 3);
 }
 
+static void several_as_one()
+{
+    msg::runtime runtime = opened();
+    msg::sender sender(runtime);
+    using imps = std::vector<std::uint32_t>;
+    const std::vector<msg_lookup_row> three = {msg::lookup(child, NAME), msg::lookup(msg::class_itself(child.number), NEW),
+                                               msg::lookup(child, TAKE)};
+    CHECK(sender.find_all(three) == imps({3, 4, 0}) && sender.find_all(three) == imps({3, 4, 0}));
+    runtime.lock().replace(child, NAME, 8);
+    CHECK(sender.find_all(three) == imps({8, 4, 0}) && sender.find_all({}).empty());
+    try {
+        sender.find_all({msg::lookup(child, NAME), msg::lookup(child, 0)});
+        CHECK(false);
+    } catch (const msg::fault &fault) {
+        CHECK(fault.number() == MSG_NO_SELECTOR && fault.place() == 1u);
+    }
+}
+
 static void threads_beside_changes()
 {
     msg::runtime runtime = opened();
@@ -242,6 +273,15 @@ static void texts()
     FAULT(MSG_CLOSED, texts.text(1));
 }
 
+static void types()
+{
+    auto type = msg::first_type("{inner=cs}8@0");
+    CHECK(type.size == 4 && type.align == 2 && type.end == 10 && msg::first_type({}).end == 0);
+    auto member = msg::next_member("\"s\"s}", 8);
+    CHECK(member && member->begin == 3 && member->end == 4 && member->first == 16 && member->last == 32);
+    CHECK(member->align == 2 && !msg::next_member("}", 8));
+}
+
 int main()
 {
     questions();
@@ -251,8 +291,10 @@ int main()
     senders();
     a_refused_change_is_no_change();
     moves_and_closes();
+    several_as_one();
     threads_beside_changes();
     texts();
-    std::puts("9 tests passed");
+    types();
+    std::puts("11 tests passed");
     return 0;
 }

@@ -13,7 +13,14 @@
 #include <string.h>
 #include <time.h>
 
-enum { STEPS = 100000, REPLACEMENTS = 2000, MOST_THREADS = 16, OBJECTS = 64, CLASSES = 8, ORDER = 1024 };
+enum {
+    STEPS = 100000,
+    REPLACEMENTS = 2000,
+    MOST_THREADS = 16,
+    OBJECTS = 64,
+    CLASSES = 8,
+    ORDER = 1024
+};
 
 __attribute__((objc_root_class)) @interface Level0 { Class isa; }
 + (void)initialize;
@@ -67,7 +74,8 @@ static uintptr_t look(id object, SEL sel)
 static uintptr_t look_mixed(void)
 {
     uintptr_t sum = 0;
-    for (int i = 0; i < STEPS; i++) sum += (uintptr_t)objc_msg_lookup(order[i % ORDER].object, order[i % ORDER].sel);
+    for (int i = 0; i < STEPS; i++)
+        sum += (uintptr_t)objc_msg_lookup(order[i % ORDER].object, order[i % ORDER].sel);
     return sum;
 }
 
@@ -93,7 +101,8 @@ static uintptr_t replace(id object)
     uintptr_t wrong = 0;
     for (int i = 0; i < REPLACEMENTS; i++) {
         class_replaceMethod(object->isa, sels[0], (IMP)(i & 1 ? one : two), "l16@0:8");
-        wrong += ((long (*)(id, SEL))objc_msg_lookup(object, sels[0]))(object, sels[0]) != (i & 1 ? 1 : 2);
+        wrong += ((long (*)(id, SEL))objc_msg_lookup(object, sels[0]))(object, sels[0]) !=
+                 (i & 1 ? 1 : 2);
     }
     if (wrong) abort();
     return wrong;

@@ -15,8 +15,12 @@ static void *work(void *unused)
     (void)unused;
     for (int i = 0; i < A_THREAD; i++) {
         if (i % 10) class_replaceMethod(&root, names[i & 1], i & 2 ? one : two, "@16@0:8");
-        else method_exchangeImplementations(class_getInstanceMethod(&root, names[0]), class_getInstanceMethod(&root, names[1]));
-        if (send(object, names[i & 1]) != (long)class_getMethodImplementation(&root, names[i & 1])(object, names[i & 1])) abort();
+        else
+            method_exchangeImplementations(class_getInstanceMethod(&root, names[0]),
+                                           class_getInstanceMethod(&root, names[1]));
+        if (send(object, names[i & 1]) !=
+            (long)class_getMethodImplementation(&root, names[i & 1])(object, names[i & 1]))
+            abort();
     }
     return NULL;
 }

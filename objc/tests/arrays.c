@@ -11,7 +11,9 @@ enum { MOST_SENT = 600 };
 
 /* So many classes, each of which is sent so many different messages: they fill an array of 64
  * entries, of 128, .. */
-static const struct { int classes, sent; } kinds[] = {{110, 38}, {56, 76}, {28, 152}, {14, 304}, {7, MOST_SENT}};
+static const struct {
+    int classes, sent;
+} kinds[] = {{110, 38}, {56, 76}, {28, 152}, {14, 304}, {7, MOST_SENT}};
 
 static SEL sels[MOST_SENT];
 
@@ -37,7 +39,8 @@ static void send_all(void)
     for (int kind = 0; kind < (int)(sizeof kinds / sizeof *kinds); kind++)
         for (int number = 0; number < kinds[kind].classes; number++) {
             id object = class_createInstance(make(kind, number), 0);
-            for (int i = 0; i < kinds[kind].sent; i++) objc_msg_lookup(object, sels[i])(object, sels[i]);
+            for (int i = 0; i < kinds[kind].sent; i++)
+                objc_msg_lookup(object, sels[i])(object, sels[i]);
             object_dispose(object);
         }
 }

@@ -70,7 +70,10 @@ static inline __attribute__((always_inline)) void trap(int on)
 }
 
 /* 0 where the answer isn't known, 1 of what was before the change, 2 of what is after it. */
-static int rank(long answer, long new_one) { return !answer ? 0 : answer == new_one ? 2 : answer == 23 - new_one ? 1 : 3; }
+static int rank(long answer, long new_one)
+{
+    return !answer ? 0 : answer == new_one ? 2 : answer == 23 - new_one ? 1 : 3;
+}
 
 static void judge(long new_one)
 {

@@ -47,9 +47,11 @@ int main(void)
     void *answer;
     pthread_attr_init(&small);
     pthread_attr_setstacksize(&small, STACK);
-    for (int i = 0; i < THREADS; i++) none += pthread_create(&threads[i], &small, work, object) != 0;
+    for (int i = 0; i < THREADS; i++)
+        none += pthread_create(&threads[i], &small, work, object) != 0;
     while (begun < THREADS) usleep(1000);
-    for (int i = 0; i < CHANGES; i++) class_replaceMethod(&root, first, i & 1 ? one : two, "@16@0:8");
+    for (int i = 0; i < CHANGES; i++)
+        class_replaceMethod(&root, first, i & 1 ? one : two, "@16@0:8");
     over = 1;
     for (int i = 0; i < THREADS; i++) pthread_join(threads[i], &answer), wrong += (size_t)answer;
     for (int i = 0; i < AFTER; i++) {

@@ -4,17 +4,36 @@
 #include <stdio.h>
 
 struct inner { char c; short s; };
-struct outer { char c; struct inner inner[3]; double d; union { int i; char text[7]; } u; unsigned bits : 3; int more : 20; long double l; _Complex float z; void *p; };
+struct outer {
+    char c;
+    struct inner inner[3];
+    double d;
+    union {
+        int i;
+        char text[7];
+    } u;
+    unsigned bits : 3;
+    int more : 20;
+    long double l;
+    _Complex float z;
+    void *p;
+};
 
-#define SAME(type) (objc_sizeof_type(@encode(type)) == sizeof(type) && objc_alignof_type(@encode(type)) == _Alignof(type))
+#define SAME(type) \
+    (objc_sizeof_type(@encode(type)) == sizeof(type) && \
+     objc_alignof_type(@encode(type)) == _Alignof(type))
 
 int main(void)
 {
-    printf("simple: %d%d%d%d%d%d%d\n", SAME(char), SAME(short), SAME(long), SAME(float), SAME(long double), SAME(char *), SAME(_Bool));
-    printf("compound: %d%d%d%d\n", SAME(struct inner), SAME(struct outer), SAME(int[5]), SAME(_Complex double));
+    printf("simple: %d%d%d%d%d%d%d\n", SAME(char), SAME(short), SAME(long), SAME(float),
+           SAME(long double), SAME(char *), SAME(_Bool));
+    printf("compound: %d%d%d%d\n", SAME(struct inner), SAME(struct outer), SAME(int[5]),
+           SAME(_Complex double));
     printf("rounded up: %d %d\n", objc_aligned_size("{p=ic}"), objc_promoted_size("s"));
-    printf("qualifiers: %u, then %s\n", objc_get_type_qualifiers("rnO@16"), objc_skip_type_qualifiers("rnO@16"));
-    printf("skipped: %s %s %s\n", objc_skip_typespec("^{a=i[3(b=fc)]}8@0"), objc_skip_argspec("{a=i}8@0:4"), objc_skip_offset("-12i"));
+    printf("qualifiers: %u, then %s\n", objc_get_type_qualifiers("rnO@16"),
+           objc_skip_type_qualifiers("rnO@16"));
+    printf("skipped: %s %s %s\n", objc_skip_typespec("^{a=i[3(b=fc)]}8@0"),
+           objc_skip_argspec("{a=i}8@0:4"), objc_skip_offset("-12i"));
     struct objc_struct_layout layout;
     unsigned int offset, align, size;
     const char *type;

@@ -4,11 +4,15 @@
 #include <stdlib.h>
 
 @interface Row : Object { id members[3]; unsigned long changes; }
-- (unsigned long)countByEnumeratingWithState:(struct __objcFastEnumerationState *)state objects:(id *)objects count:(unsigned long)room;
+- (unsigned long)countByEnumeratingWithState:(struct __objcFastEnumerationState *)state
+                                     objects:(id *)objects
+                                       count:(unsigned long)room;
 - (void)put:(id)member at:(int)place;
 @end
 @implementation Row
-- (unsigned long)countByEnumeratingWithState:(struct __objcFastEnumerationState *)state objects:(id *)objects count:(unsigned long)room
+- (unsigned long)countByEnumeratingWithState:(struct __objcFastEnumerationState *)state
+                                     objects:(id *)objects
+                                       count:(unsigned long)room
 {
     if (state->state) return 0;
     state->state = 1;

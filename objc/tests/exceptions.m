@@ -61,14 +61,22 @@ static void at_end(id object)
 
 int main(void)
 {
-    @try { throw_deep(2); }
-    @catch (Trouble *trouble) { printf("caught a %s\n", object_getClassName(trouble)); object_dispose(trouble); }
+    @try {
+        throw_deep(2);
+    } @catch (Trouble *trouble) {
+        printf("caught a %s\n", object_getClassName(trouble));
+        object_dispose(trouble);
+    }
     printf("%s\n", caught_by(new("Deep")));
     printf("%s\n", caught_by(new("Trouble")));
     printf("%s\n", caught_by(new("Other")));
     printf("%s\n", caught_by(nil));
-    @try { [Late value]; }
-    @catch (Other *other) { printf("out of +initialize, then %d\n", [Late value]); object_dispose(other); }
+    @try {
+        [Late value];
+    } @catch (Other *other) {
+        printf("out of +initialize, then %d\n", [Late value]);
+        object_dispose(other);
+    }
     objc_exception_matcher before = objc_setExceptionMatcher(matches_all);
     printf("%s, by the program's matcher\n", caught_by(new("Other")));
     objc_setExceptionMatcher(before);

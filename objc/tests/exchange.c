@@ -8,7 +8,8 @@ int main(void)
     SEL first = sel_registerName("one"), second = sel_registerName("two");
     id object = class_createInstance(objc_getClass("Child"), 0);
     printf("%ld %ld\n", send(object, first), send(object, second));
-    method_exchangeImplementations(class_getInstanceMethod(object->isa, first), class_getInstanceMethod(object->isa, second));
+    method_exchangeImplementations(class_getInstanceMethod(object->isa, first),
+                                   class_getInstanceMethod(object->isa, second));
     printf("%ld %ld\n", send(object, first), send(object, second));
     object_dispose(object);
     return 0;

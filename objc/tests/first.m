@@ -97,7 +97,8 @@ int main(void)
     pthread_join(thread, NULL);
     again = try_it(send_to_throwing);
     printf("after it threw: %d %d, thrown %d\n", again, answer, thrown);
-    printf("as fast as others: %d\n", has_key(objc_getClass("Throwing")) && has_key(objc_getMetaClass("Throwing")));
+    printf("as fast as others: %d\n",
+           has_key(objc_getClass("Throwing")) && has_key(objc_getMetaClass("Throwing")));
 
     class_replaceMethod(objc_getMetaClass("Replaced"), @selector(own), (IMP)late, "i16@0:8");
     answer = [Replaced own];

@@ -48,7 +48,8 @@ static void *sending(void *none)
 
 static void *changing(void *none)
 {
-    while (goes_on()) class_replaceMethod(objc_getMetaClass("Base"), @selector(value), (IMP)one, "i16@0:8");
+    while (goes_on())
+        class_replaceMethod(objc_getMetaClass("Base"), @selector(value), (IMP)one, "i16@0:8");
     return none;
 }
 
@@ -87,7 +88,9 @@ static int child(int locked_too)
     Class made = objc_allocateClassPair(objc_getClass("Base"), "OfChild", 0);
     class_addMethod(made->isa, @selector(other), (IMP)three, "i16@0:8");
     objc_registerClassPair(made);
-    if (((int (*)(id, SEL))objc_msg_lookup((id)made, @selector(other)))((id)made, @selector(other)) != 3) return 3;
+    if (((int (*)(id, SEL))objc_msg_lookup((id)made, @selector(other)))((id)made,
+                                                                        @selector(other)) != 3)
+        return 3;
     @synchronized(shared) { locked_too++; } /* within the forking thread's own */
     shared.kept = nil;
     return shared.kept != nil || locked_too < 1 ? 4 : 0;

@@ -17,8 +17,15 @@
 @end
 @implementation Adding
 static long late(id self, SEL sel) { return 12; }
-+ (BOOL)resolveInstanceMethod:(SEL)sel { return sel_isEqual(sel, @selector(late)) && class_addMethod((Class)self, sel, (IMP)late, "l16@0:8"); }
-+ (BOOL)resolveClassMethod:(SEL)sel { return class_addMethod(((id)self)->isa, sel, (IMP)late, "l16@0:8"); }
++ (BOOL)resolveInstanceMethod:(SEL)sel
+{
+    return sel_isEqual(sel, @selector(late)) &&
+           class_addMethod((Class)self, sel, (IMP)late, "l16@0:8");
+}
++ (BOOL)resolveClassMethod:(SEL)sel
+{
+    return class_addMethod(((id)self)->isa, sel, (IMP)late, "l16@0:8");
+}
 @end
 @implementation Target
 @end
@@ -45,15 +52,23 @@ static double half(id self, SEL sel) { return 0.5; }
 @end
 
 static int asked;
-static BOOL resolve_late(id self, SEL sel, SEL lacking) { return asked++ && class_addMethod((Class)self, lacking, (IMP)late, "l16@0:8"); }
+static BOOL resolve_late(id self, SEL sel, SEL lacking)
+{
+    return asked++ && class_addMethod((Class)self, lacking, (IMP)late, "l16@0:8");
+}
 static long by_hook(id self, SEL sel) { return 13; }
-static IMP hook(id self, SEL sel) { return sel_isEqual(sel, @selector(hooked)) ? (IMP)by_hook : NULL; }
+static IMP hook(id self, SEL sel)
+{
+    return sel_isEqual(sel, @selector(hooked)) ? (IMP)by_hook : NULL;
+}
 
 int main(void)
 {
-    Target *adding = (Target *)class_createInstance(objc_getClass("Adding"), 0), *passing = (Target *)class_createInstance(objc_getClass("Passing"), 0);
+    Target *adding = (Target *)class_createInstance(objc_getClass("Adding"), 0),
+           *passing = (Target *)class_createInstance(objc_getClass("Passing"), 0);
     Target *asking = (Target *)class_createInstance(objc_getClass("Asking"), 0);
-    printf("answers %d, added %ld, of the class %ld\n", class_respondsToSelector([adding class], @selector(late)), [adding late], [Adding late]);
+    printf("answers %d, added %ld, of the class %ld\n",
+           class_respondsToSelector([adding class], @selector(late)), [adding late], [Adding late]);
     long answer = [passing sum:20 and:30];
     printf("%ld\n", answer);
     double half = [passing half];
@@ -62,9 +77,12 @@ int main(void)
     __objc_msg_forward2 = hook;
     printf("hooked %ld\n", [asking hooked]);
     [asking lost];
-    for (int time = 0; time < 3; time++) printf("late %d\n", class_respondsToSelector([asking class], @selector(late)));
-    class_addMethod(((id)[asking class])->isa, @selector(resolveInstanceMethod:), (IMP)resolve_late, "c@:@:");
-    for (int time = 0; time < 2; time++) printf("asked a resolver %d\n", class_respondsToSelector([asking class], @selector(late)));
+    for (int time = 0; time < 3; time++)
+        printf("late %d\n", class_respondsToSelector([asking class], @selector(late)));
+    class_addMethod(((id)[asking class])->isa, @selector(resolveInstanceMethod:), (IMP)resolve_late,
+                    "c@:@:");
+    for (int time = 0; time < 2; time++)
+        printf("asked a resolver %d\n", class_respondsToSelector([asking class], @selector(late)));
     printf("resolved later %ld\n", [asking late]);
     object_dispose(adding);
     object_dispose(passing);

@@ -8,7 +8,8 @@ enum { FUNCTIONS = 20000, BYTES = 16 };
 /* Machine code that answers a number. */
 static char *make_functions(void)
 {
-    char *code = mmap(NULL, FUNCTIONS * BYTES, PROT_READ | PROT_WRITE, MAP_PRIVATE | MAP_ANONYMOUS, -1, 0);
+    char *code =
+        mmap(NULL, FUNCTIONS * BYTES, PROT_READ | PROT_WRITE, MAP_PRIVATE | MAP_ANONYMOUS, -1, 0);
     if (code == MAP_FAILED) abort();
     for (int i = 0; i < FUNCTIONS; i++) {
         char bytes[] = {(char)0xb8, (char)i, (char)(i >> 8), 0, 0, (char)0xc3};
@@ -28,7 +29,8 @@ int main(void)
     long wrong = 0;
     for (int i = 0; i < FUNCTIONS; i++) {
         class_replaceMethod(&root, names[i & 1], (IMP)(uintptr_t)(code + i * BYTES), "@16@0:8");
-        wrong += send(object, names[i & 1]) != i || (i && send(object, names[(i - 1) & 1]) != i - 1);
+        wrong +=
+            send(object, names[i & 1]) != i || (i && send(object, names[(i - 1) & 1]) != i - 1);
     }
     object_dispose(object);
     printf("wrong %ld\n", wrong);

@@ -22,7 +22,8 @@ static uint32_t find(void)
 static void set(uint32_t imp)
 {
     if (msg_process_lock(&mine) || msg_replace(mine, CLASS, false, SELECTOR, imp)) wrong++;
-    class_replaceMethod(&root_meta, first, imp % 2 ? one : two, "@16@0:8"); /* of the other, while this lock is held */
+    /* of the other, while this lock is held */
+    class_replaceMethod(&root_meta, first, imp % 2 ? one : two, "@16@0:8");
     if (send((id)&child, first) != (imp % 2 ? 11 : 12)) wrong++;
     msg_process_unlock();
     if (find() != imp) wrong++;
@@ -51,7 +52,9 @@ int main(void)
     pthread_t thread;
     take();
     first = sel_registerName("one");
-    if (msg_process_start(&(msg_config){.classes = CLASSES, .senders = 2}) || msg_process_lock(&mine)) return 1;
+    if (msg_process_start(&(msg_config){.classes = CLASSES, .senders = 2}) ||
+        msg_process_lock(&mine))
+        return 1;
     if (msg_make_root_class(mine, CLASS)) return 1;
     msg_process_unlock();
     run(NULL);

@@ -22,7 +22,9 @@ static void show(Class class_)
 {
     unsigned int count;
     Ivar *list = class_copyIvarList(class_, &count);
-    for (unsigned int i = 0; i < count; i++) printf("%s %ld %s\n", ivar_getName(list[i]), (long)ivar_getOffset(list[i]), ivar_getTypeEncoding(list[i]));
+    for (unsigned int i = 0; i < count; i++)
+        printf("%s %ld %s\n", ivar_getName(list[i]), (long)ivar_getOffset(list[i]),
+               ivar_getTypeEncoding(list[i]));
     free(list);
 }
 
@@ -33,13 +35,17 @@ int main(void)
     show(case_);
     id object = class_createInstance(case_, 16);
     void *read;
-    printf("set %d\n", object_setInstanceVariable(object, "held", object) == class_getInstanceVariable(box, "held"));
+    printf("set %d\n", object_setInstanceVariable(object, "held", object) ==
+                           class_getInstanceVariable(box, "held"));
     bool found = object_getInstanceVariable(object, "held", &read) != NULL;
     printf("get %d, %d\n", found, read == object);
     object_setIvar(object, class_getInstanceVariable(case_, "held"), nil);
-    printf("none %d, unknown %d\n", object_getIvar(object, class_getInstanceVariable(case_, "held")) == nil, class_getInstanceVariable(case_, "lost") != NULL);
+    printf("none %d, unknown %d\n",
+           object_getIvar(object, class_getInstanceVariable(case_, "held")) == nil,
+           class_getInstanceVariable(case_, "lost") != NULL);
     strcpy(object_getIndexedIvars(object), "behind");
-    printf("size %zu, %s\n", class_getInstanceSize(case_), (char *)object + class_getInstanceSize(case_));
+    printf("size %zu, %s\n", class_getInstanceSize(case_),
+           (char *)object + class_getInstanceSize(case_));
     printf("added to a class that is there: %d\n", class_addIvar(case_, "late", 8, 3, "@"));
     object_dispose(object);
     Class made = objc_allocateClassPair(case_, "Made", 0);
@@ -51,6 +57,8 @@ int main(void)
     printf("size %zu\n", class_getInstanceSize(made));
     const char *const own[] = {"Object", "Protocol", "NXConstantString"};
     for (int i = 0; i < 3; i++) show(objc_getClass(own[i]));
-    printf("a protocol's name: %s\n", *(char **)((char *)@protocol(Shown) + ivar_getOffset(class_getInstanceVariable(objc_getClass("Protocol"), "protocol_name"))));
+    printf("a protocol's name: %s\n",
+           *(char **)((char *)@protocol(Shown) + ivar_getOffset(class_getInstanceVariable(
+                                                     objc_getClass("Protocol"), "protocol_name"))));
     return 0;
 }

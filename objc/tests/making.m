@@ -50,14 +50,18 @@ int main(void)
     Class maker = objc_getClass("Maker");
     int before = objc_getClassList(NULL, 0);
     Class made = objc_allocateClassPair(maker, "Made", 0);
-    printf("in construction: found %d, under %s\n", objc_getClass("Made") != NULL, class_getName(class_getSuperclass(made)));
+    printf("in construction: found %d, under %s\n", objc_getClass("Made") != NULL,
+           class_getName(class_getSuperclass(made)));
     class_addMethod(((id)made)->isa, @selector(kind), (IMP)kind, "*16@0:8");
-    printf("instance of it: %d, class under it: %d\n", class_createInstance(made, 0) != nil, objc_allocateClassPair(made, "Under", 0) != NULL);
+    printf("instance of it: %d, class under it: %d\n", class_createInstance(made, 0) != nil,
+           objc_allocateClassPair(made, "Under", 0) != NULL);
     objc_registerClassPair(made);
     Maker *object = (Maker *)class_createInstance(made, 0);
     printf("number %ld, kind %s and %s\n", [object number], [(Class)made kind], [Maker kind]);
-    printf("metaclass %d, its superclass %d\n", class_isMetaClass(((id)made)->isa), class_getSuperclass(((id)made)->isa) == ((id)maker)->isa);
-    printf("taken: %d, one more class: %d\n", objc_allocateClassPair(maker, "Made", 0) != NULL, objc_getClassList(NULL, 0) - before);
+    printf("metaclass %d, its superclass %d\n", class_isMetaClass(((id)made)->isa),
+           class_getSuperclass(((id)made)->isa) == ((id)maker)->isa);
+    printf("taken: %d, one more class: %d\n", objc_allocateClassPair(maker, "Made", 0) != NULL,
+           objc_getClassList(NULL, 0) - before);
     objc_disposeClassPair(objc_allocateClassPair(maker, "Given up", 0));
     printf("given up: %d\n", objc_getClass("Given up") == NULL);
     Class root = objc_allocateClassPair(NULL, "Rooted", 0);

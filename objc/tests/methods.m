@@ -42,7 +42,8 @@ static int eleven(id self, SEL sel) { return 11; }
  * told as dots. */
 static void show_cut(Method method, size_t room)
 {
-    char result[] = "********", third[] = "********", ninth[] = "********", *all[] = {result, third, ninth};
+    char result[] = "********", third[] = "********", ninth[] = "********",
+         *all[] = {result, third, ninth};
     method_getReturnType(method, result, room);
     method_getArgumentType(method, 2, third, room);
     method_getArgumentType(method, 8, ninth, room);
@@ -57,12 +58,15 @@ static void show_cut(Method method, size_t room)
 static void show(Method method)
 {
     char *type = method_copyReturnType(method);
-    printf("%s %s: %u arguments, %s", sel_getName(method_getName(method)), method_getTypeEncoding(method), method_getNumberOfArguments(method), type);
+    printf("%s %s: %u arguments, %s", sel_getName(method_getName(method)),
+           method_getTypeEncoding(method), method_getNumberOfArguments(method), type);
     free(type);
-    for (unsigned int i = 0; (type = method_copyArgumentType(method, i)); i++, free(type)) printf(", %s", type);
+    for (unsigned int i = 0; (type = method_copyArgumentType(method, i)); i++, free(type))
+        printf(", %s", type);
     printf("\n");
     for (size_t room = 0; room < 6; room++) show_cut(method, room);
-    printf("described alike: %d\n", method_getDescription(method)->types == method_getTypeEncoding(method));
+    printf("described alike: %d\n",
+           method_getDescription(method)->types == method_getTypeEncoding(method));
 }
 
 static void show_both(void)
@@ -72,7 +76,9 @@ static void show_both(void)
     Bulb *object = (Bulb *)class_createInstance(bulb, 0);
     Method watts = class_getInstanceMethod(bulb, @selector(watts));
     free(class_copyMethodList(bulb, &count));
-    printf("%u of a name: found %d, sent %d\n", count, ((int (*)(id, SEL))method_getImplementation(watts))((id)object, @selector(watts)), [object watts]);
+    printf("%u of a name: found %d, sent %d\n", count,
+           ((int (*)(id, SEL))method_getImplementation(watts))((id)object, @selector(watts)),
+           [object watts]);
     object_dispose(object);
 }
 
@@ -88,20 +94,30 @@ int main(void)
     printf("its metaclass %u, ", count);
     printf("Torch none %d\n", class_copyMethodList(torch, &count) == NULL && count == 0);
     bool done = class_addMethod(torch, @selector(one), (IMP)ten, "i16@0:8");
-    printf("added %d, %d; again %d\n", done, [object one], class_addMethod(torch, @selector(one), (IMP)eleven, "i16@0:8"));
+    printf("added %d, %d; again %d\n", done, [object one],
+           class_addMethod(torch, @selector(one), (IMP)eleven, "i16@0:8"));
     done = class_replaceMethod(torch, @selector(one), (IMP)eleven, "i16@0:8") == (IMP)ten;
     printf("replaced %d, %d; ", done, [object one]);
     done = !class_replaceMethod(torch, @selector(two), (IMP)ten, "i16@0:8");
     printf("anew %d, %d\n", done, [object two]);
-    done = method_setImplementation(class_getInstanceMethod(lamp, @selector(two)), (IMP)eleven) != NULL;
+    done = method_setImplementation(class_getInstanceMethod(lamp, @selector(two)), (IMP)eleven) !=
+           NULL;
     printf("set %d, %d\n", done, [object two]);
-    method_exchangeImplementations(class_getInstanceMethod(torch, @selector(one)), class_getInstanceMethod(torch, @selector(two)));
+    method_exchangeImplementations(class_getInstanceMethod(torch, @selector(one)),
+                                   class_getInstanceMethod(torch, @selector(two)));
     printf("exchanged %d %d\n", [object one], [object two]);
     class_replaceMethod(((id)torch)->isa, @selector(lamps), (IMP)ten, "i16@0:8");
-    printf("of classes %d %d, found %d\n", [Torch lamps], [Lamp lamps], class_getClassMethod(torch, @selector(lamps)) != class_getClassMethod(lamp, @selector(lamps)));
-    printf("answers %d, %d, %d\n", class_respondsToSelector(torch, @selector(two)), class_respondsToSelector(torch, @selector(lamps)), class_getMethodImplementation(torch, @selector(two)) == method_getImplementation(class_getInstanceMethod(torch, @selector(two))));
-    printf("of nothing: %d %d %d\n", class_getInstanceMethod(NULL, @selector(one)) == NULL, method_getName(NULL) == NULL, class_addMethod(torch, NULL, (IMP)ten, "i16@0:8"));
-    printf("no types: %d %d\n", method_copyReturnType(NULL) == NULL, method_copyArgumentType(NULL, 0) == NULL);
+    printf("of classes %d %d, found %d\n", [Torch lamps], [Lamp lamps],
+           class_getClassMethod(torch, @selector(lamps)) !=
+               class_getClassMethod(lamp, @selector(lamps)));
+    printf("answers %d, %d, %d\n", class_respondsToSelector(torch, @selector(two)),
+           class_respondsToSelector(torch, @selector(lamps)),
+           class_getMethodImplementation(torch, @selector(two)) ==
+               method_getImplementation(class_getInstanceMethod(torch, @selector(two))));
+    printf("of nothing: %d %d %d\n", class_getInstanceMethod(NULL, @selector(one)) == NULL,
+           method_getName(NULL) == NULL, class_addMethod(torch, NULL, (IMP)ten, "i16@0:8"));
+    printf("no types: %d %d\n", method_copyReturnType(NULL) == NULL,
+           method_copyArgumentType(NULL, 0) == NULL);
     show_cut(NULL, 2);
     object_dispose(object);
     show_both();

@@ -45,7 +45,8 @@ static void *turn(void *given)
     for (int i = 0; i < TURNS; i++) {
         holder.value = values[(i + (long)given) % 2];
         id value = holder.value;
-        if (value != values[0] && value != values[1]) __atomic_fetch_add(&wrong, 1, __ATOMIC_SEQ_CST);
+        if (value != values[0] && value != values[1])
+            __atomic_fetch_add(&wrong, 1, __ATOMIC_SEQ_CST);
         holder.wide = (struct wide){i, -i};
         struct wide seen = holder.wide;
         if (seen.first + seen.second) __atomic_fetch_add(&wrong, 1, __ATOMIC_SEQ_CST);

@@ -71,8 +71,10 @@ static void tell_functions(Class object)
     SEL equal = sel_registerName("isEqual:"), none = sel_registerName("none");
     Method method = class_getInstanceMethod(object, equal);
     IMP imp = method_getImplementation(method);
-    printf("found %d, as of the method %d, of none %d\n", get_imp(object, equal) == imp, method_get_imp(method) == imp, method_get_imp(NULL) == NULL);
-    printf("not found, but something to call %d\n", get_imp(object, none) != NULL && get_imp(object, none) != imp);
+    printf("found %d, as of the method %d, of none %d\n", get_imp(object, equal) == imp,
+           method_get_imp(method) == imp, method_get_imp(NULL) == NULL);
+    printf("not found, but something to call %d\n",
+           get_imp(object, none) != NULL && get_imp(object, none) != imp);
 }
 
 static void tell_selectors(void)
@@ -83,16 +85,21 @@ static void tell_selectors(void)
     printf("the newest %d, ", sel_get_any_uid("typed") == newest);
     newest = sel_registerName("typed");
     printf("%d\n", sel_get_any_uid("typed") == newest);
-    struct objc_selector empty = {{0}, NULL}, text = {{.text = "typed"}, NULL}, far = {{.key = UINTPTR_MAX}, NULL};
-    printf("selectors %d %d, not %d %d %d\n", sel_is_mapped(newest), sel_is_mapped(sel_registerName("else")), sel_is_mapped(&empty), sel_is_mapped(&text), sel_is_mapped(&far));
+    struct objc_selector empty = {{0}, NULL}, text = {{.text = "typed"}, NULL},
+                         far = {{.key = UINTPTR_MAX}, NULL};
+    printf("selectors %d %d, not %d %d %d\n", sel_is_mapped(newest),
+           sel_is_mapped(sel_registerName("else")), sel_is_mapped(&empty), sel_is_mapped(&text),
+           sel_is_mapped(&far));
 }
 
 static void tell_classes(Class object)
 {
     printf("no hook at first %d; ", _objc_lookup_class == NULL);
     _objc_lookup_class = find;
-    printf("unknown %d %d, ", objc_getClass("Nowhere") == object, objc_get_class("Nowhere") == object);
-    printf("known %d, only looked up %d; asked %d\n", objc_getClass("Object") == object, objc_lookUpClass("Nowhere") == NULL, asked);
+    printf("unknown %d %d, ", objc_getClass("Nowhere") == object,
+           objc_get_class("Nowhere") == object);
+    printf("known %d, only looked up %d; asked %d\n", objc_getClass("Object") == object,
+           objc_lookUpClass("Nowhere") == NULL, asked);
     objc_setGetUnknownClassHandler(find_nothing);
     printf("with a handler %d; asked %d\n", objc_getClass("Nowhere") == NULL, asked);
 }

@@ -21,19 +21,27 @@ __attribute__((objc_root_class)) @interface Apart { Class isa; }
 @end
 
 static int wrong, found, waiting[2] = {-1, -1};
-static SEL value, own, added[MODULES_COUNT]; /* there before, since a name is registered under a lock */
+/* there before, since a name is registered under a lock */
+static SEL value, own, added[MODULES_COUNT];
 
 static void count(int *at) { __atomic_fetch_add(at, 1, __ATOMIC_SEQ_CST); }
 
-static int sent(Class class_, SEL sel) { return ((int (*)(id, SEL))objc_msg_lookup((id)class_, sel))((id)class_, sel); }
+static int sent(Class class_, SEL sel)
+{
+    return ((int (*)(id, SEL))objc_msg_lookup((id)class_, sel))((id)class_, sel);
+}
 
 static int is_right(Class class_, int module, int asks)
 {
-    if (asks) return class_respondsToSelector(class_, own) && !class_respondsToSelector(class_, value);
+    if (asks)
+        return class_respondsToSelector(class_, own) && !class_respondsToSelector(class_, value);
     return sent(class_, value) == 100 + module;
 }
 
-static int is_whole(int module) { return class_respondsToSelector(objc_getMetaClass("Apart"), added[module]); }
+static int is_whole(int module)
+{
+    return class_respondsToSelector(objc_getMetaClass("Apart"), added[module]);
+}
 
 /* Those of each module's classes that come first, in the middle and last. */
 static void *find(void *asks)

@@ -9,12 +9,17 @@ static SEL sels[NAMES];
 static Class classes[CLASSES];
 static long wrong;
 
-static void add(Class class_, int name, long number) { class_addMethod(class_, sels[name], (IMP)(BEGIN + number), "@16@0:8"); }
+static void add(Class class_, int name, long number)
+{
+    class_addMethod(class_, sels[name], (IMP)(BEGIN + number), "@16@0:8");
+}
 
 static void look(Class class_, int name, long number)
 {
     struct objc_object object = {class_};
-    if ((long)objc_msg_lookup(&object, sels[name]) != BEGIN + number || !class_respondsToSelector(class_, sels[name])) wrong++;
+    if ((long)objc_msg_lookup(&object, sels[name]) != BEGIN + number ||
+        !class_respondsToSelector(class_, sels[name]))
+        wrong++;
 }
 
 static long number_of(int class_, int name) { return (class_ + 1) * NAMES + name; }
@@ -24,7 +29,8 @@ static void make(int class_)
     char text[16];
     snprintf(text, sizeof text, "Made%d", class_);
     classes[class_] = objc_allocateClassPair(&root, text, 0);
-    for (int name = 0; name < OF_CLASSES; name++) add(classes[class_], name, number_of(class_, name));
+    for (int name = 0; name < OF_CLASSES; name++)
+        add(classes[class_], name, number_of(class_, name));
     objc_registerClassPair(classes[class_]);
 }
 

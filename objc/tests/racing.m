@@ -23,7 +23,8 @@ static IMP hook(id self, SEL sel) { return (IMP)by_hook; }
 + (BOOL)resolveClassMethod:(SEL)sel
 {
     if (!sel_isEqual(sel, @selector(late))) return 0;
-    class_addMethod(objc_getMetaClass("Base"), sel, (IMP)late, "i16@0:8"); /* unless another thread was here before */
+    class_addMethod(objc_getMetaClass("Base"), sel, (IMP)late,
+                    "i16@0:8"); /* unless another thread was here before */
     return 1;
 }
 @end
@@ -49,7 +50,8 @@ int main(void)
     pthread_t threads[THREADS];
     __objc_msg_forward2 = hook;
     pthread_barrier_init(&together, NULL, THREADS);
-    for (int i = 0; i < THREADS; i++) pthread_create(&threads[i], NULL, run, i == 2 ? &wrong : NULL);
+    for (int i = 0; i < THREADS; i++)
+        pthread_create(&threads[i], NULL, run, i == 2 ? &wrong : NULL);
     for (int i = 0; i < THREADS; i++) pthread_join(threads[i], NULL);
     printf("wrong %d\n", wrong);
     return 0;

@@ -30,7 +30,8 @@ static void *find(void *nothing)
         Class class_;
         snprintf(name, sizeof name, "Made%d", i);
         while (!(class_ = objc_lookUpClass(name))) __atomic_store_n(&waited, i, __ATOMIC_SEQ_CST);
-        int right = class_respondsToSelector(class_, first) && !class_respondsToSelector(class_, none);
+        int right =
+            class_respondsToSelector(class_, first) && !class_respondsToSelector(class_, none);
         right = right && sent(class_, value) == 6 && sent(class_, last) == 6;
         if (!right) wrong++;
     }

@@ -12,7 +12,8 @@ int main(void)
         if (send(object, first) != (i & 1 ? 11 : 12)) wrong++;
     }
     printf("wrong %d\n", wrong);
-    printf("set: %d\n", method_setImplementation(class_getInstanceMethod(&root, first), two) == one);
+    printf("set: %d\n",
+           method_setImplementation(class_getInstanceMethod(&root, first), two) == one);
     printf("then %ld\n", send(object, first));
     object_dispose(object);
     return 0;

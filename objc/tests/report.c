@@ -60,7 +60,8 @@ static void send_all(void)
 
 static bool is_known(const char *name)
 {
-    return !strcmp(name, "classes") || !strcmp(name, "no_array") || !strcmp(name, "refused_senders");
+    return !strcmp(name, "classes") || !strcmp(name, "no_array") ||
+           !strcmp(name, "refused_senders");
 }
 
 /* The number of a line is told where it is known, and else whether it may be. */
@@ -106,6 +107,7 @@ static void start(const char *value, char **words)
 int main(int count, char **words)
 {
     if (count > 1) send_all();
-    for (size_t i = 0; count == 1 && i < sizeof values / sizeof *values; i++) start(values[i], words);
+    for (size_t i = 0; count == 1 && i < sizeof values / sizeof *values; i++)
+        start(values[i], words);
     return 0;
 }

@@ -9,21 +9,29 @@ static id four(id self, SEL sel, ...) { (void)self; (void)sel; return (id)14; }
 static SEL first, second, new_one;
 static id object, of_child;
 
-static long answer(id receiver, SEL sel) { return class_respondsToSelector(receiver->isa, sel) ? send(receiver, sel) : 0; }
+static long answer(id receiver, SEL sel)
+{
+    return class_respondsToSelector(receiver->isa, sel) ? send(receiver, sel) : 0;
+}
 static void show(const char *what)
 {
-    printf("%s: %ld %ld %ld, child %ld %ld %ld\n", what, answer(object, first), answer(object, second), answer(object, new_one),
-           answer(of_child, first), answer(of_child, second), answer(of_child, new_one));
+    printf("%s: %ld %ld %ld, child %ld %ld %ld\n", what, answer(object, first),
+           answer(object, second), answer(object, new_one), answer(of_child, first),
+           answer(of_child, second), answer(of_child, new_one));
 }
 
 static void replace_and_take_back(void)
 {
-    struct objc_method_swap rows[] = {
-        {&root, first, three, NULL}, {&child, first, four, NULL}, {&child, second, three, "@16@0:8"}, {&root, second, four, NULL}};
+    struct objc_method_swap rows[] = {{&root, first, three, NULL},
+                                      {&child, first, four, NULL},
+                                      {&child, second, three, "@16@0:8"},
+                                      {&root, second, four, NULL}};
     printf("%zu", objc_replace_methods(rows, 4));
     show(" replaced");
-    printf("before %d %d %d %d\n", rows[0].imp == one, rows[1].imp == one, rows[2].imp == two, rows[3].imp == two);
-    printf("types %s, own methods of the child %d\n", method_getTypeEncoding(class_getInstanceMethod(&child, first)),
+    printf("before %d %d %d %d\n", rows[0].imp == one, rows[1].imp == one, rows[2].imp == two,
+           rows[3].imp == two);
+    printf("types %s, own methods of the child %d\n",
+           method_getTypeEncoding(class_getInstanceMethod(&child, first)),
            class_getInstanceMethod(&child, first) != class_getInstanceMethod(&root, first));
     printf("%zu", objc_replace_methods(rows, 4));
     show(" taken back");
@@ -34,12 +42,16 @@ static void add_one(void)
     struct objc_method_swap rows[] = {{&root, new_one, three, "@16@0:8"}};
     printf("%zu", objc_replace_methods(rows, 1));
     show(" added");
-    printf("before %d; there is no way back: %zu\n", rows[0].imp == NULL, objc_replace_methods(rows, 1));
+    printf("before %d; there is no way back: %zu\n", rows[0].imp == NULL,
+           objc_replace_methods(rows, 1));
 }
 
 static void refuse(const char *why, Class class_, SEL sel, IMP imp, const char *types)
 {
-    struct objc_method_swap rows[] = {{&root, first, three, NULL}, {&child, second, four, NULL}, {class_, sel, imp, types}, {NULL, NULL, NULL, NULL}};
+    struct objc_method_swap rows[] = {{&root, first, three, NULL},
+                                      {&child, second, four, NULL},
+                                      {class_, sel, imp, types},
+                                      {NULL, NULL, NULL, NULL}};
     printf("%s: at %zu, ", why, objc_replace_methods(rows, 4));
     printf("rows as they were %d", rows[0].imp == three && rows[1].imp == four);
     show("");
@@ -59,8 +71,12 @@ static void refuse_each(void)
 
 static void exchange(void)
 {
-    Method here = class_getInstanceMethod(&root, first), there = class_getInstanceMethod(&root, second), last = class_getInstanceMethod(&root, new_one);
-    struct objc_method_pair pairs[] = {{here, there}, {there, last}}, back[] = {{there, last}, {here, there}}, wrong[] = {{here, there}, {here, NULL}};
+    Method here = class_getInstanceMethod(&root, first),
+           there = class_getInstanceMethod(&root, second),
+           last = class_getInstanceMethod(&root, new_one);
+    struct objc_method_pair pairs[] = {{here, there}, {there, last}},
+                            back[] = {{there, last}, {here, there}},
+                            wrong[] = {{here, there}, {here, NULL}};
     printf("%zu", objc_exchange_methods(pairs, 2));
     show(" exchanged");
     printf("%zu", objc_exchange_methods(wrong, 2));
@@ -68,6 +84,22 @@ static void exchange(void)
     printf("%zu", objc_exchange_methods(back, 2));
     show(" taken back");
     printf("none: %zu %zu\n", objc_replace_methods(NULL, 0), objc_exchange_methods(NULL, 0));
+}
+
+static void look_up(void)
+{
+    Class constructed = objc_allocateClassPair(&root, "Constructed", 0);
+    struct objc_method_lookup rows[] = {
+        {&root, first, NULL}, {&child, new_one, NULL}, {&root, sel_registerName("nobodys"), NULL}};
+    struct objc_method_lookup wrong[] = {{&root, first, NULL}, {constructed, first, NULL}};
+    printf("%zu", objc_lookup_methods(rows, 3));
+    printf(" looked up: %d %d %d\n", rows[0].imp == one, rows[1].imp == three,
+           rows[2].imp == NULL);
+    printf("in construction: at %zu", objc_lookup_methods(wrong, 2));
+    wrong[0].sel = NULL;
+    printf(", no selector: at %zu, none: %zu\n", objc_lookup_methods(wrong, 2),
+           objc_lookup_methods(NULL, 0));
+    objc_disposeClassPair(constructed);
 }
 
 int main(void)
@@ -83,6 +115,7 @@ int main(void)
     add_one();
     refuse_each();
     exchange();
+    look_up();
     object_dispose(object);
     object_dispose(of_child);
     return 0;

@@ -21,7 +21,8 @@ __attribute__((objc_root_class)) @interface Base { Class isa; }
 
 #define KIND(n) static int kind##n(id self, SEL sel) { return n; }
 #define FOUR(n, k) k(n##0) k(n##1) k(n##2) k(n##3) k(n##4) k(n##5) k(n##6) k(n##7)
-#define ALL(k) FOUR(00, k) FOUR(01, k) FOUR(02, k) FOUR(03, k) FOUR(04, k) FOUR(05, k) FOUR(06, k) FOUR(07, k)
+#define ALL(k) \
+    FOUR(00, k) FOUR(01, k) FOUR(02, k) FOUR(03, k) FOUR(04, k) FOUR(05, k) FOUR(06, k) FOUR(07, k)
 ALL(KIND)
 #define NAME(n) kind##n,
 static int (*const kinds[KINDS])(id, SEL) = {ALL(NAME)};
@@ -37,7 +38,10 @@ static long get(long *at) { return __atomic_load_n(at, __ATOMIC_SEQ_CST); }
 static void set(long *at, long to) { __atomic_store_n(at, to, __ATOMIC_SEQ_CST); }
 static void count(long *at) { __atomic_fetch_add(at, 1, __ATOMIC_SEQ_CST); }
 
-static int sent(SEL sel) { return ((int (*)(id, SEL))objc_msg_lookup((id)base, sel))((id)base, sel); }
+static int sent(SEL sel)
+{
+    return ((int (*)(id, SEL))objc_msg_lookup((id)base, sel))((id)base, sel);
+}
 
 /* Unless so many changes were made meanwhile that an answer stands for more than one. */
 static void look(void)
@@ -105,7 +109,8 @@ int main(void)
     signal(SIGUSR1, handle);
     setitimer(ITIMER_REAL, &(struct itimerval){{0, EVERY}, {0, EVERY}}, NULL);
     time_t end = time(NULL) + SECONDS + 1;
-    for (long step = 1; time(NULL) < end || (few_handled() && time(NULL) < end + PATIENCE); step++) {
+    for (long step = 1; time(NULL) < end || (few_handled() && time(NULL) < end + PATIENCE);
+         step++) {
         change(base->isa, step);
         look();
         if (step % 50 == 0) pthread_kill(beside, SIGUSR1);

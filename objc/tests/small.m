@@ -26,7 +26,8 @@ static void tell_methods(Class class_)
     Method *list = class_copyMethodList(class_, &count);
     for (unsigned int i = 0; i < count; i++) {
         int (*call)(id, SEL) = (int (*)(id, SEL))method_getImplementation(list[i]);
-        printf("%s answers %d\n", sel_getName(method_getName(list[i])), call(nil, method_getName(list[i])));
+        printf("%s answers %d\n", sel_getName(method_getName(list[i])),
+               call(nil, method_getName(list[i])));
     }
     free(list);
 }
@@ -65,9 +66,11 @@ int main(void)
     printf("a class is no object to free: %d, %d\n", object_dispose((id)base) == nil, [Base value]);
     printf("an object is: %d\n", object_dispose(class_createInstance(base, 0)) == nil);
     SEL two = @selector(two), none = sel_registerName("none");
-    printf("responds: %d %d", class_respondsToSelector(base, two), class_respondsToSelector(base, none));
+    printf("responds: %d %d", class_respondsToSelector(base, two),
+           class_respondsToSelector(base, none));
     printf(" %d\n", class_respondsToSelector(NULL, two));
     class_ivar_set_gcinvisible(base, "isa", 1);
-    printf("asked by another name: %d %d\n", __objc_responds_to((id)base, two), __objc_responds_to((id)base, none));
+    printf("asked by another name: %d %d\n", __objc_responds_to((id)base, two),
+           __objc_responds_to((id)base, none));
     return 0;
 }

@@ -28,6 +28,14 @@ enum {
     GROWTH = 16384
 };
 
+/* The address sanitizer's allocator isn't held over a fork: of a program that only allocates, one
+ * child in ten waits for a lock that no thread of it has. */
+#ifdef SANITIZED_address
+enum { FORKS = 0 };
+#else
+enum { FORKS = 1 };
+#endif
+
 /* Each is one class's for one selector, in one version. */
 #define F(n) static int f##n(id self, SEL sel) { (void)self; (void)sel; return 0##n; }
 #define EIGHT(n, k) k(n##0) k(n##1) k(n##2) k(n##3) k(n##4) k(n##5) k(n##6) k(n##7)
@@ -137,8 +145,9 @@ static void load(char *text, size_t size, int number)
     char path[512], digits[8];
     snprintf(digits, sizeof digits, "%04d", number);
     snprintf(path, sizeof path, "%s.made.%s.so", MODULES, digits);
-    for (size_t i = 5; i + 4 <= size; i++) /* but for the symbol, which is found by its hash */
-        if (!memcmp(text + i, "0000", 4) && memchr("kedn", text[i - 1], 4) && text[i - 5] != '_')
+    for (size_t i = 5; i + 4 <= size; i++) /* but for symbols, which are found by their hashes */
+        if (!memcmp(text + i, "0000", 4) && memchr("kedn", text[i - 1], 4) &&
+            !memchr("_e", text[i - 5], 2))
             memcpy(text + i, digits, 4);
     FILE *file = fopen(path, "wb");
     if (!file || fwrite(text, 1, size, file) != size || fclose(file)) count(&wrong);
@@ -180,6 +189,10 @@ static void wait_for(pid_t child)
 static void *fork_on(void *at)
 {
     for (; !get(&over); count(at)) {
+        if (!FORKS) {
+            usleep(1000);
+            continue;
+        }
         pid_t child = fork();
         if (!child) {
             for (unsigned i = 0; i < CLASSES * OWN; i++) look(i);
@@ -286,6 +299,6 @@ int main(int words, char **word)
     grown = 0;
 #endif
     printf("each went on %d, wrong %ld, hung %ld, grown %d\n",
-           modules > 0 && forks > 0 && changes > 0, wrong, hung, grown > GROWTH);
+           modules > 0 && (forks > 0) == FORKS && changes > 0, wrong, hung, grown > GROWTH);
     return 0;
 }

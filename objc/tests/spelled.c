@@ -12,7 +12,8 @@ struct bits { void *a; int b : 3; char c; };
 struct outer { char c; struct pair pairs[3]; union { int n; void *text; } u; };
 
 #define IS(type, text) \
-    (objc_sizeof_type(text) == sizeof(type) && objc_alignof_type(text) == _Alignof(type) && !*objc_skip_typespec(text))
+    (objc_sizeof_type(text) == sizeof(type) && objc_alignof_type(text) == _Alignof(type) && \
+     !*objc_skip_typespec(text))
 
 /* A letter so often, then an end. */
 static void nested(const char *begin, const char *end)
@@ -23,7 +24,8 @@ static void nested(const char *begin, const char *end)
     strcpy(text + DEEP * length, end);
     int size = objc_sizeof_type(text), align = objc_alignof_type(text);
     const char *after = objc_skip_typespec(text);
-    printf("%s deep: %d\n", begin, size >= 0 && align >= 1 && after > text && after <= text + strlen(text));
+    printf("%s deep: %d\n", begin,
+           size >= 0 && align >= 1 && after > text && after <= text + strlen(text));
     free(text);
 }
 
@@ -59,7 +61,8 @@ static int drawn_texts(void)
         text[length] = 0;
         const char *after = objc_skip_argspec(text);
         int in = after >= text && after <= text + length;
-        int sized = objc_sizeof_type(text) >= 0 && objc_aligned_size(text) >= 0 && objc_promoted_size(text) >= 0;
+        int sized = objc_sizeof_type(text) >= 0 && objc_aligned_size(text) >= 0 &&
+                    objc_promoted_size(text) >= 0;
         right += in && sized && objc_alignof_type(text) >= 1 && layout_ends(text);
         free(text);
     }
@@ -68,12 +71,15 @@ static int drawn_texts(void)
 
 int main(void)
 {
-    const char *outer = "{outer=\"c\"c\"pairs\"[3{pair=\"n\"i\"text\"@\"NSString\"}]\"u\"(?=\"n\"i\"text\"@\"A\")}";
-    printf("quoted: %d %d", IS(struct pair, "{?=\"n\"i\"text\"@\"NSString\"}"), IS(struct outer, outer));
+    const char *outer =
+        "{outer=\"c\"c\"pairs\"[3{pair=\"n\"i\"text\"@\"NSString\"}]\"u\"(?=\"n\"i\"text\"@\"A\")}";
+    printf("quoted: %d %d", IS(struct pair, "{?=\"n\"i\"text\"@\"NSString\"}"),
+           IS(struct outer, outer));
     printf(" %d\n", IS(struct bits, "{?=\"a\"@\"X\"\"b\"b64i3\"c\"c}"));
     printf("of a block: %d %d\n", IS(void *, "@?"), IS(struct pair, "{?=i@?}"));
     printf("unknown: %d %d\n", objc_sizeof_type("A"), objc_sizeof_type("{s=iA}"));
-    printf("nothing: %d %d %d\n", objc_sizeof_type(""), objc_alignof_type(""), objc_sizeof_type("{s"));
+    printf("nothing: %d %d %d\n", objc_sizeof_type(""), objc_alignof_type(""),
+           objc_sizeof_type("{s"));
     printf("no alignment: %d\n", objc_alignof_type("![16,0f]"));
     printf("large: %d", objc_sizeof_type("[99999999999999999999i]") > 0);
     printf(" %d\n", objc_aligned_size("[4294967295[4294967295[4294967295d]]]") > 0);

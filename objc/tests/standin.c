@@ -7,12 +7,16 @@
 #include "msg_runtime.h"
 #include <stdatomic.h>
 #include <stdlib.h>
+#include "standin_types.h"
 
 enum { CLASSES = 1 << 20, SENDERS = 1 << 14, ARRAYS = 65535, PLACES = 8192 };
 #define CHANGES (UINT64_C(1) << 48)
 
+/* What a method's implementation covers: that of an older method of the same class and name. */
+struct covered { uint32_t imp; struct covered *covered; };
+
 /* A method of a class, or an empty place. */
-struct cell { uint64_t key; uint32_t imp; };
+struct cell { uint64_t key; uint32_t imp; struct covered *covered; };
 
 /* A place of the cache: what was found for a slot and a selector at a version, and their key
  * mixed with it, so that who reads both words without a lock sees whether they are of one entry. */
@@ -72,7 +76,8 @@ static struct cell *cell(const struct tables *tables, uint64_t key)
     return &tables->cells[at];
 }
 
-static void put(struct tables *tables, uint64_t key, uint32_t imp)
+/* The same, and there is room for one there. */
+static struct cell *roomy_cell(struct tables *tables, uint64_t key)
 {
     if (2 * (tables->cell_count + 1) > tables->cell_room) {
         struct tables before = {.cells = tables->cells, .cell_room = tables->cell_room};
@@ -84,7 +89,35 @@ static void put(struct tables *tables, uint64_t key, uint32_t imp)
     }
     struct cell *at = cell(tables, key);
     tables->cell_count += !at->key;
-    *at = (struct cell){key, imp};
+    at->key = key;
+    return at;
+}
+
+static void put(struct tables *tables, uint64_t key, uint32_t imp)
+{
+    roomy_cell(tables, key)->imp = imp;
+}
+
+/* As an attached category's method: what was there is covered. */
+static void cover(struct tables *tables, uint64_t key, uint32_t imp)
+{
+    struct cell *at = roomy_cell(tables, key);
+    if (at->imp) {
+        struct covered *below = zeros(1, sizeof *below);
+        *below = (struct covered){at->imp, at->covered};
+        at->covered = below;
+    }
+    at->imp = imp;
+}
+
+/* The method leaves, and what it covered counts again. */
+static void uncover(struct tables *tables, uint64_t key)
+{
+    struct cell *at = cell(tables, key);
+    struct covered *below = at->covered;
+    at->imp = below ? below->imp : 0;
+    at->covered = below ? below->covered : NULL;
+    free(below);
 }
 
 static bool is_config(const uint32_t *config, size_t words)
@@ -153,6 +186,18 @@ uint32_t msg_lookup(msg_runtime *runtime, uint32_t number, bool meta, uint32_t s
     return MSG_DONE;
 }
 
+uint32_t msg_superclass(msg_runtime *runtime, uint32_t number, bool meta, msg_class *above)
+{
+    if (!runtime->open) return MSG_CLOSED;
+    const struct tables *tables = runtime->at;
+    if (number >= tables->classes) return MSG_NO_CLASS;
+    const struct class *class = &tables->of[number];
+    if (!class->made || (class->above < 0 && !meta)) return MSG_NONE;
+    *above = class->above < 0 ? (msg_class){number, false}
+                              : (msg_class){(uint32_t)class->above, meta};
+    return MSG_DONE;
+}
+
 uint32_t msg_holder(msg_runtime *runtime, uint32_t number, bool meta, uint32_t sel, msg_class *at)
 {
     if (!runtime->open) return MSG_CLOSED;
@@ -189,10 +234,21 @@ static void flush(struct tables *tables, uint32_t number, bool meta)
 
 /* ---- changes: each is a list of parts ---- */
 
-/* What a part wrote, so that it can be taken back: the method of a key as it was, or, of key 0,
- * the class that is made. */
-struct was { uint64_t key; uint32_t imp; };
-struct log { struct was *rows; size_t count; };
+/* What a part wrote, so that it can be taken back: a method of a key, with the implementation that
+ * it had; or a class, whose key is of no selector. */
+enum wrote { ADDED, REWROTE, REMOVED, MADE, DISPOSED };
+struct was { enum wrote wrote; uint64_t key; uint32_t imp; };
+struct log { struct was *rows; size_t count, room; };
+
+static void log_row(struct log *log, enum wrote wrote, uint64_t key, uint32_t imp)
+{
+    if (log->count == log->room) {
+        log->room = 2 * log->room + 8;
+        log->rows = realloc(log->rows, log->room * sizeof *log->rows);
+        must(log->rows);
+    }
+    log->rows[log->count++] = (struct was){wrote, key, imp};
+}
 
 static bool is_made(const struct tables *tables, uint32_t number)
 {
@@ -201,7 +257,8 @@ static bool is_made(const struct tables *tables, uint32_t number)
 
 static uint32_t set(struct tables *tables, struct log *log, uint64_t key, uint32_t imp)
 {
-    log->rows[log->count++] = (struct was){key, cell(tables, key)->imp};
+    uint32_t had = cell(tables, key)->imp;
+    log_row(log, had ? REWROTE : ADDED, key, had);
     put(tables, key, imp);
     return MSG_DONE;
 }
@@ -213,6 +270,11 @@ static uint32_t write(struct tables *tables, struct log *log, const msg_change *
     if (!it->sel) return MSG_NO_SELECTOR;
     if (!it->imp) return MSG_NO_SUCH_IMP;
     if (it->kind == MSG_ADDS && cell(tables, key)->imp) return MSG_METHOD_PRESENT;
+    if (it->kind == MSG_COVERS && !full) {
+        log_row(log, ADDED, key, 0);
+        cover(tables, key, it->imp);
+        return MSG_DONE;
+    }
     bool meta = it->meta;
     bool sets = it->kind == MSG_SETS_IMP;
     int64_t at = sets ? holder(tables, it->number, &meta, it->sel) : (int64_t)it->number;
@@ -237,32 +299,76 @@ static uint32_t exchange(struct tables *tables, struct log *log, const msg_chang
     return set(tables, log, other_key, imp);
 }
 
+/* The last that is made below a class is the first there. */
+static void link_class(struct tables *tables, uint32_t number, int64_t above)
+{
+    int64_t beside = above < 0 ? -1 : tables->of[above].below;
+    tables->of[number] = (struct class){true, above, -1, beside};
+    if (above >= 0) tables->of[above].below = number;
+}
+
+static void unlink_class(struct tables *tables, uint32_t number)
+{
+    struct class *class = &tables->of[number];
+    class->made = false;
+    if (class->above < 0) return;
+    int64_t *at = &tables->of[class->above].below;
+    for (; *at != (int64_t)number; at = &tables->of[*at].beside) must(*at >= 0);
+    *at = class->beside;
+}
+
 static uint32_t make(struct tables *tables, struct log *log, const msg_change *it, bool full)
 {
     bool is_root = it->kind == MSG_MAKES_ROOT_CLASS;
     bool is_below = is_root || is_made(tables, it->other);
     if (it->number >= tables->classes || !is_below) return MSG_NO_SUCH_CLASS;
     if (full) return MSG_LIMIT;
-    struct class *made = &tables->of[it->number];
-    if (made->made) return MSG_DUPLICATE_CLASS;
-    *made = (struct class){true, is_root ? -1 : (int64_t)it->other, -1, -1};
-    if (!is_root) {
-        made->beside = tables->of[it->other].below;
-        tables->of[it->other].below = it->number;
+    if (tables->of[it->number].made) return MSG_DUPLICATE_CLASS;
+    link_class(tables, it->number, is_root ? -1 : (int64_t)it->other);
+    log_row(log, MADE, msg_key(2 * it->number, 0), 0);
+    return MSG_DONE;
+}
+
+static uint32_t take_away(struct tables *tables, struct log *log, const msg_change *it, bool full)
+{
+    uint64_t key = msg_key(2 * it->number + it->meta, it->sel);
+    if (!is_made(tables, it->number)) return MSG_NO_SUCH_CLASS;
+    if (!it->sel) return MSG_NO_SELECTOR;
+    uint32_t had = cell(tables, key)->imp;
+    if (!had) return MSG_NO_METHOD;
+    if (full) return MSG_LIMIT;
+    log_row(log, REMOVED, key, had);
+    uncover(tables, key);
+    return MSG_DONE;
+}
+
+static uint32_t dispose(struct tables *tables, struct log *log, const msg_change *it, bool full)
+{
+    if (!is_made(tables, it->number)) return MSG_NO_SUCH_CLASS;
+    if (full) return MSG_LIMIT;
+    struct class *class = &tables->of[it->number];
+    if (class->below >= 0) return MSG_CLASS_IN_USE;
+    for (size_t i = 0; i < tables->cell_room; i++) {
+        struct cell *at = &tables->cells[i];
+        while (at->imp && MSG_SLOT_OF(at->key) / 2 == it->number) {
+            log_row(log, REMOVED, at->key, at->imp);
+            uncover(tables, at->key);
+        }
     }
-    log->rows[log->count++] = (struct was){0, it->number};
+    log_row(log, DISPOSED, msg_key(2 * it->number, 0), (uint32_t)(class->above + 1));
+    unlink_class(tables, it->number);
     return MSG_DONE;
 }
 
 static uint32_t meaning(const msg_change *it)
 {
     switch (it->kind) {
-    case MSG_ADDS: case MSG_REPLACES: case MSG_SETS_IMP:
+    case MSG_ADDS: case MSG_REPLACES: case MSG_SETS_IMP: case MSG_REMOVES: case MSG_COVERS:
         return it->meta > 1 ? MSG_BAD_CHANGE : it->sel ? MSG_DONE : MSG_NO_SELECTOR;
     case MSG_EXCHANGES:
         if (it->meta > 1 || it->other_meta > 1) return MSG_BAD_CHANGE;
         return it->sel && it->other_sel ? MSG_DONE : MSG_NO_SELECTOR;
-    case MSG_MAKES_CLASS: case MSG_MAKES_ROOT_CLASS: return MSG_DONE;
+    case MSG_MAKES_CLASS: case MSG_MAKES_ROOT_CLASS: case MSG_DISPOSES_CLASS: return MSG_DONE;
     default: return MSG_BAD_CHANGE;
     }
 }
@@ -270,8 +376,11 @@ static uint32_t meaning(const msg_change *it)
 static uint32_t change(struct tables *tables, struct log *log, const msg_change *it, bool full)
 {
     switch (it->kind) {
-    case MSG_ADDS: case MSG_REPLACES: case MSG_SETS_IMP: return write(tables, log, it, full);
+    case MSG_ADDS: case MSG_REPLACES: case MSG_SETS_IMP: case MSG_COVERS:
+        return write(tables, log, it, full);
     case MSG_EXCHANGES: return exchange(tables, log, it, full);
+    case MSG_REMOVES: return take_away(tables, log, it, full);
+    case MSG_DISPOSES_CLASS: return dispose(tables, log, it, full);
     default: return make(tables, log, it, full);
     }
 }
@@ -280,11 +389,37 @@ static void take_back(struct tables *tables, const struct log *log)
 {
     for (size_t i = log->count; i--;) {
         struct was was = log->rows[i];
-        struct class *made = &tables->of[was.imp];
-        if (was.key) put(tables, was.key, was.imp);
-        else made->made = false;
-        if (!was.key && made->above >= 0) tables->of[made->above].below = made->beside;
+        uint32_t number = MSG_SLOT_OF(was.key) / 2;
+        switch (was.wrote) {
+        case ADDED: uncover(tables, was.key); break;
+        case REWROTE: put(tables, was.key, was.imp); break;
+        case REMOVED: cover(tables, was.key, was.imp); break;
+        case MADE: unlink_class(tables, number); break;
+        case DISPOSED: link_class(tables, number, (int64_t)was.imp - 1); break;
+        }
     }
+}
+
+/* The part that takes back what was written. */
+static msg_change back_of(struct was was)
+{
+    uint32_t slot = MSG_SLOT_OF(was.key), number = slot / 2;
+    msg_change back = {.number = number, .meta = slot % 2, .sel = MSG_SEL_OF(was.key)};
+    switch (was.wrote) {
+    case ADDED: back.kind = MSG_REMOVES; return back;
+    case REWROTE: back.kind = MSG_REPLACES; back.imp = was.imp; return back;
+    case REMOVED: back.kind = MSG_COVERS; back.imp = was.imp; return back;
+    case MADE: return (msg_change){.kind = MSG_DISPOSES_CLASS, .number = number};
+    default: break;
+    }
+    if (!was.imp) return (msg_change){.kind = MSG_MAKES_ROOT_CLASS, .number = number};
+    return (msg_change){.kind = MSG_MAKES_CLASS, .number = number, .other = was.imp - 1};
+}
+
+static bool is_of_class(const msg_change *it)
+{
+    return it->kind == MSG_MAKES_CLASS || it->kind == MSG_MAKES_ROOT_CLASS
+           || it->kind == MSG_DISPOSES_CLASS;
 }
 
 /* A class reference. */
@@ -294,8 +429,9 @@ struct mark { int64_t number; bool meta; };
 static size_t places_of(const struct tables *tables, const msg_change *it, struct mark *marks)
 {
     struct mark first = {it->number, it->meta}, other = {it->other, it->other_meta};
-    if (it->kind >= MSG_MAKES_CLASS || !is_made(tables, it->number)) return 0;
-    if (it->kind >= MSG_SETS_IMP) first.number = holder(tables, it->number, &first.meta, it->sel);
+    if (is_of_class(it) || !is_made(tables, it->number)) return 0;
+    if (it->kind == MSG_SETS_IMP || it->kind == MSG_EXCHANGES)
+        first.number = holder(tables, it->number, &first.meta, it->sel);
     marks[0] = first;
     if (it->kind != MSG_EXCHANGES || !is_made(tables, it->other)) return 1;
     other.number = holder(tables, it->other, &other.meta, it->other_sel);
@@ -316,13 +452,15 @@ static void mark_below(const struct tables *tables, struct mark place, bool *rea
     }
 }
 
-/* All that was written is affected, and what is below it; of a class that was made both sides. */
+/* All that was written is affected, and what is below it; of a class that was made or disposed of
+ * both sides. */
 static void commit(struct tables *tables, const struct log *log)
 {
     for (size_t i = 0; i < log->count; i++) {
-        uint32_t slot = log->rows[i].key ? MSG_SLOT_OF(log->rows[i].key) : 2 * log->rows[i].imp;
+        const struct was *was = &log->rows[i];
+        uint32_t slot = MSG_SLOT_OF(was->key);
         flush(tables, slot / 2, slot % 2);
-        if (!log->rows[i].key) flush(tables, slot / 2, true);
+        if (was->wrote == MADE || was->wrote == DISPOSED) flush(tables, slot / 2, true);
     }
     atomic_fetch_add(&tables->words[VERSION], 1);
 }
@@ -342,7 +480,7 @@ static uint32_t change_each(struct tables *tables, struct log *log, const msg_ch
         if ((fault = change(tables, log, &changes[at], version(tables) + at >= CHANGES))) break;
         for (size_t i = 0; i < marked; i++) mark_below(tables, marks[i], reached);
         uint32_t slot = 2 * changes[at].number;
-        if (reached && changes[at].kind >= MSG_MAKES_CLASS)
+        if (reached && is_of_class(&changes[at]))
             reached[slot] = reached[slot + 1] = true;
         at++;
     }
@@ -354,24 +492,15 @@ uint32_t msg_change_all_with_undo(msg_runtime *runtime, const msg_change *change
                                   msg_change *undo, size_t room, size_t *undone, size_t *place)
 {
     if (!runtime->open) return MSG_CLOSED;
-    if (undone && room < 2 * count) return MSG_NO_ROOM;
     struct tables *tables = runtime->at;
-    struct log log = {zeros(2 * count + 1, sizeof *log.rows), 0};
+    struct log log = {NULL, 0, 0};
     uint32_t fault = change_each(tables, &log, changes, count, NULL, place);
+    if (!fault && undone) *undone = log.count;
+    if (!fault && undone && room < log.count) fault = MSG_NO_ROOM;
     if (fault) take_back(tables, &log);
     else if (count) commit(tables, &log);
-    if (undone && !fault) *undone = 0;
-    for (size_t i = log.count; undone && !fault && i--;) {
-        struct was was = log.rows[i];
-        uint32_t slot = MSG_SLOT_OF(was.key);
-        if (!was.key || !was.imp) {
-            *undone = 0;
-            break;
-        }
-        *undone = log.count - i;
-        undo[log.count - i - 1] =
-            (msg_change){MSG_REPLACES, slot / 2, slot % 2, MSG_SEL_OF(was.key), was.imp, 0, 0, 0};
-    }
+    for (size_t i = 0; undone && !fault && i < log.count; i++)
+        undo[i] = back_of(log.rows[log.count - 1 - i]);
     free(log.rows);
     return fault;
 }
@@ -388,7 +517,7 @@ uint32_t msg_reach(msg_runtime *runtime, const msg_change *changes, size_t count
     if (!runtime->open) return MSG_CLOSED;
     struct tables *tables = runtime->at;
     if (room != 2 * tables->classes) return MSG_NO_ROOM;
-    struct log log = {zeros(2 * count + 1, sizeof *log.rows), 0};
+    struct log log = {NULL, 0, 0};
     uint32_t fault = change_each(tables, &log, changes, count, reached, place);
     take_back(tables, &log);
     free(log.rows);
@@ -428,6 +557,16 @@ uint32_t msg_make_root_class(msg_runtime *runtime, uint32_t number)
     return change_one(runtime, (msg_change){MSG_MAKES_ROOT_CLASS, number, 0, 0, 0, 0, 0, 0});
 }
 
+uint32_t msg_remove(msg_runtime *runtime, uint32_t number, bool meta, uint32_t sel)
+{
+    return change_one(runtime, (msg_change){MSG_REMOVES, number, meta, sel, 0, 0, 0, 0});
+}
+
+uint32_t msg_dispose_class(msg_runtime *runtime, uint32_t number)
+{
+    return change_one(runtime, (msg_change){MSG_DISPOSES_CLASS, number, 0, 0, 0, 0, 0, 0});
+}
+
 static uint32_t fault_in(const msg_method *methods, size_t count)
 {
     for (size_t i = 0; i < count; i++) {
@@ -440,7 +579,7 @@ static uint32_t fault_in(const msg_method *methods, size_t count)
 /* From the last, so that the earlier of a name counts. */
 static void put_all(struct tables *tables, uint32_t slot, const msg_method *methods, size_t count)
 {
-    while (count--) put(tables, msg_key(slot, methods[count].sel), methods[count].imp);
+    while (count--) cover(tables, msg_key(slot, methods[count].sel), methods[count].imp);
 }
 
 uint32_t msg_attach(msg_runtime *runtime, uint32_t number, const msg_method *methods, size_t count,
@@ -599,6 +738,75 @@ uint32_t msg_probe(msg_sender *sender, uint32_t number, bool meta, uint32_t sel,
     else if (!answer) answer = probe(asker, sender, slot, sel, imp);
     sender->at = asker;
     return answer;
+}
+
+/* Why lookups aren't answered as one, or MSG_DONE. */
+static uint32_t judge_all(const struct tables *tables, const msg_lookup_row *lookups, size_t count,
+                          size_t room, size_t *place)
+{
+    if (room != count) return MSG_NO_ROOM;
+    for (size_t i = 0; i < count; i++) {
+        bool bad = lookups[i].meta > 1;
+        uint32_t fault = fault_of(tables, lookups[i].number, lookups[i].sel);
+        if (!bad && !fault) continue;
+        *place = i;
+        return bad ? MSG_BAD_CHANGE : fault;
+    }
+    return MSG_DONE;
+}
+
+/* What a lookup found after so many changes, if none after them has affected its class. */
+static uint32_t probe_after(struct asker *asker, msg_sender *sender, uint64_t count,
+                            msg_lookup_row it, uint32_t *imp)
+{
+    uint32_t slot = 2 * it.number + it.meta, answer = MSG_DONE;
+    uint64_t since = stamp(asker->tables, slot);
+    if (since > count) return MSG_MISSED;
+    if (is_noted(sender, slot, it.sel, since))
+        *imp = note_at(sender, slot, it.sel)->imp;
+    else
+        answer = probe(asker, sender, slot, it.sel, imp);
+    return answer || stamp(asker->tables, slot) > count ? MSG_MISSED : MSG_DONE;
+}
+
+uint32_t msg_probe_all(msg_sender *sender, const msg_lookup_row *lookups, size_t count,
+                       uint32_t *imps, size_t room, size_t *place)
+{
+    if (!sender->open) return MSG_CLOSED;
+    struct asker *asker = sender->at;
+    must(asker);
+    uint32_t answer = judge_all(asker->tables, lookups, count, room, place);
+    if (answer) return answer;
+    sender->at = NULL;
+    uint64_t counted = asker->seen = version(asker->tables);
+    for (size_t i = 0; !answer && i < count; i++)
+        answer = probe_after(asker, sender, counted, lookups[i], &imps[i]);
+    sender->at = asker;
+    return answer;
+}
+
+uint32_t msg_fill_all(msg_runtime *runtime, msg_sender *sender, const msg_lookup_row *lookups,
+                      size_t count, uint32_t *imps, size_t room, size_t *place)
+{
+    if (!runtime->open || !sender->open) return MSG_CLOSED;
+    struct asker *asker = sender->at;
+    must(asker && runtime->at == asker->tables);
+    uint32_t fault = judge_all(asker->tables, lookups, count, room, place);
+    if (fault) return fault;
+    asker->seen = version(asker->tables);
+    for (size_t i = 0; i < count; i++)
+        must(!msg_fill(runtime, sender, lookups[i].number, lookups[i].meta, lookups[i].sel,
+                       &imps[i]));
+    return MSG_DONE;
+}
+
+uint32_t msg_meet(msg_runtime *runtime, msg_sender *sender)
+{
+    if (!runtime->open || !sender->open) return MSG_CLOSED;
+    struct asker *asker = sender->at;
+    must(asker && runtime->at == asker->tables);
+    asker->seen = version(asker->tables);
+    return MSG_DONE;
 }
 
 uint32_t msg_refresh(msg_sender *sender, uint64_t *count)

@@ -72,12 +72,19 @@ static long answer_of(long next) { return next & 1 ? 11 : 12; }
 /* What this thread has noted is then older, since an exchange notes nothing, or of the change. */
 static long change(int older, long next)
 {
-    if (older) method_exchangeImplementations(class_getInstanceMethod(&root, first), class_getInstanceMethod(&root, second));
+    if (older)
+        method_exchangeImplementations(class_getInstanceMethod(&root, first),
+                                       class_getInstanceMethod(&root, second));
     else class_replaceMethod(&root, first, other_of(next), "@16@0:8");
-    return older ? (long)method_getImplementation(class_getInstanceMethod(&root, first))(object, first) : answer_of(next);
+    return older ? (long)method_getImplementation(class_getInstanceMethod(&root, first))(object,
+                                                                                         first)
+                 : answer_of(next);
 }
 
-static int is_or(long answer, long before, long after) { return !answer || answer == before || answer == after; }
+static int is_or(long answer, long before, long after)
+{
+    return !answer || answer == before || answer == after;
+}
 
 static long send_each(SEL sel, int older)
 {
@@ -96,7 +103,9 @@ static long change_each(void)
     change(0, 1);
     for (; next < ENDLESS && !begin(next); next++) {
         replace(first, other_of(next));
-        if (!is_or(handled, answer_of(next + 1), answer_of(next)) || send(object, first) != answer_of(next)) wrong++;
+        if (!is_or(handled, answer_of(next + 1), answer_of(next)) ||
+            send(object, first) != answer_of(next))
+            wrong++;
     }
     return next;
 }

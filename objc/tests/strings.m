@@ -13,6 +13,7 @@ int main(void)
     NXConstantString *text = @"several words";
     printf("%s, %u, %s\n", [text cString], [text length], object_getClassName(text));
     printf("itself %d, another %d\n", [text isEqual:text], [text isEqual:@"another"]);
-    printf("class %s under %s\n", class_getName([text class]), class_getName(class_getSuperclass([text class])));
+    printf("class %s under %s\n", class_getName([text class]),
+           class_getName(class_getSuperclass([text class])));
     return 0;
 }

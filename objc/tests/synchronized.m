@@ -51,7 +51,8 @@ int main(void)
     pthread_create(threads, NULL, enter, counter);
     pthread_join(threads[0], &failed);
     printf("free for others: %d\n", !failed);
-    printf("nil %d %d, not held %d\n", objc_sync_enter(nil), objc_sync_exit(nil), objc_sync_exit(counter));
+    printf("nil %d %d, not held %d\n", objc_sync_enter(nil), objc_sync_exit(nil),
+           objc_sync_exit(counter));
     object_dispose(counter);
     return 0;
 }

@@ -109,14 +109,19 @@ static void all_refused(void)
             MSG_DUPLICATE_CLASS);
     refused((msg_change){.kind = MSG_MAKES_CLASS, .number = MADE + 2, .other = MADE + 3},
             MSG_NO_SUCH_CLASS);
+    refused((msg_change){.kind = MSG_REMOVES, .number = MADE + 1, .sel = ONE}, MSG_NO_METHOD);
+    refused((msg_change){.kind = MSG_REMOVES, .number = MADE + 1}, MSG_NO_SELECTOR);
+    refused((msg_change){.kind = MSG_COVERS, .number = ROOT, .sel = ONE}, MSG_NO_SUCH_IMP);
+    refused((msg_change){.kind = MSG_DISPOSES_CLASS, .number = ROOT}, MSG_CLASS_IN_USE);
+    refused((msg_change){.kind = MSG_DISPOSES_CLASS, .number = MADE + 2}, MSG_NO_SUCH_CLASS);
     refused((msg_change){.kind = 0}, MSG_BAD_CHANGE);
-    refused((msg_change){.kind = MSG_MAKES_ROOT_CLASS + 1}, MSG_BAD_CHANGE);
+    refused((msg_change){.kind = MSG_COVERS + 1}, MSG_BAD_CHANGE);
     refused((msg_change){.kind = MSG_REPLACES, .number = ROOT, .meta = 2, .sel = ONE, .imp = 1},
             MSG_BAD_CHANGE);
 }
 
-/* Two replaced methods and an exchange of them, taken back; a method that is added has no way
- * back. */
+/* Two replaced methods and an exchange of them, taken back; the same with a method that is
+ * added and another that is removed. */
 static void undone(void)
 {
     const msg_change parts[] = {
@@ -125,14 +130,16 @@ static void undone(void)
         {.kind = MSG_EXCHANGES, .number = ROOT, .sel = ONE, .other = ROOT, .other_meta = 1,
          .other_sel = TWO},
         {.kind = MSG_ADDS, .number = ROOT, .sel = NOBODYS, .imp = 43},
+        {.kind = MSG_REMOVES, .number = ROOT, .sel = ONE},
     };
     msg_change back[8];
     size_t place = 99, count = 99;
     uint64_t before = changes();
     uint32_t one = look(CHILD, false, ONE), two = look(ROOT, true, TWO);
-    WANT(msg_change_all_with_undo(&runtime, parts, 3, back, 5, &count, &place), MSG_NO_ROOM);
+    WANT(msg_change_all_with_undo(&runtime, parts, 3, back, 3, &count, &place), MSG_NO_ROOM);
+    WANT(count, 4);
     WANT(changes(), before);
-    WANT(msg_change_all_with_undo(&runtime, parts, 3, back, 6, &count, &place), MSG_DONE);
+    WANT(msg_change_all_with_undo(&runtime, parts, 3, back, 4, &count, &place), MSG_DONE);
     WANT(count, 4);
     WANT(changes(), before + 1);
     WANT(look(CHILD, false, ONE), 42);
@@ -141,9 +148,56 @@ static void undone(void)
     WANT(changes(), before + 2);
     WANT(look(CHILD, false, ONE), one);
     WANT(look(ROOT, true, TWO), two);
-    WANT(msg_change_all_with_undo(&runtime, parts, 4, back, 8, &count, &place), MSG_DONE);
-    WANT(count, 0);
+    WANT(msg_change_all_with_undo(&runtime, parts, 5, back, 8, &count, &place), MSG_DONE);
+    WANT(count, 6);
     WANT(look(CHILD, false, NOBODYS), 43);
+    WANT(look(CHILD, false, ONE), 0);
+    WANT(msg_change_all(&runtime, back, count, &place), MSG_DONE);
+    WANT(look(CHILD, false, NOBODYS), 0);
+    WANT(look(CHILD, false, ONE), one);
+    WANT(look(ROOT, true, TWO), two);
+}
+
+/* A class with covered methods, and one below it, go and come back; and so does what took them
+ * back. */
+static void disposed(void)
+{
+    const msg_change makes[] = {
+        {.kind = MSG_MAKES_CLASS, .number = MADE + 2, .other = MADE},
+        {.kind = MSG_ADDS, .number = MADE + 2, .sel = ONE, .imp = 61},
+        {.kind = MSG_COVERS, .number = MADE + 2, .sel = ONE, .imp = 62},
+        {.kind = MSG_COVERS, .number = MADE + 2, .meta = 1, .sel = TWO, .imp = 63},
+        {.kind = MSG_MAKES_CLASS, .number = MADE + 3, .other = MADE + 2},
+    };
+    const msg_change goes[] = {{.kind = MSG_DISPOSES_CLASS, .number = MADE + 3},
+                               {.kind = MSG_DISPOSES_CLASS, .number = MADE + 2}};
+    const msg_change covered[] = {{.kind = MSG_REMOVES, .number = MADE + 2, .sel = ONE}};
+    msg_change away[8], back[8], again[8];
+    size_t place = 99, gone = 99, count = 99;
+    uint32_t above = look(MADE, false, ONE);
+    WANT(msg_change_all_with_undo(&runtime, makes, 5, away, 8, &count, &place), MSG_DONE);
+    WANT(count, 5);
+    WANT(look(MADE + 3, false, ONE), 62);
+    WANT(msg_change_all_with_undo(&runtime, goes, 2, back, 4, &gone, &place), MSG_NO_ROOM);
+    WANT(gone, 5);
+    WANT(msg_change_all_with_undo(&runtime, goes, 2, back, 8, &gone, &place), MSG_DONE);
+    WANT(look(MADE + 3, false, ONE), 0);
+    WANT(look(MADE + 2, true, TWO), 0);
+    WANT(msg_change_all_with_undo(&runtime, back, gone, again, 8, &gone, &place), MSG_DONE);
+    WANT(gone, 5);
+    WANT(look(MADE + 3, false, ONE), 62);
+    WANT(look(MADE + 3, true, TWO), 63);
+    WANT(msg_change_all_with_undo(&runtime, covered, 1, back, 8, &gone, &place), MSG_DONE);
+    WANT(look(MADE + 3, false, ONE), 61);
+    WANT(msg_change_all(&runtime, back, gone, &place), MSG_DONE);
+    WANT(look(MADE + 3, false, ONE), 62);
+    WANT(msg_change_all(&runtime, away, count, &place), MSG_DONE);
+    WANT(look(MADE + 3, false, ONE), 0);
+    WANT(look(MADE, false, ONE), above);
+    WANT(msg_make_root_class(&runtime, MADE + 3), MSG_DONE); /* the number is free again */
+    WANT(look(MADE + 3, false, ONE), 0);
+    WANT(msg_dispose_class(&runtime, MADE + 3), MSG_DONE);
+    WANT(msg_remove(&runtime, MADE + 1, false, NOBODYS), MSG_NO_METHOD);
 }
 
 /* As slots: of a root with its child and the child's, all three and their metaclasses, for a
@@ -226,6 +280,7 @@ int main(void)
     WANT(msg_make_class(&runtime, MADE + 1, ROOT), MSG_DONE);
     WANT(look(MADE + 1, false, ONE), 24);
     undone();
+    disposed();
     reached();
     of_nothing();
     held();

@@ -2,7 +2,7 @@
  * classes at run time, with memory refused at each place, under sanitizers. */
 #include "blocks.h"
 #include "classes.c"
-_Noreturn void shim_stop(const char *why, const char *what) { longjmp(out_of_run, 1); }
+_Noreturn void shim_stop(const char *why, const char *what) { longjmp(search->out_of_run, 1); }
 void *shim_memory(size_t size)
 {
     void *memory = cv_calloc(1, size ? size : 1);

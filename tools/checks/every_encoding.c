@@ -5,6 +5,7 @@
 #include <stdlib.h>
 #include <string.h>
 #include "encoding.c"
+#include "tests/standin_types.h" /* in place of the proved reader */
 
 /* One of each kind: digits are one kind, as simple types and qualifiers are. */
 #define LETTERS "{}()[]!bj^@?\"=,1ic_"
@@ -23,8 +24,8 @@ static void call_all(const char *text, size_t length)
     MUST(objc_sizeof_type(copy) >= 0 && objc_alignof_type(copy) >= 1);
     MUST(objc_aligned_size(copy) >= 0 && objc_promoted_size(copy) >= 0);
     objc_get_type_qualifiers(copy);
-    const char *ends[] = {objc_skip_type_qualifiers(copy), objc_skip_typespec(copy), objc_skip_offset(copy),
-                          objc_skip_argspec(copy)};
+    const char *ends[] = {objc_skip_type_qualifiers(copy), objc_skip_typespec(copy),
+                          objc_skip_offset(copy), objc_skip_argspec(copy)};
     for (int i = 0; i < 4; i++) MUST(ends[i] >= copy && ends[i] <= end);
     MUST(!length || ends[1] > copy); /* it goes on */
     objc_layout_structure(copy, &layout);

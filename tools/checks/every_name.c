@@ -2,9 +2,10 @@
  * own; 3 functions), run for every sequence of STEPS names, as programs and modules ask for them,
  * with memory refused at each place, under sanitizers. */
 #include "blocks.h"
-#define abort() longjmp(out_of_run, 1)
+#define abort() longjmp(search->out_of_run, 1)
 #define fprintf(...) ((void)0)
 #include "encoding.c"
+#include "standin_types.h"
 #include "names.c"
 #undef fprintf
 #undef abort
@@ -54,9 +55,11 @@ static void ask_functions(void)
         /* or the program ends: there is room for three */
         numbers[i] = shim_number((IMP)functions[of[i]]);
         __CPROVER_assert(numbers[i] && numbers[i] <= MOST_IMPS, "a number of the table");
-        __CPROVER_assert(shim_functions[numbers[i]] == (IMP)functions[of[i]], "it is the function's");
+        __CPROVER_assert(shim_functions[numbers[i]] == (IMP)functions[of[i]],
+                         "it is the function's");
         for (int j = 0; j < i; j++)
-            __CPROVER_assert((numbers[i] == numbers[j]) == (of[i] == of[j]), "a function has one number");
+            __CPROVER_assert((numbers[i] == numbers[j]) == (of[i] == of[j]),
+                             "a function has one number");
     }
 }
 
@@ -73,7 +76,8 @@ static int one_run(void)
         __CPROVER_assert(sel_is_mapped(sel), "it is a selector");
         for (int j = 0; j < i; j++) {
             bool alike = of[j] == name;
-            __CPROVER_assert(sel_isEqual(sel, had[j]) == alike, "equal names have one number, others another");
+            __CPROVER_assert(sel_isEqual(sel, had[j]) == alike,
+                             "equal names have one number, others another");
             alike = alike && same(types[with[j]], types[type]);
             __CPROVER_assert((sel == had[j]) == alike, "one for a name and types");
         }

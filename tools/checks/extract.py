@@ -12,7 +12,7 @@ import sys
 
 root, out = map(pathlib.Path, sys.argv[1:3])
 out.mkdir(parents=True, exist_ok=True)
-SHARED = re.compile(r"\b(holds|tried|kept|own|seats|stood|msg_process_own)\b")
+SHARED = re.compile(r"\b(holds|tried|kept|own|seats|stood|stay|stays_on|is_away|is_over|msg_process_own)\b")
 NO_STATEMENT = ("}", "else", "//", "/*", "*", "case", "#", "static ", "_Alignas")
 
 
@@ -52,7 +52,7 @@ process = (root / "include/msg_process.h").read_text()
     ("    uint64_t stamp = msg_process_stamp(note);\n"
      "    uint64_t said = note->count >= stamp ? msg_said(note, key) : MSG_SAID_NONE;\n",
      "    msg_note cv_note; uint64_t stamp;\n    cv_loads(note, &cv_note, &stamp);\n"
-     "    uint64_t said = cv_note.count >= stamp ? key - cv_note.seal : MSG_SAID_NONE;\n"),
+     "    uint64_t said = CV_IS_NEW(cv_note.count, stamp) ? key - cv_note.seal : MSG_SAID_NONE;\n"),
     ("said == MSG_SAID_LONG ? note->imp : 0", "said == MSG_SAID_LONG ? cv_note.imp : 0"),
     ("extern __thread __attribute__((tls_model(MSG_TLS)))", "extern")))
 
@@ -64,6 +64,7 @@ source = swap(
     ("return seat == MAP_FAILED ? NULL : seat;",
      "return seat ? *(struct seat *)seat = (struct seat){0}, seat : NULL;"),
     ("munmap(seat, sizeof *seat)", "cv_free(seat)"),
+    ("(uint64_t)syscall(SYS_gettid)", "1"),
     ("SPARES = 2, PATIENCE = 64", "SPARES = 1, PATIENCE = 2"),
     ("SLICES = 1000 }", "SLICES = 1 }"))
 head, body = source.split("static inline uint32_t take(", 1)
@@ -80,12 +81,12 @@ notes = swap(
     notes,
     ("    uint64_t stamp = msg_process_stamp(note);\n"
      "    if (__builtin_expect(note->count < stamp, 0)) return UINT64_MAX;",
-     "    uint64_t stamp; CV_STAMP_AND_COUNT(note, stamp);\n    if (cv_count < stamp) return UINT64_MAX;"),
+     "    uint64_t stamp; CV_STAMP_AND_COUNT(note, stamp);\n    if (!CV_IS_NEW(cv_count, stamp)) return UINT64_MAX;"),
     ("    uint64_t said = msg_said(note, key);", "    uint64_t said = key - CV_SEAL(note);"),
     ("    bool is_of = note->count >= msg_process_stamp(note) && msg_said(note, key) == said;\n"
      "    *all = *note;\n",
      "    uint64_t stamp;\n    cv_loads(note, all, &stamp);\n"
-     "    bool is_of = all->count >= stamp && key - all->seal == said;\n"),
+     "    bool is_of = CV_IS_NEW(all->count, stamp) && key - all->seal == said;\n"),
     ("return is_of && ", "return is_of && (IS_WEAK || "), ("__ATOMIC_RELAXED) == turns;", "__ATOMIC_RELAXED) == turns);"))
 assert "asm" not in notes and "class_" not in notes and "note->imp" not in notes, notes
 (out / "shim_note.h").write_text(notes)

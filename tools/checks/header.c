@@ -253,3 +253,48 @@ void find_asks_in_order(void)
     __CPROVER_assert(answer == (fills ? filled : probed) && answer != MSG_MISSED, "its answer");
     __CPROVER_assert(answer == MSG_DONE || imp == before, "nothing is written after a fault");
 }
+
+/* ---- msg_find_all: by those of msg_probe_all and msg_fill_all ---- */
+static const msg_lookup_row *asked;
+uint32_t msg_probe_all(msg_sender *s, const msg_lookup_row *lookups, size_t count, uint32_t *imps,
+                       size_t room, size_t *place)
+{
+    ANY(uint32_t, answer); ANY(uint32_t, value);
+    bool is_fault = answer == MSG_CLOSED || answer == MSG_NO_CLASS || answer == MSG_NO_SELECTOR ||
+                    answer == MSG_BAD_CHANGE;
+    __CPROVER_assert(lookups == asked && room == count, "all that are asked, with room for each");
+    __CPROVER_assume(answer == MSG_DONE || answer == MSG_MISSED || is_fault);
+    if (!is_fault) *imps = value; /* after a miss it means nothing */
+    probes++;
+    probed = answer;
+    return answer;
+}
+uint32_t msg_fill_all(msg_runtime *runtime, msg_sender *s, const msg_lookup_row *lookups,
+                      size_t count, uint32_t *imps, size_t room, size_t *place)
+{
+    ANY(uint32_t, answer); ANY(uint32_t, value);
+    __CPROVER_assert(held == 1, "a fill is under the lock");
+    __CPROVER_assert(lookups == asked && room == count, "all that are asked, with room for each");
+    __CPROVER_assume(answer != MSG_MISSED);
+    if (answer == MSG_DONE) *imps = value;
+    fills++;
+    filled = answer;
+    first_imp = value;
+    return answer;
+}
+void find_all_asks_in_order(void)
+{
+    ANY(uint32_t, imp);
+    msg_lookup_row row;
+    msg_runtime runtime; /* as anything opened it */
+    size_t place = 0;
+    __CPROVER_assume(runtime.open == (runtime.at != 0) && SENDER->open == (SENDER->at != 0));
+    held = probes = fills = locks = 0;
+    asked = &row;
+    uint32_t answer = msg_find_all(&runtime, &lock_word, SENDER, &row, 1, &imp, &place);
+    __CPROVER_assert(!held, "the lock is given");
+    bool is_filled = fills == (probed == MSG_MISSED) && locks == fills;
+    __CPROVER_assert(probes == 1 && is_filled, "one probe; a fill after a miss alone");
+    __CPROVER_assert(answer == (fills ? filled : probed) && answer != MSG_MISSED, "its answer");
+    __CPROVER_assert(answer || !fills || imp == first_imp, "after a miss what the fill answered");
+}

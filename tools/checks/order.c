@@ -9,6 +9,7 @@
 #include <stdint.h>
 #include <stddef.h>
 #include <pthread.h>
+#define STATES
 #include "every_choice.h"
 static void STEP(void);
 /* What may be refused: memory, a number for a sender, a cached answer. PLAIN: nothing is. */
@@ -54,6 +55,9 @@ static unsigned long words[3]; /* the count of changes, and the stamps of two cl
 #ifndef ROUNDS
 #define ROUNDS 1
 #endif
+#ifndef FINDS
+#define FINDS 0 /* of the other thread, which has a sender of its own */
+#endif
 
 #include "msg_runtime.h"
 static void cv_loads(const msg_note *note, msg_note *all, uint64_t *stamp);
@@ -68,6 +72,11 @@ static uint64_t cv_stamp_and_count(const msg_note *note, uint64_t *count);
     uint64_t cv_count; stamp = cv_stamp_and_count(note, &cv_count)
 #define CV_SEAL(note) __atomic_load_n(&note->seal, 0)
 #endif
+#ifdef ROUGH /* must fail, but not beside one change: a count is compared by one bit */
+#define CV_IS_NEW(count, stamp) (((count) & 1) >= ((stamp) & 1))
+#else
+#define CV_IS_NEW(count, stamp) ((count) >= (stamp))
+#endif
 #ifdef WEAK /* must fail: a number by a load of its own */
 #define IS_WEAK 1
 #else
@@ -78,15 +87,21 @@ void cv_free(struct seat *);
 #include "msg_process.c"
 #include "shim_note.h"
 
-static struct { const char *what; long a, b; int depth; } trace[512]; static int traced;
 static int depth;
-#define SAY(w, x, y) \
-    (traced < 512 ? (void)(trace[traced].what = w, trace[traced].a = (long)(x), \
-                           trace[traced].b = (long)(y), trace[traced++].depth = depth) : (void)0)
+static void say(const char *what, long a, long b)
+{
+    if (search->traced == 512) return;
+    search->trace[search->traced].what = what;
+    search->trace[search->traced].a = a;
+    search->trace[search->traced].b = b;
+    search->trace[search->traced++].depth = depth;
+}
+#define SAY(w, x, y) say(w, (long)(x), (long)(y))
 void cv_show_trace(void)
 {
-    for (int i = 0; i < traced; i++)
-        printf("   %*s%s %ld %ld\n", 4 * trace[i].depth, "", trace[i].what, trace[i].a, trace[i].b);
+    for (int i = 0; i < search->traced; i++)
+        printf("   %*s%s %ld %ld\n", 4 * search->trace[i].depth, "", search->trace[i].what,
+               search->trace[i].a, search->trace[i].b);
 }
 /* ---- the model of the library ---- */
 enum { A, B };
@@ -95,9 +110,9 @@ enum { A, B };
 static uint64_t made;     /* changes that are made */
 static uint64_t finished; /* the count of them as the last call returned, in the order of all */
 /* Of so many changes the last that reached the class. */
-static uint64_t last_affected[ROUNDS + 2][2];
+static uint64_t last_affected[ROUNDS + 4][2];
 static int holder;        /* of the lock: 0, 1 this thread, 2 the other */
-static bool opened[3], inside[3];
+static bool opened[4], inside[4];
 static uint32_t answer_of(uint32_t key, uint64_t count)
 {
     uint64_t since = last_affected[count][key];
@@ -126,13 +141,23 @@ static void make_change(void)
 }
 static void open_stamp(uint32_t key) { if (words[1 + key] == CLOSED) words[1 + key] = made; }
 
-enum { SEATS = 3 };
-static struct seat pool[SEATS]; static int taken;
+enum { SEATS = 4 };
+static struct seat pool[SEATS];
+static bool taken[SEATS];
 #define WHICH(s) ((int)((struct seat *)(s) - pool))
-struct seat *cv_seat(void) { return taken == SEATS || any_refused() ? NULL : &pool[taken++]; }
+struct seat *cv_seat(void)
+{
+    int i = 0;
+    if (any_refused()) return NULL;
+    while (i < SEATS && taken[i]) i++;
+    __CPROVER_assert(i < SEATS, "no more seats than a thread and its handlers may open");
+    taken[i] = true;
+    return &pool[i];
+}
 void cv_free(struct seat *seat)
 {
     __CPROVER_assert(!inside[seat - pool] && !opened[seat - pool], "freed when closed");
+    taken[seat - pool] = false;
 }
 
 static void enter(const msg_sender *s)
@@ -202,14 +227,79 @@ uint32_t msg_lookup(msg_runtime *r, uint32_t number, bool meta, uint32_t sel, ui
     *imp = answer_of(index_of(number, meta, sel), made);
     return 0;
 }
+/* Both at one count. */
+static void find_both(msg_sender *s, const msg_lookup_row *rows, size_t count, uint32_t *imps)
+{
+    uint64_t now = made;
+    for (size_t i = 0; i < count; i++) {
+        uint32_t key = index_of(rows[i].number, rows[i].meta, rows[i].sel);
+        imps[i] = answer_of(key, now);
+        keep(s, key, now, imps[i]);
+    }
+}
+uint32_t msg_probe_all(msg_sender *s, const msg_lookup_row *rows, size_t count, uint32_t *imps,
+                       size_t room, size_t *place)
+{
+    uint32_t answer = MSG_MISSED;
+    enter(s);
+    if (words[1 + A] != CLOSED && words[1 + B] != CLOSED && !any_refused()) {
+        find_both(s, rows, count, imps);
+        answer = 0;
+    }
+    leave(s);
+    return answer;
+}
+uint32_t msg_fill_all(msg_runtime *r, msg_sender *s, const msg_lookup_row *rows, size_t count,
+                      uint32_t *imps, size_t room, size_t *place)
+{
+    __CPROVER_assert(holder == 1, "under the lock");
+    enter(s); find_both(s, rows, count, imps); open_stamp(A); open_stamp(B); leave(s);
+    return 0;
+}
+uint32_t msg_change_count(msg_runtime *r, uint64_t *count)
+{
+    __CPROVER_assert(holder == 1, "under the lock");
+    *count = made;
+    return 0;
+}
+uint32_t msg_meet(msg_runtime *r, msg_sender *s)
+{
+    __CPROVER_assert(holder == 1, "under the lock");
+    enter(s); leave(s);
+    return 0;
+}
 uint32_t msg_open_words(msg_runtime *r, const uint32_t *c, size_t n) { return 0; }
 uint32_t msg_words(msg_runtime *r, const uint64_t **w) { *w = words; return 0; }
 
 /* ---- the other thread: takes the lock to change, and each of its stores may come at any time
  * ---- */
-static int state, rounds;
+static int state, rounds, others_finds;
+/* Of each lookup the oldest answer that the thread had since it rested: the change that brought it.
+ * And the most that msg_process_seen_by_all told. */
+static uint64_t in_use[2], told;
+#define NOTHING UINT64_MAX
+static void tell_what_is_seen(void)
+{
+    uint64_t least = made;
+    if (holder || is_unsure) return;
+    for (struct stay *one = stays; one; one = one->next)
+        if (one->changes < least) least = one->changes;
+    if (least > told) told = least;
+    for (int key = A; key <= B; key++)
+        __CPROVER_assert(in_use[key] == NOTHING || last_affected[told][key] <= in_use[key],
+                         "SEEN: nobody is in what a change took away that is seen by all");
+}
 static void other(bool all)
 {
+    tell_what_is_seen();
+    /* a find that missed: it fills under the lock, so stamps are opened */
+    if (state == 0 && holder == 0 && others_finds < FINDS && !all && any_bool()) {
+        holder = 2; others_finds++; state = 3;
+    }
+    if (state == 3 && (all || any_bool())) {
+        open_stamp(any_bool() ? A : B);
+        holder = 0; state = 0;
+    }
     if (state == 0 && holder == 0 && rounds < ROUNDS && !all && any_bool()) {
         holder = 2; close_stamps(); state = 1;
     }
@@ -276,10 +366,20 @@ static void cv_loads(const msg_note *note, msg_note *all, uint64_t *stamp)
 }
 
 /* ---- what is claimed ---- */
-static void is_right(uint32_t key, uint64_t least, uint32_t imp, const char *unused)
+/* Of each lookup the newest change that the thread has found. */
+static uint64_t newest[2];
+static uint64_t since_of(uint32_t key, uint32_t imp) { return imp ? imp - 1 - key * 8 : 1; }
+static void is_right(uint32_t key, uint64_t least, uint64_t before, uint32_t imp)
 {
     bool is_so = false;
-    for (uint64_t c = 0; c <= ROUNDS + 1; c++)
+    uint64_t since = since_of(key, imp);
+    __CPROVER_assert(since >= before, "RIGHT: no answer is older than one that the thread had");
+    if (!is_over) { /* then nobody asks what it is in */
+        __CPROVER_assert(last_affected[told][key] <= since, "SEEN: nor is answered it any more");
+        if (!depth && since < in_use[key]) in_use[key] = since;
+    }
+    if (since > newest[key]) newest[key] = since;
+    for (uint64_t c = 0; c <= made; c++)
         is_so = is_so || (least <= c && c <= made && imp == answer_of(key, c));
     __CPROVER_assert(is_so, "RIGHT: an answer of a count that had been reached, and of no finished "
                             "change before the call");
@@ -289,35 +389,50 @@ static void is_right(uint32_t key, uint64_t least, uint32_t imp, const char *unu
 #else
 #define any_key() (any_bool() ? A : B)
 #endif
-static void finds(bool in_handler)
+static void finds(bool waits, bool in_handler)
 {
     uint32_t imp = 77, key = any_key();
-    uint64_t least = finished;
-#ifdef NO_WAIT
-    bool waits = !in_handler;
-#else
-    bool waits = true;
-#endif
+    uint64_t least = finished, before = newest[key];
     other(false);
     SAY("find of key: waits", key, waits);
     uint32_t fault = waits ? msg_process_find_key(KEY(key), &imp)
                            : msg_process_find_slowly(KEY(key), MSG_WAITS_NOT, &imp);
-    bool may_be_held = in_handler || holder == 1;
+    bool may_be_held = in_handler || !waits || holder == 1;
     __CPROVER_assert(fault == MSG_DONE || (fault == MSG_LOCK_HELD && may_be_held), "it answers");
     SAY("found: fault, imp", fault, imp);
-    if (!fault) is_right(key, least, imp, "");
+    if (!fault) is_right(key, least, before, imp);
+}
+/* Both lookups as one. */
+static void finds_all(bool in_handler)
+{
+    static const msg_lookup_row rows[] = {{1, 0, 1}, {2, 0, 1}};
+    uint32_t imps[2] = {77, 77};
+    uint64_t least = finished, before[2] = {newest[A], newest[B]};
+    size_t place;
+    bool is_one = false;
+    other(false);
+    SAY("finds both", 0, 0);
+    uint32_t fault = msg_process_find_all(rows, 2, imps, &place);
+    bool may_be_held = in_handler || holder == 1;
+    __CPROVER_assert(fault == MSG_DONE || (fault == MSG_LOCK_HELD && may_be_held), "it answers");
+    if (fault) return;
+    for (uint64_t c = least; c <= made; c++)
+        is_one = is_one || (imps[A] == answer_of(A, c) && imps[B] == answer_of(B, c));
+    __CPROVER_assert(is_one, "ONE: both are of one count");
+    is_right(A, least, before[A], imps[A]);
+    is_right(B, least, before[B], imps[B]);
 }
 /* The way of a send in the shim (objc/seat.h). */
 static bool cv_finds;
 static void shim_sends(void)
 {
     uint32_t imp = 77, key = any_key();
-    uint64_t least = finished;
+    uint64_t least = finished, before = newest[key];
     other(false);
     SAY("send of key", key, 0);
     bool says = shim_note(KEY(key), &imp);
     SAY("a note says it, imp", says, imp);
-    if (says) is_right(key, least, imp, "");
+    if (says) is_right(key, least, before, imp);
     /* shim_find of objc/runtime.c: a handler that interrupts it doesn't wait, and where the lock
      * is held it asks the rows, which aren't in this model */
     else {
@@ -327,9 +442,54 @@ static void shim_sends(void)
         unsigned how = waits ? MSG_WAITS_A_WHILE : MSG_WAITS_NOT;
         uint32_t fault = msg_process_find_slowly(KEY(key), how, &imp);
         STEP(); cv_finds = !waits;
-        if (!fault) is_right(key, least, imp, "");
+        if (!fault) is_right(key, least, before, imp);
         else __CPROVER_assert(fault == MSG_LOCK_HELD, "it answers");
     }
+}
+
+/* The thread changes the tables itself, with msg_process_cache. */
+static void changes(void)
+{
+    msg_runtime *r;
+    if (msg_process_lock(&r)) return;
+    STEP(); close_stamps();
+    STEP(); make_change(); finished = made;
+    msg_process_cache(KEY(A));
+    STEP();
+    msg_process_unlock();
+}
+/* The thread ends: what finds after it, as a destructor of the thread's may, goes under the
+ * lock. */
+static bool ended;
+static void ends(void)
+{
+    in_use[A] = in_use[B] = NOTHING;
+    at_thread_end(NULL);
+    ended = true;
+    unsigned open = opened[0] + opened[1] + opened[2] + opened[3];
+    __CPROVER_assert(!own && !seats && open == spare_count, "its seat is given back");
+}
+/* The thread rests, or goes away. */
+static void rests(void)
+{
+    bool goes = any_bool();
+    in_use[A] = in_use[B] = NOTHING;
+    SAY("rests: and goes", goes, 0);
+    uint32_t fault = goes ? msg_process_away() : msg_process_rest();
+    __CPROVER_assert(fault == MSG_DONE, "a rest is made");
+    other(false);
+}
+/* Each way of a find or a send; and what a thread does between them. */
+static void any_way(bool in_handler)
+{
+    if (any_bool()) shim_sends();
+    else if (any_bool()) finds(true, in_handler);
+    else if (any_bool()) finds_all(in_handler);
+    else if (in_handler || any_bool()) finds(false, in_handler);
+    else if (any_bool()) changes();
+    else if (any_bool()) rests();
+    else if (any_bool()) ends();
+    else msg_process_spare();
 }
 
 static int depth, signals;
@@ -339,10 +499,12 @@ static void STEP(void)
     if (depth < DEPTH && signals < SIGNALS && any_bool()) {
         depth++; signals++;
         SAY("a signal", depth, signals);
-#ifdef SHIM
+#if defined ANY
+        any_way(true);
+#elif defined SHIM
         shim_sends();
 #else
-        finds(true);
+        finds(true, true);
 #endif
         depth--;
     }
@@ -352,48 +514,40 @@ static void STEP(void)
 static int one_run(void)
 {
     started = true;
-#if defined SHIM
+#if defined ANY
+    for (int i = 0; i < ANY; i++) any_way(false);
+#elif defined SHIM
     if (any_bool()) msg_process_spare();
     shim_sends(); shim_sends();
-#elif defined CHANGES /* the thread changes the tables itself, with msg_process_cache */
-    msg_runtime *r; uint32_t imp = 77;
-    finds(false);
-    if (!msg_process_lock(&r)) {
-        STEP(); close_stamps();
-        STEP(); make_change(); finished = made;
-        msg_process_cache(KEY(A));
-        STEP();
-        msg_process_unlock();
-    }
-    finds(false);
-#elif defined ENDS /* the thread ends, and finds after it */
-    finds(false);
-    at_thread_end(NULL);
-    __CPROVER_assert(!opened[0] && !opened[1] && !opened[2], "its seat is given back");
-    finds(false);
+#elif defined CHANGES
+    finds(true, false); changes(); finds(true, false);
+#elif defined ENDS
+    finds(true, false); ends(); finds(true, false);
+#elif defined RESTS
+    finds(any_bool(), false); rests(); finds(any_bool(), false);
+    for (int i = 0; i < 4; i++) other(false); /* a change, and what is told after it */
 #else
-    finds(false); finds(false);
+    finds(true, false); finds(true, false);
 #endif
+    __CPROVER_assert(!ended || !own, "a thread that ends has no sender from then on");
     __CPROVER_assert(seats == own && (!own || !own->next), "a thread has one sender");
-    __CPROVER_assert(taken <= 1 + spare_most, "and opens no more than one, and spare ones");
-    bool is_shown = !own || msg_process_own.sender == &own->sender;
+    unsigned many = taken[0] + taken[1] + taken[2] + taken[3];
+    __CPROVER_assert(many == spare_count + (own != NULL), "each open sender is its own or spare");
+    /* One that a handler opens stays spare where another thread then has the lock, which it would
+     * sit down under. The find that it interrupted may have seen before that none was spare. */
+    unsigned left = ROUNDS + FINDS ? signals : 0;
+    __CPROVER_assert(many <= 1 + spare_most + left, "and opens no more than one, and spare ones");
+    bool is_shown = !own || is_away || msg_process_own.sender == &own->sender;
     __CPROVER_assert(is_shown, "a thread goes on to use its sender");
-    bool is_out = !inside[0] && !inside[1] && !inside[2];
+    bool is_out = !inside[0] && !inside[1] && !inside[2] && !inside[3];
     __CPROVER_assert(is_out && !holds && holder != 1, "at the end nothing is held");
     return 0;
 }
 
-/* All that a run writes, put back before the next. */
 static void afresh(void)
 {
     msg_process_words.at = words;
-    memset(words, 0, sizeof words); memset(last_affected, 0, sizeof last_affected);
-    nobody = (msg_sender){0};
     msg_process_own = (struct msg_process_thread){.sender = &nobody};
-    runtime = (msg_runtime){0}; seats = spares = NULL; own = NULL;
-    forks = spare_count = spare_most = stood = 0; holds = tried = kept = still = cv_finds = false;
-    made = finished = 0; holder = 0; taken = state = rounds = depth = signals = 0;
-    memset(opened, 0, sizeof opened); memset(inside, 0, sizeof inside);
-    memset(pool, 0, sizeof pool); traced = 0;
+    in_use[A] = in_use[B] = NOTHING;
 }
 int main(int argc, char **argv) { return every_choice(argc, argv, afresh, one_run); }

@@ -8,7 +8,7 @@ import sys
 
 root, out = map(pathlib.Path, sys.argv[1:3])
 out.mkdir(parents=True, exist_ok=True)
-for folder in ("objc", "include"):
+for folder in ("objc", "objc/tests", "include"):
     for file in (root / folder).glob("*.[ch]"):
         (out / file.name).write_text(file.read_text())
 

@@ -81,8 +81,26 @@ class Calls(unittest.TestCase):
             self.assertEqual([5, 6], [sender.find(CHILDREN, VALUE), sender.find(CHILDREN, NAME)])
             runtime.change_all(back)
             self.assertEqual(before, [sender.find(CHILDREN, VALUE), sender.find(CHILDREN, NAME)])
-            self.assertIsNone(runtime.change_all_with_undo([Change.add(CHILDREN, 99, 5)]))
+            self.assertEqual([Change.remove(CHILDREN, 99)], runtime.change_all_with_undo([Change.add(CHILDREN, 99, 5)]))
             self.assertEqual([], runtime.change_all_with_undo([]))
+
+    def test_a_class_that_comes_and_goes(self):
+        others = instances_of(OTHER)
+        with self.opened() as runtime, runtime.sender() as sender:
+            runtime.make_class(OTHER, CHILD)
+            runtime.attach(OTHER, [(selector, 7) for selector in range(90, 99)])
+            self.assertRaises(yeldrost.ClassInUse, runtime.dispose_class, CHILD)
+            back = runtime.change_all_with_undo([Change.dispose_class(OTHER)])
+            self.assertEqual((10, Change.make_class(OTHER, CHILD)), (len(back), back[0]))
+            self.assertIsNone(sender.find(others, 95))
+            runtime.change_all(back)
+            self.assertEqual(7, sender.find(others, 95))
+            runtime.change_all([Change.cover(others, 95, 8)])
+            self.assertEqual(8, sender.find(others, 95))
+            runtime.remove(others, 95)
+            self.assertEqual(7, sender.find(others, 95))
+            runtime.dispose_class(OTHER)
+            self.assertRaises(yeldrost.NoSuchClass, runtime.add, others, 95, 7)
 
     def test_what_is_reached(self):
         with self.opened() as runtime:
@@ -97,7 +115,7 @@ class Calls(unittest.TestCase):
         first = Change.replace(CHILDREN, VALUE, 5)
         refused = [
             (yeldrost.NoSuchClass, 1, [first, Change.replace(instances_of(LATER), NAME, 5)]),
-            (yeldrost.BadChange, 2, [first, first, Change(7, CHILD)]),
+            (yeldrost.BadChange, 2, [first, first, Change(10, CHILD)]),
             (yeldrost.NoSelector, 0, [Change.add(CHILDREN, 0, 5)]),
         ]
         with self.opened() as runtime, runtime.sender() as sender:
@@ -146,6 +164,16 @@ class Calls(unittest.TestCase):
             self.assertRaises(yeldrost.NoSelector, sender.find, CHILDREN, 0)
             self.assertRaises(yeldrost.DuplicateClass, runtime.make_root_class, ROOT)
             self.assertEqual(6, sender.recall(CHILDREN, VALUE, 6), "a refused change is no change")
+
+    def test_several_as_one(self):
+        with self.opened() as runtime, runtime.sender() as sender:
+            three = [(CHILDREN, NAME), (CHILD_ITSELF, NEW), (CHILDREN, TAKE)]
+            self.assertEqual(([3, 4, None], [3, 4, None]), (sender.find_all(three), sender.find_all(three)))
+            runtime.replace(CHILDREN, NAME, 8)
+            self.assertEqual(([8, 4, None], []), (sender.find_all(three), sender.find_all([])))
+            with self.assertRaises(yeldrost.NoSelector) as refused:
+                sender.find_all([(CHILDREN, NAME), (CHILDREN, 0)])
+            self.assertEqual(1, refused.exception.place)
 
     def test_closing(self):
         runtime = self.opened()
@@ -215,6 +243,12 @@ class Calls(unittest.TestCase):
             self.assertEqual((None, None, None), (texts.find(b"valu"), texts.text(0), texts.text(4)))
             self.assertEqual((0, 2, None), (texts.colons(1), texts.colons(2), texts.colons(4)))
         self.assertRaises(yeldrost.Closed, texts.intern, b"value")
+
+    def test_types(self):
+        self.assertEqual((4, 2, 10), yeldrost.first_type(b"{inner=cs}8@0"))
+        self.assertEqual((0, 1, 0), yeldrost.first_type(b""))
+        self.assertEqual((3, 4, 16, 32, 2), yeldrost.next_member(b'"s"s}', 8))
+        self.assertIsNone(yeldrost.next_member(b"}", 8))
 
 
 class WithoutTheLock(Calls):

@@ -20,8 +20,8 @@ import weakref
 
 from . import _header, _library
 
-__all__ = ["Runtime", "Sender", "Texts", "ClassRef", "Change", "Fault", "instances_of", "class_itself", *_header.FAULTS]
-_NONE, _MISSED = _header.FAULTS["None_"][0], _header.FAULTS["Missed"][0]
+__all__ = ["Runtime", "Sender", "Texts", "ClassRef", "Change", "Fault", "EncodedType", "EncodedMember", "first_type", "next_member", "instances_of", "class_itself", *_header.FAULTS]
+_NONE, _MISSED, _NO_ROOM = (_header.FAULTS[name][0] for name in ("None_", "Missed", "NoRoom"))
 _MOST = 2**32 - 1
 
 
@@ -109,6 +109,19 @@ class Change(typing.NamedTuple):
     @classmethod
     def make_root_class(cls, number):
         return cls(_header.KINDS["MAKES_ROOT_CLASS"], number)
+
+    @classmethod
+    def remove(cls, of, selector):
+        return cls(_header.KINDS["REMOVES"], *of, selector)
+
+    @classmethod
+    def dispose_class(cls, number):
+        return cls(_header.KINDS["DISPOSES_CLASS"], number)
+
+    @classmethod
+    def cover(cls, of, selector, imp):
+        """As `Runtime.attach` of one method: it stands before the one that is there."""
+        return cls(_header.KINDS["COVERS"], *of, selector, imp)
 
 
 class _Shared:
@@ -240,6 +253,15 @@ class Runtime:
         _checked(number)
         self._call("msg_attach", number, *_methods(methods), *_methods(class_methods))
 
+    def remove(self, of, selector):
+        """Takes away the method that the class has of its own. One that it hid counts again."""
+        _checked(of[0], selector)
+        self._call("msg_remove", *of, selector)
+
+    def dispose_class(self, number):
+        """Takes a class away that no class is below, with its metaclass and the methods of both."""
+        _checked(number)
+        self._call("msg_dispose_class", number)
 
     def change_all(self, changes):
         """Makes several changes as one: each lookup answers from before all of them or after all.
@@ -252,14 +274,16 @@ class Runtime:
 
     def change_all_with_undo(self, changes):
         """The same, and answers the changes that take these back if `change_all` makes them
-        directly afterwards; None where there is no way back, since a method was added or a class
-        made."""
+        directly afterwards."""
         rows, count = _changes(changes)
-        undo, undone, place = (_header.msg_change * (2 * count + 1))(), ctypes.c_size_t(), ctypes.c_size_t()
-        answer = self._answer("msg_change_all_with_undo", rows, count, undo, len(undo), ctypes.byref(undone), ctypes.byref(place))
+        undone, place = ctypes.c_size_t(2 * count + 1), ctypes.c_size_t()
+        answer = _NO_ROOM
+        with self._shared.lock:
+            while answer == _NO_ROOM:  # nothing was made: `undone` places are wanted
+                undo = (_header.msg_change * undone.value)()
+                answer = self._answer("msg_change_all_with_undo", rows, count, undo, len(undo), ctypes.byref(undone), ctypes.byref(place))
         _must_at(answer, place)
-        back = [Change(*(getattr(it, name) for name, _ in it._fields_)) for it in undo[: undone.value]]
-        return back if back or not count else None
+        return [Change(*(getattr(it, name) for name, _ in it._fields_)) for it in undo[: undone.value]]
 
     def reach(self, changes):
         """Which lookups `change_all` would alter, without making the changes: those of these class
@@ -285,6 +309,14 @@ def _changes(changes):
     for it in changes:
         _checked(*it)
     return (_header.msg_change * max(1, len(changes)))(*changes), len(changes)
+
+
+def _lookups(pairs):
+    """A list of the header's lookups, never without a place, and how many there are."""
+    rows = [(*of, selector) for of, selector in pairs]
+    for it in rows:
+        _checked(*it)
+    return (_header.msg_lookup_row * max(1, len(rows)))(*rows), len(rows)
 
 
 def _methods(pairs):
@@ -344,6 +376,20 @@ class Sender:
         self._own()
         _checked(of[0], selector)
         return self._shared.library.msg_probe(self._at, *of, selector, ctypes.byref(self._imp))
+
+    def find_all(self, lookups):
+        """Several as one, each a pair of a class reference and a selector: all at one version, which
+        the sender has then seen. The fault of one that isn't asked has its `place`."""
+        self._own()
+        rows, count = _lookups(lookups)
+        shared, imps, place = self._shared, (ctypes.c_uint32 * max(1, count))(), ctypes.c_size_t()
+        words = (self._at, rows, count, imps, count, ctypes.byref(place))
+        answer = shared.library.msg_probe_all(*words)
+        if answer == _MISSED:
+            with shared.lock:
+                answer = shared.library.msg_fill_all(shared.handle, *words)
+        _must_at(answer, place)
+        return [imp or None for imp in imps[:count]]
 
     def probe(self, of, selector):
         """Noted or cached, at what the sender has then seen: an implementation, or 0 for none. None
@@ -454,3 +500,39 @@ class Texts:
 def _bytes(text):
     """An array of the text's bytes, never without a place, and how many they are."""
     return (ctypes.c_uint8 * max(1, len(text)))(*text), len(text)
+
+
+class EncodedType(typing.NamedTuple):
+    """The first type of a text, as GCC's @encode spells types: its size and alignment in bytes, and
+    the place behind it."""
+
+    size: int
+    align: int
+    end: int
+
+
+class EncodedMember(typing.NamedTuple):
+    """A member of a structure: where its type is in the text, the bits that it takes from the first
+    to before the last, and its alignment in bytes."""
+
+    begin: int
+    end: int
+    first: int
+    last: int
+    align: int
+
+
+def first_type(text):
+    """The `EncodedType` in front of a text."""
+    size, align = ctypes.c_uint64(), ctypes.c_uint64()
+    end = _library.load(True).msg_type_first(*_bytes(text), size, align)
+    return EncodedType(size.value, align.value, end)
+
+
+def next_member(text, before):
+    """The `EncodedMember` in front of a text, where those before it end before this bit; of a
+    union, 0. None where the structure or the text ends."""
+    places, bits = (ctypes.c_size_t * 2)(), (ctypes.c_uint64 * 3)()
+    told = [ctypes.pointer(kind.from_buffer(of, ctypes.sizeof(kind) * at)) for kind, of in ((ctypes.c_size_t, places), (ctypes.c_uint64, bits)) for at in range(len(of))]
+    answer = _library.load(True).msg_type_member(*_bytes(text), before, *told)
+    return None if answer else EncodedMember(*places, *bits)

@@ -34,7 +34,11 @@ class msg_change(c.Structure):
     _fields_ = [(name, c.c_uint32) for name in ("kind", "number", "meta", "sel", "imp", "other", "other_meta", "other_sel")]
 
 
-KINDS = {"ADDS": 1, "REPLACES": 2, "SETS_IMP": 3, "EXCHANGES": 4, "MAKES_CLASS": 5, "MAKES_ROOT_CLASS": 6}
+class msg_lookup_row(c.Structure):
+    _fields_ = [(name, c.c_uint32) for name in ("number", "meta", "sel")]
+
+
+KINDS = {"ADDS": 1, "REPLACES": 2, "SETS_IMP": 3, "EXCHANGES": 4, "MAKES_CLASS": 5, "MAKES_ROOT_CLASS": 6, "REMOVES": 7, "DISPOSES_CLASS": 8, "COVERS": 9}
 
 
 class msg_config(c.Structure):
@@ -55,7 +59,7 @@ class msg_report_row(c.Structure):
     ]
 
 
-STRUCTURES = (msg_note, msg_runtime, msg_sender, msg_texts, msg_class, msg_method, msg_change, msg_config, msg_report_row)
+STRUCTURES = (msg_note, msg_runtime, msg_sender, msg_texts, msg_class, msg_method, msg_change, msg_lookup_row, msg_config, msg_report_row)
 
 FAULTS = {
     "NoSuchClass": (1, "no such class, or it isn't made"),
@@ -66,6 +70,7 @@ FAULTS = {
     "Limit": (6, "as many changes or methods as there may be"),
     "ChangeMemory": (7, "no memory for the change"),
     "DuplicateClass": (8, "the class is made already"),
+    "ClassInUse": (9, "a class is below it"),
     "Closed": (64, "a handle isn't open"),
     "AlreadyOpen": (65, "the handle is open already"),
     "NoClass": (66, "no such class number"),
@@ -85,6 +90,7 @@ _number, _meta, _selector, _imp = c.c_uint32, c.c_bool, c.c_uint32, c.c_uint32
 _told32, _told64 = c.POINTER(c.c_uint32), c.POINTER(c.c_uint64)
 _texts, _bytes = c.POINTER(msg_texts), c.POINTER(c.c_uint8)
 _methods, _changes, _size = c.POINTER(msg_method), c.POINTER(msg_change), c.POINTER(c.c_size_t)
+_lookups = c.POINTER(msg_lookup_row)
 _answer = c.c_uint32
 
 # What each call gives, and what it takes.
@@ -104,6 +110,8 @@ CALLS = {
     "msg_attach": (_answer, (_runtime, _number, _methods, c.c_size_t, _methods, c.c_size_t)),
     "msg_make_class": (_answer, (_runtime, _number, _number)),
     "msg_make_root_class": (_answer, (_runtime, _number)),
+    "msg_remove": (_answer, (_runtime, _number, _meta, _selector)),
+    "msg_dispose_class": (_answer, (_runtime, _number)),
     "msg_change_all": (_answer, (_runtime, _changes, c.c_size_t, _size)),
     "msg_change_all_with_undo": (_answer, (_runtime, _changes, c.c_size_t, _changes, c.c_size_t, _size, _size)),
     "msg_reach": (_answer, (_runtime, _changes, c.c_size_t, c.POINTER(c.c_bool), c.c_size_t, _size)),
@@ -111,11 +119,13 @@ CALLS = {
     "msg_sender_open": (_answer, (_runtime, _sender)),
     "msg_sender_close": (_answer, (_runtime, _sender)),
     "msg_fill": (_answer, (_runtime, _sender, _number, _meta, _selector, _told32)),
+    "msg_fill_all": (_answer, (_runtime, _sender, _lookups, c.c_size_t, _told32, c.c_size_t, _size)),
     "msg_meet": (_answer, (_runtime, _sender)),
     "msg_version": (c.c_uint32, ()),
     "msg_sender_size": (c.c_size_t, ()),
     "msg_recall": (c.c_size_t, (_sender, c.c_size_t, _selector, c.c_uint64)),
     "msg_probe": (_answer, (_sender, _number, _meta, _selector, _told32)),
+    "msg_probe_all": (_answer, (_sender, _lookups, c.c_size_t, _told32, c.c_size_t, _size)),
     "msg_refresh": (_answer, (_sender, _told64)),
     "msg_stamp": (_answer, (_sender, _number, _meta, _told64)),
     "msg_texts_open": (_answer, (_texts,)),
@@ -124,6 +134,8 @@ CALLS = {
     "msg_texts_find": (_answer, (_texts, _bytes, c.c_size_t, _told32)),
     "msg_texts_text": (_answer, (_texts, _number, _bytes, c.c_size_t, _size)),
     "msg_texts_colons": (_answer, (_texts, _number, _size)),
+    "msg_type_first": (c.c_size_t, (_bytes, c.c_size_t, _told64, _told64)),
+    "msg_type_member": (_answer, (_bytes, c.c_size_t, c.c_uint64, _size, _size, _told64, _told64, _told64)),
 }
 
 # What stands for the calls that the header has inline, which a shared library doesn't export.
@@ -132,6 +144,7 @@ INLINE = {
     "msg_report": "Runtime.report",
     "msg_fault_text": "Fault",
     "msg_find": "Sender.find",
+    "msg_find_all": "Sender.find_all",
     "msg_key": "Sender.recall",
     "msg_said": "Sender.recall",
     "msg_slot": "Sender.recall",

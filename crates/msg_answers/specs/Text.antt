@@ -22,6 +22,7 @@ use Rattle.msg_answers.specs.declared.outcome.Outcome.TheVariants as outcomes
 
 -- ---- names, and nothing for a number that the image doesn't have
 
+-- the name of a class
 abbrev pub class_name : ImageParts → ℕ → List ℕ
 class_name image k = unwrap_or (slice_get (class_names image) k) []
 
@@ -69,6 +70,7 @@ refusal_text refusals.NoMethod = codes "no method"
 refusal_text refusals.Limit = codes "limit"
 refusal_text refusals.Memory = codes "out of memory"
 refusal_text refusals.DuplicateClass = codes "duplicate class"
+refusal_text refusals.ClassInUse = codes "class in use"
 
 -- where several were to be made as one, the place of the first that would be refused is told, from
 -- 0

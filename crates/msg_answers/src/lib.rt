@@ -14,4 +14,4 @@ pub use gathering::gather;
 pub use items::{is_one_change, is_send, part_len, sends_in};
 pub use outcome::Outcome;
 pub use part::{Counts, Part, Share};
-pub use text::{push_outcome, push_reply};
+pub use text::{class_name, push_method, push_outcome, push_reply};

@@ -24,7 +24,8 @@ fn push(text: &mut Vec<u8>, part: &str) -> Result<(), AllocError>
     text.extend_from_slice(part.as_bytes())
 }
 
-fn class_name(image: &Image, class: u32) -> &str
+/// The name of a class.
+pub fn class_name(image: &Image, class: u32) -> &str
     ensures { result.now ≡ spec.class_name image.now class }
 {
     if class < image.class_count() {
@@ -71,7 +72,8 @@ fn push_value(text: &mut Vec<u8>, image: &Image, value: Value) -> Result<(), All
     }
 }
 
-fn push_method(
+/// Appends a method, as `-[Class selector]`.
+pub fn push_method(
     text: &mut Vec<u8>,
     image: &Image,
     class: ClassRef,
@@ -127,6 +129,7 @@ fn refusal_text(fault: ChangeFault) -> &'static str
         ChangeFault::Limit => "limit",
         ChangeFault::Memory => "out of memory",
         ChangeFault::DuplicateClass => "duplicate class",
+        ChangeFault::ClassInUse => "class in use",
     }
 }
 

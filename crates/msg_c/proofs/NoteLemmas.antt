@@ -2,7 +2,7 @@
 use Rattle.std.proofs.Common.{◌≡◌, Option, Some, sym, ap, subst, ◌∙◌}
 use Rattle.std.proofs.lemmas.Option.{same_Some}
 use Rattle.msg_tables.specs.History.{History, BeginsWith}
-use Rattle.msg_cache.specs.Views.{ArenaView, layout}
+use Rattle.msg_cache.specs.Views.{layout}
 use Rattle.msg_reader.specs.Notes.{AreNotesOf, AreStamped, StayStamped}
 use Rattle.msg_reader.specs.declared.notes.Notes.{Notes}
 use Rattle.msg_host.specs.View.{SenderView}

@@ -7,7 +7,9 @@ use Rattle.msg_host.specs.Asking.{ask_fault, ask_fault_number}
 use Rattle.msg_host.specs.Config.{are_known, config_of, is_beyond}
 use Rattle.msg_host.specs.Named.{ref_of}
 use Rattle.msg_host.specs.View.{SenderView}
+use Rattle.msg_runtime.specs.Calls.{beside_room}
 use Rattle.msg_runtime.specs.View.{RuntimeView}
+use Rattle.msg_tables.specs.Noted.{WrittenView}
 use Rattle.msg_host.specs.declared.fault.AskFault.{AskFault}
 use Rattle.msg_c.specs.declared.answer.TheConstants.{NONE}
 use Rattle.msg_c.specs.declared.asking.MsgClass.{MsgClass}
@@ -61,6 +63,17 @@ runtime_arena = option_map (λ v. v.arena)
 
 abbrev pub runtime_history : Option RuntimeView → Option History
 runtime_history = option_map (λ v. v.keeper.history)
+
+-- the room for methods, and what was written last, with the room for what will be
+abbrev pub runtime_rooms : Option RuntimeView → Option (List ℕ)
+runtime_rooms = option_map (λ v. v.rooms)
+
+abbrev pub runtime_written : Option RuntimeView → Option WrittenView
+runtime_written = option_map (λ v. v.written)
+
+-- all but its room
+abbrev pub runtime_beside_room : Option RuntimeView → Option RuntimeView
+runtime_beside_room = option_map (λ v. beside_room v)
 
 -- which sender numbers are out
 abbrev pub runtime_given : Option RuntimeView → Option (List Bool)

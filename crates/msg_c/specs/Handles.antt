@@ -1,5 +1,5 @@
 -- What handles hold, where they are open, and what calls make of it.
-use Rattle.std.specs.Prelude.{◌≡◌, ◌≢◌, ◌<◌, ◌≤◌, ◌+◌, ◌%◌, ℕ, Bool, List, Option, Some, None, IfSome, is_some, true}
+use Rattle.std.specs.Prelude.{◌≡◌, ◌≢◌, ◌<◌, ◌≤◌, ◌+◌, ◌%◌, ℕ, Bool, List, Option, Some, IfSome, is_some, true}
 use Rattle.msg_names.specs.declared.value.ClassRef.{ClassRef}
 use Rattle.msg_tables.specs.declared.change.Change.{Change}
 use Rattle.msg_tables.specs.declared.change.Change.TheVariants.{AddClass}
@@ -11,6 +11,7 @@ use Rattle.msg_reader.specs.Kept.{FindsUnprobed, HaveNotedSince, LoadsStamp}
 use Rattle.msg_reader.specs.Notes.{HaveNoted, IsRecalledSince}
 use Rattle.msg_host.specs.Asking.{AnswersChange}
 use Rattle.msg_host.specs.Listing.{AreRefusedRows, LackMemoryIf, MakesRows, ReachesRows, RefusesToReach}
+use Rattle.msg_host.specs.Lookups.{AreRefusedLookups, AreRowsFound, AreTakenLookups, RowsLackOne, RowsMissOne}
 use Rattle.msg_host.specs.Named.{TellsAttachFault, attachment, exchange, ref_of}
 use Rattle.msg_host.specs.Opening.{OpensAs}
 use Rattle.msg_host.specs.View.{SenderView}
@@ -20,7 +21,8 @@ use Rattle.msg_runtime.specs.View.{RuntimeView}
 use Rattle.msg_host.specs.declared.changing.MethodRow.{MethodRow}
 use Rattle.msg_host.specs.declared.config.HostConfig.{HostConfig}
 use Rattle.msg_host.specs.declared.listing.ChangeRow.{ChangeRow}
-use Rattle.msg_c.specs.Answers.{SeesOn, fault_in, runtime_arena, runtime_given, runtime_history, sender_arena, sender_front}
+use Rattle.msg_host.specs.declared.lookups.LookupRow.{LookupRow}
+use Rattle.msg_c.specs.Answers.{SeesOn, fault_in, runtime_arena, runtime_beside_room, runtime_given, runtime_history, runtime_rooms, runtime_written, sender_arena, sender_front}
 use Rattle.msg_c.specs.Interned.{TextsView}
 use Rattle.msg_c.specs.declared.answer.TheConstants.{MISSED, NOT_NOTED, NOTED_NONE}
 use Rattle.msg_c.specs.declared.runtime_handle.RuntimeHandle.{RuntimeHandle}
@@ -47,9 +49,16 @@ OpensIn config r = IfSome r.held.state (λ v. OpensAs config v)
 abbrev pub IfOpen : RuntimeHandle → (RuntimeView → Type 0) → Type 0
 IfOpen r is_so = (v : RuntimeView) → r.held.state ≡ Some v → is_so v
 
--- it has the arena and the history that it had, open or closed
-abbrev pub StaysAt : RuntimeHandle → RuntimeHandle → Type 0
-StaysAt was is = (runtime_arena is.held.state ≡ runtime_arena was.held.state) × (runtime_history is.held.state ≡ runtime_history was.held.state)
+-- it has the arena, the history and the room that it had, open or closed
+pub record StaysAt (was is : RuntimeHandle) : Type 0 where
+  pub arena : runtime_arena is.held.state ≡ runtime_arena was.held.state
+  pub history : runtime_history is.held.state ≡ runtime_history was.held.state
+  pub rooms : runtime_rooms is.held.state ≡ runtime_rooms was.held.state
+  pub written : runtime_written is.held.state ≡ runtime_written was.held.state
+
+-- what it holds has not changed, but that there may be more room
+abbrev pub Leaves : RuntimeHandle → RuntimeHandle → Type 0
+Leaves was is = runtime_beside_room is.held.state ≡ runtime_beside_room was.held.state
 
 -- the same sender numbers are out
 abbrev pub LeavesNumbers : RuntimeHandle → RuntimeHandle → Type 0
@@ -109,20 +118,21 @@ abbrev pub AttachesIn : RuntimeHandle → RuntimeHandle → ℕ → List MethodR
 AttachesIn was is class methods class_methods n = n ≡ 0 → Changes was is (attachment class methods class_methods) 0
 
 -- another answer says why not
-abbrev pub RefusesAttachmentIn : RuntimeHandle → ℕ → List MethodRow → List MethodRow → ℕ → Type 0
-RefusesAttachmentIn r class methods class_methods n = IfOpen r (λ v. TellsAttachFault v class methods class_methods n)
+abbrev pub RefusesAttachmentIn : RuntimeHandle → RuntimeHandle → ℕ → List MethodRow → List MethodRow → ℕ → Type 0
+RefusesAttachmentIn was is class methods class_methods n = (v w : RuntimeView) → was.held.state ≡ Some v → is.held.state ≡ Some w → TellsAttachFault v w class methods class_methods n
 
 -- the changes that rows mean took what a handle holds from was to is, as one
 abbrev pub MakesRowsIn : List ChangeRow → RuntimeHandle → RuntimeHandle → Type 0
-MakesRowsIn rows was is = (v w : RuntimeView) → was.held.state ≡ Some v → is.held.state ≡ Some w → MakesRows rows v.keeper.history w.keeper.history
+MakesRowsIn rows was is = (v w : RuntimeView) → was.held.state ≡ Some v → is.held.state ≡ Some w → MakesRows rows v w
 
 -- rows are refused by the runtime in a handle: that of this place, for the fault of this number
 abbrev pub RefusesRowsIn : RuntimeHandle → List ChangeRow → ℕ → ℕ → Type 0
 RefusesRowsIn r rows place n = IfOpen r (λ v. AreRefusedRows rows v.keeper.history place n)
 
--- where memory was wanting, nothing else speaks against them up to that of this place
+-- where memory was wanting, nothing else speaks against them up to that of this place, and there is
+-- too little room for these
 abbrev pub LacksMemoryIn : RuntimeHandle → List ChangeRow → ℕ → ℕ → Type 0
-LacksMemoryIn r rows place n = IfOpen r (λ v. LackMemoryIf rows v.keeper.history place n)
+LacksMemoryIn r rows place n = IfOpen r (λ v. LackMemoryIf rows v place n)
 
 -- the runtime in a handle says why it doesn't tell what rows would reach, and marks what those
 -- before would, or nothing
@@ -172,6 +182,30 @@ HasNotedAt s r c sel imp = IfAt r (λ h. HaveNoted s.notes h c sel imp)
 -- so it is with that sender's arena
 abbrev pub IfOfArena : SenderHandle → (ArenaView → Type 0) → Type 0
 IfOfArena s is_so = (a : ArenaView) → sender_arena s.held.state ≡ Some a → is_so a
+
+-- the lookups of rows are found, all at one history: no older than what the sender of an open
+-- handle had seen, and it has seen that then
+abbrev pub FindsRowsIn : SenderHandle → SenderHandle → List LookupRow → List ℕ → Type 0
+FindsRowsIn was is rows imps = IfSenders was is (λ u w. AreRowsFound u.seen w.seen rows imps)
+
+-- its notes had nothing of one of them since a stamp of its class reference that was loaded, or that
+-- says more changes than it had seen
+abbrev pub LacksRowIn : SenderHandle → SenderHandle → List LookupRow → Type 0
+LacksRowIn was is rows = IfSenders was is (λ u w. RowsLackOne u.arena was.notes rows u.seen w.seen)
+
+-- one of them is missed by a probe, or the stamp of its class reference that was loaded last says
+-- more changes than it had seen
+abbrev pub MissesRowIn : SenderHandle → SenderHandle → List LookupRow → Type 0
+MissesRowIn was is rows = IfSenders was is (λ u w. RowsMissOne u.arena rows u.seen w.seen)
+
+-- as many answers as rows have a place, each row means a lookup of its classes, and no place of a
+-- row is told
+abbrev pub TakesLookupsIn : SenderHandle → List LookupRow → ℕ → ℕ → ℕ → Type 0
+TakesLookupsIn s rows places old new = IfOfArena s (λ a. AreTakenLookups (classes a) rows places old new)
+
+-- another number has, or a row means none, and its place is told
+abbrev pub RefusesLookupsIn : SenderHandle → List LookupRow → ℕ → ℕ → ℕ → ℕ → Type 0
+RefusesLookupsIn s rows places old new n = IfOfArena s (λ a. AreRefusedLookups (classes a) rows places old new n)
 
 -- this is forwarding, or an implementation that the origin of its classes has
 abbrev pub IsListedIn : SenderHandle → ℕ → Type 0

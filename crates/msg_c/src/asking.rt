@@ -3,7 +3,8 @@
 ghost use Rattle.std.specs.Prelude.{◌≡◌, ◌≢◌, ◌≤◌, length, Some, None};
 ghost use Rattle.msg_names.specs.declared.value.ClassRef.{ClassRef};
 ghost use Rattle.msg_tables.specs.Origin.{last_imp};
-ghost use Rattle.msg_tables.specs.History.{holder, lookup, superclass};
+ghost use Rattle.msg_tables.specs.History.{holder, log, lookup, superclass};
+ghost use Rattle.msg_tables.specs.Refusal.{IsLog};
 ghost use Rattle.msg_cache.specs.Views.{classes};
 ghost use Rattle.msg_c.specs.Answers.{IsAsked, Shows, TellsFault, TellsNoHolder, TellsNoSuperclass};
 ghost use Rattle.msg_host.specs.Named.{ref_of};
@@ -44,7 +45,7 @@ pub extern "C" fn msg_class_count(
     DONE
 }
 
-/// How many changes were made.
+/// How many changes were made: a list of them counts as one. Each was accepted.
 #[unsafe(no_mangle)]
 pub extern "C" fn msg_change_count(
     alloc: Global,
@@ -55,6 +56,7 @@ pub extern "C" fn msg_change_count(
     ensures closed { runtime.old.held.state ≡ None → result ≡ CLOSED }
     ensures left { result ≢ 0 → count.new ≡ count.old }
     ensures done { IfOpen runtime.old (λ v. (result ≡ 0) × (count.new ≡ length v.keeper.history.changes)) }
+    ensures accepted { IfAt runtime.old (λ h. IsLog (log h)) }
 {
     let Some(held) = runtime.take(alloc) else {
         return CLOSED;

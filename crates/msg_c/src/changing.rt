@@ -1,10 +1,11 @@
 //! Changes.
 
 ghost use Rattle.std.specs.Prelude.{◌≡◌, ◌≢◌, None, Some};
+ghost use Rattle.msg_tables.specs.declared.change.Change.{Change};
 ghost use Rattle.msg_host.specs.Asking.{want_of_selector};
-ghost use Rattle.msg_host.specs.Named.{addition, replacement, setting};
+ghost use Rattle.msg_host.specs.Named.{addition, removal, replacement, setting};
 ghost use Rattle.msg_c.specs.Answers.{runtime_arena};
-ghost use Rattle.msg_c.specs.Handles.{AttachesIn, ChangesIf, Exchanges, HasRuntime};
+ghost use Rattle.msg_c.specs.Handles.{AttachesIn, Changes, ChangesIf, Exchanges, HasRuntime, Leaves};
 ghost use Rattle.msg_c.specs.Handles.{MakesClass, RefusesAttachmentIn};
 
 use crate::answer::CLOSED;
@@ -26,7 +27,7 @@ pub extern "C" fn msg_add(
 ) -> u32
     ensures arena { runtime_arena runtime.new.held.state ≡ runtime_arena runtime.old.held.state }
     ensures closed { runtime.old.held.state ≡ None → result ≡ CLOSED }
-    ensures left { result ≢ 0 → runtime.new.held.state ≡ runtime.old.held.state }
+    ensures left { result ≢ 0 → Leaves runtime.old runtime.new }
     ensures no_selector { sel ≡ 0 → HasRuntime runtime.old → result ≡ want_of_selector }
     ensures change { ChangesIf sel runtime.old runtime.new (addition class meta sel imp) result }
 {
@@ -50,7 +51,7 @@ pub extern "C" fn msg_replace(
 ) -> u32
     ensures arena { runtime_arena runtime.new.held.state ≡ runtime_arena runtime.old.held.state }
     ensures closed { runtime.old.held.state ≡ None → result ≡ CLOSED }
-    ensures left { result ≢ 0 → runtime.new.held.state ≡ runtime.old.held.state }
+    ensures left { result ≢ 0 → Leaves runtime.old runtime.new }
     ensures no_selector { sel ≡ 0 → HasRuntime runtime.old → result ≡ want_of_selector }
     ensures change { ChangesIf sel runtime.old runtime.new (replacement class meta sel imp) result }
 {
@@ -74,7 +75,7 @@ pub extern "C" fn msg_set_imp(
 ) -> u32
     ensures arena { runtime_arena runtime.new.held.state ≡ runtime_arena runtime.old.held.state }
     ensures closed { runtime.old.held.state ≡ None → result ≡ CLOSED }
-    ensures left { result ≢ 0 → runtime.new.held.state ≡ runtime.old.held.state }
+    ensures left { result ≢ 0 → Leaves runtime.old runtime.new }
     ensures no_selector { sel ≡ 0 → HasRuntime runtime.old → result ≡ want_of_selector }
     ensures change { ChangesIf sel runtime.old runtime.new (setting class meta sel imp) result }
 {
@@ -100,7 +101,7 @@ pub extern "C" fn msg_exchange(
 ) -> u32
     ensures arena { runtime_arena runtime.new.held.state ≡ runtime_arena runtime.old.held.state }
     ensures closed { runtime.old.held.state ≡ None → result ≡ CLOSED }
-    ensures left { result ≢ 0 → runtime.new.held.state ≡ runtime.old.held.state }
+    ensures left { result ≢ 0 → Leaves runtime.old runtime.new }
     ensures no_selector { sel ≡ 0 → HasRuntime runtime.old → result ≡ want_of_selector }
     ensures no_other { other_sel ≡ 0 → HasRuntime runtime.old → result ≡ want_of_selector }
     ensures change { Exchanges runtime.old runtime.new class meta sel other other_meta other_sel result }
@@ -129,9 +130,9 @@ pub extern "C" fn msg_attach(
 ) -> u32
     ensures arena { runtime_arena runtime.new.held.state ≡ runtime_arena runtime.old.held.state }
     ensures closed { runtime.old.held.state ≡ None → result ≡ CLOSED }
-    ensures left { result ≢ 0 → runtime.new.held.state ≡ runtime.old.held.state }
+    ensures left { result ≢ 0 → Leaves runtime.old runtime.new }
     ensures made { AttachesIn runtime.old runtime.new class methods.now class_methods.now result }
-    ensures fault { RefusesAttachmentIn runtime.old class methods.now class_methods.now result }
+    ensures fault { RefusesAttachmentIn runtime.old runtime.new class methods.now class_methods.now result }
 {
     let Some(mut held) = runtime.take(alloc) else {
         return CLOSED;
@@ -152,7 +153,7 @@ pub extern "C" fn msg_make_class(
 ) -> u32
     ensures arena { runtime_arena runtime.new.held.state ≡ runtime_arena runtime.old.held.state }
     ensures closed { runtime.old.held.state ≡ None → result ≡ CLOSED }
-    ensures left { result ≢ 0 → runtime.new.held.state ≡ runtime.old.held.state }
+    ensures left { result ≢ 0 → Leaves runtime.old runtime.new }
     ensures change { MakesClass runtime.old runtime.new class (Some superclass) result }
 {
     let Some(mut held) = runtime.take(alloc) else {
@@ -168,13 +169,54 @@ pub extern "C" fn msg_make_class(
 pub extern "C" fn msg_make_root_class(alloc: Global, runtime: &mut RuntimeHandle, class: u32) -> u32
     ensures arena { runtime_arena runtime.new.held.state ≡ runtime_arena runtime.old.held.state }
     ensures closed { runtime.old.held.state ≡ None → result ≡ CLOSED }
-    ensures left { result ≢ 0 → runtime.new.held.state ≡ runtime.old.held.state }
+    ensures left { result ≢ 0 → Leaves runtime.old runtime.new }
     ensures change { MakesClass runtime.old runtime.new class None result }
 {
     let Some(mut held) = runtime.take(alloc) else {
         return CLOSED;
     };
     let answer = held.make_class(class, None);
+    *runtime = RuntimeHandle::of(held);
+    answer
+}
+
+/// `class_removeMethod`, alike: the method that the class itself has leaves, and one that it
+/// covered counts again.
+#[unsafe(no_mangle)]
+pub extern "C" fn msg_remove(
+    alloc: Global,
+    runtime: &mut RuntimeHandle,
+    class: u32,
+    meta: bool,
+    sel: u32,
+) -> u32
+    ensures arena { runtime_arena runtime.new.held.state ≡ runtime_arena runtime.old.held.state }
+    ensures closed { runtime.old.held.state ≡ None → result ≡ CLOSED }
+    ensures left { result ≢ 0 → Leaves runtime.old runtime.new }
+    ensures no_selector { sel ≡ 0 → HasRuntime runtime.old → result ≡ want_of_selector }
+    ensures change { ChangesIf sel runtime.old runtime.new (removal class meta sel) result }
+{
+    let Some(mut held) = runtime.take(alloc) else {
+        return CLOSED;
+    };
+    let answer = held.remove(class, meta, sel);
+    *runtime = RuntimeHandle::of(held);
+    answer
+}
+
+/// `objc_disposeClassPair`, alike: a class that was made leaves with its metaclass and the methods
+/// of both, where no class is below it.
+#[unsafe(no_mangle)]
+pub extern "C" fn msg_dispose_class(alloc: Global, runtime: &mut RuntimeHandle, class: u32) -> u32
+    ensures arena { runtime_arena runtime.new.held.state ≡ runtime_arena runtime.old.held.state }
+    ensures closed { runtime.old.held.state ≡ None → result ≡ CLOSED }
+    ensures left { result ≢ 0 → Leaves runtime.old runtime.new }
+    ensures change { Changes runtime.old runtime.new (Change.DisposeClass class) result }
+{
+    let Some(mut held) = runtime.take(alloc) else {
+        return CLOSED;
+    };
+    let answer = held.dispose_class(class);
     *runtime = RuntimeHandle::of(held);
     answer
 }

@@ -11,7 +11,13 @@ mod changing;
 #[cfg(test)]
 mod config_tests;
 mod crossing;
+mod encodings;
+#[cfg(test)]
+mod encodings_tests;
 mod listing;
+mod lookups;
+#[cfg(test)]
+mod lookups_tests;
 #[cfg(test)]
 mod memory_tests;
 mod opening;
@@ -32,4 +38,6 @@ mod texts;
 mod texts_handle;
 #[cfg(test)]
 mod texts_tests;
+#[cfg(test)]
+mod undo_tests;
 mod version;

@@ -3,9 +3,9 @@
 ghost use Rattle.std.specs.Prelude.{◌≡◌, ◌≢◌, ◌<◌, ◌≤◌, ◌*◌, ◌⊎◌, None, length};
 ghost use Rattle.msg_cache.specs.Views.{classes};
 ghost use Rattle.msg_host.specs.Asking.{IsRefusal, want_of_memory, want_of_room};
-ghost use Rattle.msg_host.specs.Listing.{UndoesRows};
+ghost use Rattle.msg_host.specs.Listing.{UndoesRows, WeighRows};
 ghost use Rattle.msg_c.specs.Answers.{runtime_arena};
-ghost use Rattle.msg_c.specs.Handles.{IfOpen, LacksMemoryIn, LeavesNumbers, MakesRowsIn};
+ghost use Rattle.msg_c.specs.Handles.{IfOpen, LacksMemoryIn, Leaves, LeavesNumbers, MakesRowsIn};
 ghost use Rattle.msg_c.specs.Handles.{ReachesRowsIn, RefusesReachIn, RefusesRowsIn};
 
 use crate::answer::CLOSED;
@@ -29,7 +29,7 @@ pub extern "C" fn msg_change_all(
     ensures arena { runtime_arena runtime.new.held.state ≡ runtime_arena runtime.old.held.state }
     ensures given { LeavesNumbers runtime.old runtime.new }
     ensures closed { runtime.old.held.state ≡ None → (result ≡ CLOSED) × (place.new ≡ place.old) }
-    ensures left { result ≢ 0 → runtime.new.held.state ≡ runtime.old.held.state }
+    ensures left { result ≢ 0 → Leaves runtime.old runtime.new }
     ensures made { result ≡ 0 → MakesRowsIn changes.now runtime.old runtime.new }
     ensures kept { result ≡ 0 → place.new ≡ place.old }
     ensures place { result ≢ 0 → IfOpen runtime.old (λ v. place.new < length changes.now) }
@@ -39,14 +39,15 @@ pub extern "C" fn msg_change_all(
     let Some(mut held) = runtime.take(alloc) else {
         return CLOSED;
     };
-    let answer = held.make_all(alloc, changes, place);
+    let answer = held.make_all(changes, place);
     *runtime = RuntimeHandle::of(held);
     answer
 }
 
 /// As `msg_change_all`, and writes the changes that take these back directly after them, made as
-/// one too; their count is written, and is 0 where there is no way back: a method was added, or a
-/// class made. `undo` has two places for each change, or else 76 is answered and nothing done.
+/// one too; their count is written. Where `undo` has fewer places, 76 is answered and nothing done,
+/// and the count says how many are wanted: one for each method that is added, rewritten or removed,
+/// and for each class that is made or disposed of.
 #[unsafe(no_mangle)]
 pub extern "C" fn msg_change_all_with_undo(
     alloc: Global,
@@ -59,13 +60,15 @@ pub extern "C" fn msg_change_all_with_undo(
     ensures arena { runtime_arena runtime.new.held.state ≡ runtime_arena runtime.old.held.state }
     ensures given { LeavesNumbers runtime.old runtime.new }
     ensures closed { runtime.old.held.state ≡ None → (result ≡ CLOSED) × (place.new ≡ place.old) }
-    ensures left { result ≢ 0 → runtime.new.held.state ≡ runtime.old.held.state }
+    ensures left { result ≢ 0 → Leaves runtime.old runtime.new }
     ensures made { result ≡ 0 → MakesRowsIn changes.now runtime.old runtime.new }
     ensures undo { result ≡ 0 → IfOpen runtime.old (λ v. UndoesRows changes.now v.keeper.history undo.new undone.new) }
-    ensures room { length undo.old < 2 * length changes.now → IfOpen runtime.old (λ v. result ≡ want_of_room) }
-    ensures short { result ≡ want_of_room → length undo.old < 2 * length changes.now }
+    ensures room { result ≡ want_of_room → length undo.old < undone.new }
+    ensures wanted { result ≡ want_of_room
+        → IfOpen runtime.old (λ v. WeighRows changes.now v.keeper.history undone.new) }
     ensures within { result ≡ 0 → undone.new ≤ length undo.new }
-    ensures unwritten { result ≢ 0 → (undo.new ≡ undo.old) × (undone.new ≡ undone.old) }
+    ensures unwritten { result ≢ 0 → undo.new ≡ undo.old }
+    ensures untold { result ≢ 0 → result ≢ want_of_room → undone.new ≡ undone.old }
     ensures kept { (result ≡ 0) ⊎ (result ≡ want_of_room) → place.new ≡ place.old }
     ensures place { result ≢ 0 → result ≢ want_of_room → IfOpen runtime.old (λ v. place.new < length changes.now) }
     ensures fault { IsRefusal result → RefusesRowsIn runtime.old changes.now place.new result }
@@ -74,7 +77,7 @@ pub extern "C" fn msg_change_all_with_undo(
     let Some(mut held) = runtime.take(alloc) else {
         return CLOSED;
     };
-    let answer = held.make_all_with_undo(alloc, changes, undo, undone, place);
+    let answer = held.make_all_with_undo(changes, undo, undone, place);
     *runtime = RuntimeHandle::of(held);
     answer
 }
@@ -93,8 +96,9 @@ pub extern "C" fn msg_reach(
     reached: &mut [bool],
     place: &mut usize,
 ) -> u32
-    ensures same { runtime.new.held.state ≡ runtime.old.held.state }
-    ensures closed { runtime.old.held.state ≡ None → (result ≡ CLOSED) × (reached.new ≡ reached.old) × (place.new ≡ place.old) }
+    ensures same { Leaves runtime.old runtime.new }
+    ensures closed { runtime.old.held.state ≡ None
+        → (result ≡ CLOSED) × (reached.new ≡ reached.old) × (place.new ≡ place.old) }
     ensures reached { result ≡ 0 → ReachesRowsIn runtime.old changes.now reached.old reached.new }
     ensures room { IfOpen runtime.old (λ v. length reached.old ≢ 2 * classes v.arena → result ≡ want_of_room) }
     ensures short { result ≡ want_of_room → IfOpen runtime.old (λ v. length reached.old ≢ 2 * classes v.arena) }
@@ -107,7 +111,7 @@ pub extern "C" fn msg_reach(
     let Some(mut held) = runtime.take(alloc) else {
         return CLOSED;
     };
-    let answer = held.reach_rows(alloc, changes, reached, place);
+    let answer = held.reach_rows(changes, reached, place);
     *runtime = RuntimeHandle::of(held);
     answer
 }

@@ -9,8 +9,8 @@ use crate::asking::{
     MsgClass, msg_change_count, msg_class_count, msg_holder, msg_lookup, msg_superclass, msg_words,
 };
 use crate::changing::{
-    msg_add, msg_attach, msg_exchange, msg_make_class, msg_make_root_class, msg_replace,
-    msg_set_imp,
+    msg_add, msg_attach, msg_dispose_class, msg_exchange, msg_make_class, msg_make_root_class,
+    msg_remove, msg_replace, msg_set_imp,
 };
 use crate::opening::{msg_close, msg_open_words};
 use crate::runtime_handle::RuntimeHandle;
@@ -45,7 +45,7 @@ pub(crate) const ROOT: u32 = 0;
 
 pub(crate) const CHILD: u32 = 1;
 
-const MADE: u32 = 2;
+pub(crate) const MADE: u32 = 2;
 
 const OTHER: u32 = 3;
 
@@ -82,7 +82,7 @@ pub(crate) fn opened<R: Abort>(rt: &R, alloc: Global) -> RuntimeHandle {
     runtime
 }
 
-fn found<R: Abort>(
+pub(crate) fn found<R: Abort>(
     rt: &R,
     alloc: Global,
     runtime: &mut RuntimeHandle,
@@ -500,6 +500,12 @@ fn a_closed_runtime_answers_nothing(rt: HostRuntime) -> Result<(), Fail> {
     answers(&rt, msg_attach(alloc, &mut runtime, ROOT, &[], &[]), CLOSED);
     answers(&rt, msg_make_class(alloc, &mut runtime, MADE, ROOT), CLOSED);
     answers(&rt, msg_make_root_class(alloc, &mut runtime, MADE), CLOSED);
+    answers(
+        &rt,
+        msg_remove(alloc, &mut runtime, ROOT, false, NAME),
+        CLOSED,
+    );
+    answers(&rt, msg_dispose_class(alloc, &mut runtime, MADE), CLOSED);
     answers(
         &rt,
         msg_sender_open(alloc, &mut runtime, &mut sender),

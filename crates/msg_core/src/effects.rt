@@ -16,6 +16,7 @@ use crate::machine::Machine;
 use crate::state::{Standing, Whereabouts};
 use msg_names::ClassRef;
 use msg_tables::Change;
+use std::slice::from_ref;
 
 // ---- one word, or what one word means
 
@@ -182,7 +183,8 @@ impl Machine {
         ensures memory { IfErr result (λ fault. fault ≡ EventFault.Memory) }
     {
         self.changes.reserve(1)?;
-        if self.tables.apply(&change).is_err() {
+        let made = self.tables.apply_all(&from_ref(&change), &mut self.written);
+        if made.is_err() {
             return Err(EventFault::Memory);
         }
         let pushed: Result<_, _> = self.changes.push(change);

@@ -13,7 +13,7 @@ use crate::spoiled::has_spoiled_word;
 use crate::state::{Standing, Whereabouts};
 use msg_buckets::unpack;
 use msg_names::ClassRef;
-use msg_tables::{Change, ChangeFault, Origin, Tables};
+use msg_tables::{Change, ChangeFault, Origin, Tables, Written};
 use std::marker::Model;
 use std::snapshot::Snapshot;
 
@@ -23,6 +23,8 @@ pub struct Machine {
     pub(crate) origin: Snapshot<Origin>,
     pub(crate) changes: Vec<Change>,
     pub(crate) tables: Tables,
+    // What the last change wrote, whose room serves the next.
+    pub(crate) written: Written,
     pub(crate) live: Vec<Option<u32>>,
     pub(crate) arrays: Vec<Buckets>,
     pub(crate) standings: Vec<Standing>,

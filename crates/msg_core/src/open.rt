@@ -9,7 +9,7 @@ ghost use Rattle.msg_core.specs.View.{HasLayout, state_of};
 use crate::buckets::Buckets;
 use crate::machine::Machine;
 use crate::state::{Standing, Whereabouts};
-use msg_tables::{HasOrigin, MOST_SENDERS, Origin, Tables};
+use msg_tables::{HasOrigin, MOST_SENDERS, Origin, Tables, Written};
 use std::alloc::{AllocError, Global};
 use std::snapshot::Snapshot;
 
@@ -44,6 +44,7 @@ impl Machine {
             origin: Snapshot::of(origin),
             changes: Vec::new(alloc),
             tables: Tables::open(alloc, origin)?,
+            written: Written::none(alloc),
             live: vec![in alloc; None; 2 * classes]?,
             arrays: empty_arrays(alloc, arrays)?,
             standings: vec![in alloc; Standing::Free; arrays.len()]?,

@@ -1,6 +1,6 @@
 //! The changer.
 
-ghost use Rattle.std.specs.Prelude.{◌≡◌, ◌*◌, length, IfOk, IfErr, IsErrOf, OnErr, OnOk, None};
+ghost use Rattle.std.specs.Prelude.{◌≡◌, ◌≤◌, ◌*◌, length, IfOk, IfErr, IsErrOf, OnErr, OnOk, None};
 ghost use Rattle.msg_tables.specs.History.{BeginsWith, log};
 ghost use Rattle.msg_tables.specs.Made.{AreMade, AreRefused, TellsWayBack};
 ghost use Rattle.msg_tables.specs.Origin.{class_total};
@@ -13,9 +13,7 @@ use crate::dispatcher::Dispatcher;
 use crate::name::ArenaName;
 use crate::sender::Sender;
 use msg_cache::Turn;
-use msg_runtime::Made;
-use msg_tables::{Change, ChangeFault, Refused};
-use std::alloc::Global;
+use msg_tables::{Change, ChangeFault, ChangeList, Refused, Written};
 use std::marker::Model;
 use std::sync::Wait;
 
@@ -70,25 +68,29 @@ impl<'d, N: ArenaName> Changer<'d, N> {
     /// Makes a list of changes as one, or says which of them would be refused, and then none is
     /// made. Each lookup, by whatever sender, answers from before all of them or from after all. An
     /// empty list changes nothing and isn't counted.
-    pub fn change_all<R: Wait>(
+    ///
+    /// What the list wrote is noted in the room that is lent. Directly afterwards
+    /// [`way_back`](Written::way_back) of it is a list that takes this one back.
+    pub fn change_all<R: Wait, L: ChangeList>(
         &mut self,
-        alloc: Global,
         rt: &R,
-        changes: &[Change],
-    ) -> Result<Made, Refused>
-        ensures ok { OnOk result (AreMade changes.now self.old self.new) }
-        ensures count { IfOk result (λ made. made.count ≡ length self.new.changes) }
-        ensures back { IfOk result (λ made. TellsWayBack changes.now self.old made.written) }
+        changes: &L,
+        written: &mut Written,
+    ) -> Result<Receipt, Refused>
+        ensures ok { OnOk result (AreMade (L.changes changes.now) self.old self.new) }
+        ensures count { IfOk result (λ r. r.count ≡ length self.new.changes) }
+        ensures back { OnOk result (TellsWayBack (L.changes changes.now) self.old written.new.entries) }
+        ensures room { written.old.room ≤ written.new.room }
         ensures err { OnErr result (self.new ≡ self.old) }
-        ensures refused { IfErr result (AreRefused changes.now self.old) }
+        ensures refused { IfErr result (AreRefused (L.changes changes.now) self.old) }
     {
         let dispatcher = self.dispatcher;
-        let made = dispatcher
+        let count = dispatcher
             .desk
             .lock(rt)
-            .change_all(alloc, &dispatcher.arena, &mut self.turn, changes)?;
-        self.count = made.count;
-        Ok(made)
+            .change_all(&dispatcher.arena, &mut self.turn, changes, written)?;
+        self.count = count;
+        Ok(Receipt { count })
     }
 
     /// Marks the class references whose lookups [`change_all`](Changer::change_all) may alter,
@@ -97,7 +99,6 @@ impl<'d, N: ArenaName> Changer<'d, N> {
     /// say nothing.
     pub fn reach<R: Wait>(
         &mut self,
-        alloc: Global,
         rt: &R,
         changes: &[Change],
         marked: &mut [bool],
@@ -114,7 +115,7 @@ impl<'d, N: ArenaName> Changer<'d, N> {
         dispatcher
             .desk
             .lock(rt)
-            .reach_all(alloc, &dispatcher.arena, &mut self.turn, changes, marked)
+            .reach_all(&dispatcher.arena, &mut self.turn, changes, marked)
     }
 
     /// How many times changes were accepted: a list of them counts as one.

@@ -21,9 +21,8 @@ use crate::name::ArenaName;
 use msg_cache::{Arena, Report, Turn};
 use msg_names::{ClassRef, ImpRef, Selector};
 use msg_reader::{Notes, Reader};
-use msg_runtime::{Made, Runtime};
-use msg_tables::{Change, ChangeFault, Refused};
-use std::alloc::Global;
+use msg_runtime::Runtime;
+use msg_tables::{Change, ChangeFault, ChangeList, Refused, Written};
 use std::marker::{Model, PhantomData};
 
 // The runtime of the arena that N names.
@@ -112,28 +111,32 @@ impl<N: ArenaName> Desk<N> {
         self.runtime.change(arena, turn, change)
     }
 
-    pub(crate) fn change_all(
+    // Notes what the list wrote in the room that is lent.
+    pub(crate) fn change_all<L: ChangeList>(
         &mut self,
-        alloc: Global,
         arena: &Arena,
         turn: &mut Turn,
-        changes: &[Change],
-    ) -> Result<Made, Refused>
+        changes: &L,
+        written: &mut Written,
+    ) -> Result<u64, Refused>
         requires arena { arena.now ≡ N.arena }
         requires turn { turn.old.table ≡ N.arena.table }
         ensures turn { turn.new.table ≡ N.arena.table }
-        ensures ok { OnOk result (AreMade changes.now turn.old.history turn.new.history) }
-        ensures count { IfOk result (λ made. made.count ≡ length turn.new.history.changes) }
-        ensures back { IfOk result (λ m. TellsWayBack changes.now turn.old.history m.written) }
+        ensures ok { OnOk result (AreMade (L.changes changes.now) turn.old.history turn.new.history) }
+        ensures count { IfOk result (λ count. count ≡ length turn.new.history.changes) }
+        ensures back { OnOk result (TellsWayBack (L.changes changes.now) turn.old.history written.new.entries) }
+        ensures room { written.old.room ≤ written.new.room }
         ensures err { OnErr result (turn.new.history ≡ turn.old.history) }
-        ensures refused { IfErr result (AreRefused changes.now turn.old.history) }
+        ensures refused { IfErr result (AreRefused (L.changes changes.now) turn.old.history) }
     {
-        self.runtime.change_all(alloc, arena, turn, &changes)
+        self.runtime.swap_written(written);
+        let outcome = self.runtime.change_all(arena, turn, changes);
+        self.runtime.swap_written(written);
+        outcome
     }
 
     pub(crate) fn reach_all(
         &mut self,
-        alloc: Global,
         arena: &Arena,
         turn: &mut Turn,
         changes: &[Change],
@@ -150,7 +153,7 @@ impl<N: ArenaName> Desk<N> {
         ensures before { IfErr result (MarksTo N.arena turn.old changes.now marked.old marked.new) }
         ensures length { length marked.new ≡ length marked.old }
     {
-        self.runtime.reach_all(alloc, arena, turn, &changes, marked)
+        self.runtime.reach_all(arena, turn, &changes, marked)
     }
 
     // The reader has then seen the turn's history, which begins with what it had seen.

@@ -87,7 +87,8 @@ impl<'d, N: ArenaName> Recalling<'d, N> {
         ensures begins { BeginsWith self.new.sender.seen.front self.old.sender.seen.front }
         ensures found { IfSome result (IsFoundAt self.new.sender.seen.front class sel) }
         ensures listed { IfSome result (IsListed self.new.sender.seen.front) }
-        ensures exact { RecallsSince self.old.notes class (selector_number sel) self.old.sender.seen self.new.sender.seen (option_map imp_number result) }
+        ensures exact { RecallsSince self.old.notes class (selector_number sel)
+            self.old.sender.seen self.new.sender.seen (option_map imp_number result) }
         ensures notes { self.new.notes ≡ self.old.notes }
         ensures takings { self.new.sender.takings ≡ self.old.sender.takings }
     {

@@ -140,7 +140,8 @@ impl<'d, N: ArenaName> Sender<'d, N> {
         ensures found { IfSome result (IsFoundAt self.new.seen.front class sel) }
         ensures listed { IfSome result (IsListed self.new.seen.front) }
         ensures notes { AreNotesOf self.new.seen.front notes.now }
-        ensures exact { RecallsSince notes.now class (selector_number sel) self.old.seen self.new.seen (option_map imp_number result) }
+        ensures exact { RecallsSince notes.now class (selector_number sel)
+            self.old.seen self.new.seen (option_map imp_number result) }
         ensures takings { self.new.takings ≡ self.old.takings }
     {
         self.reader
@@ -163,7 +164,8 @@ impl<'d, N: ArenaName> Sender<'d, N> {
         ensures found { IsFoundAt self.new.seen.front class sel result }
         ensures listed { IsListed self.new.seen.front result }
         ensures notes { AreNotesOf self.new.seen.front notes.new }
-        ensures noted { (IsNotedFound notes.new class sel self.new.seen result) ⊎ (IsNotedFor self.new.seen.front notes.new class sel result) }
+        ensures noted { (IsNotedFound notes.new class sel self.new.seen result)
+            ⊎ (IsNotedFor self.new.seen.front notes.new class sel result) }
         ensures others { KeepOthers notes.old notes.new class sel }
         ensures takings { TakesOnceAtMost self.old self.new }
         ensures private { FindsNoted self.old self.new notes.old notes.new class sel result }

@@ -14,10 +14,11 @@ use msg_cache::{Arena, Filled, Keeper, Pause, Prober, Report, Turn};
 use msg_image::{Change, Image};
 use msg_names::{ClassRef, ImpRef, Selector};
 use msg_samples::SMALL;
-use msg_tables::Tables;
+use msg_tables::{Tables, Written};
 use std::alloc::Global;
 use std::marker::Model;
 use std::process::Abort;
+use std::slice::from_ref;
 use std::sync::Arc;
 
 /// An arena of so many senders and arrays for the image of two classes, with its keeper beside
@@ -80,6 +81,7 @@ pub(crate) struct Desk {
     keeper: Keeper,
     tables: Tables,
     turn: Turn,
+    written: Written,
 }
 
 impl Model for Desk {
@@ -117,6 +119,7 @@ impl Desk {
             keeper,
             tables,
             turn,
+            written: Written::with_room(alloc, 1).expect(rt, "memory"),
         };
         Box::new(alloc, desk).expect(rt, "memory")
     }
@@ -183,7 +186,9 @@ impl Desk {
     /// Makes a change, after all caches were flushed.
     pub(crate) fn change(&mut self, rt: &impl Abort, change: &Change) -> u64 {
         self.keeper.face(&self.arena, &mut self.turn);
-        self.tables.apply(change).expect(rt, "no fault");
+        self.tables
+            .apply_all(&from_ref(change), &mut self.written)
+            .expect(rt, "no fault");
         flush_all(&mut self.keeper, &self.arena);
         self.keeper.commit(&self.arena, &mut self.turn, change)
     }

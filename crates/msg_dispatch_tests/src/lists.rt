@@ -9,7 +9,7 @@ use msg_dispatch::{ArenaName, Changer};
 use msg_image::Change;
 use msg_names::{ImpRef, Selector};
 use msg_samples::IMAGE;
-use msg_tables::{ChangeFault, Refused};
+use msg_tables::{ChangeFault, Refused, Written};
 use std::alloc::Global;
 use std::process::Abort;
 use std::sync::Wait;
@@ -29,7 +29,8 @@ fn two(sel: Selector) -> [Change; 2] {
     [add, set]
 }
 
-// A list counts as one change, a refused one and one without changes as none.
+// A list counts as one change, a refused one and one without changes as none. Its way back takes it
+// back.
 pub(crate) fn makes_lists<N: ArenaName, R: Wait + Abort>(
     rt: &R,
     alloc: Global,
@@ -40,21 +41,29 @@ pub(crate) fn makes_lists<N: ArenaName, R: Wait + Abort>(
     same(rt, sender.find(rt, GRAND, value), ImpRef::of(1));
     same(rt, sender.find(rt, ROOT, value), ImpRef::of(1));
     let list = two(value);
-    let made = changer.change_all(alloc, rt, &list);
+    let mut written = Written::none(alloc);
+    let made = changer.change_all(rt, &list.as_slice(), &mut written);
     same(rt, made.map(|made| made.count), Ok(1));
-    let again = changer.change_all(alloc, rt, &list).map(|made| made.count);
+    let mut other = Written::none(alloc);
+    let again = changer.change_all(rt, &list.as_slice(), &mut other);
+    let again = again.map(|made| made.count);
     let refused = Refused {
         place: 0,
         fault: ChangeFault::MethodPresent,
     };
     same(rt, again, Err(refused));
-    let none = changer.change_all(alloc, rt, &[]);
+    let empty: &[Change] = &[];
+    let none = changer.change_all(rt, &empty, &mut other);
     same(rt, none.map(|made| made.count), Ok(1));
     same(rt, sender.find_cached(rt, GRAND, value), None);
     same(rt, sender.find_cached(rt, ROOT, value), None);
     same(rt, sender.find(rt, GRAND, value), ImpRef::of(2));
     same(rt, sender.find(rt, ROOT, value), ImpRef::of(2));
     same(rt, sender.published(), 1);
+    let back = changer.change_all(rt, &written.way_back(), &mut other);
+    same(rt, back.map(|made| made.count), Ok(2));
+    same(rt, sender.find(rt, GRAND, value), ImpRef::of(1));
+    same(rt, sender.find(rt, ROOT, value), ImpRef::of(1));
 }
 
 #[test]

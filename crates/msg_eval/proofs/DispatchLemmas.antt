@@ -17,11 +17,11 @@ use Rattle.msg_eval.proofs.StepLemmas.{then_gives, then_part, gives_fault}
 
 module _ (image : ImageParts) (body : Bodies) (me : Value) (c from : ClassRef) (s : Selector) (xs : List Value) where
   -- what follows the lookup of a dispatch, after which at most t receivers come
-  abbrev answered : ℕ → ℕ → ℕ → Rest → Meaning
+  abbrev pub answered : ℕ → ℕ → ℕ → Rest → Meaning
   answered t i n k = if_found i (body i me xs n k) (forward image body me c s n (λ r n. dispatch image body t r.0 r.1 r.1 s xs n k))
 
   -- a dispatch begins with a lookup
-  looks_up : (t n : ℕ) → n ≤ t → (u : ℕ) × (t ≤ suc u) × ((k : Rest) → dispatch image body t me c from s xs n k ≡ ask from (selector_number s) n (λ i m. answered u i m k))
+  pub looks_up : (t n : ℕ) → n ≤ t → (u : ℕ) × (t ≤ suc u) × ((k : Rest) → dispatch image body t me c from s xs n k ≡ ask from (selector_number s) n (λ i m. answered u i m k))
   looks_up zero zero le = (zero, omega arith, λ k. refl)
   looks_up zero (suc n) le = absurd (omega arith)
   looks_up (suc t) n le = (t, omega arith, λ k. refl)

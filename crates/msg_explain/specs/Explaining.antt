@@ -7,10 +7,11 @@ use Rattle.msg_devices.specs.declared.fault.RunFault.TheVariants.{Document}
 use Rattle.msg_form.specs.declared.faults.DocumentFault.{DocumentFault}
 use Rattle.msg_image.specs.Answer.{IsAnswer}
 use Rattle.msg_image.specs.Items.{DocumentParts}
+use Rattle.msg_reasons.specs.Text.{explanation_text}
 
--- bytes that spell a document without fault
-abbrev pub IsAnswered : List ℕ → Type 0
-IsAnswered bytes = (d : DocumentParts) × IsAnswer bytes (Ok d)
+-- the bytes spell a document, and its answers were written to a sink, with the lookups behind them
+abbrev pub TellsReasons : {S : Type 0} → (S → Option (List ℕ)) → S → S → List ℕ → Type 0
+TellsReasons contents old new bytes = (d : DocumentParts) × IsAnswer bytes (Ok d) × Writes contents old new (explanation_text d)
 
 -- the line of a fault was written to a sink, or the start of it where a write failed
 abbrev pub SaysFault : {S : Type 0} → (S → Option (List ℕ)) → S → S → DocumentFault → Type 0

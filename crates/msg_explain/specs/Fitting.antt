@@ -6,7 +6,7 @@ use Rattle.serde_json.specs.Find.{as_bool, as_str}
 use Rattle.msg_form.specs.ExprShape.{constant_of, expression_of, natural}
 use Rattle.msg_form.specs.Form.{ItemForm}
 use Rattle.msg_form.specs.Json.{◌>>=◌, list_at, name_of, whole_of}
-use Rattle.msg_form.specs.Shape.{args_of, category_form_of, change_form_of, change_item_of, class_form_of, form_of, imp_form_of, is_all, is_later, item_form_of, object_form_of, pair_form_of, send_item_of, superclass_of}
+use Rattle.msg_form.specs.Shape.{args_of, category_form_of, change_form_of, change_item_of, class_form_of, form_of, imp_form_of, is_newest, is_later, item_form_of, object_form_of, pair_form_of, send_item_of, superclass_of}
 use Rattle.msg_explain.specs.declared.part.Edition.{Edition}
 use Rattle.msg_explain.specs.declared.part.Edition.TheVariants.{First, Second, Third}
 use Rattle.msg_explain.specs.declared.part.Part.{Part}
@@ -17,7 +17,7 @@ use Rattle.msg_explain.specs.declared.part.Wanted.TheVariants.{One, Many}
 -- the edition has such items
 abbrev pub suits : Edition → ItemForm → Bool
 suits First i = not (is_later i)
-suits Second i = not (is_all i)
+suits Second i = not (is_newest i)
 suits Third i = true
 
 -- an item is spelled that the edition has

@@ -108,7 +108,9 @@ at_change word i =
     (if is_word word (codes "exchange") then (if nat_le 4 i then at_method 4 i else at_method 1 i) else
     (if is_word word (codes "attach") then (if i == 1 then Some (One (Name names.Class)) else (if i == 2 || i == 3 then Some (Many Attached) else None)) else
     (if is_word word (codes "make") then (if i == 1 then Some (One (Name names.Class)) else (if i == 2 then Some (One MadeUnder) else None)) else
-    None)))
+    (if is_word word (codes "remove") then at_method 1 i else
+    (if is_word word (codes "dispose") then only (Name names.Class) i else
+    None)))))
 
 -- `["all",X,X,..]` of version 3, or a change X
 abbrev pub at_changes : Edition → Text → ℕ → Option Wanted

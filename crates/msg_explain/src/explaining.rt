@@ -1,10 +1,14 @@
-//! What is said of a document that is refused.
+//! What is said of a document: where it is at fault, or why it is answered as it is.
 
 ghost use Rattle.std.specs.Prelude.{◌≡◌, ◌≢◌, ◌⊎◌, false, Err, IfSome};
+ghost use Rattle.msg_devices.specs.Reading.{IsSoundDocument};
+ghost use Rattle.msg_devices.specs.Writing.{Writes};
 ghost use Rattle.msg_form.specs.declared.faults.DocumentFault.{DocumentFault};
 ghost use Rattle.msg_form.specs.declared.faults.DocumentFault.TheVariants as documents;
 ghost use Rattle.msg_image.specs.Answer.{IsAnswer};
-ghost use Rattle.msg_explain.specs.Explaining.{IsAnswered, SaysFault};
+ghost use Rattle.msg_image.specs.DocumentParts.{document_parts};
+ghost use Rattle.msg_reasons.specs.Text.{explanation_text};
+ghost use Rattle.msg_explain.specs.Explaining.{SaysFault, TellsReasons};
 
 use crate::place::Place;
 use crate::position::{Position, end_of_json, position_of};
@@ -15,16 +19,19 @@ use msg_devices::{
     Program, RunFault, Sink, Source, complain, push_digits, read_whole, write_whole,
 };
 use msg_form::{DocumentFault, Form, FormNames};
-use msg_image::{MOST_BYTES, read_document};
+use msg_image::{Document, MOST_BYTES, read_document};
 use msg_json::{Bump, Scratch, Tree, read};
+use msg_reasons::explain_document;
 use std::alloc::{AllocError, Global};
 use std::str;
 
 // So many places are told at most.
 const MOST_PLACES: usize = 100;
 
-/// Says of a document why it is refused, as a run of it does, and then where: a line for each
-/// place. Answers the exit status: 0 for a document without fault, 2 for one that is refused.
+/// Says of a document that is refused why, as a run of it does, and then where: a line for each
+/// place. Of one that is answered it says the answers, and under each the lookups behind it.
+///
+/// Answers the exit status: 0 for a document that is answered, 2 for one that is refused.
 pub fn explain<R: Source, W: Sink, E: Sink>(
     alloc: Global,
     source: &mut R,
@@ -33,7 +40,8 @@ pub fn explain<R: Source, W: Sink, E: Sink>(
 ) -> u8
     requires { R.mark source.old ≡ false }
     ensures status { (result ≡ 0) ⊎ ((result ≡ 1) ⊎ (result ≡ 2)) }
-    ensures answered { result ≡ 0 → IfSome (R.remaining source.old) IsAnswered }
+    ensures answered { result ≡ 0 → IfSome (R.remaining source.old)
+        (TellsReasons W.contents sink.old sink.new) }
 {
     let bytes = match read_whole(alloc, source) {
         Ok(bytes) => bytes,
@@ -44,13 +52,31 @@ pub fn explain<R: Source, W: Sink, E: Sink>(
 
 fn explain_bytes<W: Sink, E: Sink>(alloc: Global, bytes: &[u8], sink: &mut W, errors: &mut E) -> u8
     ensures status { (result ≡ 0) ⊎ ((result ≡ 1) ⊎ (result ≡ 2)) }
-    ensures answered { result ≡ 0 → IsAnswered bytes.now }
+    ensures answered { result ≡ 0 → TellsReasons W.contents sink.old sink.new bytes.now }
     ensures refused { result ≡ 2 → (f : DocumentFault) × IsAnswer bytes.now (Err f)
         × SaysFault E.contents errors.old errors.new f }
 {
     match read_document(alloc, bytes) {
-        Ok(_) => say(sink, errors, b"no fault\n", 0),
+        Ok(document) => tell_reasons(alloc, document, sink, errors),
         Err(fault) => refuse(alloc, bytes, fault, sink, errors),
+    }
+}
+
+/// Says the answers, and the lookups behind them.
+fn tell_reasons<W: Sink, E: Sink>(
+    alloc: Global,
+    document: Document,
+    sink: &mut W,
+    errors: &mut E,
+) -> u8
+    requires { IsSoundDocument (document_parts document) }
+    ensures status { (result ≡ 0) ⊎ (result ≡ 1) }
+    ensures told { result ≡ 0
+        → Writes W.contents sink.old sink.new (explanation_text (document_parts document)) }
+{
+    match explain_document(alloc, &document) {
+        Ok(text) => say(sink, errors, &text, 0),
+        Err(AllocError) => complain(errors, Program::Msgrun, Some(&RunFault::Memory)),
     }
 }
 
@@ -77,6 +103,7 @@ fn refuse<W: Sink, E: Sink>(
 fn say<W: Sink, E: Sink>(sink: &mut W, errors: &mut E, text: &[u8], status: u8) -> u8
     ensures status { (result ≡ status) ⊎ (result ≡ 1) }
     ensures same { result ≢ 1 → errors.new ≡ errors.old }
+    ensures said { result ≢ 1 → Writes W.contents sink.old sink.new text.now }
 {
     match write_whole(sink, text) {
         Ok(()) => status,

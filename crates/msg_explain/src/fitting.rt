@@ -152,6 +152,8 @@ fn suits(edition: Edition, item: &Item) -> bool
     match (edition, item) {
         (Edition::First, Item::Change(Change::Make { .. })) => false,
         (Edition::First | Edition::Second, Item::ChangeAll(_)) => false,
+        (Edition::First | Edition::Second, Item::Change(Change::Remove { .. })) => false,
+        (Edition::First | Edition::Second, Item::Change(Change::Dispose { .. })) => false,
         _ => true,
     }
 }

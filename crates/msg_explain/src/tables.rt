@@ -207,6 +207,11 @@ fn at_change(word: &str, place: usize) -> Option<Wanted>
             2 => Some(Wanted::One(Part::MadeUnder)),
             _ => None,
         },
+        "remove" => at_method(1, place),
+        "dispose" => match place {
+            1 => Some(CLASS),
+            _ => None,
+        },
         _ => None,
     }
 }

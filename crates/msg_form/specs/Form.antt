@@ -49,6 +49,8 @@ pub data ChangeForm : Type 0 where
   attach : Text → List PairForm → List PairForm → ChangeForm
   -- class, superclass
   make : Text → Option Text → ChangeForm
+  remove : MethodForm → ChangeForm
+  dispose : Text → ChangeForm
 
 -- an item, with names as texts
 pub data ItemForm : Type 0 where

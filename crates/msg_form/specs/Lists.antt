@@ -1,7 +1,7 @@
 -- What stands in a form: the names that it gives, its lists, its sends and the names that it cites.
 use Rattle.std.specs.Prelude.{ℕ, List, [], ◌∷◌, ◌++◌, length, map, filter, is_none, Option, Some, None}
 use Rattle.std.specs.List.{flat_map}
-use Rattle.msg_form.specs.Form.{PairForm, ClassForm, CategoryForm, ChangeForm, add, replace, set_imp, exchange, attach, make, ItemForm, send_item, changes_of, Form}
+use Rattle.msg_form.specs.Form.{PairForm, ClassForm, CategoryForm, ChangeForm, add, replace, set_imp, exchange, attach, make, remove, dispose, ItemForm, send_item, changes_of, Form}
 use Rattle.msg_form.specs.Parts.{classes_in, objects_in, sends_in, own_class, own_object}
 use Rattle.msg_form.specs.Text.{Text}
 
@@ -53,6 +53,8 @@ change_lists (set_imp m i) = []
 change_lists (exchange m o) = []
 change_lists (attach c ms cs) = ms ∷ cs ∷ []
 change_lists (make c s) = []
+change_lists (remove m) = []
+change_lists (dispose c) = []
 
 -- the method lists of an item: those of categories that it attaches
 abbrev pub item_lists : ItemForm → List (List PairForm)
@@ -94,6 +96,8 @@ change_classes (set_imp m i) = m.class ∷ []
 change_classes (exchange m o) = m.class ∷ o.class ∷ []
 change_classes (attach c ms cs) = c ∷ []
 change_classes (make c s) = c ∷ at_most_one s
+change_classes (remove m) = m.class ∷ []
+change_classes (dispose c) = c ∷ []
 
 -- the classes that an item names, by a receiver, an argument or its changes
 abbrev pub item_classes : ItemForm → List Text
@@ -135,6 +139,8 @@ change_imps (set_imp m i) = i ∷ []
 change_imps (exchange m o) = []
 change_imps (attach c ms cs) = []
 change_imps (make c s) = []
+change_imps (remove m) = []
+change_imps (dispose c) = []
 
 -- the implementations that an item's changes name
 abbrev pub item_imps : ItemForm → List Text

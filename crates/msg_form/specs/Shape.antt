@@ -6,7 +6,7 @@ use Rattle.msg_json.specs.Keys.{has_keys}
 use Rattle.msg_form.specs.ExprShape.{is_word, constant_of, expression_of}
 use Rattle.std.specs.List.{list_any}
 use Rattle.msg_form.specs.Version.{is_second, is_third}
-use Rattle.msg_form.specs.Form.{PairForm, ClassForm, CategoryForm, ObjectForm, ImpForm, MethodForm, ChangeForm, add, replace, set_imp, exchange, attach, make, ItemForm, send_item, change_item, change_all_item, Form}
+use Rattle.msg_form.specs.Form.{PairForm, ClassForm, CategoryForm, ObjectForm, ImpForm, MethodForm, ChangeForm, add, replace, set_imp, exchange, attach, make, remove, dispose, ItemForm, send_item, change_item, change_all_item, Form}
 use Rattle.msg_form.specs.Json.{◌>>=◌, only_if, each, list_at, list_of, field_of, value_of, name_of, whole_of}
 use Rattle.msg_form.specs.Text.{Text}
 
@@ -117,6 +117,20 @@ make_of ds = do
   superclass ← value_of superclass_of 2 ds
   Some (make class superclass)
 
+-- `["remove",N,meta,S]`
+unfoldable pub remove_of : List Data → Option ChangeForm
+remove_of ds = do
+  _ ← only_if (length ds == 4)
+  method ← method_form_of 1 ds
+  Some (remove method)
+
+-- `["dispose",N]`
+unfoldable pub dispose_of : List Data → Option ChangeForm
+dispose_of ds = do
+  _ ← only_if (length ds == 2)
+  class ← value_of name_of 1 ds
+  Some (dispose class)
+
 unfoldable pub worded_change_of : Text → List Data → Option ChangeForm
 worded_change_of word ds =
     if is_word word (codes "add") then option_map (λ e. add e.0 e.1) (edit_of ds) else
@@ -125,7 +139,9 @@ worded_change_of word ds =
     (if is_word word (codes "exchange") then exchange_of ds else
     (if is_word word (codes "attach") then attach_of ds else
     (if is_word word (codes "make") then make_of ds else
-    None)))))
+    (if is_word word (codes "remove") then remove_of ds else
+    (if is_word word (codes "dispose") then dispose_of ds else
+    None)))))))
 
 -- X, by its word
 unfoldable pub change_form_of : Data → Option ChangeForm
@@ -181,15 +197,17 @@ parts_of version made d = do
   items ← field_of (list_of item_form_of) (codes "items") d
   Some (record { version = version; classes = classes; made = made; categories = categories; objects = objects; imps = imps; items = items })
 
--- changes that are made as one, which version 3 added
-abbrev pub is_all : ItemForm → Bool
-is_all (change_all_item cs) = true
-is_all _ = false
+-- changes that are made as one, or a change that takes away: version 3 added these
+abbrev pub is_newest : ItemForm → Bool
+is_newest (change_all_item cs) = true
+is_newest (change_item (remove m)) = true
+is_newest (change_item (dispose c)) = true
+is_newest _ = false
 
 -- these, or a change that makes a class, which version 2 added
 abbrev pub is_later : ItemForm → Bool
 is_later (change_item (make c s)) = true
-is_later i = is_all i
+is_later i = is_newest i
 
 -- version 1, which makes no classes
 unfoldable pub first_form_of : ℤ → Data → Option Form
@@ -206,11 +224,11 @@ third_form_of version d = do
   made ← field_of (list_of name_of) (codes "made") d
   parts_of version made d
 
--- version 2, which is version 3 without changes that are made as one
+-- version 2, which is version 3 without what that added
 unfoldable pub second_form_of : ℤ → Data → Option Form
 second_form_of version d = do
   f ← third_form_of version d
-  _ ← only_if (not (list_any is_all f.items))
+  _ ← only_if (not (list_any is_newest f.items))
   Some f
 
 -- the form of a document of this version

@@ -7,7 +7,7 @@ use Rattle.msg_form.specs.Form.{PairForm, ClassForm, CategoryForm, ObjectForm, I
 use Rattle.msg_form.specs.Text.{Text, number_among, texts_view}
 use Rattle.msg_form.specs.declared.form.Category.{Category}
 use Rattle.msg_form.specs.declared.form.Change.{Change}
-use Rattle.msg_form.specs.declared.form.Change.TheVariants.{Add, Replace, SetImp, Exchange, Attach, Make}
+use Rattle.msg_form.specs.declared.form.Change.TheVariants.{Add, Replace, SetImp, Exchange, Attach, Make, Remove, Dispose}
 use Rattle.msg_form.specs.declared.form.Class.{Class}
 use Rattle.msg_form.specs.declared.form.Form.{Form}
 use Rattle.msg_form.specs.declared.form.Imp.{Imp}
@@ -74,6 +74,8 @@ change_view (SetImp m i) = plain.set_imp (method_view m) i.now
 change_view (Exchange m o) = plain.exchange (method_view m) (method_view o)
 change_view (Attach c ms cs) = plain.attach c.now (pairs_view ms.items) (pairs_view cs.items)
 change_view (Make c s) = plain.make c.now (option_map (λ n. n.now) s)
+change_view (Remove m) = plain.remove (method_view m)
+change_view (Dispose c) = plain.dispose c.now
 
 abbrev pub changes_view : List Change → List ChangeForm
 changes_view cs = map change_view cs

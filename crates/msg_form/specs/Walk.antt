@@ -2,7 +2,7 @@
 use Rattle.std.specs.Prelude.{List, [], ◌∷◌, ◌++◌, map, codes}
 use Rattle.std.specs.List.{flat_map}
 use Rattle.msg_form.specs.Expression.{Expression, Expressions, constant, me, arg, binary, choice, send, super_send, no_more, more}
-use Rattle.msg_form.specs.Form.{PairForm, ClassForm, CategoryForm, ImpForm, ChangeForm, add, replace, set_imp, exchange, attach, make, ItemForm, send_item, changes_of, Form}
+use Rattle.msg_form.specs.Form.{PairForm, ClassForm, CategoryForm, ImpForm, ChangeForm, add, replace, set_imp, exchange, attach, make, remove, dispose, ItemForm, send_item, changes_of, Form}
 use Rattle.msg_form.specs.Parts.{own_selector}
 use Rattle.msg_form.specs.Text.{Text}
 
@@ -50,6 +50,8 @@ change_texts (set_imp m i) = m.selector ∷ []
 change_texts (exchange m o) = m.selector ∷ o.selector ∷ []
 change_texts (attach c ms cs) = list_texts ms ++ list_texts cs
 change_texts (make c s) = []
+change_texts (remove m) = m.selector ∷ []
+change_texts (dispose c) = []
 
 -- the selectors of an item, in the order of the walk
 abbrev pub item_texts : ItemForm → List Text

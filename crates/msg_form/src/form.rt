@@ -135,6 +135,12 @@ pub enum Change<'v> {
         class: &'v str,
         superclass: Option<&'v str>,
     },
+    Remove {
+        method: MethodName<'v>,
+    },
+    Dispose {
+        class: &'v str,
+    },
 }
 
 #[derive(Clone, Copy)]

@@ -128,7 +128,8 @@ impl<'v> HasSelectors<'v> for Change<'v> {
         match self {
             Change::Add { method, .. }
             | Change::Replace { method, .. }
-            | Change::SetImp { method, .. } => push_text(method.selector, texts),
+            | Change::SetImp { method, .. }
+            | Change::Remove { method } => push_text(method.selector, texts),
             Change::Exchange { method, other } => {
                 push_text(method.selector, texts)?;
                 push_text(other.selector, texts)
@@ -141,7 +142,7 @@ impl<'v> HasSelectors<'v> for Change<'v> {
                 push_list(methods, texts)?;
                 push_list(class_methods, texts)
             }
-            Change::Make { .. } => Ok(()),
+            Change::Make { .. } | Change::Dispose { .. } => Ok(()),
         }
     }
 }

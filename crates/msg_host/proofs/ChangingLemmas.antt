@@ -15,3 +15,4 @@ memory_of_number faults.NoMethod e = absurd (omega arith)
 memory_of_number faults.Limit e = absurd (omega arith)
 memory_of_number faults.Memory e = refl
 memory_of_number faults.DuplicateClass e = absurd (omega arith)
+memory_of_number faults.ClassInUse e = absurd (omega arith)

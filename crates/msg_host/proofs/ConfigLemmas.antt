@@ -40,6 +40,10 @@ not-beyond n most few = grind arith
 within : (n most : ℕ) → nat_lt most n ≡ false → n ≤ most
 within n most e = grind arith
 
+-- a config that isn't refused asks for no more classes than there may be
+pub few-classes : (config : HostConfig) → is_beyond config ≡ false → config.classes ≤ MOST_CLASSES
+few-classes config e = within config.classes MOST_CLASSES (or_parts (nat_lt MOST_CLASSES config.classes) (nat_lt MOST_SENDERS config.senders) (or_parts (nat_lt MOST_CLASSES config.classes || nat_lt MOST_SENDERS config.senders) (are_beyond config.arrays) e).0).0
+
 weigh-few : (ns cs : List ℕ) → are_beyond ns ≡ false → weigh ns cs ≤ MOST_ARRAYS * total cs
 weigh-few [] cs e = omega arith
 weigh-few (n ∷ ns) [] e = omega arith

@@ -2,3 +2,5 @@ pub mod ChangingLemmas
 pub mod ConfigLemmas
 pub mod CrossingLemmas
 pub mod ListingLemmas
+pub mod LookupLemmas
+pub mod WayBackLemmas

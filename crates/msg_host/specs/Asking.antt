@@ -4,6 +4,7 @@ use Rattle.msg_tables.specs.declared.change.Change.{Change}
 use Rattle.msg_tables.specs.FaultNumber.{change_fault_number}
 use Rattle.msg_tables.specs.History.{and_then, log}
 use Rattle.msg_tables.specs.Refusal.{refusal}
+use Rattle.msg_runtime.specs.Calls.{HoldsRoomFor, KeepsAtLeastRoom, LacksRoomFor, beside_room}
 use Rattle.msg_runtime.specs.View.{RuntimeView}
 use Rattle.msg_host.specs.declared.changing.MethodRow.{MethodRow}
 use Rattle.msg_host.specs.declared.fault.AskFault.{AskFault}
@@ -39,16 +40,23 @@ IsRefusal n = (n ≢ 0) × (n ≢ want_of_memory) × (n ≢ want_of_room)
 abbrev pub LacksSelector : RuntimeView → RuntimeView → ℕ → ℕ → Type 0
 LacksSelector v w sel n = sel ≡ 0 → (n ≡ want_of_selector) × (w ≡ v)
 
+-- nothing has changed, but that there may be more room
+pub record IsLeft (v w : RuntimeView) : Type 0 where
+  pub same : beside_room w ≡ beside_room v
+  pub room : KeepsAtLeastRoom v w
+
 -- A change took a runtime from v to w with the answer n: 0 where it was made, and else its fault's
 -- number, and nothing has changed.
 pub record AnswersChange (v w : RuntimeView) (x : Change) (n : ℕ) : Type 0 where
   pub arena : w.arena ≡ v.arena
   pub given : w.keeper.given ≡ v.keeper.given
   pub made : n ≡ 0 → (refusal (log v.keeper.history) x ≡ None) × (w.keeper.history ≡ and_then v.keeper.history (x ∷ []))
-  pub left : n ≢ 0 → w ≡ v
+  pub held : n ≡ 0 → HoldsRoomFor v w (x ∷ [])
+  pub left : n ≢ 0 → IsLeft v w
   pub fault : n ≢ 0 → n ≢ want_of_memory → option_map change_fault_number (refusal (log v.keeper.history) x) ≡ Some n
-  -- want of memory is answered only where nothing else speaks against it
-  pub memory : n ≡ want_of_memory → refusal (log v.keeper.history) x ≡ None
+  -- want of memory is answered only where nothing else speaks against it, and there is too little
+  -- room
+  pub memory : n ≡ want_of_memory → (refusal (log v.keeper.history) x ≡ None) × LacksRoomFor v (x ∷ [])
 
 -- the rows of a method list, as pairs of numbers
 abbrev pub pairs_of : List MethodRow → List (ℕ × ℕ)

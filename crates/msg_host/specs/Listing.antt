@@ -9,8 +9,9 @@ use Rattle.msg_names.specs.Number.{imp_number, imp_ref_of, selector_number, sele
 use Rattle.msg_tables.specs.ChangeList as by_ref
 use Rattle.msg_tables.specs.declared.change.ChangeRef.{ChangeRef}
 use Rattle.msg_tables.specs.declared.change.Change.{Change}
-use Rattle.msg_tables.specs.declared.change.Change.TheVariants.{Add, Replace, SetImp, Exchange, AddClass}
+use Rattle.msg_tables.specs.declared.change.Change.TheVariants.{Add, Replace, SetImp, Exchange, AddClass, Remove, DisposeClass}
 use Rattle.msg_tables.specs.declared.entry.Entry.{Entry}
+use Rattle.msg_tables.specs.declared.entry.Entry.TheVariants.{Added, Rewrote, Removed, Made, Disposed}
 use Rattle.msg_tables.specs.declared.fault.ChangeFault.{ChangeFault}
 use Rattle.msg_tables.specs.FaultNumber.{change_fault_number}
 use Rattle.msg_tables.specs.History.{History, log}
@@ -18,15 +19,18 @@ use Rattle.msg_tables.specs.Log.{table}
 use Rattle.msg_tables.specs.Made.{AreMade, TellsWayBack}
 use Rattle.msg_tables.specs.Marking.{MarksAffectedByAll}
 use Rattle.msg_tables.specs.Several.{refused_from}
-use Rattle.msg_tables.specs.Journal.{undo_entry}
-use Rattle.msg_tables.specs.Undo.{and_before, undo_all}
+use Rattle.msg_tables.specs.Journal.{undo_journal}
+use Rattle.msg_tables.specs.Undo.{covering, undo_all}
 use Rattle.msg_cache.specs.Views.{classes}
+use Rattle.msg_runtime.specs.Calls.{HoldsRoomFor, LacksRoomFor}
 use Rattle.msg_runtime.specs.View.{RuntimeView}
 use Rattle.msg_host.specs.Asking.{ask_fault_number, want_of_memory, want_of_room}
 use Rattle.msg_host.specs.Named.{ref_of}
 use Rattle.msg_host.specs.declared.fault.AskFault.{AskFault}
 use Rattle.msg_host.specs.declared.fault.AskFault.TheVariants.{NoSelector, BadRow}
 use Rattle.msg_host.specs.declared.listing.ChangeRow.{ChangeRow}
+use Rattle.msg_host.specs.declared.listing.RowsUnmade.{RowsUnmade}
+use Rattle.msg_host.specs.declared.listing.RowsUnmade.TheVariants.{Fault, TooLong}
 use Rattle.msg_host.specs.declared.listing.RowFault.{RowFault}
 
 -- the class reference of a number: 0 beside it is for the class, 1 for its metaclass
@@ -47,9 +51,26 @@ both (Err f) o = Err f
 abbrev pub method_in : ℕ → ℕ → ℕ → Result (ClassRef × Selector) AskFault
 method_in k meta s = both (ref_in k meta) (selector_in s)
 
--- the row that means a replacement
-abbrev pub replacing : ClassRef → Selector → ImpRef → ChangeRow
-replacing c s i = record { kind = 2; class = c.class; meta = if c.meta then 1 else 0; sel = selector_number s; imp = imp_number i; other = 0; other_meta = 0; other_sel = 0 }
+-- a row of a kind that names a method, and perhaps its implementation
+abbrev pub method_row : ℕ → ClassRef → Selector → ℕ → ChangeRow
+method_row kind c s i = record { kind = kind; class = c.class; meta = if c.meta then 1 else 0; sel = selector_number s; imp = i; other = 0; other_meta = 0; other_sel = 0 }
+
+-- a row of a kind that names a class, and perhaps its superclass
+abbrev pub class_row : ℕ → ℕ → ℕ → ChangeRow
+class_row kind k d = record { kind = kind; class = k; meta = 0; sel = 0; imp = 0; other = d; other_meta = 0; other_sel = 0 }
+
+-- the row that makes a class
+abbrev pub making_row : ℕ → Option ℕ → ChangeRow
+making_row k None = class_row 6 k 0
+making_row k (Some d) = class_row 5 k d
+
+-- the row that means what takes an entry back
+abbrev pub undoing : Entry → ChangeRow
+undoing (Added c s) = method_row 7 c s 0
+undoing (Rewrote c s i) = method_row 2 c s (imp_number i)
+undoing (Removed c s i at) = method_row 9 c s (imp_number i)
+undoing (Made k) = class_row 8 k 0
+undoing (Disposed k d at) = making_row k d
 
 -- the exchange of two methods
 abbrev pub exchange_of : ClassRef × Selector → ClassRef × Selector → Change
@@ -64,6 +85,14 @@ change_of make (Err f) = Err f
 abbrev pub exchange_in : ChangeRow → Result Change AskFault
 exchange_in r = change_of (λ m. exchange_of m.0 m.1) (both (method_in r.class r.meta r.sel) (method_in r.other r.other_meta r.other_sel))
 
+-- the removal that a row means
+abbrev pub removal_in : ChangeRow → Result Change AskFault
+removal_in r = change_of (λ m. Remove m.0 m.1) (method_in r.class r.meta r.sel)
+
+-- the category of one method that a row means
+abbrev pub covering_in : ChangeRow → Result Change AskFault
+covering_in r = change_of (λ m. covering m.0 (selector_number m.1) r.imp) (method_in r.class r.meta r.sel)
+
 -- the change that a row means, or why it means none
 abbrev pub change_in : ChangeRow → Result Change AskFault
 change_in r =
@@ -72,7 +101,10 @@ change_in r =
     else (if r.kind == 3 then change_of (λ m. SetImp m.0 m.1 (imp_ref_of r.imp)) (method_in r.class r.meta r.sel)
     else (if r.kind == 4 then exchange_in r
     else (if r.kind == 5 then Ok (AddClass r.class (Some r.other))
-    else (if r.kind == 6 then Ok (AddClass r.class None) else Err BadRow)))))
+    else (if r.kind == 6 then Ok (AddClass r.class None)
+    else (if r.kind == 7 then removal_in r
+    else (if r.kind == 8 then Ok (DisposeClass r.class)
+    else (if r.kind == 9 then covering_in r else Err BadRow))))))))
 
 -- a change that was read, or the fault
 abbrev pub read : Result ChangeRef AskFault → Result Change AskFault
@@ -96,9 +128,9 @@ changes_in rows = map (λ r. change_or_other (change_in r)) rows
 abbrev pub AreMeant : List ChangeRow → List Change → Type 0
 AreMeant rows xs = map change_in rows ≡ map (λ x. Ok x) xs
 
--- the changes that the rows mean were made as one
-abbrev pub MakesRows : List ChangeRow → History → History → Type 0
-MakesRows rows old new = (xs : List Change) × AreMeant rows xs × AreMade xs old new
+-- the changes that the rows mean were made as one, and there is room for what they needed
+abbrev pub MakesRows : List ChangeRow → RuntimeView → RuntimeView → Type 0
+MakesRows rows v w = (xs : List Change) × AreMeant rows xs × AreMade xs v.keeper.history w.keeper.history × HoldsRoomFor v w xs
 
 -- the row of this place means no change, and this is the number of its fault; those before mean
 -- some
@@ -119,39 +151,42 @@ AreRefusedRows rows h place n = IsBadRow rows place n ⊎ IsRefusedRow rows h pl
 abbrev pub AreRowsRefusedAt : List ChangeRow → History → ℕ → ℕ → Type 0
 AreRowsRefusedAt rows h place n = n ≢ want_of_memory → AreRefusedRows rows h place n
 
--- where memory was wanting each row means a change, and neither those before this place would be
--- refused nor that at it
-abbrev pub LackMemoryAt : List ChangeRow → History → ℕ → Type 0
-LackMemoryAt rows h place = (xs : List Change) × AreMeant rows xs × (refused_from 0 (log h) (take (place + 1) xs) ≡ None)
+-- where memory was wanting each row means a change, neither those before this place would be
+-- refused nor that at it, and there is too little room for these
+abbrev pub LackMemoryAt : List ChangeRow → RuntimeView → ℕ → Type 0
+LackMemoryAt rows v place = (xs : List Change) × AreMeant rows xs × (refused_from 0 (log v.keeper.history) (take (place + 1) xs) ≡ None) × LacksRoomFor v (take (place + 1) xs)
 
 -- so it is where that is the number
-abbrev pub LackMemoryIf : List ChangeRow → History → ℕ → ℕ → Type 0
-LackMemoryIf rows h place n = n ≡ want_of_memory → LackMemoryAt rows h place
+abbrev pub LackMemoryIf : List ChangeRow → RuntimeView → ℕ → ℕ → Type 0
+LackMemoryIf rows v place n = n ≡ want_of_memory → LackMemoryAt rows v place
 
--- Why the changes of rows aren't made at a history: the number of a fault at the place of a row.
--- But for want of memory, that row means no change, or its change is the first that would be
--- refused.
-pub record IsRowFault (rows : List ChangeRow) (h : History) (r : RowFault) : Type 0 where
+-- the changes that the rows mean would be made, and so many take them back
+abbrev pub WeighRows : List ChangeRow → History → ℕ → Type 0
+WeighRows rows h n = (xs : List Change) × AreMeant rows xs × (refused_from 0 (log h) xs ≡ None) × (n ≡ length (undo_all (table (log h)) xs))
+
+-- Why the changes of rows aren't made of a runtime: the number of a fault at the place of a row. But
+-- for want of memory, that row means no change, or its change is the first that would be refused.
+pub record IsRowFault (rows : List ChangeRow) (v : RuntimeView) (r : RowFault) : Type 0 where
   pub some : r.number ≢ 0
   pub room : r.number ≢ want_of_room
   pub place : r.place < length rows
-  pub fault : AreRowsRefusedAt rows h r.place r.number
-  pub memory : LackMemoryIf rows h r.place r.number
+  pub fault : AreRowsRefusedAt rows v.keeper.history r.place r.number
+  pub memory : LackMemoryIf rows v r.place r.number
+
+-- why they aren't: such a fault, or that their way back has so many changes, more than it may have
+abbrev pub AreUnmadeRows : List ChangeRow → RuntimeView → ℕ → RowsUnmade → Type 0
+AreUnmadeRows rows v most (Fault r) = IsRowFault rows v r
+AreUnmadeRows rows v most (TooLong n) = WeighRows rows v.keeper.history n × (most < n)
 
 -- what was written tells the way back from the changes that the rows mean, directly after they are
 -- made at a history
 abbrev pub TellsRowsBack : List ChangeRow → History → List Entry → Type 0
 TellsRowsBack rows h entries = (xs : List Change) × AreMeant rows xs × TellsWayBack xs h entries
 
--- the first rows mean what takes changes back, where there is a way back; else there are none
-abbrev pub AreWayBack : Option (List Change) → List ChangeRow → ℕ → Type 0
-AreWayBack None undo n = n ≡ 0
-AreWayBack (Some ys) undo n = AreMeant (take n undo) ys
-
 -- so many rows mean what takes back the changes that these mean, directly after they are made at a
 -- history
 abbrev pub UndoesRows : List ChangeRow → History → List ChangeRow → ℕ → Type 0
-UndoesRows rows h undo n = (xs : List Change) × AreMeant rows xs × AreWayBack (undo_all (table (log h)) xs) undo n
+UndoesRows rows h undo n = (xs : List Change) × AreMeant rows xs × AreMeant (take n undo) (undo_all (table (log h)) xs)
 
 -- the changes that the rows mean would be made, and what they may alter is marked beside what was
 abbrev pub ReachesRows : List ChangeRow → History → ℕ → List Bool → List Bool → Type 0
@@ -171,8 +206,3 @@ abbrev pub RefusesToReach : RuntimeView → List ChangeRow → ℕ → ℕ → L
 RefusesToReach v rows place n old new =
     (IsBadRow rows place n × (new ≡ old))
     ⊎ (IsRefusedRow rows v.keeper.history place n × ReachesRowsBefore v rows place old new)
-
--- an entry that has a way back was given back behind the first `count` rows: the rows up to `n`
--- then mean that too
-abbrev pub GivesBack : Entry → ℕ → List ChangeRow → ℕ → List ChangeRow → Type 0
-GivesBack e count old n new = (ys : List Change) → AreMeant (take count old) ys → (zs : List Change) × (and_before (undo_entry e) (Some ys) ≡ Some zs) × AreMeant (take n new) zs

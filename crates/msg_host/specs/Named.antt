@@ -5,7 +5,7 @@ use Rattle.msg_names.specs.declared.value.ImpRef.{ImpRef}
 use Rattle.msg_names.specs.declared.value.Selector.{Selector}
 use Rattle.msg_names.specs.Number.{imp_number, imp_ref_of, selector_number, selector_of}
 use Rattle.msg_tables.specs.declared.change.Change.{Change}
-use Rattle.msg_tables.specs.declared.change.Change.TheVariants.{Add, Replace, SetImp, Exchange, Attach}
+use Rattle.msg_tables.specs.declared.change.Change.TheVariants.{Add, Replace, SetImp, Exchange, Attach, Remove}
 use Rattle.msg_reader.specs.Kept.{HaveNotedSince}
 use Rattle.msg_reader.specs.declared.notes.Notes.{Notes}
 use Rattle.msg_host.specs.Asking.{AnswersChange, IsListFault, pairs_of}
@@ -25,6 +25,10 @@ addition class meta sel imp = Add (ref_of class meta) (selector_of sel) (imp_ref
 -- one that is replaced there
 abbrev pub replacement : ℕ → Bool → ℕ → ℕ → Change
 replacement class meta sel imp = Replace (ref_of class meta) (selector_of sel) (imp_ref_of imp)
+
+-- a class's own method that is removed
+abbrev pub removal : ℕ → Bool → ℕ → Change
+removal class meta sel = Remove (ref_of class meta) (selector_of sel)
 
 -- the implementation that is set of a method that is found from there
 abbrev pub setting : ℕ → Bool → ℕ → ℕ → Change
@@ -51,9 +55,9 @@ abbrev pub TellsAttached : RuntimeView → RuntimeView → ℕ → List MethodRo
 TellsAttached v w class methods class_methods n = n ≡ 0 → AnswersChange v w (attachment class methods class_methods) 0
 
 -- another answer says why not: one of its lists isn't taken, or the change is refused
-abbrev pub TellsAttachFault : RuntimeView → ℕ → List MethodRow → List MethodRow → ℕ → Type 0
-TellsAttachFault v class methods class_methods n =
-    n ≢ 0 → IsListFault methods n ⊎ IsListFault class_methods n ⊎ AnswersChange v v (attachment class methods class_methods) n
+abbrev pub TellsAttachFault : RuntimeView → RuntimeView → ℕ → List MethodRow → List MethodRow → ℕ → Type 0
+TellsAttachFault v w class methods class_methods n =
+    n ≢ 0 → IsListFault methods n ⊎ IsListFault class_methods n ⊎ AnswersChange v w (attachment class methods class_methods) n
 
 -- since the stamp that a sender loaded last, notes have this implementation of a lookup
 abbrev pub HaveNotedLast : Notes → SenderView → ClassRef → Selector → ImpRef → Type 0

@@ -2,9 +2,9 @@
 
 ghost use Rattle.std.specs.Prelude.{◌≡◌, ◌≢◌, IfOk, IfErr};
 ghost use Rattle.msg_tables.specs.declared.change.Change.{Change};
-ghost use Rattle.msg_host.specs.Asking.{AnswersChange, IsListFault, LacksSelector, pairs_of};
+ghost use Rattle.msg_host.specs.Asking.{AnswersChange, IsLeft, IsListFault, LacksSelector, pairs_of};
 ghost use Rattle.msg_host.specs.Named.{AnswersExchange, AnswersFor, TellsAttachFault, TellsAttached};
-ghost use Rattle.msg_host.specs.Named.{addition, replacement, setting};
+ghost use Rattle.msg_host.specs.Named.{addition, removal, replacement, setting};
 
 use crate::fault::{AskFault, selector};
 use crate::runtime::HostedRuntime;
@@ -124,8 +124,8 @@ impl HostedRuntime {
         ensures arena { self.new.arena ≡ self.old.arena }
         ensures given { self.new.keeper.given ≡ self.old.keeper.given }
         ensures made { TellsAttached self.old self.new class methods.now class_methods.now result }
-        ensures left { result ≢ 0 → self.new ≡ self.old }
-        ensures fault { TellsAttachFault self.old class methods.now class_methods.now result }
+        ensures left { result ≢ 0 → IsLeft self.old self.new }
+        ensures fault { TellsAttachFault self.old self.new class methods.now class_methods.now result }
     {
         let methods = match method_list(alloc, methods) {
             Ok(methods) => methods,
@@ -148,5 +148,28 @@ impl HostedRuntime {
         ensures { AnswersChange self.old self.new (Change.AddClass class superclass) result }
     {
         self.make(&Change::AddClass { class, superclass })
+    }
+
+    /// `class_removeMethod`, alike: the class's own method leaves, and one that it covered counts
+    /// again.
+    pub fn remove(&mut self, class: u32, meta: bool, sel: u32) -> u32
+        ensures no_selector { LacksSelector self.old self.new sel result }
+        ensures change { AnswersFor sel self.old self.new (removal class meta sel) result }
+    {
+        match selector(sel) {
+            Ok(sel) => self.make(&Change::Remove {
+                class: ClassRef { class, meta },
+                sel,
+            }),
+            Err(fault) => fault.number(),
+        }
+    }
+
+    /// `objc_disposeClassPair`, alike: a class that was made leaves with its metaclass and the
+    /// methods of both, where none is below it.
+    pub fn dispose_class(&mut self, class: u32) -> u32
+        ensures { AnswersChange self.old self.new (Change.DisposeClass class) result }
+    {
+        self.make(&Change::DisposeClass { class })
     }
 }

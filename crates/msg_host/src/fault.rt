@@ -18,7 +18,7 @@ pub enum AskFault {
     NoClass,
     /// The number is 0, which is no selector's.
     NoSelector,
-    /// A row of a list of changes is of no kind, or names neither a class nor its metaclass.
+    /// A row of a list of changes is of no kind, or a row names neither a class nor its metaclass.
     BadRow,
 }
 

@@ -1,7 +1,7 @@
 //! What a host program's handles hold: a runtime behind the host's own lock, and senders that share
 //! its arena.
 //!
-//! The calls of `asking`, `changing` and `sending` take and give numbers, as a host in C has them,
+//! The calls of `asking`, `changing`, `lookups` and `sending` take and give numbers, as a host in C has them,
 //! and refuse the numbers that mean nothing.
 #![tactic(auto)]
 
@@ -10,7 +10,9 @@ mod changing;
 mod config;
 mod crossing;
 mod fault;
+pub mod laws;
 mod listing;
+mod lookups;
 mod opening;
 mod reaching;
 mod runtime;
@@ -26,5 +28,6 @@ pub use config::{
 pub use crossing::{a_runtime_may_cross, a_sender_may_cross};
 pub use fault::{AskFault, OpenFault, SenderFault};
 pub use listing::ChangeRow;
+pub use lookups::LookupRow;
 pub use runtime::HostedRuntime;
 pub use sender::HostedSender;

@@ -1,24 +1,24 @@
 //! Lists of changes in numbers.
 
-ghost use Rattle.std.specs.Prelude.{◌≡◌, ◌≢◌, ◌<◌, ◌⊎◌, true, IfOk, IfErr, OnErr, OnOk, length};
+ghost use Rattle.std.specs.Prelude.{◌≡◌, ◌≢◌, ◌<◌, ◌≤◌, ◌⊎◌, true, IfOk, IfErr, OnErr, OnOk, length};
 ghost use Rattle.msg_tables.specs.FaultNumber.{change_fault_number};
 ghost use Rattle.msg_tables.specs.declared.fault.ChangeFault.{ChangeFault};
-ghost use Rattle.msg_host.specs.Asking.{want_of_memory, want_of_room};
-ghost use Rattle.msg_host.specs.Listing.{AreMeant, AreRowsRefusedAt, IsBadRow, IsRowFault, LackMemoryIf, MakesRows, TellsRowsBack};
-ghost use Rattle.msg_host.specs.Listing.{are_meant, change_in, changes_in, exchange_in, method_in, read, ref_in};
+ghost use Rattle.msg_host.specs.Asking.{IsLeft, want_of_memory, want_of_room};
+ghost use Rattle.msg_host.specs.Listing.{AreMeant, AreRowsRefusedAt, AreUnmadeRows, IsBadRow, LackMemoryIf, MakesRows, TellsRowsBack};
+ghost use Rattle.msg_host.specs.Listing.{are_meant, change_in, changes_in, covering_in, exchange_in, method_in, read, ref_in, removal_in};
 ghost use Rattle.msg_host.specs.declared.fault.AskFault.{AskFault};
 
 use crate::fault::{AskFault, selector};
 use crate::runtime::HostedRuntime;
 use msg_names::{ClassRef, ImpRef, Selector};
-use msg_runtime::Made;
+use msg_runtime::Unmade;
 use msg_tables::{ChangeFault, ChangeList, ChangeRef, Refused};
-use std::alloc::Global;
 
 /// A change in numbers. Its kind says which call makes it alone, and it reads the fields that this
 /// call takes: 1 `add`, 2 `replace`, 3 `set`, 4 `exchange`, 5 `make_class` with the superclass in
-/// `other`, 6 `make_class` without one. A class number with 0 beside it is the class, with 1 its
-/// metaclass.
+/// `other`, 6 `make_class` without one, 7 `remove`, 8 `dispose_class`, and 9 `attach` of one
+/// method, which covers what the class reference had. A class number with 0 beside it is the class,
+/// with 1 its metaclass.
 #[repr(C)]
 #[derive(Clone, Copy)]
 pub struct ChangeRow {
@@ -107,6 +107,23 @@ impl ChangeRow {
         })
     }
 
+    // The removal of the method that it names.
+    fn removal<'c>(self) -> Result<ChangeRef<'c>, AskFault>
+        ensures { read result ≡ removal_in self }
+    {
+        let (class, sel) = self.method()?;
+        Ok(ChangeRef::Remove { class, sel })
+    }
+
+    // The category of the one method that it names.
+    fn cover<'c>(self) -> Result<ChangeRef<'c>, AskFault>
+        ensures { read result ≡ covering_in self }
+    {
+        let (class, sel) = self.method()?;
+        let imp = ImpRef::of(self.imp);
+        Ok(ChangeRef::Cover { class, sel, imp })
+    }
+
     // What becomes of the method that it names.
     #[inline(always)]
     fn with_imp<'c>(self) -> Result<ChangeRef<'c>, AskFault>
@@ -138,6 +155,9 @@ impl ChangeRow {
                 class: self.class,
                 superclass: None,
             }),
+            7 => self.removal(),
+            8 => Ok(ChangeRef::DisposeClass { class: self.class }),
+            9 => self.cover(),
             _ => Err(AskFault::BadRow),
         }
     }
@@ -182,24 +202,34 @@ pub(crate) fn meant(rows: &[ChangeRow]) -> Result<MeantRows<'_>, RowFault>
     Ok(MeantRows { rows })
 }
 
+// Why the changes of rows aren't made: a fault, or that their way back has so many changes, more than
+// it may have.
+#[derive(Clone, Copy)]
+pub(crate) enum RowsUnmade {
+    Fault(RowFault),
+    TooLong(usize),
+}
+
 impl HostedRuntime {
-    // Makes the changes of rows as one, or says why not and changes nothing.
-    pub(crate) fn change_rows(
-        &mut self,
-        alloc: Global,
-        rows: &[ChangeRow],
-    ) -> Result<Made, RowFault>
+    // Makes the changes of rows as one, where their way back has at most so many, or says why not
+    // and changes nothing. What they wrote is noted.
+    pub(crate) fn change_rows(&mut self, rows: &[ChangeRow], most: usize) -> Result<(), RowsUnmade>
         ensures arena { self.new.arena ≡ self.old.arena }
         ensures given { self.new.keeper.given ≡ self.old.keeper.given }
-        ensures made { OnOk result (MakesRows rows.now self.old.keeper.history self.new.keeper.history) }
-        ensures back { IfOk result (λ made. TellsRowsBack rows.now self.old.keeper.history made.written) }
-        ensures left { OnErr result (self.new ≡ self.old) }
-        ensures fault { IfErr result (IsRowFault rows.now self.old.keeper.history) }
+        ensures made { OnOk result (MakesRows rows.now self.old self.new) }
+        ensures back { OnOk result (TellsRowsBack rows.now self.old.keeper.history self.new.written.entries) }
+        ensures fits { OnOk result (length self.new.written.entries ≤ most) }
+        ensures left { OnErr result (IsLeft self.old self.new) }
+        ensures unmade { IfErr result (AreUnmadeRows rows.now self.old most) }
     {
-        let changes = meant(rows)?;
-        match self.change_all(alloc, &changes) {
-            Ok(made) => Ok(made),
-            Err(refused) => Err(RowFault::of(refused)),
+        let changes = match meant(rows) {
+            Ok(changes) => changes,
+            Err(fault) => return Err(RowsUnmade::Fault(fault)),
+        };
+        match self.change_all(&changes, most) {
+            Ok(_count) => Ok(()),
+            Err(Unmade::Refused(refused)) => Err(RowsUnmade::Fault(RowFault::of(refused))),
+            Err(Unmade::TooLong(count)) => Err(RowsUnmade::TooLong(count)),
         }
     }
 
@@ -207,22 +237,20 @@ impl HostedRuntime {
     /// changed; then `place` is that of the row, from 0, which means no change or is the first that
     /// would be refused, or at which memory was wanting. Rows that mean no change are found before
     /// any is made.
-    pub fn make_all(&mut self, alloc: Global, rows: &[ChangeRow], place: &mut usize) -> u32
+    pub fn make_all(&mut self, rows: &[ChangeRow], place: &mut usize) -> u32
         ensures arena { self.new.arena ≡ self.old.arena }
         ensures given { self.new.keeper.given ≡ self.old.keeper.given }
-        ensures made { result ≡ 0 → MakesRows rows.now self.old.keeper.history self.new.keeper.history }
-        ensures left { result ≢ 0 → self.new ≡ self.old }
+        ensures made { result ≡ 0 → MakesRows rows.now self.old self.new }
+        ensures left { result ≢ 0 → IsLeft self.old self.new }
         ensures place { result ≢ 0 → place.new < length rows.now }
         ensures kept { result ≡ 0 → place.new ≡ place.old }
         ensures fault { result ≢ 0 → AreRowsRefusedAt rows.now self.old.keeper.history place.new result }
-        ensures memory { LackMemoryIf rows.now self.old.keeper.history place.new result }
+        ensures memory { LackMemoryIf rows.now self.old place.new result }
     {
-        match self.change_rows(alloc, rows) {
-            Ok(made) => {
-                self.runtime.keep_room(made.written);
-                0
-            }
-            Err(fault) => fault.tell(place),
+        match self.change_rows(rows, usize::MAX) {
+            Ok(()) => 0,
+            Err(RowsUnmade::Fault(fault)) => fault.tell(place),
+            Err(RowsUnmade::TooLong(_count)) => unreachable!(),
         }
     }
 }

@@ -1,8 +1,9 @@
 //! What a runtime is opened of.
 
-ghost use Rattle.std.specs.Prelude.{◌≡◌, IfOk, None, false, replicate};
+ghost use Rattle.std.specs.Prelude.{◌≡◌, ◌≤◌, IfOk, None, false, replicate};
 ghost use Rattle.msg_tables.specs.History.{empty};
 ghost use Rattle.msg_runtime.specs.Parts.{IsKeeperOf, keeper_history, keeper_view};
+ghost use Rattle.msg_runtime.specs.declared.runtime.TheConstants.{OPENING_ENTRIES};
 ghost use Rattle.msg_cache.specs.Config.{refusal_of, setting_of};
 ghost use Rattle.msg_cache.specs.Plays.{is_lent};
 ghost use Rattle.msg_cache.specs.declared.view.TurnAt.TheVariants.{Away};
@@ -51,6 +52,7 @@ pub(crate) fn opened(
     ensures turn { IfOk result (λ r. r.2.table ≡ r.1.arena.table) }
     ensures away { IfOk result (λ r. r.1.keeper.turn ≡ Away) }
     ensures given { IfOk result (λ r. r.1.keeper.given ≡ replicate r.1.arena.key.senders false) }
+    ensures entries { IfOk result (λ r. OPENING_ENTRIES ≤ r.1.written.room) }
 {
     let (arena, keeper) = arena_of(alloc, origin, config)?;
     let arena = shared(alloc, arena)?;

@@ -1,10 +1,11 @@
 //! The runtime.
 
-ghost use Rattle.std.specs.Prelude.{◌≡◌, ◌≢◌, ◌<◌, ◌≤◌, ◌*◌, length, take, replicate, None, IfOk, IfErr, IsErrOf, OnErr, OnOk, false, true};
+ghost use Rattle.std.specs.Prelude.{◌≡◌, ◌≢◌, ◌<◌, ◌≤◌, ◌*◌, [], ◌∷◌, length, take, None, IfOk, IfErr, IsErrOf, OnErr, OnOk, false, true};
 ghost use Rattle.msg_names.specs.Number.{selector_number, imp_number};
 ghost use Rattle.msg_tables.specs.Origin.{last_imp};
 ghost use Rattle.msg_tables.specs.History.{BeginsWith, lookup, log};
 ghost use Rattle.msg_tables.specs.Made.{AreMade, AreRefused, TellsWayBack};
+ghost use Rattle.msg_tables.specs.Refusal.{IsLog};
 ghost use Rattle.msg_tables.specs.Several.{refused_from};
 ghost use Rattle.msg_tables.specs.declared.fault.ChangeFault.{ChangeFault};
 ghost use Rattle.msg_cache.specs.Counts.{AreCounts, after_refusal};
@@ -13,8 +14,10 @@ ghost use Rattle.msg_address.specs.Address.{IsNotNull};
 ghost use Rattle.msg_cache.specs.Views.{classes, layout};
 ghost use Rattle.msg_reader.specs.Kept.{KeepOthers};
 ghost use Rattle.msg_reader.specs.Notes.{AreNotesOf, HaveNotedFor, StayStamped};
-ghost use Rattle.msg_runtime.specs.Changed.{IsAccepted, IsMadeAt, IsRefusedAt, IsRefusedFor};
-ghost use Rattle.msg_runtime.specs.Calls.{AllAreOut, CachesAnswer, MarksAllReached, MarksReached};
+ghost use Rattle.msg_reader.specs.Several.{AreAsked, AreFoundAt};
+ghost use Rattle.msg_runtime.specs.Changed.{IsAccepted, IsMadeAt, IsRefusedAt, IsUnmade};
+ghost use Rattle.msg_runtime.specs.Calls.{AllAreOut, CachesAnswer, HoldsRoomFor, KeepsAtLeastRoom, KeepsRoom, LacksRoomFor, MarksAllReached, WantsRoom, WantsRoomIf};
+ghost use Rattle.msg_host.specs.Asking.{IsLeft};
 ghost use Rattle.msg_runtime.specs.Parts.{IsNew};
 ghost use Rattle.msg_host.specs.Config.{is_beyond};
 ghost use Rattle.msg_host.specs.Opening.{OpensAs};
@@ -28,11 +31,11 @@ use crate::sender::HostedSender;
 use msg_cache::laws::{a_fill_changes_caches_alone, an_opening_changes_a_stamp_alone};
 use msg_cache::{Arena, Report, Turn};
 use msg_names::{ClassRef, ImpRef, Selector};
-use msg_reader::Notes;
 use msg_reader::laws::a_slot_of_few_classes_is_short;
-use msg_runtime::{Made, Runtime};
-use msg_tables::{Change, ChangeFault, ChangeList, Marks, Refused};
-use std::alloc::{AllocError, Global};
+use msg_reader::{LookupList, Notes};
+use msg_runtime::{Runtime, Unmade};
+use msg_tables::{Change, ChangeFault, ChangeList, Refused, Written};
+use std::alloc::Global;
 use std::marker::Model;
 use std::sync::Arc;
 
@@ -97,49 +100,27 @@ impl HostedRuntime {
         self.classes
     }
 
-    /// Marks for the class references, none of them marked.
-    pub fn marks(&self, alloc: Global) -> Result<Marks, AllocError>
-        ensures { IfOk result (λ marks. marks ≡ replicate (2 * classes self.now.arena) false) }
-    {
-        self.runtime.marks(alloc)
-    }
-
-    /// Marks the class references whose lookups a change may alter, beside those that are marked,
-    /// and doesn't make it; or says why it would be refused, and marks none.
-    ///
-    /// It looks at the classes that it marks and at one or two more, and takes no memory. Outside
-    /// what is marked the change alters no lookup.
-    pub fn reach(&self, change: &Change, marks: &mut Marks) -> Result<(), ChangeFault>
-        requires { length marks.old ≡ 2 * classes self.now.arena }
-        ensures ok { OnOk result (MarksReached self.now change.now marks.old marks.new) }
-        ensures err { OnErr result (marks.new ≡ marks.old) }
-        ensures fault { IfErr result (IsRefusedFor self.now.keeper.history change.now) }
-        ensures room { length marks.new ≡ length marks.old }
-    {
-        self.runtime.reach(change, marks)
-    }
-
     /// Marks the class references whose lookups a list of changes may alter if it is made as one,
     /// beside those that are marked, each at its slot, and doesn't make it; or says which of them
     /// would be refused. Then what those before it may alter is marked; where memory is wanting,
     /// the marks say nothing.
     pub fn reach_all<L: ChangeList>(
         &mut self,
-        alloc: Global,
         changes: &L,
         marked: &mut [bool],
     ) -> Result<(), Refused>
         requires { length marked.old ≡ 2 * classes self.old.arena }
-        ensures same { self.new ≡ self.old }
+        ensures same { IsLeft self.old self.new }
         ensures ok { OnOk result (refused_from 0 (log self.old.keeper.history) (L.changes changes.now) ≡ None) }
         ensures marks { OnOk result (MarksAllReached self.old (L.changes changes.now) marked.old marked.new) }
         ensures refused { IfErr result (AreRefused (L.changes changes.now) self.old.keeper.history) }
+        ensures wanting { IfErr result (WantsRoom self.old (L.changes changes.now)) }
         ensures before { IfErr result (λ r. r.fault ≢ ChangeFault.Memory
             → MarksAllReached self.old (take r.place (L.changes changes.now)) marked.old marked.new) }
         ensures length { length marked.new ≡ length marked.old }
     {
         self.runtime
-            .reach_all(alloc, &self.arena, &mut self.turn, changes, marked)
+            .reach_all(&self.arena, &mut self.turn, changes, marked)
     }
 
     /// Makes a change, flushes the caches that it reaches, and answers how many times changes were
@@ -147,33 +128,53 @@ impl HostedRuntime {
     pub fn change(&mut self, change: &Change) -> Result<u64, ChangeFault>
         ensures arena { self.new.arena ≡ self.old.arena }
         ensures ok { IfOk result (IsMadeAt self.old.keeper.history change.now self.new.keeper.history) }
+        ensures held { OnOk result (HoldsRoomFor self.old self.new (change.now ∷ [])) }
+        ensures room { KeepsAtLeastRoom self.old self.new }
         ensures given { self.new.keeper.given ≡ self.old.keeper.given }
-        ensures err { OnErr result (self.new ≡ self.old) }
+        ensures err { OnErr result (IsLeft self.old self.new) }
         ensures fault { IfErr result (IsRefusedAt self.old.keeper.history change.now) }
         ensures memory { IsErrOf result ChangeFault.Memory → IsAccepted self.old.keeper.history change.now }
+        ensures wanting { IsErrOf result ChangeFault.Memory → LacksRoomFor self.old (change.now ∷ []) }
     {
         self.runtime.change(&self.arena, &mut self.turn, change)
     }
 
     /// Makes a list of changes as one, flushes the caches that it reaches, and answers how many
-    /// times changes were made and what was written; or says which of them would be refused. After
-    /// an error nothing was changed or flushed. An empty list changes nothing and isn't counted.
-    pub fn change_all<L: ChangeList>(&mut self, alloc: Global, changes: &L) -> Result<Made, Refused>
+    /// times changes were made; or says which of them would be refused, or that its way back has
+    /// more changes than it may have. After an error nothing was changed or flushed. An empty list
+    /// changes nothing and isn't counted.
+    ///
+    /// What the list wrote is noted: [`written`](HostedRuntime::written) tells the way back,
+    /// directly afterwards, and there is room for making that.
+    pub fn change_all<L: ChangeList>(&mut self, changes: &L, most: usize) -> Result<u64, Unmade>
         ensures arena { self.new.arena ≡ self.old.arena }
         ensures ok { OnOk result (AreMade (L.changes changes.now) self.old.keeper.history self.new.keeper.history) }
-        ensures count { IfOk result (λ made. made.count ≡ length self.new.keeper.history.changes) }
-        ensures back { IfOk result (λ made. TellsWayBack (L.changes changes.now) self.old.keeper.history made.written) }
+        ensures count { IfOk result (λ count. count ≡ length self.new.keeper.history.changes) }
+        ensures back { OnOk result
+            (TellsWayBack (L.changes changes.now) self.old.keeper.history self.new.written.entries) }
+        ensures fits { OnOk result (length self.new.written.entries ≤ most) }
+        ensures held { OnOk result (HoldsRoomFor self.old self.new (L.changes changes.now)) }
+        ensures room { KeepsAtLeastRoom self.old self.new }
         ensures given { self.new.keeper.given ≡ self.old.keeper.given }
-        ensures err { OnErr result (self.new ≡ self.old) }
-        ensures refused { IfErr result (AreRefused (L.changes changes.now) self.old.keeper.history) }
+        ensures err { OnErr result (IsLeft self.old self.new) }
+        ensures unmade { IfErr result (IsUnmade (L.changes changes.now) self.old.keeper.history most) }
+        ensures wanting { IfErr result (WantsRoomIf self.old (L.changes changes.now)) }
     {
         self.runtime
-            .change_all(alloc, &self.arena, &mut self.turn, changes)
+            .change_all_within(&self.arena, &mut self.turn, changes, most)
     }
 
-    /// How many times changes were made: a list of them counts as one.
+    /// What the list that was made last wrote.
+    pub fn written(&self) -> &Written
+        ensures { result.now ≡ self.now.written }
+    {
+        self.runtime.written()
+    }
+
+    /// How many times changes were made: a list of them counts as one. Each was accepted.
     pub fn count(&self) -> u64
-        ensures { result ≡ length self.now.keeper.history.changes }
+        ensures count { result ≡ length self.now.keeper.history.changes }
+        ensures accepted { IsLog (log self.now.keeper.history) }
     {
         self.runtime.count()
     }
@@ -204,7 +205,8 @@ impl HostedRuntime {
         ensures given { IfOk result (λ s. IsNew s.seen self.old.keeper self.new.keeper) }
         ensures report { OnOk result (self.new.report ≡ self.old.report) }
         ensures left { OnErr result (self.new.keeper ≡ self.old.keeper) }
-        ensures none { IsErrOf result SenderFault.NoneFree → AllAreOut self.old × (self.new.report ≡ after_refusal self.old.report) }
+        ensures none { IsErrOf result SenderFault.NoneFree
+            → AllAreOut self.old × (self.new.report ≡ after_refusal self.old.report) }
         ensures memory { IsErrOf result SenderFault.Memory → self.new ≡ self.old }
     {
         let arena = Arc::try_clone(&self.arena)?;
@@ -233,6 +235,7 @@ impl HostedRuntime {
         ensures same { self.new.arena ≡ self.old.arena }
         ensures history { self.new.keeper.history ≡ self.old.keeper.history }
         ensures remembered { self.new.remembered ≡ self.old.remembered }
+        ensures room { KeepsRoom self.old self.new }
         ensures cached { CachesAnswer class sel result sender.old.seen self.old self.new }
         ensures arena { sender.new.arena ≡ sender.old.arena }
         ensures begins { BeginsWith self.old.keeper.history sender.old.seen.front }
@@ -249,6 +252,34 @@ impl HostedRuntime {
         an_opening_changes_a_stamp_alone();
         self.runtime
             .answer_noted(&self.arena, &mut sender.reader, notes, class, sel)
+    }
+
+    // Answers several lookups, all at the whole history, which the sender has then seen.
+    pub(crate) fn answer_all<L: LookupList>(
+        &mut self,
+        sender: &mut HostedSender,
+        notes: &mut Notes,
+        lookups: &L,
+        imps: &mut [u32],
+    )
+        requires sender { sender.old.arena ≡ self.old.arena }
+        requires notes { AreNotesOf sender.old.seen.front notes.old }
+        requires asked { AreAsked self.old.arena (L.lookups lookups.now) }
+        requires places { length imps.old ≡ length (L.lookups lookups.now) }
+        ensures same { self.new.arena ≡ self.old.arena }
+        ensures history { self.new.keeper.history ≡ self.old.keeper.history }
+        ensures remembered { self.new.remembered ≡ self.old.remembered }
+        ensures room { KeepsRoom self.old self.new }
+        ensures arena { sender.new.arena ≡ sender.old.arena }
+        ensures begins { BeginsWith self.old.keeper.history sender.old.seen.front }
+        ensures front { sender.new.seen.front ≡ self.old.keeper.history }
+        ensures found { AreFoundAt self.old.keeper.history (L.lookups lookups.now) imps.new }
+        ensures notes { AreNotesOf self.old.keeper.history notes.new }
+        ensures stamped { StayStamped (layout self.old.arena) notes.old notes.new }
+    {
+        let reader = &mut sender.reader;
+        self.runtime
+            .answer_all(&self.arena, &mut self.turn, reader, notes, lookups, imps);
     }
 
     /// A sender has then seen the whole history, which begins with what it had seen.

@@ -1,6 +1,6 @@
 //! Senders.
 
-ghost use Rattle.std.specs.Prelude.{◌≡◌, ◌<◌, ◌≤◌, ◌+◌, length, option_map, IfSome, IfNone};
+ghost use Rattle.std.specs.Prelude.{◌≡◌, ◌<◌, ◌≤◌, ◌+◌, length, option_map, true, false, IfSome, IfNone};
 ghost use Rattle.msg_names.specs.Number.{imp_number, selector_number};
 ghost use Rattle.msg_tables.specs.Origin.{last_imp};
 ghost use Rattle.msg_tables.specs.History.{BeginsWith};
@@ -9,12 +9,13 @@ ghost use Rattle.msg_cache.specs.Rule.{IsAccepted};
 ghost use Rattle.msg_cache.specs.Views.{IsFoundAt, classes, layout};
 ghost use Rattle.msg_reader.specs.Kept.{FindsUnprobed, KeepOthers, LoadsStamp, MissesUnlessChanged};
 ghost use Rattle.msg_reader.specs.Notes.{AreNotesOf, StayStamped};
+ghost use Rattle.msg_reader.specs.Several.{AreAsked, AreFoundTogether, LackOne, MissOne};
 ghost use Rattle.msg_host.specs.Named.{HaveNotedLast};
 
 use msg_cache::Arena;
 use msg_names::{ClassRef, ImpRef, Selector};
 use msg_reader::laws::a_slot_of_few_classes_is_short;
-use msg_reader::{Notes, Reader};
+use msg_reader::{LookupList, Notes, Reader};
 use std::alloc::Global;
 use std::marker::Model;
 use std::sync::Arc;
@@ -96,10 +97,36 @@ impl HostedSender {
         ensures noted { IfSome result (HaveNotedLast notes.new self.new class sel) }
         ensures others { KeepOthers notes.old notes.new class sel }
         ensures stamped { StayStamped (layout self.old.arena) notes.old notes.new }
-        ensures unprobed { FindsUnprobed notes.old class (selector_number sel) self.old.seen self.new.seen (option_map imp_number result) }
-        ensures missed { IfNone result (MissesUnlessChanged self.new.arena class (selector_number sel) self.old.seen self.new.seen) }
+        ensures unprobed { FindsUnprobed notes.old class (selector_number sel)
+            self.old.seen self.new.seen (option_map imp_number result) }
+        ensures missed { IfNone result
+            (MissesUnlessChanged self.new.arena class (selector_number sel) self.old.seen self.new.seen) }
     {
         a_slot_of_few_classes_is_short();
         self.reader.find_counted(&self.arena, notes, class, sel)
+    }
+
+    // Whether several lookups were found, by the notes or by caches, all at one point of the
+    // history that the sender has then seen.
+    pub(crate) fn find_all<L: LookupList>(
+        &mut self,
+        notes: &mut Notes,
+        lookups: &L,
+        imps: &mut [u32],
+    ) -> bool
+        requires asked { AreAsked self.old.arena (L.lookups lookups.now) }
+        requires notes { AreNotesOf self.old.seen.front notes.old }
+        requires room { length imps.old ≡ length (L.lookups lookups.now) }
+        ensures arena { self.new.arena ≡ self.old.arena }
+        ensures begins { BeginsWith self.new.seen.front self.old.seen.front }
+        ensures found { result ≡ true → AreFoundTogether self.old.seen self.new.seen (L.lookups lookups.now) imps.new }
+        ensures notes { AreNotesOf self.new.seen.front notes.new }
+        ensures stamped { StayStamped (layout self.old.arena) notes.old notes.new }
+        ensures recalled { result ≡ false → LackOne notes.old (L.lookups lookups.now) self.old.seen self.new.seen }
+        ensures missed { result ≡ false → MissOne self.old.arena (L.lookups lookups.now) self.old.seen self.new.seen }
+    {
+        self.reader
+            .find_all(&self.arena, notes, lookups, imps)
+            .is_some()
     }
 }

@@ -10,7 +10,7 @@ ghost use Rattle.msg_host.specs.Asking.{ask_fault};
 ghost use Rattle.msg_host.specs.declared.fault.AskFault.{AskFault};
 ghost use Rattle.msg_reader.specs.Notes.{AreNotesOf, HaveNoted, StayStamped};
 ghost use Rattle.msg_reader.specs.Kept.{FindsUnprobed, HaveNotedSince, HaveOthersOf, LoadsStamp, MissesUnlessChanged};
-ghost use Rattle.msg_runtime.specs.Calls.{CachesNumber};
+ghost use Rattle.msg_runtime.specs.Calls.{CachesNumber, KeepsRoom};
 ghost use Rattle.msg_host.specs.Named.{IfFound, ref_of};
 
 use crate::fault::{AskFault, asked, asked_class};
@@ -88,6 +88,7 @@ impl HostedRuntime {
         ensures same { self.new.arena ≡ self.old.arena }
         ensures history { self.new.keeper.history ≡ self.old.keeper.history }
         ensures remembered { self.new.remembered ≡ self.old.remembered }
+        ensures room { KeepsRoom self.old self.new }
         ensures cached { IfOk result (λ i. CachesNumber (ref_of class meta) sel i sender.old.seen self.old self.new) }
         ensures unfilled { OnErr result (self.new ≡ self.old) }
         ensures arena { sender.new.arena ≡ sender.old.arena }

@@ -1,82 +1,94 @@
-//! Lists of changes in numbers, and the way back from them.
+//! The way back from lists of changes in numbers.
 
-ghost use Rattle.std.specs.Prelude.{◌≡◌, ◌≢◌, ◌<◌, ◌≤◌, ◌+◌, ◌*◌, ◌⊎◌, IfSome, IsNone, None, length};
-ghost use Rattle.msg_names.specs.Number.{selector_number, selector_of};
-ghost use Rattle.msg_tables.specs.Journal.{undo_entry, undo_journal};
-ghost use Rattle.msg_host.specs.Asking.{IsRefusal, want_of_room};
+ghost use Rattle.std.specs.Prelude.{◌≡◌, ◌≢◌, ◌<◌, ◌≤◌, ◌⊎◌, length, take};
+ghost use Rattle.msg_tables.specs.Journal.{undo_journal};
+ghost use Rattle.msg_host.specs.Asking.{IsLeft, IsRefusal, want_of_room};
 ghost use Rattle.msg_host.specs.Listing as spec;
-ghost use Rattle.msg_host.specs.Listing.{AreRefusedRows, AreWayBack, GivesBack, LackMemoryIf, MakesRows, UndoesRows};
+ghost use Rattle.msg_host.specs.Listing.{AreMeant, AreRefusedRows, LackMemoryIf, MakesRows, UndoesRows, WeighRows};
 
 use crate::fault::NO_ROOM;
-use crate::listing::ChangeRow;
+use crate::listing::{ChangeRow, RowsUnmade};
 use crate::runtime::HostedRuntime;
-use msg_names::{ClassRef, ImpRef, Selector};
+use msg_names::{ClassRef, Selector};
 use msg_tables::Entry;
-use std::alloc::Global;
 
 impl ChangeRow {
-    // The row that means a replacement.
-    fn replacing(class: ClassRef, sel: Selector, imp: ImpRef) -> ChangeRow
-        ensures row { result ≡ spec.replacing class sel imp }
-        ensures selector { selector_of (selector_number sel) ≡ sel }
+    // A row of a kind that names a method, and perhaps its implementation.
+    fn of_method(kind: u32, class: ClassRef, sel: Selector, imp: u32) -> ChangeRow
+        ensures { result ≡ spec.method_row kind class sel imp }
     {
         ChangeRow {
-            kind: 2,
+            kind,
             class: class.class,
             meta: u32::from(class.meta),
             sel: sel.number(),
-            imp: imp.number(),
+            imp,
             other: 0,
             other_meta: 0,
             other_sel: 0,
         }
     }
+
+    // A row of a kind that names a class, and perhaps its superclass.
+    fn of_class(kind: u32, class: u32, other: u32) -> ChangeRow
+        ensures { result ≡ spec.class_row kind class other }
+    {
+        ChangeRow {
+            kind,
+            class,
+            meta: 0,
+            sel: 0,
+            imp: 0,
+            other,
+            other_meta: 0,
+            other_sel: 0,
+        }
+    }
+
+    // The row that means what takes an entry back.
+    fn undoing(entry: Entry) -> ChangeRow
+        ensures { result ≡ spec.undoing entry }
+    {
+        match entry {
+            Entry::Added { class, sel } => ChangeRow::of_method(7, class, sel, 0),
+            Entry::Rewrote { class, sel, imp } => ChangeRow::of_method(2, class, sel, imp.number()),
+            Entry::Removed {
+                class,
+                sel,
+                imp,
+                ..
+            } => ChangeRow::of_method(9, class, sel, imp.number()),
+            Entry::Made { class } => ChangeRow::of_class(8, class, 0),
+            Entry::Disposed {
+                class,
+                superclass: Some(superclass),
+                ..
+            } => ChangeRow::of_class(5, class, superclass),
+            Entry::Disposed { class, .. } => ChangeRow::of_class(6, class, 0),
+        }
+    }
 }
 
-// Writes what takes an entry back behind the first `count` rows, and says how many rows there are
-// then. None where there is no way back.
-fn give_back(entry: Entry, rows: &mut [ChangeRow], count: usize) -> Option<usize>
-    requires { count < length rows.old }
-    ensures some { IfSome result (λ n. GivesBack entry count rows.old n rows.new) }
-    ensures few { IfSome result (λ n. n ≤ count + 1) }
-    ensures none { IsNone result → undo_entry entry ≡ None }
+// Writes what takes changes back, the last first.
+fn write_way_back(entries: &[Entry], rows: &mut [ChangeRow])
+    requires { length entries.now ≤ length rows.old }
+    ensures meant { AreMeant (take (length entries.now) rows.new) (undo_journal entries.now) }
     ensures length { length rows.new ≡ length rows.old }
 {
-    match entry {
-        Entry::Rewrote { class, sel, imp } => {
-            rows[count] = ChangeRow::replacing(class, sel, imp);
-            Some(count + 1)
-        }
-        Entry::Added { count: 0, .. } => Some(count),
-        Entry::Added { .. } | Entry::Made { .. } => None,
+    for place in 0..entries.len() {
+        rows[place] = ChangeRow::undoing(entries[entries.len() - 1 - place]);
     }
-}
-
-// Writes what takes changes back, the last first, and says how many rows that is. None where there
-// is no way back.
-fn write_way_back(entries: &[Entry], rows: &mut [ChangeRow]) -> Option<usize>
-    requires { length entries.now ≤ length rows.old }
-    ensures some { IfSome result (AreWayBack (undo_journal entries.now) rows.new) }
-    ensures within { IfSome result (λ n. n ≤ length rows.new) }
-    ensures none { IsNone result → undo_journal entries.now ≡ None }
-{
-    let mut count = 0;
-    let mut left = entries.len();
-    while left > 0 {
-        left -= 1;
-        count = give_back(entries[left], rows, count)?;
-    }
-    Some(count)
 }
 
 impl HostedRuntime {
     /// Makes the changes of rows as one, as [`make_all`](HostedRuntime::make_all), and writes the
     /// rows that take them back directly after it, which are made as one too; `undone` says how
-    /// many. It is 0 where there is no way back: a method was added, or a class made. `undo` has
-    /// two places for each row, or else 76 is answered and nothing done.
+    /// many. Where `undo` has fewer places, 76 is answered and nothing done, and `undone` says how
+    /// many are wanted: one for each row of the tables that the list adds, rewrites or removes, and
+    /// for each class that it makes or disposes of.
+    #[tactic(auto, using(crate::proofs::ListingLemmas::rows_undone))]
     pub fn make_all_with_undo(
         &mut self,
-        alloc: Global,
         rows: &[ChangeRow],
         undo: &mut [ChangeRow],
         undone: &mut usize,
@@ -84,28 +96,30 @@ impl HostedRuntime {
     ) -> u32
         ensures arena { self.new.arena ≡ self.old.arena }
         ensures given { self.new.keeper.given ≡ self.old.keeper.given }
-        ensures made { result ≡ 0 → MakesRows rows.now self.old.keeper.history self.new.keeper.history }
+        ensures made { result ≡ 0 → MakesRows rows.now self.old self.new }
         ensures undo { result ≡ 0 → UndoesRows rows.now self.old.keeper.history undo.new undone.new }
         ensures within { result ≡ 0 → undone.new ≤ length undo.new }
-        ensures left { result ≢ 0 → self.new ≡ self.old }
-        ensures room { length undo.old < 2 * length rows.now → result ≡ want_of_room }
-        ensures short { result ≡ want_of_room → length undo.old < 2 * length rows.now }
-        ensures unwritten { result ≢ 0 → (undo.new ≡ undo.old) × (undone.new ≡ undone.old) }
+        ensures left { result ≢ 0 → IsLeft self.old self.new }
+        ensures room { result ≡ want_of_room → length undo.old < undone.new }
+        ensures wanted { result ≡ want_of_room → WeighRows rows.now self.old.keeper.history undone.new }
+        ensures unwritten { result ≢ 0 → undo.new ≡ undo.old }
+        ensures untold { result ≢ 0 → result ≢ want_of_room → undone.new ≡ undone.old }
         ensures kept { (result ≡ 0) ⊎ (result ≡ want_of_room) → place.new ≡ place.old }
         ensures place { result ≢ 0 → result ≢ want_of_room → place.new < length rows.now }
         ensures fault { IsRefusal result → AreRefusedRows rows.now self.old.keeper.history place.new result }
-        ensures memory { LackMemoryIf rows.now self.old.keeper.history place.new result }
+        ensures memory { LackMemoryIf rows.now self.old place.new result }
     {
-        if undo.len() / 2 < rows.len() {
-            return NO_ROOM;
-        }
-        match self.change_rows(alloc, rows) {
-            Ok(made) => {
-                *undone = write_way_back(made.written.as_slice(), undo).unwrap_or(0);
-                self.runtime.keep_room(made.written);
-                0
+        match self.change_rows(rows, undo.len()) {
+            Ok(()) => {}
+            Err(RowsUnmade::Fault(fault)) => return fault.tell(place),
+            Err(RowsUnmade::TooLong(wanted)) => {
+                *undone = wanted;
+                return NO_ROOM;
             }
-            Err(fault) => fault.tell(place),
         }
+        let entries = self.written().as_slice();
+        write_way_back(entries, undo);
+        *undone = entries.len();
+        0
     }
 }

@@ -11,7 +11,7 @@ use Rattle.msg_names.specs.Numbering.{name_at}
 use Rattle.msg_names.proofs.NumberLemmas.{name_at-number_of}
 use Rattle.msg_form.specs.Expression as form
 use Rattle.msg_form.specs.Faults.{is_miscounted_send}
-use Rattle.msg_form.specs.Form.{PairForm, Form, MethodForm, ItemForm, send_item, change_item, change_all_item, ChangeForm, add, replace, set_imp, exchange, attach, make}
+use Rattle.msg_form.specs.Form.{PairForm, Form, MethodForm, ItemForm, send_item, change_item, change_all_item, ChangeForm, add, replace, set_imp, exchange, attach, make, remove, dispose}
 use Rattle.msg_form.specs.Lists.{class_names, object_names, imp_names, at_most_one, change_classes, change_imps, change_lists, item_classes, item_objects, item_sends, item_imps, item_lists}
 use Rattle.msg_form.specs.Parts as inner
 use Rattle.msg_form.specs.Text.{Text, is_unknown, distinct}
@@ -95,6 +95,8 @@ module _ (f : Form) (g : IsFaultless f) where
       let names = neither (unnamed f g m.selector) (unnamed f g o.selector || false) good.names in
       (any_class_in f g m.class classes.0, selector_in f g m.selector names.0, any_class_in f g o.class (neither (is_unknown (class_names f) o.class) false classes.1).0, selector_in f g o.selector (neither (unnamed f g o.selector) false names.1).0)
   change_sound (attach c ms cs) good = let two = two_listed f g ms cs good.lists good.names in (any_class_in f g c (neither (is_unknown (class_names f) c) false good.classes).0, two.0, two.1)
+  change_sound (remove m) good = (any_class_in f g m.class (neither (is_unknown (class_names f) m.class) false good.classes).0, selector_in f g m.selector (neither (unnamed f g m.selector) false good.names).0)
+  change_sound (dispose c) good = any_class_in f g c (neither (is_unknown (class_names f) c) false good.classes).0
   change_sound (make c s) good =
       let both = neither (is_unknown (class_names f) c) (list_any (is_unknown (class_names f)) (at_most_one s)) good.classes in
       (any_class_in f g c both.0, at_superclass s both.1)

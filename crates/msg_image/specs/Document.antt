@@ -7,7 +7,7 @@ use Rattle.msg_names.specs.declared.value.Value.TheVariants.{Number, Object, Cla
 use Rattle.msg_form.specs.declared.form.Operator.{Operator}
 use Rattle.msg_form.specs.declared.form.Operator.TheVariants as operators
 use Rattle.msg_form.specs.Expression as form
-use Rattle.msg_form.specs.Form.{PairForm, ClassForm, CategoryForm, ObjectForm, ImpForm, MethodForm, ChangeForm, add, replace, set_imp, exchange, attach, make, ItemForm, send_item, change_item, change_all_item, Form}
+use Rattle.msg_form.specs.Form.{PairForm, ClassForm, CategoryForm, ObjectForm, ImpForm, MethodForm, ChangeForm, add, replace, set_imp, exchange, attach, make, remove, dispose, ItemForm, send_item, change_item, change_all_item, Form}
 use Rattle.msg_tables.specs.declared.change.Change.{Change}
 use Rattle.msg_tables.specs.declared.change.Change.TheVariants as changes
 use Rattle.msg_tables.specs.declared.origin.Category.{Category}
@@ -87,6 +87,8 @@ change n (set_imp m i) = changes.SetImp (class_ref n m) (selector_named n m.sele
 change n (exchange m o) = changes.Exchange (class_ref n m) (selector_named n m.selector) (class_ref n o) (selector_named n o.selector)
 change n (attach c ms cs) = changes.Attach (class_named n c) (methods n ms) (methods n cs)
 change n (make c s) = changes.AddClass (class_named n c) (option_map (class_named n) s)
+change n (remove m) = changes.Remove (class_ref n m) (selector_named n m.selector)
+change n (dispose c) = changes.DisposeClass (class_named n c)
 
 -- a send has four arguments at most
 abbrev pub item : Numbers → ItemForm → ItemParts

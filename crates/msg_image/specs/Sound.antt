@@ -7,7 +7,7 @@ use Rattle.msg_names.specs.Number.{selector_number, imp_number}
 use Rattle.msg_names.specs.declared.value.ClassRef.{ClassRef}
 use Rattle.msg_names.specs.declared.value.ImpRef.{ImpRef}
 use Rattle.msg_tables.specs.declared.change.Change.{Change}
-use Rattle.msg_tables.specs.declared.change.Change.TheVariants.{Add, Replace, SetImp, Exchange, Attach, AddClass}
+use Rattle.msg_tables.specs.declared.change.Change.TheVariants.{Add, Replace, SetImp, Exchange, Attach, AddClass, Remove, DisposeClass}
 use Rattle.msg_names.specs.Numbering.{name_at}
 use Rattle.msg_names.specs.declared.value.Selector.{Selector}
 use Rattle.msg_names.specs.declared.value.Value.{Value}
@@ -122,6 +122,8 @@ IsSoundChange image (SetImp c s i) = HasClass image c × HasSelector image s × 
 IsSoundChange image (Exchange c s d t) = HasClass image c × HasSelector image s × HasClass image d × HasSelector image t
 IsSoundChange image (Attach k ms cs) = (k < class_total image) × AreListed image ms × AreListed image cs
 IsSoundChange image (AddClass k d) = (k < class_total image) × IfSome d (λ e. e < class_total image)
+IsSoundChange image (Remove c s) = HasClass image c × HasSelector image s
+IsSoundChange image (DisposeClass k) = k < class_total image
 
 -- a send is of the image's selectors, objects and classes, with as many arguments as its selector
 -- takes

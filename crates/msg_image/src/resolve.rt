@@ -340,6 +340,13 @@ fn change(alloc: Global, names: &FormNames, change: &form::Change) -> Result<Cha
             class: class_named(names, class),
             superclass: superclass(names, *above),
         }),
+        form::Change::Remove { method } => Ok(Change::Remove {
+            class: class_ref(names, method),
+            sel: selector_named(names, method.selector),
+        }),
+        form::Change::Dispose { class } => Ok(Change::DisposeClass {
+            class: class_named(names, class),
+        }),
     }
 }
 

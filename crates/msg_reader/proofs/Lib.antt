@@ -1,4 +1,5 @@
 mod KeyLemmas
 pub mod NoteLemmas
 pub mod ReaderLemmas
+pub mod SeveralLemmas
 mod StampedLemmas

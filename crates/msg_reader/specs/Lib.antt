@@ -2,3 +2,4 @@ pub mod Found
 pub mod Key
 pub mod Kept
 pub mod Notes
+pub mod Several

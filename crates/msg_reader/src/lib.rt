@@ -2,9 +2,14 @@
 #![tactic(auto)]
 
 pub mod laws;
+mod lookup;
+mod lookup_list;
 mod note;
 mod notes;
 mod reader;
+mod several;
 
+pub use lookup::Lookup;
+pub use lookup_list::LookupList;
 pub use notes::Notes;
 pub use reader::Reader;

@@ -84,8 +84,8 @@ impl Notes {
     }
 
     /// Notes what a lookup found after so many changes, and where the stamp of its class reference
-    /// lies, and forgets no note but the one at its place. Of a class reference whose slot is 2^26 or more, which no arena has a word for, it
-    /// notes nothing.
+    /// lies, and forgets no note but the one at its place. Of a class reference whose slot is 2^26
+    /// or more, which no arena has a word for, it notes nothing.
     #[inline]
     pub fn keep(&mut self, arena: &Arena, count: u64, class: ClassRef, sel: Selector, imp: ImpRef)
         requires { class.class < classes arena.now }

@@ -19,6 +19,7 @@ ghost use Rattle.msg_names.specs.Number.{imp_number, selector_number};
 ghost use Rattle.msg_reader.specs.Found.{IsListed};
 ghost use Rattle.msg_reader.specs.Kept.{FindsRecalled, FindsUnprobed, HasLoaded, IsNotedFound, KeepOthers, LoadsMore, LoadsStamp, MissesAfter, MissesUnlessChanged, RecallsSince};
 ghost use Rattle.msg_reader.specs.Notes.{AreNotesOf, StayStamped};
+ghost use Rattle.msg_reader.specs.Several.{IsFoundAfter};
 
 use crate::laws::notes_are_of_longer_histories;
 use crate::notes::Notes;
@@ -140,7 +141,8 @@ impl Reader {
         ensures found { IfSome result (IsFoundAt self.new.sender.front class sel) }
         ensures listed { IfSome result (IsListed self.new.sender.front) }
         ensures notes { AreNotesOf self.new.sender.front notes.now }
-        ensures exact { RecallsSince notes.now class (selector_number sel) self.old.sender self.new.sender (option_map imp_number result) }
+        ensures exact { RecallsSince notes.now class (selector_number sel)
+            self.old.sender self.new.sender (option_map imp_number result) }
     {
         notes_are_of_longer_histories();
         let since = self.stamp(arena, class);
@@ -170,8 +172,10 @@ impl Reader {
         ensures stamped { StayStamped (layout arena.now) notes.old notes.new }
         ensures noted { IfSome result (IsNotedFound notes.new class sel self.new.sender) }
         ensures others { KeepOthers notes.old notes.new class sel }
-        ensures private { FindsRecalled notes.old notes.new class (selector_number sel) self.old.sender self.new.sender (option_map imp_number result) }
-        ensures missed { IfNone result (MissesUnlessChanged arena.now class (selector_number sel) self.old.sender self.new.sender) }
+        ensures private { FindsRecalled notes.old notes.new class (selector_number sel)
+            self.old.sender self.new.sender (option_map imp_number result) }
+        ensures missed { IfNone result
+            (MissesUnlessChanged arena.now class (selector_number sel) self.old.sender self.new.sender) }
     {
         notes_are_of_longer_histories();
         let since = self.stamp(arena, class);
@@ -205,7 +209,8 @@ impl Reader {
         ensures noted { IfSome result (IsNotedFound notes.new class sel self.new.sender) }
         ensures others { KeepOthers notes.old notes.new class sel }
         ensures stamps { LoadsMore self.old.sender self.new.sender }
-        ensures missed { IfNone result (MissesUnlessChanged arena.now class (selector_number sel) self.old.sender self.new.sender) }
+        ensures missed { IfNone result
+            (MissesUnlessChanged arena.now class (selector_number sel) self.old.sender self.new.sender) }
     {
         notes_are_of_longer_histories();
         let count = self.refresh(arena);
@@ -235,8 +240,10 @@ impl Reader {
         ensures stamped { StayStamped (layout arena.now) notes.old notes.new }
         ensures noted { IfSome result (IsNotedFound notes.new class sel self.new.sender) }
         ensures others { KeepOthers notes.old notes.new class sel }
-        ensures unprobed { FindsUnprobed notes.old class (selector_number sel) self.old.sender self.new.sender (option_map imp_number result) }
-        ensures missed { IfNone result (MissesUnlessChanged arena.now class (selector_number sel) self.old.sender self.new.sender) }
+        ensures unprobed { FindsUnprobed notes.old class (selector_number sel)
+            self.old.sender self.new.sender (option_map imp_number result) }
+        ensures missed { IfNone result
+            (MissesUnlessChanged arena.now class (selector_number sel) self.old.sender self.new.sender) }
     {
         notes_are_of_longer_histories();
         let count = self.refresh(arena);
@@ -256,7 +263,7 @@ impl Reader {
     // As `find`, of what the notes lack, where so many changes were counted: a hit is noted at that
     // count.
     #[inline(always)]
-    fn find_at(
+    pub(crate) fn find_at(
         &mut self,
         arena: &Arena,
         notes: &mut Notes,
@@ -271,6 +278,7 @@ impl Reader {
         ensures reader { IsSenderOf arena.now self.new }
         ensures begins { BeginsWith self.new.sender.front self.old.sender.front }
         ensures some { IfSome result (IsFoundAt self.new.sender.front class sel) }
+        ensures counted { IfSome result (IsFoundAfter count self.new.sender.front class sel) }
         ensures listed { IfSome result (IsListed self.new.sender.front) }
         ensures notes { AreNotesOf self.new.sender.front notes.new }
         ensures stamped { StayStamped (layout arena.now) notes.old notes.new }

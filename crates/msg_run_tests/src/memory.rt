@@ -13,10 +13,11 @@ use msg_image::{Change, DocumentFault, Image, read_document};
 use msg_names::{ClassRef, ImpRef, NameFault, Names, ObjectRef, Selector, Value};
 use msg_runner::{OpenGate, run, run_beside};
 use msg_samples::{Hog, IMAGE, SMALL};
-use msg_tables::{ChangeFault, Tables};
+use msg_tables::{ChangeFault, Tables, Written};
 use std::alloc::Global;
 use std::io;
 use std::process::Abort;
+use std::slice::from_ref;
 use std::sync::Wait;
 use std::thread::Threads;
 
@@ -158,9 +159,10 @@ fn reads(rt: &impl Abort, alloc: Global) -> bool {
     }
 }
 
-fn applies(rt: &impl Abort, tables: &mut Tables) -> bool {
+fn applies(rt: &impl Abort, alloc: Global, tables: &mut Tables) -> bool {
     let change = addition(rt);
-    match tables.apply(&change) {
+    let mut written = Written::none(alloc);
+    match tables.apply_all(&from_ref(&change), &mut written) {
         Ok(()) => {
             same(
                 rt,
@@ -169,8 +171,8 @@ fn applies(rt: &impl Abort, tables: &mut Tables) -> bool {
             );
             true
         }
-        Err(fault) => {
-            same(rt, fault, ChangeFault::Memory);
+        Err(refused) => {
+            same(rt, refused.fault, ChangeFault::Memory);
             same(rt, tables.refusal(&change), None);
             false
         }
@@ -204,7 +206,7 @@ fn is_made(rt: &impl Abort, alloc: Global, bed: &mut Bed, call: Call) -> bool {
         Call::Read => reads(rt, alloc),
         Call::OpenTables => Tables::open(alloc, &bed.image).is_ok(),
         Call::OpenMarks => bed.tables.marks(alloc).is_ok(),
-        Call::Apply => applies(rt, &mut bed.tables),
+        Call::Apply => applies(rt, alloc, &mut bed.tables),
         Call::OpenMachine => Machine::open(alloc, &bed.image, 1, &[4]).is_ok(),
         Call::Commit => commits(rt, &mut bed.machine),
     }

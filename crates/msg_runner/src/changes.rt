@@ -15,7 +15,7 @@ use msg_answers::{Outcome, is_send};
 use msg_devices::Program;
 use msg_dispatch::{ArenaName, Changer};
 use msg_image::{Change, Item};
-use msg_tables::ChangeFault;
+use msg_tables::{ChangeFault, Written};
 use std::alloc::{AllocError, Global};
 use std::sync::Wait;
 
@@ -70,7 +70,8 @@ fn change_as_one<'d, N: ArenaName, R: Wait>(
     ensures history { IfOk result
         (λ outcome. changer.new ≡ longer_by changer.old changes.now outcome) }
 {
-    match changer.change_all(alloc, rt, changes) {
+    let mut written = Written::none(alloc);
+    match changer.change_all(rt, &changes, &mut written) {
         Ok(_) => Ok(Outcome::Made),
         Err(refused) => match refused.fault {
             ChangeFault::Memory => Err(AllocError),

@@ -1,2 +1,3 @@
 pub mod CrossingLemmas
-pub mod ReachLemmas
+pub mod OneLemmas
+pub mod AloneLemmas

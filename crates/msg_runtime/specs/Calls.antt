@@ -1,18 +1,25 @@
 -- What the calls of a runtime do.
-use Rattle.std.specs.Prelude.{◌≡◌, ℕ, List, Bool, cond}
+use Rattle.std.specs.Prelude.{◌≡◌, ◌≤◌, ◌+◌, ℕ, List, [], Bool, cond, length, take}
 use Rattle.msg_names.specs.Number.{selector_number, imp_number}
 use Rattle.msg_names.specs.declared.value.ClassRef.{ClassRef}
 use Rattle.msg_names.specs.declared.value.ImpRef.{ImpRef}
 use Rattle.msg_names.specs.declared.value.Selector.{Selector}
 use Rattle.msg_tables.specs.History.{log}
-use Rattle.msg_tables.specs.Marking.{MarksAffected, MarksAffectedByAll}
+use Rattle.msg_tables.specs.Marking.{MarksAffectedByAll}
 use Rattle.msg_tables.specs.declared.change.Change.{Change}
+use Rattle.msg_tables.specs.Log.{table}
+use Rattle.msg_tables.specs.RoomLaws.{HaveRoomFor, LackRoomFor}
+use Rattle.msg_tables.specs.Undo.{undo_all}
+use Rattle.msg_tables.specs.RowList.{HaveGrown}
+use Rattle.msg_tables.specs.declared.apply_all.Refused.{Refused}
+use Rattle.msg_tables.specs.declared.fault.ChangeFault.TheVariants.{Memory}
+use Rattle.msg_runtime.specs.declared.unmade.Unmade.{Unmade}
+use Rattle.msg_runtime.specs.declared.unmade.Unmade.TheVariants as unmade
 use Rattle.msg_cache.specs.Counts.{after_refusal}
 use Rattle.msg_cache.specs.Plays.{lent}
 use Rattle.msg_cache.specs.Views.{classes, layout}
 use Rattle.msg_cache.specs.declared.keeper.Keeper.{Keeper}
 use Rattle.msg_cache.specs.declared.view.SenderView.{SenderView}
-use Rattle.msg_runtime.specs.Changed.{IsAccepted}
 use Rattle.msg_runtime.specs.Parts.{AnswersMiss, AreOut, keeper_report, keeper_remembered, keeper_view}
 use Rattle.msg_runtime.specs.View.{RuntimeView}
 
@@ -29,14 +36,41 @@ CachesNumber c s i v r r' = AnswersMiss (layout r.arena) r.remembered c s i v r.
 abbrev pub CachesAnswer : ClassRef → Selector → ImpRef → SenderView → RuntimeView → RuntimeView → Type 0
 CachesAnswer c s i v r r' = CachesNumber c (selector_number s) (imp_number i) v r r'
 
--- the change would be accepted, and beside those that were marked the class references are that it
--- affects
-abbrev pub MarksReached : RuntimeView → Change → List Bool → List Bool → Type 0
-MarksReached r x old new = IsAccepted r.keeper.history x × MarksAffected (classes r.arena) (log r.keeper.history) x old new
-
 -- beside those that were marked the class references are that some of these changes affect
 abbrev pub MarksAllReached : RuntimeView → List Change → List Bool → List Bool → Type 0
 MarksAllReached r xs old new = MarksAffectedByAll (classes r.arena) (log r.keeper.history) xs old new
+
+-- there is the same room, and what was written last is
+abbrev pub KeepsRoom : RuntimeView → RuntimeView → Type 0
+KeepsRoom r r' = (r'.rooms ≡ r.rooms) × (r'.written ≡ r.written)
+
+-- there is no less room
+pub record KeepsAtLeastRoom (r r' : RuntimeView) : Type 0 where
+  pub rows : HaveGrown r.rooms r'.rooms
+  pub entries : r.written.room ≤ r'.written.room
+
+-- a runtime but for its room, and for what was written last
+abbrev pub beside_room : RuntimeView → RuntimeView
+beside_room r = record r { rooms = []; written = record { entries = []; room = 0 } }
+
+-- there is too little room for a list of changes
+abbrev pub LacksRoomFor : RuntimeView → List Change → Type 0
+LacksRoomFor r xs = LackRoomFor r.rooms r.written.room (log r.keeper.history) xs
+
+-- so it was, where memory was wanting, for those before the place that is told and that one
+abbrev pub WantsRoom : RuntimeView → List Change → Refused → Type 0
+WantsRoom r xs refused = refused.fault ≡ Memory → LacksRoomFor r (take (refused.place + 1) xs)
+
+-- where that is why it wasn't made
+abbrev pub WantsRoomIf : RuntimeView → List Change → Unmade → Type 0
+WantsRoomIf r xs (unmade.Refused refused) = WantsRoom r xs refused
+WantsRoomIf r xs (unmade.TooLong n) = Unit {0}
+
+-- a list was made of r, and there is room now for the methods that it needed at any time, and for
+-- as many entries as it wrote
+pub record HoldsRoomFor (r r' : RuntimeView) (xs : List Change) : Type 0 where
+  pub rows : HaveRoomFor r'.rooms (log r.keeper.history) xs
+  pub entries : length (undo_all (table (log r.keeper.history)) xs) ≤ r'.written.room
 
 -- what the keeper knows and remembers is the same, but that the turn is lent
 abbrev pub KeepsCaches : RuntimeView → RuntimeView → Type 0

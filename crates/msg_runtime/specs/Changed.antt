@@ -1,10 +1,16 @@
 -- What becomes of a change at a history.
-use Rattle.std.specs.Prelude.{◌≡◌, ◌≢◌, ◌∷◌, [], ℕ, Some, None, length}
+use Rattle.std.specs.Prelude.{◌≡◌, ◌≢◌, ◌<◌, ◌∷◌, [], ℕ, List, Some, None, length}
 use Rattle.msg_tables.specs.History.{History, and_then, log}
+use Rattle.msg_tables.specs.Log.{table}
+use Rattle.msg_tables.specs.Made.{AreRefused}
 use Rattle.msg_tables.specs.Refusal.{refusal}
+use Rattle.msg_tables.specs.Several.{refused_from}
+use Rattle.msg_tables.specs.Undo.{undo_all}
 use Rattle.msg_tables.specs.declared.change.Change.{Change}
 use Rattle.msg_tables.specs.declared.fault.ChangeFault.{ChangeFault}
 use Rattle.msg_tables.specs.declared.fault.ChangeFault.TheVariants.{Memory}
+use Rattle.msg_runtime.specs.declared.unmade.Unmade.{Unmade}
+use Rattle.msg_runtime.specs.declared.unmade.Unmade.TheVariants.{Refused, TooLong}
 
 -- nothing speaks against it
 abbrev pub IsAccepted : History → Change → Type 0
@@ -21,3 +27,9 @@ IsRefusedAt h x fault = fault ≢ Memory → IsRefusedFor h x fault
 -- it was accepted, the history is longer by it, and so many times changes were made then
 abbrev pub IsMadeAt : History → Change → History → ℕ → Type 0
 IsMadeAt old x new count = IsAccepted old x × (new ≡ and_then old (x ∷ [])) × (count ≡ length new.changes)
+
+-- why a list isn't made at a history: one of it is refused, or its way back has this many changes,
+-- which are more than the most that it may have
+abbrev pub IsUnmade : List Change → History → ℕ → Unmade → Type 0
+IsUnmade xs h most (Refused r) = AreRefused xs h r
+IsUnmade xs h most (TooLong n) = (refused_from 0 (log h) xs ≡ None) × (n ≡ length (undo_all (table (log h)) xs)) × (most < n)

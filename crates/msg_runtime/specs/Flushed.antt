@@ -1,17 +1,15 @@
 -- Whose caches are flushed.
-use Rattle.std.specs.Prelude.{◌≡◌, ◌<◌, ℕ, Bool, true, List, Option, if◌then◌else◌}
+use Rattle.std.specs.Prelude.{◌≡◌, ◌<◌, ℕ, Bool, true, List, if◌then◌else◌}
 use Rattle.msg_names.specs.declared.value.ClassRef.{ClassRef}
 use Rattle.msg_tables.specs.Chain.{is_member}
 use Rattle.msg_tables.specs.Log.{Log, chain_at}
 use Rattle.msg_tables.specs.Origin.{OriginView, class_total}
 use Rattle.msg_tables.specs.Preorder.{is_in}
-use Rattle.msg_tables.specs.Several.{is_below}
 use Rattle.msg_tables.specs.Stands.{StandsAt}
 use Rattle.msg_tables.specs.View.{TablesView}
 use Rattle.msg_cache.specs.Ours.{IsCold}
 use Rattle.msg_cache.specs.Views.{ArenaView}
 use Rattle.msg_cache.specs.declared.keeper.Keeper.{Keeper}
-use Rattle.msg_runtime.specs.Reach.{are_reached}
 
 -- each class reference of which this is true at the tables' log is cold: it has no live array, and
 -- is closed
@@ -25,14 +23,6 @@ IsFlushedBelow a t k place = AreFlushed a t k (λ h c. is_member place (chain_at
 -- the same of those of the first classes
 abbrev pub FirstAreFlushed : ℕ → ArenaView → TablesView → Keeper → (Log → ClassRef → Bool) → Type 0
 FirstAreFlushed classes a t k is_meant = (h : Log) → StandsAt t h → (c : ClassRef) → c.class < classes → is_meant h c ≡ true → IsCold a k c
-
--- the same of the class references at these places and below one
-abbrev pub PlacesAreFlushed : ArenaView → TablesView → Keeper → (Log → List ClassRef) → Type 0
-PlacesAreFlushed a t k places = AreFlushed a t k (λ h. is_below h (places h))
-
--- the same of the first classes' references that are reached from these places
-abbrev pub ReachedAreFlushed : ℕ → ArenaView → TablesView → Keeper → (Log → Option (List ClassRef)) → Type 0
-ReachedAreFlushed classes a t k places = FirstAreFlushed classes a t k (λ h c. are_reached h c (places h))
 
 -- a class is cold if own is true, and its metaclass is if meta is
 abbrev pub ClassIsFlushed : ArenaView → Keeper → ℕ → Bool → Bool → Type 0

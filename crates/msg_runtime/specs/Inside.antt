@@ -9,7 +9,7 @@ use Rattle.msg_runtime.specs.declared.runtime.Runtime.TheInside.{Inside}
 
 -- what contracts see of a runtime
 abbrev pub view_of : Inside → RuntimeView
-view_of r = record { arena = r.arena.value; keeper = keeper_view r.keeper; remembered = keeper_remembered r.keeper; report = keeper_report r.keeper }
+view_of r = record { arena = r.arena.value; keeper = keeper_view r.keeper; remembered = keeper_remembered r.keeper; report = keeper_report r.keeper; rooms = r.tables.rooms; written = r.written }
 
 -- the invariant of runtimes
 pub record AreTogether (r : Inside) : Type 0 where

@@ -3,6 +3,7 @@ use Rattle.std.specs.Prelude.{ℕ, List}
 use Rattle.msg_cache.specs.Views.{ArenaView}
 use Rattle.msg_cache.specs.declared.answer.Report.{Report}
 use Rattle.msg_cache.specs.declared.view.KeeperView.{KeeperView}
+use Rattle.msg_tables.specs.Noted.{WrittenView}
 
 -- what contracts see of a runtime
 pub record RuntimeView : Type 0 where
@@ -14,3 +15,7 @@ pub record RuntimeView : Type 0 where
   pub remembered : List ℕ
   -- what its keeper counted
   pub report : Report
+  -- of each class reference, how many methods there is room for
+  pub rooms : List ℕ
+  -- what the last list of changes wrote, and the room for what the next one writes
+  pub written : WrittenView

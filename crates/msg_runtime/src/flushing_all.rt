@@ -1,19 +1,22 @@
 //! Which caches a list of changes flushes.
 
 ghost use Rattle.std.specs.Prelude.{◌≡◌, ◌≤◌, [], ◌∷◌, All, IfSome, length};
+ghost use Rattle.msg_tables.specs.ChangeList.{change_of};
 ghost use Rattle.msg_tables.specs.Journal.{NamesListed};
 ghost use Rattle.msg_tables.specs.Making.{is_told};
 ghost use Rattle.msg_tables.specs.Origin.{class_total};
-ghost use Rattle.msg_runtime.specs.Flushed.{AreFlushed, IsFlushedBelow, StayFlushed};
+ghost use Rattle.msg_runtime.specs.Flushed.{AreFlushed, FirstAreFlushed, IsFlushedBelow, StayFlushed};
 ghost use Rattle.msg_runtime.specs.Parts.{IsKeeperOf, keeper_given, keeper_history};
+ghost use Rattle.msg_runtime.specs.Reach.{flushes_all, is_flushed, is_set, is_set_alone};
 
-use crate::flushing::{flush_below, flush_class};
+use crate::flushing::{flush_all, flush_below, flush_class};
 use msg_cache::{Arena, Keeper};
 use msg_names::ClassRef;
-use msg_tables::{Below, Entry, Tables, Written};
+use msg_tables::{Below, ChangeList, ChangeRef, Entry, Tables, Written};
 
-// Flushes the caches that an entry tells of: of a class that was made, or of where rows were
-// written and of all below, unless these were flushed last. Answers what was flushed last then.
+// Flushes the caches that an entry tells of: of a class that was made or disposed of, or of where
+// rows were written and of all below, unless these were flushed last. Answers what was flushed last
+// then.
 fn flush_entry(
     keeper: &mut Keeper,
     arena: &Arena,
@@ -35,7 +38,7 @@ fn flush_entry(
     ensures others { StayFlushed arena.now keeper.old keeper.new }
     ensures room { length tables.now.supers ≤ below.new.room }
 {
-    if let Entry::Made { class } = entry {
+    if let Entry::Made { class } | Entry::Disposed { class, .. } = entry {
         flush_class(keeper, arena, class, true, true);
         return last;
     }
@@ -49,10 +52,10 @@ fn flush_entry(
 }
 
 // Flushes the caches that a list of changes reaches, which were just made: of the classes that were
-// made, and of where rows were written and of all below, as the tables are now. What stood below a
-// place when a change wrote there still does. Of entries at one place that follow one another the
-// first alone has its classes gone over.
-pub(crate) fn flush_written(
+// made or disposed of, and of where rows were written and of all below, as the tables are now. What
+// stood below a place when a change wrote there still does, but for classes that were disposed of.
+// Of entries at one place that follow one another the first alone has its classes gone over.
+fn flush_written(
     keeper: &mut Keeper,
     arena: &Arena,
     tables: &Tables,
@@ -60,17 +63,83 @@ pub(crate) fn flush_written(
     below: &mut Below,
 )
     requires arena { IsKeeperOf arena.now keeper.old }
-    requires listed { All (NamesListed (length tables.now.supers)) written.now }
+    requires listed { All (NamesListed (length tables.now.supers)) written.now.entries }
     requires classes { length tables.now.supers ≡ class_total (keeper_history keeper.old).origin }
     requires room { length tables.now.supers ≤ below.old.room }
     ensures arena { IsKeeperOf arena.now keeper.new }
     ensures history { keeper_history keeper.new ≡ keeper_history keeper.old }
     ensures given { keeper_given keeper.new ≡ keeper_given keeper.old }
-    ensures flushed { AreFlushed arena.now tables.now keeper.new (λ h. is_told h written.now) }
+    ensures flushed { AreFlushed arena.now tables.now keeper.new (λ h. is_told h written.now.entries) }
     ensures room { length tables.now.supers ≤ below.new.room }
 {
     let mut last = None;
     for entry in written.as_slice() {
         last = flush_entry(keeper, arena, tables, *entry, last, below);
+    }
+}
+
+// Whether a change sets a method's implementation or exchanges two.
+#[tactic(auto, using(crate::proofs::AloneLemmas::covering_sets_none))]
+fn is_set(change: ChangeRef<'_>) -> bool
+    ensures { result ≡ is_set (change_of change.entry) }
+{
+    match change {
+        ChangeRef::SetImp { .. } => true,
+        ChangeRef::Exchange { .. } => true,
+        ChangeRef::Add { .. } => false,
+        ChangeRef::Replace { .. } => false,
+        ChangeRef::Attach { .. } => false,
+        ChangeRef::AddClass { .. } => false,
+        ChangeRef::Remove { .. } => false,
+        ChangeRef::DisposeClass { .. } => false,
+        ChangeRef::Cover { .. } => false,
+    }
+}
+
+// Whether the list is one such change alone.
+#[tactic(auto, using(crate::proofs::AloneLemmas::more_or_none, crate::proofs::AloneLemmas::only_one))]
+fn is_set_alone<L: ChangeList>(changes: &L) -> bool
+    ensures { result ≡ is_set_alone (L.changes changes.now) }
+{
+    if changes.len() != 1 {
+        return false;
+    }
+    is_set(changes.get(0))
+}
+
+// Whether all caches are flushed after a list of changes.
+fn flushes_all<L: ChangeList>(tables: &Tables, changes: &L) -> bool
+    ensures { result ≡ flushes_all tables.now.counts (L.changes changes.now) }
+{
+    tables.counts_arguments() && is_set_alone(changes)
+}
+
+// Flushes the caches that a list of changes reaches, which were just made and wrote this. Of a
+// document's classes all caches are flushed where one method alone was set, or two exchanged.
+pub(crate) fn flush_changed<L: ChangeList>(
+    keeper: &mut Keeper,
+    arena: &Arena,
+    tables: &Tables,
+    classes: u32,
+    changes: &L,
+    written: &Written,
+    below: &mut Below,
+)
+    requires arena { IsKeeperOf arena.now keeper.old }
+    requires listed { All (NamesListed (length tables.now.supers)) written.now.entries }
+    requires classes { classes ≡ class_total (keeper_history keeper.old).origin }
+    requires tables { length tables.now.supers ≡ classes }
+    requires room { classes ≤ below.old.room }
+    ensures arena { IsKeeperOf arena.now keeper.new }
+    ensures history { keeper_history keeper.new ≡ keeper_history keeper.old }
+    ensures given { keeper_given keeper.new ≡ keeper_given keeper.old }
+    ensures flushed { FirstAreFlushed classes arena.now tables.now keeper.new
+        (λ h. is_flushed tables.now.counts (L.changes changes.now) h written.now.entries) }
+    ensures room { classes ≤ below.new.room }
+{
+    if flushes_all(tables, changes) {
+        flush_all(keeper, arena, classes);
+    } else {
+        flush_written(keeper, arena, tables, written, below);
     }
 }

@@ -6,5 +6,8 @@ mod caching;
 mod flushing;
 mod flushing_all;
 mod runtime;
+mod several;
+mod unmade;
 
-pub use runtime::{Made, Runtime};
+pub use runtime::Runtime;
+pub use unmade::Unmade;

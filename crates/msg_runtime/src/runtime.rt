@@ -1,10 +1,11 @@
 //! The runtime behind a lock.
 
-ghost use Rattle.std.specs.Prelude.{◌≡◌, ◌≢◌, ◌<◌, ◌≤◌, ◌*◌, length, take, not, is_some, replicate, false, true, IfOk, IfErr, IfSome, IsErrOf, IsNone, OnErr, OnOk, None};
+ghost use Rattle.std.specs.Prelude.{◌≡◌, ◌≢◌, ◌<◌, ◌≤◌, ◌*◌, length, take, not, is_some, true, [], ◌∷◌, IfOk, IfErr, IfSome, IsErrOf, IsNone, OnErr, OnOk, None};
 ghost use Rattle.msg_names.specs.Number.{selector_number, imp_number};
 ghost use Rattle.msg_tables.specs.Origin.{last_imp};
 ghost use Rattle.msg_tables.specs.History.{BeginsWith, empty, holder, log, superclass};
 ghost use Rattle.msg_tables.specs.Made.{AreMade, AreRefused, TellsWayBack};
+ghost use Rattle.msg_tables.specs.Refusal.{IsLog};
 ghost use Rattle.msg_tables.specs.Several.{refused_from};
 ghost use Rattle.msg_tables.specs.declared.fault.ChangeFault.{ChangeFault};
 ghost use Rattle.msg_cache.specs.Counts.{AreCounts};
@@ -13,53 +14,46 @@ ghost use Rattle.msg_cache.specs.declared.view.TurnAt.TheVariants.{Away};
 ghost use Rattle.msg_cache.specs.Views.{IsFoundAt, IsSenderOf, classes, layout};
 ghost use Rattle.msg_reader.specs.Kept.{KeepOthers};
 ghost use Rattle.msg_reader.specs.Notes.{AreNotesOf, IsNoted, StayStamped};
-ghost use Rattle.msg_runtime.specs.Calls.{AllAreOut, CachesAnswer, CountsRefusalUnless, HasKeeper, KeepsCaches, LendsTurnIf, MarksAllReached, MarksReached};
-ghost use Rattle.msg_runtime.specs.Changed.{IsAccepted, IsMadeAt, IsRefusedAt, IsRefusedFor};
+ghost use Rattle.msg_runtime.specs.Calls.{AllAreOut, CachesAnswer, CountsRefusalUnless, HasKeeper, HoldsRoomFor, KeepsAtLeastRoom, KeepsCaches, KeepsRoom, LacksRoomFor, LendsTurnIf, MarksAllReached, WantsRoom, WantsRoomIf};
+ghost use Rattle.msg_runtime.specs.Changed.{IsAccepted, IsMadeAt, IsRefusedAt, IsUnmade};
 ghost use Rattle.msg_runtime.specs.Parts.{IsKeeperOf, IsNew, keeper_history};
+ghost use Rattle.msg_runtime.specs.declared.runtime.TheConstants.{OPENING_ENTRIES};
 
 use crate::caching::cache_found;
-use crate::flushing::flush_reached;
-use crate::flushing_all::flush_written;
+use crate::flushing_all::flush_changed;
+use crate::unmade::Unmade;
 use msg_cache::{Arena, Keeper, Report, Turn};
 use msg_names::{ClassRef, ImpRef, Selector};
 use msg_reader::laws::notes_are_of_longer_histories;
 use msg_reader::{Notes, Reader};
-use msg_tables::laws::{an_accepted_change_is_within_the_limit, tables_are_of_their_origin};
+use msg_tables::laws::tables_are_of_their_origin;
 use msg_tables::{
-    Below, Change, ChangeFault, ChangeList, HasOrigin, Marks, Origin, Refused, Tables, Written,
+    Below, Change, ChangeFault, ChangeList, HasOrigin, Origin, Refused, Tables, Written,
 };
 use std::alloc::{AllocError, Global};
 use std::marker::Model;
-use std::mem::replace;
+use std::mem::swap;
+use std::slice::from_ref;
 use std::snapshot::Snapshot;
-
-/// What is said of a list of changes that was made as one.
-#[derive(Drop)]
-pub struct Made {
-    /// How many times changes were made, this time included: a list of them counts as one.
-    pub count: u64,
-    /// What the list wrote, which tells the way back where there is one.
-    pub written: Written,
-}
 
 /// The keeper of an arena's method caches, and class tables that stand at its history.
 ///
 /// It is what is used by one thread at a time, while senders probe the arena beside it. It has no
 /// lock of its own and waits for nobody: whoever has threads puts a lock round it. Once it is
-/// opened nothing but a change takes memory, and that only for rows.
+/// opened nothing but a change takes memory: for rows, and for what it notes of them. A row that
+/// is set or removed, an exchange and a class that is made take none.
 #[derive(Drop)]
 pub struct Runtime {
     keeper: Keeper,
     tables: Tables,
     below: Below,
-    // room for what the next list of changes writes
-    room: Written,
+    written: Written,
     classes: u32,
     arena: Snapshot<Arena>,
 }
 
-// Room for so many entries is kept from one list of changes to the next.
-const KEPT_ENTRIES: usize = 64;
+/// A runtime is opened with room for what an exchange notes.
+pub const OPENING_ENTRIES: usize = 2;
 
 impl Model for Runtime {
     ghost use Rattle.msg_runtime.specs.View.{RuntimeView};
@@ -91,6 +85,7 @@ impl Runtime {
         ensures arena { IfOk result (λ r. r.arena ≡ arena.now) }
         ensures history { IfOk result (λ r. r.keeper.history ≡ empty (C.given given.now)) }
         ensures keeper { IfOk result (HasKeeper keeper) }
+        ensures entries { IfOk result (λ r. OPENING_ENTRIES ≤ r.written.room) }
     {
         Runtime::of(alloc, arena, keeper, given.origin())
     }
@@ -107,6 +102,7 @@ impl Runtime {
         ensures arena { IfOk result (λ r. r.arena ≡ arena.now) }
         ensures history { IfOk result (λ r. r.keeper.history ≡ empty origin.now) }
         ensures keeper { IfOk result (HasKeeper keeper) }
+        ensures entries { IfOk result (λ r. OPENING_ENTRIES ≤ r.written.room) }
     {
         let tables = Tables::open(alloc, origin)?;
         let below = tables.room_below(alloc)?;
@@ -114,7 +110,7 @@ impl Runtime {
             keeper,
             tables,
             below,
-            room: Written::none(alloc),
+            written: Written::with_room(alloc, OPENING_ENTRIES)?,
             classes: origin.class_count(),
             arena: Snapshot::of(arena),
         })
@@ -136,6 +132,7 @@ impl Runtime {
         ensures arena { self.new.arena ≡ self.old.arena }
         ensures history { self.new.keeper.history ≡ self.old.keeper.history }
         ensures remembered { self.new.remembered ≡ self.old.remembered }
+        ensures room { KeepsRoom self.old self.new }
         ensures cached { CachesAnswer class sel result reader.old.sender self.old self.new }
         ensures reader { IsSenderOf self.old.arena reader.new }
         ensures number { reader.new.sender.number ≡ reader.old.sender.number }
@@ -170,6 +167,7 @@ impl Runtime {
         ensures arena { self.new.arena ≡ self.old.arena }
         ensures history { self.new.keeper.history ≡ self.old.keeper.history }
         ensures remembered { self.new.remembered ≡ self.old.remembered }
+        ensures room { KeepsRoom self.old self.new }
         ensures cached { CachesAnswer class sel result reader.old.sender self.old self.new }
         ensures reader { IsSenderOf self.old.arena reader.new }
         ensures number { reader.new.sender.number ≡ reader.old.sender.number }
@@ -219,29 +217,6 @@ impl Runtime {
         self.tables.superclass(class)
     }
 
-    /// Marks for the class references, none of them marked.
-    pub fn marks(&self, alloc: Global) -> Result<Marks, AllocError>
-        ensures { IfOk result (λ marks. marks ≡ replicate (2 * classes self.now.arena) false) }
-    {
-        tables_are_of_their_origin();
-        self.tables.marks(alloc)
-    }
-
-    /// Marks the class references whose lookups a change may alter, beside those that are marked,
-    /// and doesn't make it; or says why it would be refused, and marks none.
-    ///
-    /// It looks at the classes that it marks and at one or two more, and takes no memory.
-    pub fn reach(&self, change: &Change, marks: &mut Marks) -> Result<(), ChangeFault>
-        requires { length marks.old ≡ 2 * classes self.now.arena }
-        ensures ok { OnOk result (MarksReached self.now change.now marks.old marks.new) }
-        ensures err { OnErr result (marks.new ≡ marks.old) }
-        ensures fault { IfErr result (IsRefusedFor self.now.keeper.history change.now) }
-        ensures room { length marks.new ≡ length marks.old }
-    {
-        tables_are_of_their_origin();
-        self.tables.reach(change, marks)
-    }
-
     /// Marks the class references whose lookups a list of changes may alter if it is made as one,
     /// beside those that are marked, each at its slot, and doesn't make it; or says which of them
     /// would be refused. Then what those before it may alter is marked; where memory is wanting,
@@ -251,7 +226,6 @@ impl Runtime {
     /// tables to make the list and to take it back. The turn's history is the runtime's.
     pub fn reach_all<L: ChangeList>(
         &mut self,
-        alloc: Global,
         arena: &Arena,
         turn: &mut Turn,
         changes: &L,
@@ -263,7 +237,10 @@ impl Runtime {
         ensures turn { turn.new.table ≡ self.old.arena.table }
         ensures was { turn.old.history ≡ self.old.keeper.history }
         ensures is { turn.new.history ≡ self.old.keeper.history }
-        ensures same { self.new ≡ record self.old { keeper = lent self.old.keeper } }
+        ensures same { self.new ≡ record self.old
+            { keeper = lent self.old.keeper; rooms = self.new.rooms; written = self.new.written } }
+        ensures room { KeepsAtLeastRoom self.old self.new }
+        ensures wanting { IfErr result (WantsRoom self.old (L.changes changes.now)) }
         ensures ok { OnOk result (refused_from 0 (log self.old.keeper.history) (L.changes changes.now) ≡ None) }
         ensures marks { OnOk result (MarksAllReached self.old (L.changes changes.now) marked.old marked.new) }
         ensures refused { IfErr result (AreRefused (L.changes changes.now) self.old.keeper.history) }
@@ -273,14 +250,14 @@ impl Runtime {
     {
         tables_are_of_their_origin();
         self.keeper.face(arena, turn);
+        let below = &mut self.below;
         self.tables
-            .reach_all(alloc, changes, marked, &mut self.below)
+            .reach_all(changes, &mut self.written, marked, below)
     }
 
     /// Makes a change, closes what it reaches and flushes its caches, and answers how many times
-    /// changes were made. After an error nothing was changed or flushed.
-    ///
-    /// The turn's history is the runtime's, before and after.
+    /// changes were made. It is a list of one: see [`change_all`](Runtime::change_all).
+    #[tactic(auto, using(crate::proofs::OneLemmas::made_alone, crate::proofs::OneLemmas::refused_alone, crate::proofs::OneLemmas::wanting_alone))]
     pub fn change(
         &mut self,
         arena: &Arena,
@@ -294,6 +271,10 @@ impl Runtime {
         ensures was { turn.old.history ≡ self.old.keeper.history }
         ensures is { turn.new.history ≡ self.new.keeper.history }
         ensures ok { IfOk result (IsMadeAt self.old.keeper.history change.now self.new.keeper.history) }
+        ensures back { OnOk result (TellsWayBack (change.now ∷ []) self.old.keeper.history self.new.written.entries) }
+        ensures held { OnOk result (HoldsRoomFor self.old self.new (change.now ∷ [])) }
+        ensures room { KeepsAtLeastRoom self.old self.new }
+        ensures wanting { IsErrOf result ChangeFault.Memory → LacksRoomFor self.old (change.now ∷ []) }
         ensures err { OnErr result (self.new.keeper.history ≡ self.old.keeper.history) }
         ensures caches { OnErr result (KeepsCaches self.old self.new) }
         ensures report { OnErr result (self.new.report ≡ self.old.report) }
@@ -302,36 +283,27 @@ impl Runtime {
         ensures fault { IfErr result (IsRefusedAt self.old.keeper.history change.now) }
         ensures memory { IsErrOf result ChangeFault.Memory → IsAccepted self.old.keeper.history change.now }
     {
-        tables_are_of_their_origin();
-        an_accepted_change_is_within_the_limit();
-        self.keeper.face(arena, turn);
-        self.tables.apply(change)?;
-        flush_reached(
-            &mut self.keeper,
-            arena,
-            &self.tables,
-            self.classes,
-            change,
-            &mut self.below,
-        );
-        Ok(self.keeper.commit_closed(arena, turn, change))
+        match self.change_all(arena, turn, &from_ref(change)) {
+            Ok(count) => Ok(count),
+            Err(refused) => Err(refused.fault),
+        }
     }
 
     /// Makes a list of changes as one, closes what it reaches and flushes its caches, and answers
-    /// how many times changes were made and what was written; or says which of them would be
+    /// how many times changes were made, this time included; or says which of them would be
     /// refused. After an error nothing was changed or flushed. An empty list changes nothing and
     /// isn't counted.
     ///
-    /// The turn's history is the runtime's, before and after. It costs what its changes cost but
-    /// for one count that is stored, and room for what they write, which is that of an earlier list
-    /// where that was given back and is large enough.
+    /// What the list wrote is noted: [`written`](Runtime::written) tells the way back, directly
+    /// afterwards. That wants no memory: there is room for as many entries, and for the methods
+    /// that each class had. The turn's history is the runtime's, before and after. It costs what
+    /// its changes cost but for one count that is stored.
     pub fn change_all<L: ChangeList>(
         &mut self,
-        alloc: Global,
         arena: &Arena,
         turn: &mut Turn,
         changes: &L,
-    ) -> Result<Made, Refused>
+    ) -> Result<u64, Refused>
         requires arena { arena.now ≡ self.old.arena }
         requires turn { turn.old.table ≡ self.old.arena.table }
         ensures arena { self.new.arena ≡ self.old.arena }
@@ -339,8 +311,12 @@ impl Runtime {
         ensures was { turn.old.history ≡ self.old.keeper.history }
         ensures is { turn.new.history ≡ self.new.keeper.history }
         ensures ok { OnOk result (AreMade (L.changes changes.now) self.old.keeper.history self.new.keeper.history) }
-        ensures count { IfOk result (λ made. made.count ≡ length self.new.keeper.history.changes) }
-        ensures back { IfOk result (λ made. TellsWayBack (L.changes changes.now) self.old.keeper.history made.written) }
+        ensures count { IfOk result (λ count. count ≡ length self.new.keeper.history.changes) }
+        ensures back { OnOk result
+            (TellsWayBack (L.changes changes.now) self.old.keeper.history self.new.written.entries) }
+        ensures held { OnOk result (HoldsRoomFor self.old self.new (L.changes changes.now)) }
+        ensures room { KeepsAtLeastRoom self.old self.new }
+        ensures wanting { IfErr result (WantsRoom self.old (L.changes changes.now)) }
         ensures err { OnErr result (self.new.keeper.history ≡ self.old.keeper.history) }
         ensures caches { OnErr result (KeepsCaches self.old self.new) }
         ensures report { OnErr result (self.new.report ≡ self.old.report) }
@@ -348,33 +324,67 @@ impl Runtime {
         ensures away { self.new.keeper.turn ≡ Away }
         ensures refused { IfErr result (AreRefused (L.changes changes.now) self.old.keeper.history) }
     {
+        match self.change_all_within(arena, turn, changes, usize::MAX) {
+            Ok(count) => Ok(count),
+            Err(Unmade::Refused(refused)) => Err(refused),
+            Err(Unmade::TooLong(_count)) => unreachable!(),
+        }
+    }
+
+    /// The same, where the list's way back has at most so many changes: else nothing is made, and
+    /// how many it has is told.
+    pub fn change_all_within<L: ChangeList>(
+        &mut self,
+        arena: &Arena,
+        turn: &mut Turn,
+        changes: &L,
+        most: usize,
+    ) -> Result<u64, Unmade>
+        requires arena { arena.now ≡ self.old.arena }
+        requires turn { turn.old.table ≡ self.old.arena.table }
+        ensures arena { self.new.arena ≡ self.old.arena }
+        ensures turn { turn.new.table ≡ self.old.arena.table }
+        ensures was { turn.old.history ≡ self.old.keeper.history }
+        ensures is { turn.new.history ≡ self.new.keeper.history }
+        ensures ok { OnOk result (AreMade (L.changes changes.now) self.old.keeper.history self.new.keeper.history) }
+        ensures count { IfOk result (λ count. count ≡ length self.new.keeper.history.changes) }
+        ensures back { OnOk result
+            (TellsWayBack (L.changes changes.now) self.old.keeper.history self.new.written.entries) }
+        ensures fits { OnOk result (length self.new.written.entries ≤ most) }
+        ensures held { OnOk result (HoldsRoomFor self.old self.new (L.changes changes.now)) }
+        ensures room { KeepsAtLeastRoom self.old self.new }
+        ensures wanting { IfErr result (WantsRoomIf self.old (L.changes changes.now)) }
+        ensures err { OnErr result (self.new.keeper.history ≡ self.old.keeper.history) }
+        ensures caches { OnErr result (KeepsCaches self.old self.new) }
+        ensures report { OnErr result (self.new.report ≡ self.old.report) }
+        ensures given { self.new.keeper.given ≡ self.old.keeper.given }
+        ensures away { self.new.keeper.turn ≡ Away }
+        ensures unmade { IfErr result (IsUnmade (L.changes changes.now) self.old.keeper.history most) }
+    {
         tables_are_of_their_origin();
         self.keeper.face(arena, turn);
-        let room = replace(&mut self.room, Written::none(alloc));
-        let written = self.tables.apply_all(changes, room)?;
-        if changes.len() == 0 {
-            let count = self.keeper.count();
-            return Ok(Made { count, written });
+        let start = self.tables.start();
+        if let Err(refused) = self.tables.apply_all(changes, &mut self.written) {
+            return Err(Unmade::Refused(refused));
         }
-        flush_written(
+        let count = self.written.as_slice().len();
+        if most < count {
+            self.tables.retract(start, &mut self.written);
+            return Err(Unmade::TooLong(count));
+        }
+        if changes.len() == 0 {
+            return Ok(self.keeper.count());
+        }
+        flush_changed(
             &mut self.keeper,
             arena,
             &self.tables,
-            &written,
+            self.classes,
+            changes,
+            &self.written,
             &mut self.below,
         );
-        let count = self.keeper.commit_all(arena, turn, changes);
-        Ok(Made { count, written })
-    }
-
-    /// Takes back what was written, once it isn't looked at any more: the next list of changes
-    /// writes there, if it isn't large.
-    pub fn keep_room(&mut self, written: Written)
-        ensures { self.new ≡ self.old }
-    {
-        if written.as_slice().len() <= KEPT_ENTRIES {
-            self.room = written;
-        }
+        Ok(self.keeper.commit_all(arena, turn, changes))
     }
 
     /// A reader of a sender number that isn't given out, where there is one. It has seen the whole
@@ -385,6 +395,7 @@ impl Runtime {
         requires arena { arena.now ≡ self.old.arena }
         ensures arena { self.new.arena ≡ self.old.arena }
         ensures remembered { self.new.remembered ≡ self.old.remembered }
+        ensures room { KeepsRoom self.old self.new }
         ensures report { CountsRefusalUnless (is_some result) self.old self.new }
         ensures reader { IfSome result (λ r. IsSenderOf self.old.arena r) }
         ensures some { IfSome result (λ r. IsNew r.sender self.old.keeper self.new.keeper) }
@@ -407,6 +418,7 @@ impl Runtime {
         requires reader { IsSenderOf self.old.arena reader }
         ensures arena { self.new.arena ≡ self.old.arena }
         ensures remembered { self.new.remembered ≡ self.old.remembered }
+        ensures room { KeepsRoom self.old self.new }
         ensures report { self.new.report ≡ self.old.report }
         ensures keeper { self.new.keeper ≡ taken_in reader.sender self.old.keeper }
         ensures begins { BeginsWith self.old.keeper.history reader.sender.front }
@@ -419,6 +431,7 @@ impl Runtime {
         requires arena { arena.now ≡ self.old.arena }
         ensures arena { self.new.arena ≡ self.old.arena }
         ensures remembered { self.new.remembered ≡ self.old.remembered }
+        ensures room { KeepsRoom self.old self.new }
         ensures report { self.new.report ≡ self.old.report }
         ensures keeper { LendsTurnIf (is_some result) self.old self.new }
         ensures once { is_some result ≡ not (is_lent self.old.keeper.turn) }
@@ -436,6 +449,7 @@ impl Runtime {
         requires reader { IsSenderOf self.old.arena reader.old }
         ensures arena { self.new.arena ≡ self.old.arena }
         ensures remembered { self.new.remembered ≡ self.old.remembered }
+        ensures room { KeepsRoom self.old self.new }
         ensures report { self.new.report ≡ self.old.report }
         ensures keeper { self.new.keeper ≡ given_again reader.old.sender (lent self.old.keeper) }
         ensures turn { turn.new.table ≡ self.old.arena.table }
@@ -450,10 +464,26 @@ impl Runtime {
         reader.renew(arena, &mut self.keeper);
     }
 
-    /// How many times changes were made.
+    /// What the list that was made last wrote.
+    pub fn written(&self) -> &Written
+        ensures { result.now ≡ self.now.written }
+    {
+        &self.written
+    }
+
+    /// Gives what was written last, with its room, for what is lent: the next list is noted there.
+    pub fn swap_written(&mut self, written: &mut Written)
+        ensures same { self.new ≡ record self.old { written = written.old } }
+        ensures given { written.new ≡ self.old.written }
+    {
+        swap(&mut self.written, written);
+    }
+
+    /// How many times changes were made. Each was accepted.
     #[inline]
     pub fn count(&self) -> u64
-        ensures { result ≡ length self.now.keeper.history.changes }
+        ensures count { result ≡ length self.now.keeper.history.changes }
+        ensures accepted { IsLog (log self.now.keeper.history) }
     {
         self.keeper.count()
     }

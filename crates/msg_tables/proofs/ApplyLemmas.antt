@@ -1,24 +1,20 @@
 -- Tables that stand at a longer log after a change was written.
 use Rattle.std.proofs.Common.{◌≡◌, ◌+◌, List, [], ◌∷◌, ◌++◌, length, length-append, Some, None, Bool, true, false, cond, refl, sym, ap, ◌∙◌, subst, arith}
-use Rattle.std.specs.Prelude.{reverse, ◌||◌}
+use Rattle.std.specs.Prelude.{◌||◌}
 use Rattle.std.specs.List.{list_any}
-use Rattle.std.proofs.lemmas.List.{length-reverse}
-use Rattle.msg_names.specs.Number.{selector_number, imp_number}
 use Rattle.msg_tables.specs.declared.change.Change.{Change}
-use Rattle.msg_tables.specs.declared.change.Change.TheVariants.{Add, Replace, SetImp, Exchange, Attach, AddClass}
+use Rattle.msg_tables.specs.declared.change.Change.TheVariants.{Add, Replace, SetImp, Exchange, Attach, AddClass, Remove, DisposeClass}
 use Rattle.msg_tables.specs.declared.edit.Edit.{Edit}
-use Rattle.msg_tables.specs.declared.edit.Edit.TheVariants as edit
 use Rattle.msg_tables.specs.declared.fault.ChangeFault.{ChangeFault}
-use Rattle.msg_tables.specs.declared.fault.ChangeFault.TheVariants.{NoClass, NoImp, ArgumentCount, MethodPresent, NoMethod, Limit, Memory, DuplicateClass}
-use Rattle.msg_tables.specs.Rows.{Row}
-use Rattle.msg_tables.specs.After.{of_class, of_meta, rows_at, rows_after, supers_after, table_after}
-use Rattle.msg_tables.specs.Edits.{edited, supers_edited, added, rewritten, Writes}
+use Rattle.msg_tables.specs.declared.fault.ChangeFault.TheVariants.{NoClass, NoImp, ArgumentCount, MethodPresent, NoMethod, Limit, Memory, DuplicateClass, ClassInUse}
+use Rattle.msg_tables.specs.After.{rows_after, supers_after, table_after}
+use Rattle.msg_tables.specs.Edits.{IsOfTables, edited, supers_edited, added, removed, Writes}
 use Rattle.msg_tables.specs.Log.{Log, and_then, table}
 use Rattle.msg_tables.specs.Refusal.{refusal, least_change_fault, conditions}
 use Rattle.msg_tables.specs.Stands.{Holds, StandsAt}
 use Rattle.msg_tables.specs.View.{TablesView}
 use Rattle.msg_tables.proofs.LogLemmas.{table-and_then, log-and_then}
-use Rattle.msg_tables.proofs.HoldsLemmas.{length-set_own, length-rows_at}
+use Rattle.msg_tables.proofs.EditLemmas.{length-edited}
 
 is_memory : ChangeFault → Bool
 is_memory Memory = true
@@ -39,6 +35,7 @@ not_memory (f ∷ fs) others e = step f.0 f.1 others (not_memory fs) e
     step true NoMethod others rest e = cc
     step true Limit others rest e = cc
     step true DuplicateClass others rest e = cc
+    step true ClassInUse others rest e = cc
     step false NoClass others rest e = rest others e
     step false NoImp others rest e = rest others e
     step false ArgumentCount others rest e = rest others e
@@ -46,6 +43,7 @@ not_memory (f ∷ fs) others e = step f.0 f.1 others (not_memory fs) e
     step false NoMethod others rest e = rest others e
     step false Limit others rest e = rest others e
     step false DuplicateClass others rest e = rest others e
+    step false ClassInUse others rest e = rest others e
 
 -- no change is refused for want of memory
 pub refused-not_memory : (h : Log) (x : Change) → refusal h x ≡ Some Memory → ⊥
@@ -56,26 +54,20 @@ refused-not_memory h (SetImp c s i) e = not_memory (conditions h (SetImp c s i))
 refused-not_memory h (Exchange c s d u) e = not_memory (conditions h (Exchange c s d u)) refl e
 refused-not_memory h (Attach k methods class_methods) e = not_memory (conditions h (Attach k methods class_methods)) refl e
 refused-not_memory h (AddClass k d) e = not_memory (conditions h (AddClass k d)) refl e
+refused-not_memory h (Remove c s) e = not_memory (conditions h (Remove c s)) refl e
+refused-not_memory h (DisposeClass k) e = not_memory (conditions h (DisposeClass k)) refl e
 
--- how many rows an edit leaves
-pub length-edited : (e : Edit) (rows : List Row) → length (edited e rows) ≡ length rows + added e
-length-edited (edit.Append r) rows = length-append rows _
-length-edited (edit.Rewrite r) rows = omega (arith, length-set_own r.class (selector_number r.sel) (imp_number r.imp) rows)
-length-edited (edit.RewriteBoth a b) rows = omega (arith, length-set_own a.class (selector_number a.sel) (imp_number a.imp) (rewritten b rows), length-set_own b.class (selector_number b.sel) (imp_number b.imp) rows)
-length-edited (edit.Attach k methods class_methods) rows =
-    let own = rows_at (of_class k) (reverse methods.now) in
-    let meta = rows_at (of_meta k) (reverse class_methods.now) in
-    let total : length (rows ++ own ++ meta) ≡ length rows + (length methods.now + length class_methods.now) = omega (arith, length-append (rows ++ own) meta, length-append rows own, length-rows_at (of_class k) (reverse methods.now), length-rows_at (of_meta k) (reverse class_methods.now), length-reverse methods.now, length-reverse class_methods.now) in
-    total
-length-edited (edit.Make k d) rows = omega arith
-
-pub stands-after : (old new : TablesView) (h : Log) (x : Change) (e : Edit) → StandsAt old h → refusal h x ≡ None → rows_after (table h) x ≡ edited e (table h).rows → supers_after (table h).supers x ≡ supers_edited e (table h).supers → Writes old new e → StandsAt (record new { change_count = new.change_count + 1 }) (and_then h x)
+pub stands-after : (old new : TablesView) (h : Log) (x : Change) (e : Edit) → StandsAt old h → IsOfTables old e → refusal h x ≡ None → rows_after (table h) x ≡ edited e (table h).rows → supers_after (table h).supers x ≡ supers_edited e (table h).supers → Writes old new e → StandsAt (record new { change_count = new.change_count + 1 }) (and_then h x)
 unfolding table_after
-stands-after old new h x e stands none is makes writes = record {
+stands-after old new h x e stands named none is makes writes = record {
   log = log-and_then h x stands.log none;
   supers = ap (λ t. t.supers) writes.rest ∙ ap (supers_edited e) stands.supers ∙ sym makes ∙ sym (ap (λ t. t.supers) (table-and_then h x));
+  listed = ap (λ t. t.listed) writes.rest ∙ stands.listed;
   rows = subst (Holds new.lists) (sym now) (writes.rows (table h).rows stands.rows);
-  row_count = writes.row_count ∙ ap (λ n. n + added e) stands.row_count ∙ sym (length-edited e (table h).rows) ∙ sym (ap length now);
+  row_count =
+      let left = length-edited old (table h).rows stands.rows e named in
+      let more = ap length now in
+      omega (arith, left, more, writes.row_count, stands.row_count);
   changes = ap (λ (t : TablesView). t.change_count + 1) writes.rest ∙ ap (λ n. n + 1) stands.changes ∙ sym (length-append h.changes (x ∷ []));
   counts = ap (λ t. t.counts) writes.rest ∙ stands.counts;
   limits = ap (λ t. t.limits) writes.rest ∙ stands.limits;

@@ -29,7 +29,7 @@ module _ (h : Log) (sound : IsSound h.origin) (log : IsLog h) where
   -- a listed class stays as it was opened
   listed-presence : (k : ℕ) → k < length h.origin.superclasses → presence_of (table h).supers k ≡ Some (record { superclass = order.super_of h.origin.superclasses k })
   unfolding table opening_table IsLog
-  listed-presence k inside = presence-on (empty h.origin) h.changes k log (opened-is_present h.origin k inside) ∙ opened-presence_of h.origin k inside
+  listed-presence k inside = presence-on (empty h.origin) h.changes k log inside (opened-is_present h.origin k inside) ∙ opened-presence_of h.origin k inside
 
   up-listed : (k : ℕ) (o : Option ℕ) → k < length h.origin.superclasses → order.super_of h.origin.superclasses k ≡ o → super_of (table h).supers (of_class k) ≡ option_map of_class o
   up-listed k o inside e = ap (λ p. option_map_or (λ (q : Presence). above (of_class k) q.superclass) p None) (listed-presence k inside) ∙ ap (above (of_class k)) e ∙ at o

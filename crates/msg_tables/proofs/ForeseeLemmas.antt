@@ -1,27 +1,30 @@
 -- What is found after a change, by what it writes.
 use Rattle.std.proofs.Common.{◌≡◌, ◌<◌, ◌≤◌, ℕ, zero, suc, ◌+◌, List, [], ◌∷◌, ◌++◌, length, reverse, take, get_or, Option, Some, None, option_map, Bool, true, false, cond, refl, sym, ap, ◌∙◌, subst, arith}
-use Rattle.std.specs.Prelude.{◌==◌, ◌&&◌, is_some}
+use Rattle.std.specs.Prelude.{◌==◌, ◌&&◌, is_none, is_some}
+use Rattle.msg_tables.proofs.EditLemmas.{pairs_at-gone, pairs_at-stays, pairs_at-without_other, pairs_at-without_own}
+use Rattle.msg_tables.proofs.LookupLemmas.{own-pairs_at}
+use Rattle.msg_tables.specs.Stands.{pairs_at}
 use Rattle.msg_tables.proofs.OrElseLemmas.{or_else_none, or_else-assoc}
 use Rattle.msg_names.proofs.TestLemmas.{both, same_number}
 use Rattle.msg_names.specs.declared.value.ClassRef.{ClassRef}
-use Rattle.std.proofs.lemmas.List.{reverse-append}
+use Rattle.std.proofs.lemmas.List.{map-append, reverse-append, take_more}
 use Rattle.msg_names.specs.declared.value.Selector.{Selector}
 use Rattle.msg_names.specs.declared.value.ImpRef.{ImpRef}
 use Rattle.msg_tables.specs.Methods.{method_numbers}
 use Rattle.msg_names.specs.Number.{selector_number, imp_number}
 use Rattle.msg_tables.specs.declared.change.Change.{Change}
-use Rattle.msg_tables.specs.declared.change.Change.TheVariants.{Add, Replace, SetImp, Exchange, Attach, AddClass}
+use Rattle.msg_tables.specs.declared.change.Change.TheVariants.{Add, Replace, SetImp, Exchange, Attach, AddClass, Remove, DisposeClass}
 use Rattle.msg_names.specs.ClassRef.{same_class}
 use Rattle.msg_tables.specs.Chain.{chain_of, chain_up, super_of, is_present}
 use Rattle.msg_tables.specs.declared.presence.Presence.{Presence}
 use Rattle.msg_tables.specs.Rows.{Row, own, or_else, chain, holder_in, lookup_in, holder_at, lookup_at}
-use Rattle.msg_tables.specs.RowList.{own_in}
-use Rattle.msg_tables.specs.After.{of_class, of_meta, row, rows_at, set_own, set_method, rows_after, supers_after}
+use Rattle.msg_tables.specs.RowList.{own_in, without_row}
+use Rattle.msg_tables.specs.After.{of_class, of_meta, row, rows_at, set_own, set_method, without_class, without_own, rows_after, supers_after}
 use Rattle.msg_tables.specs.Log.{Log, and_then, table, lookup, holder}
 use Rattle.msg_tables.proofs.LawLemmas.{lookup-after, some-set_method}
 use Rattle.msg_tables.proofs.OwnLemmas.{own-append, own-rows_at, own-rows_other, own-set_same, own-set_other, lookup-holder, lookup-own}
 use Rattle.msg_names.proofs.ClassRefLemmas.{same_class-is}
-use Rattle.msg_tables.specs.Written.{written, at_ref}
+use Rattle.msg_tables.specs.Written.{written, at_ref, row_leaves}
 
 pub own_in-append : (s : ℕ) (xs ys : List (ℕ × ℕ)) → own_in s (xs ++ ys) ≡ or_else (own_in s ys) (own_in s xs)
 own_in-append s [] ys = sym (or_else_none (own_in s ys))
@@ -72,18 +75,53 @@ own_added c d ms u rows = own-append rows (rows_at c ms) d u ∙ ap (λ o. or_el
     step true e = subst (λ z. own (rows_at c ms) z u ≡ own_in u ms) (same_class-is c d e) (own-rows_at c ms u)
     step false e = own-rows_other c d ms u e
 
-pub own_written : (h : Log) (x : Change) (d : ClassRef) (u : ℕ) → own (rows_after (table h) x) d u ≡ or_else (written h x d u) (own (table h).rows d u)
+own_in-without_other : (s u : ℕ) (ms : List (ℕ × ℕ)) → (s == u) ≡ false → own_in u (without_row s ms) ≡ own_in u ms
+own_in-without_other s u [] ne = refl
+own_in-without_other s u (m ∷ ms) ne = step (m.0 == s) refl (is_none (own_in s ms)) (own_in-without_other s u ms ne)
+  where
+    step : (b : Bool) → (m.0 == s) ≡ b → (n : Bool) → own_in u (without_row s ms) ≡ own_in u ms
+        → own_in u (cond (b && n) ms (m ∷ without_row s ms)) ≡ or_else (own_in u ms) (cond (m.0 == u) (Some m.1) None)
+    step true e true rest =
+        let other : (m.0 == u) ≡ false = ap (λ k. k == u) (same_number m.0 s e) ∙ ne in
+        sym (ap (λ b. or_else (own_in u ms) (cond b (Some m.1) None)) other ∙ or_else_none (own_in u ms))
+    step true e false rest = ap (λ o. or_else o (cond (m.0 == u) (Some m.1) None)) rest
+    step false e n rest = ap (λ o. or_else o (cond (m.0 == u) (Some m.1) None)) rest
+
+own_stays : (c : ClassRef) (s : Selector) (d : ClassRef) (u : ℕ) (rows : List Row) → (same_class c d && (selector_number s == u)) ≡ false → own (without_own c (selector_number s) rows) d u ≡ own rows d u
+own_stays c s d u rows e = own-pairs_at d u (without_own c (selector_number s) rows) ∙ step (same_class c d) refl (selector_number s == u) refl e ∙ sym (own-pairs_at d u rows)
+  where
+    step : (a : Bool) → same_class c d ≡ a → (b : Bool) → (selector_number s == u) ≡ b → (a && b) ≡ false → own_in u (pairs_at d (without_own c (selector_number s) rows)) ≡ own_in u (pairs_at d rows)
+    step false f b g e = ap (own_in u) (pairs_at-without_other c d (selector_number s) rows f)
+    step true f true g e = cc
+    step true f false g e =
+        subst (λ z. own_in u (pairs_at z (without_own c (selector_number s) rows)) ≡ own_in u (pairs_at z rows)) (same_class-is c d f)
+        (ap (own_in u) (pairs_at-without_own c (selector_number s) rows) ∙ own_in-without_other (selector_number s) u (pairs_at c rows) g)
+
+-- the own row leaves
+pub own_removed : (c : ClassRef) (s : Selector) (d : ClassRef) (u : Selector) (rows : List Row) → (same_class c d && (selector_number s == selector_number u)) ≡ true
+    → own_in (selector_number u) (without_row (selector_number u) (pairs_at d rows)) ≡ own (without_own c (selector_number s) rows) d (selector_number u)
+own_removed c s d u rows e =
+    let (class, sel) = both (same_class c d) (selector_number s == selector_number u) e in
+    let n = same_number (selector_number s) (selector_number u) sel in
+    subst (λ z. own_in (selector_number u) (without_row (selector_number u) (pairs_at z rows)) ≡ own (without_own c (selector_number s) rows) z (selector_number u)) (same_class-is c d class)
+    (sym (own-pairs_at c (selector_number u) (without_own c (selector_number s) rows) ∙ ap (λ k. own_in (selector_number u) (pairs_at c (without_own c k rows))) n ∙ ap (own_in (selector_number u)) (pairs_at-without_own c (selector_number u) rows)))
+
+-- of a class that is disposed of all do
+pub own_disposed : (k : ℕ) (d : ClassRef) (u : ℕ) (rows : List Row) → (d.class == k) ≡ true → None ≡ own (without_class k rows) d u
+own_disposed k d u rows e = sym (own-pairs_at d u (without_class k rows) ∙ ap (own_in u) (pairs_at-gone d k rows e))
+
+pub own_written : (h : Log) (x : Change) (d : ClassRef) (u : ℕ) → row_leaves x d u ≡ false → own (rows_after (table h) x) d u ≡ or_else (written h x d u) (own (table h).rows d u)
 unfolding holder lookup
-own_written h (Add c s i) d u = own-append (table h).rows (row c s i ∷ []) d u
-own_written h (Replace c s i) d u = step (is_some (own (table h).rows c (selector_number s))) refl
+own_written h (Add c s i) d u stays = own-append (table h).rows (row c s i ∷ []) d u
+own_written h (Replace c s i) d u stays = step (is_some (own (table h).rows c (selector_number s))) refl
   where
     step : (b : Bool) → is_some (own (table h).rows c (selector_number s)) ≡ b
         → own (cond b (set_own c (selector_number s) (imp_number i) (table h).rows) ((table h).rows ++ row c s i ∷ [])) d u ≡ or_else (at_ref (Some c) d (selector_number s) u (imp_number i)) (own (table h).rows d u)
     step true e = own_set c d (selector_number s) u (imp_number i) (table h).rows e
     step false e = own-append (table h).rows (row c s i ∷ []) d u
-own_written h (SetImp c s i) d u =
+own_written h (SetImp c s i) d u stays =
     own_set_method (holder_at (table h) c (selector_number s)) d (selector_number s) u (imp_number i) (table h).rows (held_some (table h).rows (chain (table h) c) (selector_number s))
-own_written h (Exchange c s e v) d u =
+own_written h (Exchange c s e v) d u stays =
     let n = selector_number s in
     let m = selector_number v in
     let rows = (table h).rows in
@@ -94,21 +132,23 @@ own_written h (Exchange c s e v) d u =
     own_set_method p d n u second (set_method q m first rows) (λ z is. some-set_method q m first rows z n ∙ held_some rows (chain (table h) c) n z is)
     ∙ ap (or_else (at_ref p d n u second)) (own_set_method q d m u first rows (held_some rows (chain (table h) e) m))
     ∙ sym (or_else-assoc (at_ref p d n u second) (at_ref q d m u first) (own rows d u))
-own_written h (Attach k ms cs) d u =
+own_written h (Attach k ms cs) d u stays =
     let rows = (table h).rows in
     own_added (of_meta k) d (reverse cs) u (rows ++ rows_at (of_class k) (reverse ms))
     ∙ ap (or_else (cond (same_class (of_meta k) d) (own_in u (reverse cs)) None)) (own_added (of_class k) d (reverse ms) u rows)
     ∙ sym (or_else-assoc (cond (same_class (of_meta k) d) (own_in u (reverse cs)) None) (cond (same_class (of_class k) d) (own_in u (reverse ms)) None) (own rows d u))
-own_written h (AddClass k e) d u = refl
+own_written h (AddClass k e) d u stays = refl
+own_written h (Remove c s) d u stays = own_stays c s d u (table h).rows stays
+own_written h (DisposeClass k) d u stays = own-pairs_at d u (without_class k (table h).rows) ∙ ap (own_in u) (pairs_at-stays d k (table h).rows stays) ∙ sym (own-pairs_at d u (table h).rows)
 
 -- where something is written it is the own row, and elsewhere the own row stays
-pub own_seen : (h : Log) (x : Change) (d : ClassRef) (u i : ℕ) (o : Option ImpRef) → option_map imp_number o ≡ written h x d u → option_map imp_number o ≡ Some i → own (rows_after (table h) x) d u ≡ Some i
-own_seen h x d u i o is e = own_written h x d u ∙ ap (λ w. or_else w (own (table h).rows d u)) (sym is ∙ e)
+pub own_seen : (h : Log) (x : Change) (d : ClassRef) (u i : ℕ) (o : Option ImpRef) → row_leaves x d u ≡ false → option_map imp_number o ≡ written h x d u → option_map imp_number o ≡ Some i → own (rows_after (table h) x) d u ≡ Some i
+own_seen h x d u i o stays is e = own_written h x d u stays ∙ ap (λ w. or_else w (own (table h).rows d u)) (sym is ∙ e)
 
 -- where nothing is written the own row stays
-pub own_kept : (h : Log) (x : Change) (d : ClassRef) (u : ℕ) (o : Option ImpRef) (a : Option ℕ) → option_map imp_number o ≡ written h x d u → o ≡ None
+pub own_kept : (h : Log) (x : Change) (d : ClassRef) (u : ℕ) (o : Option ImpRef) (a : Option ℕ) → row_leaves x d u ≡ false → option_map imp_number o ≡ written h x d u → o ≡ None
     → a ≡ own (table h).rows d u → a ≡ own (rows_after (table h) x) d u
-own_kept h x d u o a is none at = at ∙ sym (own_written h x d u ∙ ap (λ w. or_else w (own (table h).rows d u)) (sym is ∙ ap (option_map imp_number) none))
+own_kept h x d u o a stays is none at = at ∙ sym (own_written h x d u stays ∙ ap (λ w. or_else w (own (table h).rows d u)) (sym is ∙ ap (option_map imp_number) none))
 
 -- the classes after a change
 abbrev pub supers_then : Log → Change → List (Option Presence)
@@ -176,3 +216,67 @@ module _ (h : Log) (x : Change) (c : ClassRef) (s : ℕ) where
   way_over n k here (zero, e, on) ge none = on.rest
   way_over n k here (suc zero, e, on) ge none = on.rest ∙ rw none refl
   way_over n k here (suc (suc m), e, on) ge none = absurd (omega arith)
+
+-- ---- the last row but one
+
+pub own_in-snoc : (s : ℕ) (ms : List (ℕ × ℕ)) (m : ℕ × ℕ) → own_in s (ms ++ m ∷ []) ≡ cond (m.0 == s) (Some m.1) (own_in s ms)
+own_in-snoc s ms m = own_in-append s ms (m ∷ []) ∙ step (m.0 == s)
+  where
+    step : (b : Bool) → or_else (or_else None (cond b (Some m.1) None)) (own_in s ms) ≡ cond b (Some m.1) (own_in s ms)
+    step true = refl
+    step false = refl
+
+pub without_row-snoc : (s : ℕ) (ms : List (ℕ × ℕ)) (m : ℕ × ℕ) (b : Bool) → (m.0 == s) ≡ b → own_in s (without_row s (ms ++ m ∷ [])) ≡ cond b (own_in s ms) (own_in s (without_row s ms))
+without_row-snoc s [] m true e = rw e refl
+without_row-snoc s [] m false e = rw e (rw e refl)
+without_row-snoc s (x ∷ xs) m true e =
+    let last : own_in s (xs ++ m ∷ []) ≡ Some m.1 = own_in-snoc s xs m ∙ rw e refl in
+    rw last (step (x.0 == s) (without_row-snoc s xs m true e))
+  where
+    step : (b : Bool) → own_in s (without_row s (xs ++ m ∷ [])) ≡ own_in s xs → own_in s (cond (b && false) (xs ++ m ∷ []) (x ∷ without_row s (xs ++ m ∷ []))) ≡ or_else (own_in s xs) (cond (x.0 == s) (Some x.1) None)
+    step true rest = ap (λ o. or_else o (cond (x.0 == s) (Some x.1) None)) rest
+    step false rest = ap (λ o. or_else o (cond (x.0 == s) (Some x.1) None)) rest
+without_row-snoc s (x ∷ xs) m false e =
+    let last : own_in s (xs ++ m ∷ []) ≡ own_in s xs = own_in-snoc s xs m ∙ rw e refl in
+    rw last (step ((x.0 == s) && is_none (own_in s xs)) last (without_row-snoc s xs m false e))
+  where
+    step : (b : Bool) → own_in s (xs ++ m ∷ []) ≡ own_in s xs → own_in s (without_row s (xs ++ m ∷ [])) ≡ own_in s (without_row s xs) → own_in s (cond b (xs ++ m ∷ []) (x ∷ without_row s (xs ++ m ∷ []))) ≡ own_in s (cond b xs (x ∷ without_row s xs))
+    step true last rest = last
+    step false last rest = ap (λ o. or_else o (cond (x.0 == s) (Some x.1) None)) rest
+
+-- the last row of a selector so far, and the one before it
+pub record AreLast (s : ℕ) (rows : List (Selector × ImpRef)) (i : ℕ) (last covered : Option ImpRef) : Type 0 where
+  pub newest : option_map imp_number last ≡ own_in s (method_numbers (take i rows))
+  pub older : option_map imp_number covered ≡ own_in s (without_row s (method_numbers (take i rows)))
+
+module _ (s : ℕ) (rows : List (Selector × ImpRef)) (i : ℕ) (m : Selector × ImpRef) (inside : i < length rows) (read : m ≡ get_or rows i m) (last covered : Option ImpRef) (so-far : AreLast s rows i last covered) where
+  pair : ℕ × ℕ
+  pair = (selector_number m.0, imp_number m.1)
+
+  more : method_numbers (take (i + 1) rows) ≡ method_numbers (take i rows) ++ (selector_number m.0, imp_number m.1) ∷ []
+  more =
+      ap method_numbers (take_more rows i m inside ∙ ap (λ x. take i rows ++ x ∷ []) (sym read))
+      ∙ map-append (λ (n : Selector × ImpRef). (selector_number n.0, imp_number n.1)) (take i rows) (m ∷ [])
+
+  pub last-found : (selector_number m.0 == s) ≡ true → AreLast s rows (i + 1) (Some m.1) last
+  last-found e = record {
+    newest = sym (ap (own_in s) more ∙ own_in-snoc s (method_numbers (take i rows)) (selector_number m.0, imp_number m.1) ∙ rw e refl);
+    older = so-far.newest ∙ sym (ap (λ ms. own_in s (without_row s ms)) more ∙ without_row-snoc s (method_numbers (take i rows)) (selector_number m.0, imp_number m.1) true e);
+  }
+
+  pub last-kept : (selector_number m.0 == s) ≡ false → AreLast s rows (i + 1) last covered
+  last-kept e = record {
+    newest = so-far.newest ∙ sym (ap (own_in s) more ∙ own_in-snoc s (method_numbers (take i rows)) (selector_number m.0, imp_number m.1) ∙ rw e refl);
+    older = so-far.older ∙ sym (ap (λ ms. own_in s (without_row s ms)) more ∙ without_row-snoc s (method_numbers (take i rows)) (selector_number m.0, imp_number m.1) false e);
+  }
+
+-- a row that leaves otherwise than by a removal
+pub own_gone : (h : Log) (x : Change) (d : ClassRef) (u : ℕ) → row_leaves x d u ≡ true → ((c : ClassRef) (s : Selector) → x ≡ Remove c s → ⊥) → None ≡ own (rows_after (table h) x) d u
+own_gone h (Add c s i) d u leaves other = cc
+own_gone h (Replace c s i) d u leaves other = cc
+own_gone h (SetImp c s i) d u leaves other = cc
+own_gone h (Exchange c s e v) d u leaves other = cc
+own_gone h (Attach k ms cs) d u leaves other = cc
+own_gone h (AddClass k e) d u leaves other = cc
+own_gone h (Remove c s) d u leaves other = absurd (other c s refl)
+own_gone h (DisposeClass k) d u leaves other = own_disposed k d u (table h).rows leaves

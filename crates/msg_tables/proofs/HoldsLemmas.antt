@@ -31,7 +31,7 @@ pub kept-other : (lists : List (List (ℕ × ℕ))) (c d : ClassRef) (ms : List 
 kept-other lists c d ms e = get_or-set_other lists (slot_of c) (slot_of d) ms [] (slot_of-apart c d e)
 
 -- one list is written
-holds-put : (lists : List (List (ℕ × ℕ))) (rows after : List Row) (c : ClassRef) (ms : List (ℕ × ℕ)) → slot_of c < length lists → Holds lists rows
+pub holds-put : (lists : List (List (ℕ × ℕ))) (rows after : List Row) (c : ClassRef) (ms : List (ℕ × ℕ)) → slot_of c < length lists → Holds lists rows
     → ms ≡ pairs_at c after → ((d : ClassRef) → same_class c d ≡ false → pairs_at d after ≡ pairs_at d rows) → Holds (slice_set lists (slot_of c) ms) after
 holds-put lists rows after c ms inside holds here others = record { at = λ d. at d (same_class c d) refl }
   where
@@ -39,7 +39,7 @@ holds-put lists rows after c ms inside holds here others = record { at = λ d. a
     at d true e = subst (λ z. kept (slice_set lists (slot_of c) ms) z ≡ pairs_at z after) (same_class-is c d e) (get_or-set_same lists (slot_of c) ms [] inside ∙ here)
     at d false e = kept-other lists c d ms e ∙ holds.at d ∙ sym (others d e)
 
-pairs_at-append : (d : ClassRef) (xs ys : List Row) → pairs_at d (xs ++ ys) ≡ pairs_at d xs ++ pairs_at d ys
+pub pairs_at-append : (d : ClassRef) (xs ys : List Row) → pairs_at d (xs ++ ys) ≡ pairs_at d xs ++ pairs_at d ys
 pairs_at-append d [] ys = refl
 pairs_at-append d (x ∷ xs) ys = step (same_class x.class d) (pairs_at-append d xs ys)
   where

@@ -12,10 +12,10 @@ use Rattle.msg_names.specs.declared.value.Selector.{Selector}
 use Rattle.msg_names.specs.declared.value.ImpRef.{ImpRef}
 use Rattle.msg_names.specs.Number.{selector_number, imp_number}
 use Rattle.msg_tables.specs.declared.change.Change.{Change}
-use Rattle.msg_tables.specs.declared.change.Change.TheVariants.{Add, Replace, SetImp, Exchange, Attach, AddClass}
+use Rattle.msg_tables.specs.declared.change.Change.TheVariants.{Add, Replace, SetImp, Exchange, Attach, AddClass, Remove, DisposeClass}
 use Rattle.msg_tables.specs.Origin.{OriginView, IsSound, IsSoundList, are_listed, last_imp}
 use Rattle.msg_tables.specs.Methods.{MethodsOf}
-use Rattle.msg_tables.specs.After.{of_class, of_meta, rows_at, row, list_rows, opening_table, set_own, set_method, rows_after, table_after}
+use Rattle.msg_tables.specs.After.{of_class, of_meta, rows_at, row, list_rows, opening_table, set_own, set_method, without_own, without_class, rows_after, table_after}
 use Rattle.msg_tables.specs.Log.{Log, empty, and_then, table, lookup}
 use Rattle.msg_tables.specs.Refusal.{refusal, AreAccepted, IsLog, conditions, no_imp}
 use Rattle.msg_tables.specs.Rows.{Row, is_at, or_else, own, holder_at, lookup_in, lookup_at}
@@ -78,6 +78,26 @@ set_own-within n c s i (r ∷ rs) le all =
 set_method-within : (n : ℕ) (o : Option ClassRef) (s i : ℕ) (rows : List Row) → i ≤ n → AreWithin n rows → AreWithin n (set_method o s i rows)
 set_method-within n None s i rows le all = all
 set_method-within n (Some c) s i rows le all = set_own-within n c s i rows le all
+
+without-within : (n : ℕ) (c : ClassRef) (s : ℕ) (rows : List Row) → AreWithin n rows → AreWithin n (without_own c s rows)
+without-within n c s [] all = refl
+without-within n c s (r ∷ rs) all =
+    let (first, rest) = both (nat_le r.imp n) (list_all (λ (r : Row). nat_le r.imp n) rs) all in
+    step (is_at c s r && is_none (own rs c s)) first rest (without-within n c s rs rest)
+  where
+    step : (b : Bool) → nat_le r.imp n ≡ true → AreWithin n rs → AreWithin n (without_own c s rs) → AreWithin n (cond b rs (r ∷ without_own c s rs))
+    step true first rest left = rest
+    step false first rest left = and_both (nat_le r.imp n) (list_all (λ (r : Row). nat_le r.imp n) (without_own c s rs)) first left
+
+without_class-within : (n k : ℕ) (rows : List Row) → AreWithin n rows → AreWithin n (without_class k rows)
+without_class-within n k [] all = refl
+without_class-within n k (r ∷ rs) all =
+    let (first, rest) = both (nat_le r.imp n) (list_all (λ (r : Row). nat_le r.imp n) rs) all in
+    step (r.class.class == k) first (without_class-within n k rs rest)
+  where
+    step : (b : Bool) → nat_le r.imp n ≡ true → AreWithin n (without_class k rs) → AreWithin n (cond b (without_class k rs) (r ∷ without_class k rs))
+    step true first left = left
+    step false first left = and_both (nat_le r.imp n) (list_all (λ (r : Row). nat_le r.imp n) (without_class k rs)) first left
 
 rows_at-append : (c : ClassRef) (xs ys : List (ℕ × ℕ)) → rows_at c (xs ++ ys) ≡ rows_at c xs ++ rows_at c ys
 rows_at-append c [] ys = refl
@@ -143,6 +163,8 @@ after-within h (Attach k ms cs) e all =
     let first = within-append n (table h).rows (rows_at (of_class k) (reverse ms)) all (reversed-within n (of_class k) ms (none_lacking h (of_class k) ms own_listed)) in
     within-append n ((table h).rows ++ rows_at (of_class k) (reverse ms)) (rows_at (of_meta k) (reverse cs)) first (reversed-within n (of_meta k) cs (none_lacking h (of_meta k) cs meta_listed))
 after-within h (AddClass k d) e all = all
+after-within h (Remove c s) e all = without-within (last_imp h.origin.counts) c (selector_number s) (table h).rows all
+after-within h (DisposeClass k) e all = without_class-within (last_imp h.origin.counts) k (table h).rows all
 
 -- ---- from the opening on
 

@@ -10,7 +10,7 @@ use Rattle.msg_tables.specs.Methods.{method_numbers}
 use Rattle.msg_tables.specs.RowList.{own_in, last_index, set_last}
 use Rattle.msg_tables.proofs.RowLemmas.{set_last-none, last_none, last_some, set-last_place}
 
-abbrev numbers : Selector × ImpRef → ℕ × ℕ
+abbrev pub numbers : Selector × ImpRef → ℕ × ℕ
 numbers m = (selector_number m.0, imp_number m.1)
 
 module _ (rows : List (Selector × ImpRef)) (s : ℕ) (found : Option ℕ) (is : found ≡ last_index s (method_numbers rows)) where

@@ -5,12 +5,12 @@ use Rattle.msg_names.specs.declared.value.ClassRef.{ClassRef}
 use Rattle.msg_names.specs.declared.value.Selector.{Selector}
 use Rattle.msg_names.specs.declared.value.ImpRef.{ImpRef}
 use Rattle.msg_names.specs.Number.{selector_number, imp_number}
-use Rattle.msg_tables.specs.declared.change.Change.TheVariants.{Add, Replace, SetImp, Exchange, AddClass}
+use Rattle.msg_tables.specs.declared.change.Change.TheVariants.{Add, Replace, SetImp, Exchange, AddClass, Remove, DisposeClass}
 use Rattle.msg_tables.specs.declared.fault.ChangeFault.{ChangeFault}
-use Rattle.msg_tables.specs.declared.fault.ChangeFault.TheVariants.{NoClass, ArgumentCount, MethodPresent, NoMethod, Limit, DuplicateClass}
+use Rattle.msg_tables.specs.declared.fault.ChangeFault.TheVariants.{NoClass, ArgumentCount, MethodPresent, NoMethod, Limit, DuplicateClass, ClassInUse}
 use Rattle.msg_tables.specs.After.{of_class, row, set_own, rows_after}
 use Rattle.msg_tables.specs.Log.{Log, table, holder, lookup}
-use Rattle.msg_tables.specs.Refusal.{least_change_fault, unfit, no_class, no_number, no_superclass, unlike, has_own, no_method, is_full, refusal}
+use Rattle.msg_tables.specs.Refusal.{least_change_fault, unfit, no_class, no_number, no_superclass, unlike, has_own, no_method, is_full, is_in_use, refusal}
 
 -- the least of the first faults is the least of all
 pub least-first : (first more : List (Bool × ChangeFault)) (f : ChangeFault) → least_change_fault first ≡ Some f → least_change_fault (first ++ more) ≡ Some f
@@ -83,3 +83,15 @@ pub refusal-make : (h : Log) (k : ℕ) (d : Option ℕ) (lacking full absent : B
     → refusal h (AddClass k d) ≡ least_change_fault ((lacking, NoClass) ∷ (full, Limit) ∷ (not absent, DuplicateClass) ∷ [])
 unfolding refusal
 refusal-make h k d lacking full absent a b e = rw (a, b, e) refl
+
+-- the faults of a row that is to leave
+pub refusal-remove : (h : Log) (c : ClassRef) (s : Selector) (absent odd has full : Bool) → no_class h c ≡ absent → unlike h (selector_number s) (selector_number s) ≡ odd → has_own h c (selector_number s) ≡ has → is_full h 0 ≡ full
+    → refusal h (Remove c s) ≡ least_change_fault ((absent, NoClass) ∷ (odd, ArgumentCount) ∷ (not has, NoMethod) ∷ (full, Limit) ∷ [])
+unfolding refusal
+refusal-remove h c s absent odd has full a b e f = rw (a, b, e, f) refl
+
+-- and of a class that is to be disposed of
+pub refusal-dispose : (h : Log) (k : ℕ) (absent full used : Bool) → no_class h (of_class k) ≡ absent → is_full h 0 ≡ full → is_in_use h k ≡ used
+    → refusal h (DisposeClass k) ≡ least_change_fault ((absent, NoClass) ∷ (full, Limit) ∷ (used, ClassInUse) ∷ [])
+unfolding refusal
+refusal-dispose h k absent full used a b e = rw (a, b, e) refl

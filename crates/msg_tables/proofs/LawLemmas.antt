@@ -14,15 +14,17 @@ use Rattle.msg_tables.specs.declared.change.Change.{Change}
 use Rattle.msg_names.specs.ClassRef.{same_class}
 use Rattle.msg_tables.specs.Origin.{OriginView, IsSound, IsSoundList}
 use Rattle.msg_tables.specs.Methods.{MethodsOf}
-use Rattle.msg_tables.specs.declared.change.Change.TheVariants.{Add, Replace, SetImp, Exchange, Attach, AddClass}
+use Rattle.msg_tables.specs.declared.change.Change.TheVariants.{Add, Replace, SetImp, Exchange, Attach, AddClass, Remove, DisposeClass}
 use Rattle.msg_tables.specs.Chain.{chain_of, chain_up, is_present, is_member}
 use Rattle.msg_tables.specs.Rows.{Row, own, or_else, chain, lookup_in, holder_at, lookup_at}
 use Rattle.msg_tables.specs.RowList.{own_in}
-use Rattle.msg_tables.specs.After.{of_class, of_meta, row, rows_at, set_own, set_method, rows_after, supers_after, table_after, list_rows, opening_table}
+use Rattle.msg_tables.specs.After.{of_class, of_meta, row, rows_at, set_own, set_method, without_own, without_class, rows_after, supers_after, table_after, list_rows, opening_table}
 use Rattle.msg_tables.specs.Affected.{at_most_one, if_any, written_refs, is_affected, is_of_made}
 use Rattle.msg_tables.specs.Log.{Log, empty, and_then, table, lookup, holder, chain_at}
 use Rattle.msg_tables.specs.Opening.{Lacks}
 use Rattle.msg_tables.specs.Refusal.{no_class}
+use Rattle.msg_tables.specs.Undo.{imps_of}
+use Rattle.msg_tables.proofs.ImpsLemmas.{last_of, drop_end, own-imps, imps-without, imps-without_class}
 use Rattle.msg_tables.proofs.LogLemmas.{table-and_then}
 use Rattle.msg_tables.proofs.HoldsLemmas.{meta-apart}
 use Rattle.msg_tables.proofs.ListedOrderLemmas.{opened-is_present}
@@ -66,16 +68,16 @@ own-attached c d [] u rows apart = own-append rows [] d u
 own-attached c d (m ∷ ms) u rows apart = own-more c d (reverse (m ∷ ms)) u rows (apart-first c d [] apart)
 
 -- away from where it writes a change leaves the own rows
-own-after : (h : Log) (x : Change) (d : ClassRef) (u : ℕ) → Apart d (written_refs h x) → own (rows_after (table h) x) d u ≡ own (table h).rows d u
+own-after : (h : Log) (x : Change) (d : ClassRef) (u : ℕ) → is_of_made x d ≡ false → Apart d (written_refs h x) → own (rows_after (table h) x) d u ≡ own (table h).rows d u
 unfolding written_refs holder
-own-after h (Add c s i) d u apart = own-more c d ((selector_number s, imp_number i) ∷ []) u (table h).rows (apart-first c d [] apart)
-own-after h (Replace c s i) d u apart = step (is_some (own (table h).rows c (selector_number s)))
+own-after h (Add c s i) d u other-class apart = own-more c d ((selector_number s, imp_number i) ∷ []) u (table h).rows (apart-first c d [] apart)
+own-after h (Replace c s i) d u other-class apart = step (is_some (own (table h).rows c (selector_number s)))
   where
     step : (b : Bool) → own (cond b (set_own c (selector_number s) (imp_number i) (table h).rows) ((table h).rows ++ row c s i ∷ [])) d u ≡ own (table h).rows d u
     step true = own-method (Some c) d (selector_number s) u (imp_number i) (table h).rows apart
     step false = own-more c d ((selector_number s, imp_number i) ∷ []) u (table h).rows (apart-first c d [] apart)
-own-after h (SetImp c s i) d u apart = own-method (holder_at (table h) c (selector_number s)) d (selector_number s) u (imp_number i) (table h).rows apart
-own-after h (Exchange c s e v) d u apart =
+own-after h (SetImp c s i) d u other-class apart = own-method (holder_at (table h) c (selector_number s)) d (selector_number s) u (imp_number i) (table h).rows apart
+own-after h (Exchange c s e v) d u other-class apart =
     let n = selector_number s in
     let m = selector_number v in
     let first = lookup_at (table h) c n in
@@ -84,8 +86,16 @@ own-after h (Exchange c s e v) d u apart =
     let q = holder_at (table h) e m in
     let (away, other) = apart-append d (at_most_one p) (at_most_one q) apart in
     own-method p d n u second (set_method q m first (table h).rows) away ∙ own-method q d m u first (table h).rows other
-own-after h (AddClass k e) d u apart = refl
-own-after h (Attach k ms cs) d u apart =
+own-after h (AddClass k e) d u other-class apart = refl
+own-after h (Remove c s) d u other-class apart = own-imps (without_own c (selector_number s) (table h).rows) d u ∙ ap last_of (imps-without c (selector_number s) d u (table h).rows ∙ kept (same_class c d) (apart-first c d [] apart)) ∙ sym (own-imps (table h).rows d u)
+  where
+    kept : (b : Bool) → b ≡ false → cond (b && (selector_number s == u)) (drop_end (imps_of d u (table h).rows)) (imps_of d u (table h).rows) ≡ imps_of d u (table h).rows
+    kept b e = rw e refl
+own-after h (DisposeClass k) d u other-class apart = own-imps (without_class k (table h).rows) d u ∙ ap last_of (imps-without_class k d u (table h).rows ∙ kept (d.class == k) other-class) ∙ sym (own-imps (table h).rows d u)
+  where
+    kept : (b : Bool) → b ≡ false → cond b [] (imps_of d u (table h).rows) ≡ imps_of d u (table h).rows
+    kept b e = rw e refl
+own-after h (Attach k ms cs) d u other-class apart =
     let (away, other) = apart-append d (if_any ms (of_class k)) (if_any cs (of_meta k)) apart in
     own-attached (of_meta k) d cs u ((table h).rows ++ rows_at (of_class k) (reverse ms)) other ∙ own-attached (of_class k) d ms u (table h).rows away
 
@@ -107,10 +117,10 @@ unaffected cs (p ∷ ps) d e among =
             let absurdity : true ≡ false = sym clash ∙ e in
             cc
 
-pub lookup-unaffected : (h : Log) (x : Change) (c : ClassRef) (s : ℕ) → supers_after (table h).supers x ≡ (table h).supers → is_affected h x c ≡ false → lookup (and_then h x) c s ≡ lookup h c s
+pub lookup-unaffected : (h : Log) (x : Change) (c : ClassRef) (s : ℕ) → supers_after (table h).supers x ≡ (table h).supers → ((d : ClassRef) → is_of_made x d ≡ false) → is_affected h x c ≡ false → lookup (and_then h x) c s ≡ lookup h c s
 unfolding is_affected chain_at lookup
-lookup-unaffected h x c s stay e =
-    lookup-after h x c s ∙ ap (λ supers. lookup_in (rows_after (table h) x) (chain_of supers c) s) stay ∙ lookup-same (table h).rows (rows_after (table h) x) (chain (table h) c) s (λ d among. own-after h x d s (unaffected (chain (table h) c) (written_refs h x) d (neither (is_of_made x c) _ e).1 among))
+lookup-unaffected h x c s stay no-class e =
+    lookup-after h x c s ∙ ap (λ supers. lookup_in (rows_after (table h) x) (chain_of supers c) s) stay ∙ lookup-same (table h).rows (rows_after (table h) x) (chain (table h) c) s (λ d among. own-after h x d s (no-class d) (unaffected (chain (table h) c) (written_refs h x) d (neither (is_of_made x c) _ e).1 among))
 
 -- ---- what is found after each change
 

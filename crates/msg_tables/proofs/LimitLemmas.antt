@@ -3,7 +3,7 @@ use Rattle.std.proofs.Common.{◌≡◌, ℕ, zero, suc, ◌+◌, ◌<◌, List,
 use Rattle.std.specs.Prelude.{nat_le, nat_lt, ◌||◌}
 use Rattle.std.proofs.lemmas.Bool.Decides.{nat_tests}
 use Rattle.msg_tables.specs.declared.change.Change.{Change}
-use Rattle.msg_tables.specs.declared.change.Change.TheVariants.{Add, Replace, SetImp, Exchange, Attach, AddClass}
+use Rattle.msg_tables.specs.declared.change.Change.TheVariants.{Add, Replace, SetImp, Exchange, Attach, AddClass, Remove, DisposeClass}
 use Rattle.msg_tables.specs.declared.fault.ChangeFault.{ChangeFault}
 use Rattle.msg_tables.specs.declared.fault.ChangeFault.TheVariants.{Limit}
 use Rattle.msg_tables.specs.Log.{Log, table}
@@ -43,3 +43,5 @@ accepted_few h (SetImp c s i) e = not_full h _ (none_holds (conditions h (SetImp
 accepted_few h (Exchange c s d u) e = not_full h _ (none_holds (conditions h (Exchange c s d u)) 3 e)
 accepted_few h (Attach k ms cs) e = not_full h _ (none_holds (conditions h (Attach k ms cs)) 3 e)
 accepted_few h (AddClass k d) e = not_full h _ (none_holds (conditions h (AddClass k d)) 1 e)
+accepted_few h (Remove c s) e = not_full h _ (none_holds (conditions h (Remove c s)) 3 e)
+accepted_few h (DisposeClass k) e = not_full h _ (none_holds (conditions h (DisposeClass k)) 1 e)

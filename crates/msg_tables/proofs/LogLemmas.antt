@@ -5,7 +5,7 @@ use Rattle.std.proofs.Math.ListN.{length-set}
 use Rattle.msg_tables.specs.declared.change.Change.{Change}
 use Rattle.msg_tables.specs.Origin.{class_total}
 use Rattle.msg_tables.specs.declared.presence.Presence.{Presence}
-use Rattle.msg_tables.specs.declared.change.Change.TheVariants.{Add, Replace, SetImp, Exchange, Attach, AddClass}
+use Rattle.msg_tables.specs.declared.change.Change.TheVariants.{Add, Replace, SetImp, Exchange, Attach, AddClass, Remove, DisposeClass}
 use Rattle.msg_tables.specs.Rows.{ClassTable}
 use Rattle.msg_tables.specs.After.{opening_table, table_after, supers_after}
 use Rattle.msg_tables.specs.Log.{Log, BeginsWith, empty, and_then, table_after_all, table}
@@ -27,6 +27,8 @@ length-supers_after supers (SetImp c s i) = refl
 length-supers_after supers (Exchange c s d u) = refl
 length-supers_after supers (Attach k ms cs) = refl
 length-supers_after supers (AddClass k d) = length-set supers k (Some (record { superclass = d }))
+length-supers_after supers (Remove c s) = refl
+length-supers_after supers (DisposeClass k) = length-set supers k None
 
 length-after_all : (t : ClassTable) (xs : List Change) → length (table_after_all t xs).supers ≡ length t.supers
 unfolding table_after

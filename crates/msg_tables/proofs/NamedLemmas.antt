@@ -1,13 +1,14 @@
 -- The classes that an accepted change names are those of the origin.
-use Rattle.std.proofs.Common.{◌≡◌, ◌<◌, ◌||◌, ℕ, List, Bool, Option, None, true, false, refl, arith}
+use Rattle.std.proofs.Common.{◌≡◌, ◌<◌, ◌||◌, ℕ, List, [], ◌∷◌, Bool, cond, Option, None, true, false, refl, arith}
 use Rattle.msg_names.proofs.TestLemmas.{not_false}
 use Rattle.msg_names.specs.declared.value.ClassRef.{ClassRef}
 use Rattle.msg_names.specs.declared.value.ImpRef.{ImpRef}
 use Rattle.msg_names.specs.declared.value.Selector.{Selector}
 use Rattle.msg_tables.specs.After.{of_class}
-use Rattle.msg_tables.specs.declared.change.Change.TheVariants.{Add, Replace, SetImp, Exchange, Attach, AddClass}
+use Rattle.msg_tables.specs.declared.change.Change.TheVariants.{Add, Replace, SetImp, Exchange, Attach, AddClass, Remove, DisposeClass}
 use Rattle.msg_tables.specs.Log.{Log, table}
 use Rattle.msg_tables.specs.Origin.{class_total}
+use Rattle.msg_tables.specs.Undo.{covering}
 use Rattle.msg_tables.specs.Refusal.{refusal, conditions, no_class}
 use Rattle.msg_tables.proofs.LogLemmas.{length-supers}
 use Rattle.msg_tables.proofs.LimitLemmas.{none_holds}
@@ -52,3 +53,18 @@ module _ (h : Log) where
       let may = may_be_made h k d e in
       let count = length-supers h in
       omega (arith, may.inside, count)
+
+  pub of_origin-remove : (c : ClassRef) (s : Selector) → refusal h (Remove c s) ≡ None → c.class < class_total h.origin
+  unfolding refusal
+  of_origin-remove c s e = of_origin c (none_holds (conditions h (Remove c s)) 0 e)
+
+  pub of_origin-dispose : (k : ℕ) → refusal h (DisposeClass k) ≡ None → k < class_total h.origin
+  unfolding refusal
+  of_origin-dispose k e = of_origin (of_class k) (none_holds (conditions h (DisposeClass k)) 0 e)
+
+  pub of_origin-cover : (c : ClassRef) (s i : ℕ) → refusal h (covering c s i) ≡ None → c.class < class_total h.origin
+  of_origin-cover c s i e = step c.meta e
+    where
+      step : (b : Bool) → refusal h (cond b (Attach c.class [] ((s, i) ∷ [])) (Attach c.class ((s, i) ∷ []) [])) ≡ None → c.class < class_total h.origin
+      step true e = of_origin-attach c.class [] ((s, i) ∷ []) e
+      step false e = of_origin-attach c.class ((s, i) ∷ []) [] e

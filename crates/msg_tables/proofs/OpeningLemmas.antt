@@ -48,7 +48,7 @@ pub adds-both : (a b c : TablesView) (xs ys : List Row) → Adds a b xs → Adds
 adds-both a b c xs ys first second = record {
   rows = λ rows holds. subst (Holds c.lists) (append_assoc rows xs ys) (second.rows (rows ++ xs) (first.rows rows holds));
   row_count = omega (arith, first.row_count, second.row_count, length-append xs ys);
-  rest = second.rest ∙ ap {A = TablesView} (λ t. record t { lists = c.lists; row_count = c.row_count }) first.rest;
+  rest = second.rest ∙ ap {A = TablesView} (λ t. record t { lists = c.lists; rooms = c.rooms; row_count = c.row_count }) first.rest;
 }
 
 -- the rows of one list more
@@ -80,9 +80,15 @@ unfolding table opening_table
 stands-open o a b blank adds = record {
   log = log-empty (empty o) refl;
   supers = ap (λ t. t.supers) adds.rest ∙ blank.supers;
+  listed = ap (λ t. t.listed) adds.rest ∙ blank.listed;
   rows = adds.rows [] (record { at = λ k. ap (λ ls. kept ls k) blank.lists ∙ kept-blank (2 * class_total o) (slot_of k) });
   row_count = let count : b.row_count ≡ length (list_rows o.lists) = omega (arith, adds.row_count, blank.row_count) in count;
   changes = ap (λ t. t.change_count) adds.rest ∙ blank.change_count;
   counts = ap (λ t. t.counts) adds.rest ∙ blank.counts;
   limits = ap (λ t. t.limits) adds.rest ∙ blank.limits;
 }
+
+-- no rows are counted
+pub counted-blank : (n : ℕ) → 0 ≡ sum_by (length {A = ℕ × ℕ}) (replicate n [])
+counted-blank zero = refl
+counted-blank (suc n) = let rest = counted-blank n in let e = sum_by-cons (length {A = ℕ × ℕ}) [] (replicate n []) in omega (arith, rest, e)

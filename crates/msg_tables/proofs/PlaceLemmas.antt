@@ -4,7 +4,7 @@ use Rattle.msg_names.specs.declared.value.ClassRef.{ClassRef}
 use Rattle.msg_names.specs.declared.value.Selector.{Selector}
 use Rattle.msg_names.specs.declared.value.ImpRef.{ImpRef}
 use Rattle.msg_names.specs.Number.{selector_number}
-use Rattle.msg_tables.specs.declared.change.Change.TheVariants.{Add, Replace, SetImp, Exchange, Attach, AddClass}
+use Rattle.msg_tables.specs.declared.change.Change.TheVariants.{Add, Replace, SetImp, Exchange, Attach, AddClass, Remove, DisposeClass}
 use Rattle.msg_tables.specs.declared.edit.MethodRow.{MethodRow}
 use Rattle.msg_tables.specs.declared.edit.Edit.TheVariants as edit
 use Rattle.msg_tables.specs.Affected.{at_most_one, written_refs}
@@ -38,3 +38,11 @@ places-attach h k ms cs = refl
 pub places-make : (h : Log) (k : ℕ) (d : Option ℕ) → edit_places (edit.Make k d) ≡ written_refs h (AddClass k d)
 unfolding written_refs
 places-make h k d = refl
+
+pub places-remove : (h : Log) (c : ClassRef) (s : Selector) → edit_places (edit.Remove c s) ≡ written_refs h (Remove c s)
+unfolding written_refs
+places-remove h c s = refl
+
+pub places-dispose : (h : Log) (k : ℕ) → edit_places (edit.Dispose k) ≡ written_refs h (DisposeClass k)
+unfolding written_refs
+places-dispose h k = refl

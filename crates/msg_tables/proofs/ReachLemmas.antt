@@ -1,90 +1,74 @@
--- What a change would reach.
-use Rattle.std.proofs.Common.{◌≡◌, ℕ, ◌<◌, ◌+◌, List, [], ◌∷◌, ◌++◌, Bool, true, false, Option, length, refl, slice_index_or, sym, ap, subst, take, ◌∙◌}
+-- What is marked of a list of changes that was made.
+use Rattle.std.proofs.Common.{◌≡◌, ℕ, ◌<◌, ◌+◌, List, [], ◌∷◌, ◌++◌, Bool, true, false, length, refl, slice_index_or, sym, ap, ap₂, subst, take, ◌∙◌}
 use Rattle.std.proofs.lemmas.List.{take_more}
-use Rattle.std.specs.Prelude.{◌||◌, ◌==◌}
+use Rattle.std.specs.Prelude.{◌||◌, ◌==◌, IfErr, OnOk, Result, Ok, Err}
 use Rattle.std.specs.List.{list_any}
 use Rattle.std.proofs.lemmas.List.Folds.{list_any-append}
 use Rattle.msg_names.specs.declared.value.ClassRef.{ClassRef}
-use Rattle.msg_names.specs.declared.value.Selector.{Selector}
-use Rattle.msg_names.specs.declared.value.ImpRef.{ImpRef}
-use Rattle.msg_names.specs.Number.{selector_number}
-use Rattle.msg_tables.specs.After.{of_class, of_meta}
-use Rattle.msg_tables.specs.Affected.{at_most_one, if_any, is_affected, written_refs}
 use Rattle.msg_tables.specs.Chain.{is_member}
-use Rattle.msg_tables.specs.declared.change.Change.TheVariants.{Add, Replace, SetImp, Exchange, Attach, AddClass}
 use Rattle.msg_tables.specs.declared.change.Change.{Change}
-use Rattle.msg_tables.specs.Log.{Log, and_then, chain_at, holder}
-use Rattle.msg_tables.specs.Making.{Reaches, ReachesAll}
-use Rattle.msg_tables.specs.Marking.{is_marked, MarksBelow, MarksAffected, MarksAffectedByAll}
-use Rattle.msg_tables.specs.Several.{and_all, is_affected_by_all}
+use Rattle.msg_tables.specs.declared.entry.Entry.{Entry}
+use Rattle.msg_tables.specs.Journal.{classes_of, places_of}
+use Rattle.msg_tables.specs.Log.{Log, chain_at, table}
+use Rattle.msg_tables.specs.Making.{IsMade, IsMarkedBelow, MarksTold, ReachesAll, is_told}
+use Rattle.msg_tables.specs.Marking.{is_marked}
+use Rattle.msg_tables.specs.Order.{IsOrder}
+use Rattle.msg_tables.specs.Several.{and_all, is_affected_by_all, is_below, is_of_one}
 use Rattle.msg_tables.specs.Stands.{StandsAt}
 use Rattle.msg_tables.specs.View.{TablesView}
+use Rattle.msg_tables.proofs.AffectedAllLemmas.{below-append, told-all}
+use Rattle.msg_tables.proofs.EntryLemmas.{or-none}
+use Rattle.msg_tables.proofs.NoteLemmas.{places-append, classes-append}
+use Rattle.msg_tables.proofs.PresenceLemmas.{Ordered}
+use Rattle.msg_tables.proofs.ToldLemmas.{told-only}
 
-or_none : (a : Bool) → (a || false) ≡ a
-or_none true = refl
-or_none false = refl
+or-over : (a b c : Bool) → ((a || b) || c) ≡ (a || (b || c))
+or-over true b c = refl
+or-over false b c = refl
 
-or_over : (a b c : Bool) → ((a || b) || c) ≡ (a || (b || c))
-or_over true b c = refl
-or_over false b c = refl
+or-swap : (a b p q : Bool) → ((a || b) || (p || q)) ≡ ((a || p) || (b || q))
+or-swap true b p q = refl
+or-swap false true true q = refl
+or-swap false true false q = refl
+or-swap false false p q = refl
 
-module _ (n : ℕ) (h : Log) where
-  pub below_one : (place : ClassRef) (old new : List Bool) → ((c : ClassRef) → c.class < n → is_marked new c ≡ (is_marked old c || is_member place (chain_at h c))) → MarksBelow n h (place ∷ []) old new
-  below_one place old new marks c lt = marks c lt ∙ ap (λ b. is_marked old c || b) (sym (or_none (is_member place (chain_at h c))))
+-- truths that follow from one another are one
+same-truth : (a b : Bool) → (a ≡ true → b ≡ true) → (b ≡ true → a ≡ true) → a ≡ b
+same-truth true true f g = refl
+same-truth true false f g = sym (f refl)
+same-truth false true f g = g refl
+same-truth false false f g = refl
 
-  pub below_none : (old : List Bool) → MarksBelow n h [] old old
-  below_none old c lt = sym (or_none (is_marked old c))
+told-append : (h : Log) (xs ys : List Entry) (c : ClassRef) → is_told h (xs ++ ys) c ≡ (is_told h xs c || is_told h ys c)
+told-append h xs ys c =
+    ap₂ (λ a b. a || b)
+    (ap (λ ks. is_of_one ks c) (classes-append xs ys) ∙ list_any-append (λ k. c.class == k) (classes_of xs) (classes_of ys))
+    (ap (λ ps. is_below h ps c) (places-append xs ys) ∙ below-append h (places_of xs) (places_of ys) c)
+    ∙ or-swap (is_of_one (classes_of xs) c) (is_of_one (classes_of ys) c) (is_below h (places_of xs) c) (is_below h (places_of ys) c)
 
-  pub below_both : (first second : List ClassRef) (old mid new : List Bool) → MarksBelow n h first old mid → MarksBelow n h second mid new → MarksBelow n h (first ++ second) old new
-  below_both first second old mid new one two c lt =
-      let test = λ (place : ClassRef). is_member place (chain_at h c) in
-      two c lt ∙ ap (λ b. b || list_any test second) (one c lt) ∙ or_over (is_marked old c) (list_any test first) (list_any test second)
-      ∙ ap (λ b. is_marked old c || b) (sym (list_any-append test first second))
+pub either-way : {A B P Q : Type 0} {R : B → Type 0} (r : Result A B) → OnOk r P → IfErr r R → (P → Q) → ((e : B) → R e → Q) → Q
+either-way (Ok a) ok err f g = f ok
+either-way (Err e) ok err f g = g e err
 
-  module _ (old new : List Bool) where
-    pub affected_add : (d : ClassRef) (s : Selector) (i : ImpRef) → MarksBelow n h (d ∷ []) old new → MarksAffected n h (Add d s i) old new
-    unfolding is_affected written_refs
-    affected_add d s i marks = marks
+-- ---- entry by entry
 
-    pub affected_replace : (d : ClassRef) (s : Selector) (i : ImpRef) → MarksBelow n h (d ∷ []) old new → MarksAffected n h (Replace d s i) old new
-    unfolding is_affected written_refs
-    affected_replace d s i marks = marks
+-- one entry more
+pub marks-next : (t : TablesView) (es : List Entry) (i : ℕ) (e : Entry) (first mid last : List Bool) → i < length es → e ≡ slice_index_or es i e → MarksTold t (take i es) first mid → MarksTold t (e ∷ []) mid last → MarksTold t (take (i + 1) es) first last
+marks-next t es i e first mid last inside is so-far one h stands c lt =
+    one h stands c lt
+    ∙ ap (λ b. b || is_told h (e ∷ []) c) (so-far h stands c lt)
+    ∙ or-over (is_marked first c) (is_told h (take i es) c) (is_told h (e ∷ []) c)
+    ∙ ap (λ b. is_marked first c || b) (sym (told-append h (take i es) (e ∷ []) c))
+    ∙ ap (λ ys. is_marked first c || is_told h ys c) (sym (take_more es i e inside ∙ ap (λ x. take i es ++ x ∷ []) (sym is)))
 
-    pub affected_set : (d : ClassRef) (s : Selector) (i : ImpRef) → MarksBelow n h (at_most_one (holder h d (selector_number s))) old new → MarksAffected n h (SetImp d s i) old new
-    unfolding is_affected written_refs
-    affected_set d s i marks = marks
+-- ---- a list
 
-    pub affected_exchange : (d e : ClassRef) (s u : Selector) → MarksBelow n h (at_most_one (holder h d (selector_number s)) ++ at_most_one (holder h e (selector_number u))) old new → MarksAffected n h (Exchange d s e u) old new
-    unfolding is_affected written_refs
-    affected_exchange d e s u marks = marks
-
-    pub affected_attach : (k : ℕ) (ms cs : List (ℕ × ℕ)) → MarksBelow n h (if_any ms (of_class k) ++ if_any cs (of_meta k)) old new → MarksAffected n h (Attach k ms cs) old new
-    unfolding is_affected written_refs
-    affected_attach k ms cs marks = marks
-
-    pub affected_make : (k : ℕ) (d : Option ℕ) → ((c : ClassRef) → is_marked new c ≡ (is_marked old c || (c.class == k))) → MarksAffected n h (AddClass k d) old new
-    unfolding is_affected written_refs
-    affected_make k d marks c lt = marks c ∙ ap (λ b. is_marked old c || b) (sym (or_none (c.class == k)))
-
--- ---- of a list
-
-all_none : (n : ℕ) (h : Log) (marks : List Bool) → MarksAffectedByAll n h [] marks marks
-all_none n h marks c lt = sym (or_none (is_marked marks c))
-
-affected-snoc : (h : Log) (xs : List Change) (x : Change) (c : ClassRef) → is_affected_by_all h (xs ++ x ∷ []) c ≡ (is_affected_by_all h xs c || is_affected (and_all h xs) x c)
-affected-snoc h [] x c = or_none (is_affected h x c)
-affected-snoc h (y ∷ ys) x c = ap (λ b. is_affected h y c || b) (affected-snoc (and_then h y) ys x c) ∙ sym (or_over (is_affected h y c) (is_affected_by_all (and_then h y) ys c) (is_affected (and_all h (y ∷ ys)) x c))
-
--- no change was made
-pub reaches_none : (t : TablesView) (marks : List Bool) → ReachesAll [] t marks marks
-reaches_none t marks h stands = all_none (length t.supers) h marks
-
--- one change more
-pub reaches_next : (xs : List Change) (i : ℕ) (x : Change) (old between : TablesView) (first mid last : List Bool) → i < length xs → x ≡ slice_index_or xs i x → length between.supers ≡ length old.supers
-    → ((h : Log) → StandsAt old h → StandsAt between (and_all h (take i xs))) → ReachesAll (take i xs) old first mid → Reaches x between mid last → ReachesAll (take (i + 1) xs) old first last
-reaches_next xs i x old between first mid last inside is same stand so-far part h stands c lt =
-    part (and_all h (take i xs)) (stand h stands) c (subst (λ n. c.class < n) (sym same) lt)
-    ∙ ap (λ b. b || is_affected (and_all h (take i xs)) x c) (so-far h stands c lt)
-    ∙ or_over (is_marked first c) (is_affected_by_all h (take i xs) c) (is_affected (and_all h (take i xs)) x c)
-    ∙ ap (λ b. is_marked first c || b) (sym (affected-snoc h (take i xs) x c))
-    ∙ ap (λ ys. is_marked first c || is_affected_by_all h ys c) (sym (take_more xs i x inside ∙ ap (λ y. take i xs ++ y ∷ []) (sym is)))
+-- what the journal of a list tells of is what the list affects
+pub reaches-told : (xs : List Change) (journal : List Entry) (old new : TablesView) (first last : List Bool) (order : List ℕ) → IsOrder old.supers order → IsMade xs journal old new → MarksTold new journal first last → ReachesAll xs old first last
+reaches-told xs journal old new first last order is made marks h stands c lt =
+    let (all, after) = made.stands h stands in
+    let o : Ordered (table h).supers = subst Ordered stands.supers (record { order = order; is = is }) in
+    marks (and_all h xs) after c (subst (λ n. c.class < n) (sym made.beside.count) lt)
+    ∙ ap (λ b. is_marked first c || b) (same-truth (is_told (and_all h xs) journal c) (is_affected_by_all h xs c)
+    (told-only h xs journal c o all made.made (made.places h stands))
+    (told-all h xs journal c o all made.made (made.places h stands)))

@@ -1,6 +1,6 @@
 -- Lists of rows of which the last ones aren't written.
 use Rattle.std.proofs.Common.{◌≡◌, ◌<◌, ◌≤◌, ◌+◌, ◌-◌, ℕ, zero, suc, List, [], ◌∷◌, ◌++◌, length, length-append, replicate, append_assoc, refl, sym, ap, ◌∙◌, arith}
-use Rattle.std.specs.Prelude.{Result, Ok, Err, OnOk, OnErr, slice_index_or, slice_set}
+use Rattle.std.specs.Prelude.{false, nat_lt, Result, Ok, Err, OnOk, OnErr, slice_index_or, slice_set}
 use Rattle.std.proofs.Math.ListN.{length-set}
 use Rattle.std.proofs.lemmas.List.{length-map, length-replicate, map-append, replicate-append-replicate}
 use Rattle.msg_tables.specs.Kept.{no_rows}
@@ -154,3 +154,6 @@ pub put-unwritten : (xs : List RowList) (n at : ℕ) (f : List (ℕ × ℕ) → 
 put-unwritten xs n at f past none =
     let empty = all-none xs n at past in
     sym (ap (slice_set (rows_of (all xs n)) at) (ap f empty ∙ none ∙ sym empty) ∙ set-kept (rows_of (all xs n)) at)
+
+pub past-of : (k m n : ℕ) → false ≡ nat_lt k m → m ≡ n → n ≤ k
+past-of k m n test same = grind arith

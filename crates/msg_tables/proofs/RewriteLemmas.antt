@@ -7,7 +7,7 @@ use Rattle.msg_names.proofs.ClassRefLemmas.{slot_of-same, same_class-is, same_cl
 use Rattle.msg_names.specs.declared.value.ClassRef.{ClassRef}
 use Rattle.msg_names.specs.ClassRef.{same_class, slot_of}
 use Rattle.msg_tables.specs.After.{rows_at, set_own}
-use Rattle.msg_tables.specs.RowList.{own_in, set_last}
+use Rattle.msg_tables.specs.RowList.{HaveGrown, own_in, set_last}
 use Rattle.msg_tables.specs.Rows.{Row}
 use Rattle.msg_tables.specs.Stands.{pairs_at}
 use Rattle.msg_tables.specs.View.{TablesView, kept}
@@ -19,6 +19,7 @@ use Rattle.msg_tables.specs.Journal.{IsImpOf, IsJournalOf, lists_rewritten}
 use Rattle.msg_tables.proofs.HoldsLemmas.{kept-other, pairs_at-rows_at, pairs_at-set_own}
 use Rattle.msg_tables.proofs.JournalLemmas.{set-twice, set-as_was, set_last-back}
 use Rattle.msg_tables.proofs.RowSetLemmas.{set_own-twice, set_own-apart}
+use Rattle.msg_tables.proofs.RoomLemmas.{grown-on}
 
 -- ---- one list
 
@@ -141,9 +142,9 @@ own-inside [] k s i e = cc
 own-inside (ms ∷ lists) zero s i e = omega arith
 own-inside (ms ∷ lists) (suc k) s i e = let rest = own-inside lists k s i e in omega (arith, rest)
 
-pub journal-both : (t between new : TablesView) (a b : MethodRow) (one two : ImpRef) → between ≡ record t { lists = lists_rewritten b t.lists } → new ≡ record between { lists = lists_rewritten a between.lists } → IsImpOf t a one → IsImpOf t b two
+pub journal-both : (t between new : TablesView) (a b : MethodRow) (one two : ImpRef) → between ≡ record t { lists = lists_rewritten b t.lists; rooms = between.rooms } → new ≡ record between { lists = lists_rewritten a between.lists; rooms = new.rooms } → HaveGrown t.rooms between.rooms → HaveGrown between.rooms new.rooms → IsImpOf t a one → IsImpOf t b two
     → IsJournalOf (Rewrote a.class a.sel one ∷ Rewrote b.class b.sel two ∷ []) t new
-journal-both t between new a b one two first second is js =
+journal-both t between new a b one two first second grown more is js =
     let s = selector_number a.sel in
     let u = selector_number b.sel in
     let lists : new.lists ≡ put a.class s (imp_number a.imp) (put b.class u (imp_number b.imp) t.lists) = ap (λ (v : TablesView). v.lists) second ∙ ap (λ (v : TablesView). lists_rewritten a v.lists) first in
@@ -152,4 +153,6 @@ journal-both t between new a b one two first second is js =
           ∙ put-back a.class b.class s u (imp_number a.imp) (imp_number b.imp) (imp_number one) (imp_number two) t.lists (own-inside t.lists (slot_of a.class) s (imp_number one) is) (own-inside t.lists (slot_of b.class) u (imp_number two) js) is js;
       supers = ap (λ (v : TablesView). v.supers) second ∙ ap (λ (v : TablesView). v.supers) first;
       order = ap (λ (v : TablesView). v.order) second ∙ ap (λ (v : TablesView). v.order) first;
+      grown = grown-on t.rooms between.rooms new.rooms grown more;
+      room = (tt, (tt, tt));
     }

@@ -1,93 +1,94 @@
 -- What takes a journal back is what takes its list back.
-use Rattle.std.proofs.Common.{◌≡◌, ◌<◌, ◌+◌, take, ℕ, List, [], ◌∷◌, ◌++◌, append_assoc, append-nil, length, Option, Some, None, refl, sym, ap, ◌∙◌}
-use Rattle.std.proofs.lemmas.List.{take_more}
-use Rattle.std.specs.Prelude.{slice_index_or, is_some, false, option_map}
+use Rattle.std.proofs.Common.{◌≡◌, ◌<◌, ◌+◌, ℕ, zero, suc, List, [], ◌∷◌, ◌++◌, append_assoc, append-nil, length, Option, Some, None, Bool, true, false, cond, refl, sym, ap, ap₂, ◌∙◌, arith}
+use Rattle.std.specs.Prelude.{is_some, reverse, IsSome}
+use Rattle.std.specs.Option.{option_map_or}
+use Rattle.std.proofs.lemmas.List.{map-append, reverse-append}
+use Rattle.std.proofs.Common.{suc-le-suc, zero-le}
+use Rattle.std.proofs.Math.Bridge.{le_prop}
+use Rattle.msg_tables.specs.declared.entry.Entry.TheVariants.{Added}
+use Rattle.msg_names.specs.ClassRef.{same_class}
 use Rattle.msg_names.specs.declared.value.ClassRef.{ClassRef}
 use Rattle.msg_names.specs.declared.value.Selector.{Selector}
 use Rattle.msg_names.specs.declared.value.ImpRef.{ImpRef}
-use Rattle.msg_names.specs.Number.{selector_number, imp_number, imp_ref_of}
+use Rattle.msg_names.specs.Number.{selector_number, imp_number, imp_ref_of, selector_of}
 use Rattle.msg_tables.specs.declared.change.Change.{Change}
-use Rattle.msg_tables.specs.declared.change.Change.TheVariants.{Replace, SetImp, Exchange, Attach}
+use Rattle.msg_tables.specs.declared.change.Change.TheVariants.{Add, Replace, SetImp, Exchange, Attach, AddClass, Remove, DisposeClass}
 use Rattle.msg_tables.specs.declared.edit.MethodRow.{MethodRow}
 use Rattle.msg_tables.specs.declared.edit.Edit.TheVariants as edit
 use Rattle.msg_tables.specs.declared.entry.Entry.{Entry}
+use Rattle.msg_tables.specs.declared.presence.Presence.{Presence}
 use Rattle.msg_tables.specs.Log.{Log, table, table_after_all, holder, lookup}
-use Rattle.msg_tables.specs.After.{table_after}
-use Rattle.msg_tables.specs.Journal.{undo_entry, undo_journal, undo_own, undo_attached, edit_undo, IsImpOf}
+use Rattle.msg_tables.specs.After.{of_class, of_meta, table_after}
+use Rattle.msg_tables.specs.Chain.{presence_of}
+use Rattle.msg_tables.specs.Journal.{added_all, cover_all, undo_entry, undo_journal, undo_own, edit_undo, IsImpOf}
+use Rattle.msg_tables.specs.Methods.{method_numbers}
 use Rattle.msg_tables.specs.Refusal.{has_own}
 use Rattle.msg_tables.specs.RowList.{own_in}
-use Rattle.msg_tables.specs.Rows.{ClassTable, own}
-use Rattle.msg_tables.specs.Stands.{StandsAt}
-use Rattle.msg_tables.specs.Undo.{undo, and_before, undo_all}
+use Rattle.msg_tables.specs.Rows.{ClassTable, Row, own}
+use Rattle.msg_tables.specs.Stands.{StandsAt, pairs_at}
+use Rattle.msg_tables.specs.Undo.{covering, covering_all, removing, undo, undo_all}
 use Rattle.msg_tables.specs.View.{TablesView, kept}
 use Rattle.msg_tables.proofs.LookupLemmas.{own-pairs_at}
 
 -- ---- one after another
 
-pub before-last : (o : Option (List Change)) → and_before o (Some []) ≡ o
-before-last None = refl
-before-last (Some ys) = refl
+pub undo_journal-append : (xs ys : List Entry) → undo_journal (xs ++ ys) ≡ undo_journal ys ++ undo_journal xs
+undo_journal-append [] ys = sym (append-nil (undo_journal ys))
+undo_journal-append (x ∷ xs) ys = ap (λ cs. cs ++ undo_entry x ∷ []) (undo_journal-append xs ys) ∙ append_assoc (undo_journal ys) (undo_journal xs) (undo_entry x ∷ [])
 
-before-first : (o : Option (List Change)) → and_before (Some []) o ≡ o
-before-first None = refl
-before-first (Some ys) = ap Some (append-nil ys)
-
-before-assoc : (a b c : Option (List Change)) → and_before (and_before a b) c ≡ and_before a (and_before b c)
-before-assoc None b c = refl
-before-assoc (Some ys) None c = refl
-before-assoc (Some ys) (Some zs) None = refl
-before-assoc (Some ys) (Some zs) (Some ws) = ap Some (sym (append_assoc ws zs ys))
-
-pub undo_journal-append : (xs ys : List Entry) → undo_journal (xs ++ ys) ≡ and_before (undo_journal xs) (undo_journal ys)
-undo_journal-append [] ys = sym (before-first (undo_journal ys))
-undo_journal-append (x ∷ xs) ys = ap (and_before (undo_entry x)) (undo_journal-append xs ys) ∙ sym (before-assoc (undo_entry x) (undo_journal xs) (undo_journal ys))
-
-pub undo_all-snoc : (t : ClassTable) (xs : List Change) (x : Change) → undo_all t (xs ++ x ∷ []) ≡ and_before (undo_all t xs) (undo (table_after_all t xs) x)
-undo_all-snoc t [] x = before-last (undo t x) ∙ sym (before-first (undo t x))
-undo_all-snoc t (y ∷ ys) x = ap (and_before (undo t y)) (undo_all-snoc (table_after t y) ys x) ∙ sym (before-assoc (undo t y) (undo_all (table_after t y) ys) (undo (table_after_all t (y ∷ ys)) x))
-
-before-none : (o : Option (List Change)) → and_before o None ≡ None
-before-none None = refl
-before-none (Some ys) = refl
-
--- ---- an entry after others
-
-last-entry : (xs : List Entry) (at : ℕ) (e : Entry) → at < length xs → e ≡ slice_index_or xs at e → undo_journal (take (at + 1) xs) ≡ and_before (undo_journal (take at xs)) (undo_entry e)
-last-entry xs at e inside is =
-    ap undo_journal (take_more xs at e inside ∙ ap (λ y. take at xs ++ y ∷ []) (sym is)) ∙ undo_journal-append (take at xs) (e ∷ []) ∙ ap (and_before (undo_journal (take at xs))) (before-last (undo_entry e))
-
--- it is given back behind what was
-pub given-back : (xs : List Entry) (at : ℕ) (e : Entry) (old new : List Change) (all : Option (List Change)) → at < length xs → e ≡ slice_index_or xs at e → and_before (undo_entry e) (Some old) ≡ Some new → and_before (undo_journal (take (at + 1) xs)) (Some old) ≡ all
-    → and_before (undo_journal (take at xs)) (Some new) ≡ all
-given-back xs at e old new all inside is one so-far =
-    ap (and_before (undo_journal (take at xs))) (sym one) ∙ sym (before-assoc (undo_journal (take at xs)) (undo_entry e) (Some old)) ∙ ap (λ o. and_before o (Some old)) (sym (last-entry xs at e inside is)) ∙ so-far
-
-pub not-given : (xs : List Entry) (at : ℕ) (e : Entry) (old : List Change) (all : Option (List Change)) → at < length xs → e ≡ slice_index_or xs at e → undo_entry e ≡ None → and_before (undo_journal (take (at + 1) xs)) (Some old) ≡ all → None ≡ all
-not-given xs at e old all inside is none so-far =
-    sym (ap (λ o. and_before o (Some old)) (last-entry xs at e inside is ∙ ap (and_before (undo_journal (take at xs))) none ∙ before-none (undo_journal (take at xs)))) ∙ so-far
+pub undo_all-snoc : (t : ClassTable) (xs : List Change) (x : Change) → undo_all t (xs ++ x ∷ []) ≡ undo (table_after_all t xs) x ++ undo_all t xs
+undo_all-snoc t [] x = sym (append-nil (undo t x))
+undo_all-snoc t (y ∷ ys) x = ap (λ cs. cs ++ undo t y) (undo_all-snoc (table_after t y) ys x) ∙ append_assoc (undo (table_after_all t (y ∷ ys)) x) (undo_all (table_after t y) ys) (undo t y)
 
 -- ---- what an edit's entries give back
 
-pub undone-own : (t : TablesView) (r : MethodRow) (i : ImpRef) → IsImpOf t r i → Some (Replace r.class r.sel i ∷ []) ≡ undo_own t r
+pub undone-own : (t : TablesView) (r : MethodRow) (i : ImpRef) → IsImpOf t r i → Replace r.class r.sel i ∷ [] ≡ undo_own t r
 undone-own t r i is = rw is refl
 
-pub undone-both : (t : TablesView) (a b : MethodRow) (i j : ImpRef) → IsImpOf t a i → IsImpOf t b j → Some (Replace b.class b.sel j ∷ Replace a.class a.sel i ∷ []) ≡ and_before (undo_own t a) (undo_own t b)
+pub undone-both : (t : TablesView) (a b : MethodRow) (i j : ImpRef) → IsImpOf t a i → IsImpOf t b j → Replace b.class b.sel j ∷ Replace a.class a.sel i ∷ [] ≡ undo_own t b ++ undo_own t a
 undone-both t a b i j is js = rw (is, js) refl
 
+pub undone-added : (c : ClassRef) (ms : List (ℕ × ℕ)) → undo_journal (added_all c (reverse ms)) ≡ removing c ms
+undone-added c [] = refl
+undone-added c (m ∷ ms) =
+    ap (λ ns. undo_journal (added_all c ns)) (reverse-append (m ∷ []) ms) ∙ ap undo_journal (map-append (λ (n : ℕ × ℕ). Added c (selector_of n.0)) (reverse ms) (m ∷ []))
+    ∙ undo_journal-append (added_all c (reverse ms)) (added_all c (m ∷ [])) ∙ ap (λ cs. Remove c (selector_of m.0) ∷ cs) (undone-added c ms)
+
+-- a selector is that of its number
+pub selector-same : (s : Selector) → selector_of (selector_number s) ≡ s
+selector-same s = step s.number s.positive
+  where
+    step : (n : ℕ) (p : 0 < n) → selector_of n ≡ record { number = n; positive = p }
+    step zero p = absurd (omega (arith, p))
+    step (suc n) p = λ k. record { number = suc n; positive = le_prop (suc-le-suc zero-le) p k }
+
 -- ---- of an edit that was judged
+
+-- rows of a class reference come again
+pub covering-pairs : (c : ClassRef) (rows : List Row) → cover_all c (pairs_at c rows) ≡ covering_all c rows
+covering-pairs c [] = refl
+covering-pairs c (r ∷ rs) = step (same_class r.class c) (covering-pairs c rs)
+  where
+    step : (b : Bool) → cover_all c (pairs_at c rs) ≡ covering_all c rs → cover_all c (cond b ((r.sel, r.imp) ∷ pairs_at c rs) (pairs_at c rs)) ≡ cond b (covering c r.sel r.imp ∷ covering_all c rs) (covering_all c rs)
+    step true e = ap (λ cs. covering c r.sel r.imp ∷ cs) e
+    step false e = e
 
 module _ (t : TablesView) (h : Log) (stands : StandsAt t h) where
   own-stands : (c : ClassRef) (s : ℕ) → own_in s (kept t.lists c) ≡ own (table h).rows c s
   own-stands c s = ap (own_in s) (stands.rows.at c) ∙ sym (own-pairs_at c s (table h).rows)
 
-  pub undo-replace : (r : MethodRow) → edit_undo t (edit.Rewrite r) ≡ undo (table h) (Replace r.class r.sel r.imp)
-  undo-replace r = ap (option_map (λ i. Replace r.class r.sel (imp_ref_of i) ∷ [])) (own-stands r.class (selector_number r.sel))
-
-  pub undo-add : (r : MethodRow) → has_own h r.class (selector_number r.sel) ≡ false → edit_undo t (edit.Append r) ≡ undo (table h) (Replace r.class r.sel r.imp)
-  unfolding has_own
-  undo-add r none = step (own (table h).rows r.class (selector_number r.sel)) none
+  pub undo-replace : (r : MethodRow) → IsSome (own_in (selector_number r.sel) (kept t.lists r.class)) → edit_undo t (edit.Rewrite r) ≡ undo (table h) (Replace r.class r.sel r.imp)
+  undo-replace r there = ap (λ o. option_map_or (λ i. Replace r.class r.sel (imp_ref_of i) ∷ []) o []) (own-stands r.class (selector_number r.sel)) ∙ step (own (table h).rows r.class (selector_number r.sel)) (sym (ap is_some (own-stands r.class (selector_number r.sel))) ∙ there)
     where
-      step : (o : Option ℕ) → is_some o ≡ false → None ≡ option_map (λ i. Replace r.class r.sel (imp_ref_of i) ∷ []) o
+      step : (o : Option ℕ) → is_some o ≡ true → option_map_or (λ i. Replace r.class r.sel (imp_ref_of i) ∷ []) o [] ≡ option_map_or (λ i. Replace r.class r.sel (imp_ref_of i)) o (Remove r.class r.sel) ∷ []
+      step None e = cc
+      step (Some i) e = refl
+
+  pub undo-replace-add : (r : MethodRow) → has_own h r.class (selector_number r.sel) ≡ false → edit_undo t (edit.Append r) ≡ undo (table h) (Replace r.class r.sel r.imp)
+  unfolding has_own
+  undo-replace-add r none = step (own (table h).rows r.class (selector_number r.sel)) none
+    where
+      step : (o : Option ℕ) → is_some o ≡ false → Remove r.class r.sel ∷ [] ≡ option_map_or (λ i. Replace r.class r.sel (imp_ref_of i)) o (Remove r.class r.sel) ∷ []
       step None e = refl
       step (Some i) e = cc
 
@@ -102,7 +103,31 @@ module _ (t : TablesView) (h : Log) (stands : StandsAt t h) where
   unfolding holder lookup
   undo-exchange c d p q s u i j one two holds looks own holds' looks' own' = rw (own, own', holds, looks, holds', looks') refl
 
-  pub undo-attach : (k : ℕ) (ms cs : List (ℕ × ℕ)) → undo_attached ms cs ≡ undo (table h) (Attach k ms cs)
-  undo-attach k [] [] = refl
-  undo-attach k (m ∷ ms) cs = refl
-  undo-attach k [] (m ∷ cs) = refl
+  pub undo-remove : (c : ClassRef) (s : Selector) → edit_undo t (edit.Remove c s) ≡ undo (table h) (Remove c s)
+  undo-remove c s = ap (λ o. option_map_or (λ i. covering c (selector_number s) i ∷ []) o []) (own-stands c (selector_number s))
+
+  pub undo-dispose : (k : ℕ) → edit_undo t (edit.Dispose k) ≡ undo (table h) (DisposeClass k)
+  undo-dispose k =
+      ap (λ ss. option_map_or (λ (p : Presence). AddClass k p.superclass ∷ cover_all (of_class k) (kept t.lists (of_class k)) ++ cover_all (of_meta k) (kept t.lists (of_meta k))) (presence_of ss k) []) stands.supers
+      ∙ ap₂ (λ xs ys. option_map_or (λ (p : Presence). AddClass k p.superclass ∷ xs ++ ys) (presence_of (table h).supers k) [])
+      (ap (cover_all (of_class k)) (stands.rows.at (of_class k)) ∙ covering-pairs (of_class k) (table h).rows)
+      (ap (cover_all (of_meta k)) (stands.rows.at (of_meta k)) ∙ covering-pairs (of_meta k) (table h).rows)
+
+  pub undo-cover : (r : MethodRow) → edit_undo t (edit.Append r) ≡ undo (table h) (covering r.class (selector_number r.sel) (imp_number r.imp))
+  undo-cover r = step r.class.meta refl
+    where
+      step : (b : Bool) → r.class.meta ≡ b → Remove r.class r.sel ∷ [] ≡ undo (table h) (cond b (Attach r.class.class [] ((selector_number r.sel, imp_number r.imp) ∷ [])) (Attach r.class.class ((selector_number r.sel, imp_number r.imp) ∷ []) []))
+      step true e = λ k. Remove (record { class = r.class.class; meta = e k }) (sym (selector-same r.sel) k) ∷ []
+      step false e = λ k. Remove (record { class = r.class.class; meta = e k }) (sym (selector-same r.sel) k) ∷ []
+
+-- ---- rows that are noted, from the last to the first
+
+pub noted-next : (journal : List Entry) (c : ClassRef) (rest all : List (Selector × ImpRef)) (m : Selector × ImpRef) → all ≡ rest ++ m ∷ []
+    → (journal ++ Added c m.0 ∷ []) ++ added_all c (reverse (method_numbers rest)) ≡ journal ++ added_all c (reverse (method_numbers all))
+noted-next journal c rest all m is =
+    let pair : ℕ × ℕ = (selector_number m.0, imp_number m.1) in
+    let turned : reverse (method_numbers all) ≡ pair ∷ reverse (method_numbers rest) =
+    ap (λ ms. reverse (method_numbers ms)) is ∙ ap reverse (map-append (λ (n : Selector × ImpRef). (selector_number n.0, imp_number n.1)) rest (m ∷ [])) ∙ reverse-append (method_numbers rest) (pair ∷ []) in
+    append_assoc journal (Added c m.0 ∷ []) (added_all c (reverse (method_numbers rest)))
+    ∙ ap (λ s. journal ++ Added c s ∷ added_all c (reverse (method_numbers rest))) (sym (selector-same m.0))
+    ∙ ap (λ ms. journal ++ added_all c ms) (sym turned)

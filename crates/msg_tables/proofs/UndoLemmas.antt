@@ -18,13 +18,13 @@ use Rattle.msg_names.proofs.ClassRefLemmas.{same_class-is, same_class-refl}
 use Rattle.msg_tables.proofs.OwnLemmas.{own-set_same, own-set_other, set_own-own, some-set_own, lookup-holder}
 use Rattle.msg_tables.proofs.LawLemmas.{some-set_method}
 use Rattle.msg_tables.specs.Several.{and_all}
-use Rattle.msg_tables.specs.Undo.{old_at, undo, and_before, undo_all}
+use Rattle.msg_tables.specs.Undo.{old_at}
 use Rattle.msg_tables.proofs.RowSetLemmas.{set_own-twice, set_own-apart}
 use Rattle.msg_tables.proofs.SeveralLemmas.{table-and_all}
 
 -- ---- a method that was replaced
 
-replace-back : (t : ClassTable) (c : ClassRef) (s : Selector) (i : ImpRef) (old : ℕ) → own t.rows c (selector_number s) ≡ Some old
+pub replace-back : (t : ClassTable) (c : ClassRef) (s : Selector) (i : ImpRef) (old : ℕ) → own t.rows c (selector_number s) ≡ Some old
     → table_after (table_after t (Replace c s i)) (Replace c s (imp_ref_of old)) ≡ t
 unfolding table_after
 replace-back t c s i old is = ap (λ rows. record { supers = t.supers; rows = rows }) rows
@@ -49,7 +49,7 @@ replace-back t c s i old is = ap (λ rows. record { supers = t.supers; rows = ro
 
 -- ---- rows that get their implementations again
 
-after_all-append : (t : ClassTable) (xs ys : List Change) → table_after_all t (xs ++ ys) ≡ table_after_all (table_after_all t xs) ys
+pub after_all-append : (t : ClassTable) (xs ys : List Change) → table_after_all t (xs ++ ys) ≡ table_after_all (table_after_all t xs) ys
 after_all-append t [] ys = refl
 after_all-append t (x ∷ xs) ys = after_all-append (table_after t x) xs ys
 
@@ -80,7 +80,7 @@ found t c n rows same = at (holder_at t c n) refl
 
 -- ---- a method that was set
 
-set-back : (t : ClassTable) (c : ClassRef) (s : Selector) (i : ImpRef) → table_after_all (table_after t (SetImp c s i)) (old_at (holder_at t c (selector_number s)) s (lookup_at t c (selector_number s))) ≡ t
+pub set-back : (t : ClassTable) (c : ClassRef) (s : Selector) (i : ImpRef) → table_after_all (table_after t (SetImp c s i)) (old_at (holder_at t c (selector_number s)) s (lookup_at t c (selector_number s))) ≡ t
 unfolding table_after
 set-back t c s i =
     again (record { supers = t.supers; rows = once }) (holder_at t c n) s (lookup_at t c n) (found t c n once (λ e v. some-set_method (holder_at t c n) n (imp_number i) t.rows e v))
@@ -95,12 +95,6 @@ set-back t c s i =
     at : (o : Option ClassRef) → holder_at t c n ≡ o → set_method o n (lookup_at t c n) (set_method o n (imp_number i) t.rows) ≡ t.rows
     at None is = refl
     at (Some p) is = set_own-twice p n (imp_number i) (lookup_at t c n) t.rows ∙ set_own-own p n (lookup_at t c n) t.rows (sym (lookup-holder t.rows (chain_of t.supers c) n p is))
-
--- ---- nothing attached
-
-attached : (t : ClassTable) (k : ℕ) → table_after t (Attach k [] []) ≡ t
-unfolding table_after
-attached t k = ap (λ rows. record { supers = t.supers; rows = rows }) (append-nil (t.rows ++ []) ∙ append-nil t.rows)
 
 -- ---- two methods that were exchanged
 
@@ -229,50 +223,10 @@ module _ (t : ClassTable) (c d : ClassRef) (s u : Selector) where
   some-half : (e : ClassRef) (v : ℕ) → is_some (own (set_method hd m' two' exchanged) e v) ≡ is_some (own t.rows e v)
   some-half e v = some-set_method hd m' two' exchanged e v ∙ some-exchanged e v
 
-  exchange-back : table_after_all (table_after t (Exchange c s d u)) (old_at hd u two' ++ old_at hc s one') ≡ t
+  pub exchange-back : table_after_all (table_after t (Exchange c s d u)) (old_at hd u two' ++ old_at hc s one') ≡ t
   unfolding table_after
   exchange-back =
       after_all-append (record { supers = t.supers; rows = exchanged }) (old_at hd u two') (old_at hc s one')
       ∙ ap (λ z. table_after_all z (old_at hc s one')) (again (record { supers = t.supers; rows = exchanged }) hd u two' (found t d m' exchanged some-exchanged))
       ∙ again (record { supers = t.supers; rows = set_method hd m' two' exchanged }) hc s one' (found t c n' (set_method hd m' two' exchanged) some-half)
       ∙ ap (λ rows. record { supers = t.supers; rows = rows }) (both-back hc hd refl refl)
-
--- ---- one part
-
-undo-one : (t : ClassTable) (x : Change) (ys : List Change) → undo t x ≡ Some ys → table_after_all (table_after t x) ys ≡ t
-undo-one t (Add c s i) ys e = cc
-undo-one t (Replace c s i) ys e = step (own t.rows c (selector_number s)) refl e
-  where
-    step : (o : Option ℕ) → own t.rows c (selector_number s) ≡ o → option_map (λ old. Replace c s (imp_ref_of old) ∷ []) o ≡ Some ys → table_after_all (table_after t (Replace c s i)) ys ≡ t
-    step None is e = cc
-    step (Some old) is e = subst (λ zs. table_after_all (table_after t (Replace c s i)) zs ≡ t) (same_Some (Replace c s (imp_ref_of old) ∷ []) ys e) (replace-back t c s i old is)
-undo-one t (SetImp c s i) ys e = subst (λ zs. table_after_all (table_after t (SetImp c s i)) zs ≡ t) (same_Some (old_at (holder_at t c (selector_number s)) s (lookup_at t c (selector_number s))) ys e) (set-back t c s i)
-undo-one t (Exchange c s d u) ys e =
-    subst (λ zs. table_after_all (table_after t (Exchange c s d u)) zs ≡ t)
-    (same_Some (old_at (holder_at t d (selector_number u)) u (lookup_at t d (selector_number u)) ++ old_at (holder_at t c (selector_number s)) s (lookup_at t c (selector_number s))) ys e) (exchange-back t c d s u)
-undo-one t (Attach k [] []) ys e = subst (λ zs. table_after_all (table_after t (Attach k [] [])) zs ≡ t) (same_Some [] ys e) (attached t k)
-undo-one t (Attach k (m ∷ ms) cs) ys e = cc
-undo-one t (Attach k [] (m ∷ cs)) ys e = cc
-undo-one t (AddClass k d) ys e = cc
-
--- ---- all parts
-
-pub undone : (t : ClassTable) (xs ys : List Change) → undo_all t xs ≡ Some ys → table_after_all (table_after_all t xs) ys ≡ t
-undone t [] ys e = subst (λ zs. table_after_all t zs ≡ t) (same_Some [] ys e) refl
-undone t (x ∷ xs) ys e = step (undo t x) refl (undo_all (table_after t x) xs) refl e (undone (table_after t x) xs)
-  where
-    step : (o : Option (List Change)) → undo t x ≡ o → (v : Option (List Change)) → undo_all (table_after t x) xs ≡ v → and_before o v ≡ Some ys
-        → ((ws : List Change) → undo_all (table_after t x) xs ≡ Some ws → table_after_all (table_after_all (table_after t x) xs) ws ≡ table_after t x)
-        → table_after_all (table_after_all (table_after t x) xs) ys ≡ t
-    step None is v rest e before = cc
-    step (Some zs) is None rest e before = cc
-    step (Some zs) is (Some ws) rest e before =
-        subst (λ vs. table_after_all (table_after_all (table_after t x) xs) vs ≡ t) (same_Some (ws ++ zs) ys e)
-        (after_all-append (table_after_all (table_after t x) xs) ws zs ∙ ap (λ t. table_after_all t zs) (before ws rest) ∙ undo-one t x zs is)
-
-pub undone-tables : (h : Log) (xs ys : List Change) → undo_all (table h) xs ≡ Some ys → table (and_all (and_all h xs) ys) ≡ table h
-undone-tables h xs ys e = table-and_all (and_all h xs) ys ∙ ap (λ t. table_after_all t ys) (table-and_all h xs) ∙ undone (table h) xs ys e
-
-pub undone-lookups : (h : Log) (xs ys : List Change) (c : ClassRef) (s : ℕ) → undo_all (table h) xs ≡ Some ys → lookup (and_all (and_all h xs) ys) c s ≡ lookup h c s
-unfolding lookup
-undone-lookups h xs ys c s e = ap (λ t. lookup_at t c s) (undone-tables h xs ys e)

@@ -2,7 +2,6 @@
 use Rattle.std.specs.Prelude.{◌≡◌, Some, None}
 use Rattle.msg_tables.specs.declared.change.Change.{Change}
 use Rattle.msg_tables.specs.declared.fault.ChangeFault.{ChangeFault}
-use Rattle.msg_tables.specs.Edits.{AddsRows}
 use Rattle.msg_tables.specs.Log.{Log, and_then}
 use Rattle.msg_tables.specs.Refusal.{refusal}
 use Rattle.msg_tables.specs.Stands.{StandsAt}
@@ -11,10 +10,6 @@ use Rattle.msg_tables.specs.View.{TablesView}
 -- they would accept it
 abbrev pub Accepts : TablesView → Change → Type 0
 Accepts t x = (h : Log) → StandsAt t h → refusal h x ≡ None
-
--- they would accept it, and hold more rows then
-abbrev pub AcceptsRows : TablesView → Change → Type 0
-AcceptsRows t x = (h : Log) → StandsAt t h → (refusal h x ≡ None) × AddsRows h x
 
 -- they refuse it for this fault
 abbrev pub Refuses : TablesView → Change → ChangeFault → Type 0

@@ -1,5 +1,5 @@
 -- What the changes do to the rows.
-use Rattle.std.specs.Prelude.{ℕ, ◌&&◌, true, false, List, [], ◌∷◌, ◌++◌, Option, Some, None, if◌then◌else◌, is_some, is_none, map, replicate, reverse, slice_set}
+use Rattle.std.specs.Prelude.{ℕ, ◌&&◌, ◌==◌, true, false, List, [], ◌∷◌, ◌++◌, Option, Some, None, if◌then◌else◌, is_some, is_none, map, replicate, reverse, slice_set}
 use Rattle.msg_names.specs.declared.value.ClassRef.{ClassRef}
 use Rattle.msg_names.specs.declared.value.Selector.{Selector}
 use Rattle.msg_names.specs.declared.value.ImpRef.{ImpRef}
@@ -7,7 +7,7 @@ use Rattle.msg_names.specs.Number.{selector_number, imp_number}
 use Rattle.msg_tables.specs.Origin.{OriginView}
 use Rattle.msg_tables.specs.Methods.{MethodsOf}
 use Rattle.msg_tables.specs.declared.change.Change.{Change}
-use Rattle.msg_tables.specs.declared.change.Change.TheVariants.{Add, Replace, SetImp, Exchange, Attach, AddClass}
+use Rattle.msg_tables.specs.declared.change.Change.TheVariants.{Add, Replace, SetImp, Exchange, Attach, AddClass, Remove, DisposeClass}
 use Rattle.msg_tables.specs.declared.presence.Presence.{Presence}
 use Rattle.msg_tables.specs.Rows.{Row, ClassTable, is_at, own, holder_at, lookup_at}
 
@@ -46,6 +46,16 @@ abbrev pub set_method : Option ClassRef → ℕ → ℕ → List Row → List Ro
 set_method None s i rows = rows
 set_method (Some holder) s i rows = set_own holder s i rows
 
+-- without the own row
+abbrev pub without_own : ClassRef → ℕ → List Row → List Row
+without_own c s [] = []
+without_own c s (r ∷ rs) = if is_at c s r && is_none (own rs c s) then rs else r ∷ without_own c s rs
+
+-- without the rows of a class and of its metaclass
+abbrev pub without_class : ℕ → List Row → List Row
+without_class k [] = []
+without_class k (r ∷ rs) = if r.class.class == k then without_class k rs else r ∷ without_class k rs
+
 abbrev pub row : ClassRef → Selector → ImpRef → Row
 row c s i = record { class = c; sel = selector_number s; imp = imp_number i }
 
@@ -63,8 +73,11 @@ rows_after t (Exchange c s d u) =
 rows_after t (Attach k methods class_methods) =
     t.rows ++ rows_at (of_class k) (reverse methods) ++ rows_at (of_meta k) (reverse class_methods)
 rows_after t (AddClass k d) = t.rows
+rows_after t (Remove c s) = without_own c (selector_number s) t.rows
+rows_after t (DisposeClass k) = without_class k t.rows
 
--- The classes after a change. A class that is made has the superclass that is named.
+-- The classes after a change. A class that is made has the superclass that is named, and one that
+-- is disposed of isn't present any more.
 abbrev pub supers_after : List (Option Presence) → Change → List (Option Presence)
 supers_after supers (Add c s i) = supers
 supers_after supers (Replace c s i) = supers
@@ -72,6 +85,8 @@ supers_after supers (SetImp c s i) = supers
 supers_after supers (Exchange c s d u) = supers
 supers_after supers (Attach k methods class_methods) = supers
 supers_after supers (AddClass k d) = slice_set supers k (Some (record { superclass = d }))
+supers_after supers (Remove c s) = supers
+supers_after supers (DisposeClass k) = slice_set supers k None
 
 -- the tables after a change
 unfoldable pub table_after : ClassTable → Change → ClassTable

@@ -1,9 +1,9 @@
 -- Rows in buckets, in each of which every row knows the one before it.
-use Rattle.std.specs.Prelude.{◌≡◌, ◌<◌, ◌≤◌, ◌≢◌, ◌+◌, ◌-◌, ◌/◌, ℕ, List, length, slice_index_or, bit_and}
+use Rattle.std.specs.Prelude.{◌≡◌, ◌<◌, ◌≤◌, ◌≢◌, ◌+◌, ◌-◌, ◌*◌, ◌/◌, ℕ, List, length, slice_index_or, bit_and}
 
 -- the bucket of a selector's number, of so many
 abbrev pub bucket_of : ℕ → ℕ → ℕ
-bucket_of count s = bit_and (s + s / 32) (count - 1)
+bucket_of count s = bit_and (s + s * 2654435769 / 137438953472) (count - 1)
 
 -- the bucket of the row at a place
 abbrev pub bucket_at : ℕ → List (ℕ × ℕ) → ℕ → ℕ

@@ -1,5 +1,5 @@
 -- Chains of superclasses.
-use Rattle.std.specs.Prelude.{ℕ, zero, suc, ◌+◌, ◌<◌, if◌then◌else◌, ◌==◌, Bool, List, [], ◌∷◌, Option, Some, None, slice_index_or, length, is_some, is_none, true}
+use Rattle.std.specs.Prelude.{ℕ, zero, suc, ◌+◌, ◌<◌, if◌then◌else◌, ◌==◌, Bool, List, [], ◌∷◌, Option, Some, None, slice_index_or, length, is_some, is_none, true, false}
 use Rattle.std.specs.Option.{option_map_or}
 use Rattle.std.specs.List.{list_any}
 use Rattle.msg_names.specs.declared.value.ClassRef.{ClassRef}
@@ -54,6 +54,14 @@ is_member c cs = list_any (same_class c) cs
 -- the class reference descends from another, or is it
 unfoldable pub descends : List (Option Presence) → ClassRef → ClassRef → Bool
 descends supers origin c = is_member origin (chain_of supers c)
+
+-- a class has this superclass
+abbrev pub is_directly_below : ℕ → Option Presence → Bool
+is_directly_below k x = option_map_or (λ p. option_map_or (λ d. d == k) p.superclass false) x false
+
+-- some class that is present stands directly below a class
+abbrev pub has_subclass : List (Option Presence) → ℕ → Bool
+has_subclass supers k = list_any (is_directly_below k) supers
 
 -- no superclass stands above a class
 abbrev pub is_root : List (Option Presence) → ℕ → Bool

@@ -1,21 +1,21 @@
 -- What an accepted change writes.
-use Rattle.std.specs.Prelude.{◌≡◌, ◌<◌, ◌≤◌, ℕ, ◌+◌, List, [], ◌∷◌, ◌++◌, Some, None, Result, Ok, Err, IsSome, length, reverse, true, false, Option, IfSome, slice_set}
+use Rattle.std.specs.Prelude.{◌⊎◌, ◌≡◌, ◌<◌, ◌≤◌, ℕ, ◌+◌, List, [], ◌∷◌, ◌++◌, Some, None, Result, Ok, Err, IsSome, length, reverse, true, false, Option, IfSome, slice_set}
 use Rattle.msg_names.specs.Number.{selector_number, imp_number}
 use Rattle.msg_tables.specs.declared.change.Change.{Change}
 use Rattle.msg_tables.specs.declared.change.Change.TheVariants as changes
 use Rattle.msg_tables.specs.declared.edit.MethodRow.{MethodRow}
 use Rattle.msg_tables.specs.declared.edit.Edit.{Edit}
-use Rattle.msg_tables.specs.declared.edit.Edit.TheVariants.{Append, Rewrite, RewriteBoth, Attach, Make}
+use Rattle.msg_tables.specs.declared.edit.Edit.TheVariants.{Append, Rewrite, RewriteBoth, Attach, Make, Remove, Dispose}
 use Rattle.msg_tables.specs.declared.fault.ChangeFault.{ChangeFault}
 use Rattle.msg_tables.specs.declared.presence.Presence.{Presence}
-use Rattle.msg_tables.specs.Chain.{is_present}
+use Rattle.msg_tables.specs.Chain.{is_present, has_subclass}
 use Rattle.msg_tables.specs.Rows.{Row}
 use Rattle.msg_tables.specs.RowList.{own_in}
-use Rattle.msg_tables.specs.After.{row, rows_at, of_class, of_meta, set_own, rows_after, supers_after}
+use Rattle.msg_tables.specs.After.{row, rows_at, of_class, of_meta, set_own, without_own, without_class, rows_after, supers_after}
 use Rattle.msg_tables.specs.Log.{Log, table}
 use Rattle.msg_tables.specs.Refusal.{least_change_fault, refusal, unfit, unfit_methods}
 use Rattle.msg_tables.specs.Stands.{Holds, StandsAt}
-use Rattle.msg_tables.specs.View.{TablesView, kept}
+use Rattle.msg_tables.specs.View.{LacksRoom, TablesView, kept}
 use Rattle.msg_tables.specs.Origin.{last_imp, are_listed}
 
 -- another implementation in the own row
@@ -29,10 +29,13 @@ edited (Rewrite r) rows = rewritten r rows
 edited (RewriteBoth first second) rows = rewritten first (rewritten second rows)
 edited (Attach k methods class_methods) rows = rows ++ rows_at (of_class k) (reverse methods.now) ++ rows_at (of_meta k) (reverse class_methods.now)
 edited (Make k d) rows = rows
+edited (Remove c s) rows = without_own c (selector_number s) rows
+edited (Dispose k) rows = without_class k rows
 
 -- the classes after it
 abbrev pub supers_edited : Edit → List (Option Presence) → List (Option Presence)
 supers_edited (Make k d) supers = slice_set supers k (Some (record { superclass = d }))
+supers_edited (Dispose k) supers = slice_set supers k None
 supers_edited _ supers = supers
 
 -- how many rows it adds
@@ -42,6 +45,14 @@ added (Rewrite r) = 0
 added (RewriteBoth first second) = 0
 added (Attach k methods class_methods) = length methods.now + length class_methods.now
 added (Make k d) = 0
+added (Remove c s) = 0
+added (Dispose k) = 0
+
+-- and how many leave
+abbrev pub removed : TablesView → Edit → ℕ
+removed t (Remove c s) = 1
+removed t (Dispose k) = length (kept t.lists (of_class k)) + length (kept t.lists (of_meta k))
+removed t _ = 0
 
 -- there is such an own row, and the implementation is listed
 pub record IsOwn (t : TablesView) (r : MethodRow) : Type 0 where
@@ -56,6 +67,8 @@ IsOfTables t (Rewrite r) = IsOwn t r
 IsOfTables t (RewriteBoth first second) = IsOwn t first × IsOwn t second
 IsOfTables t (Attach k methods class_methods) = (k < length t.supers) × (are_listed (last_imp t.counts) methods.now ≡ true) × (are_listed (last_imp t.counts) class_methods.now ≡ true)
 IsOfTables t (Make k d) = (k < length t.supers) × (is_present t.supers k ≡ false) × IfSome d (λ e. is_present t.supers e ≡ true)
+IsOfTables t (Remove c s) = (c.class < length t.supers) × IsSome (own_in (selector_number s) (kept t.lists c))
+IsOfTables t (Dispose k) = (is_present t.supers k ≡ true) × (has_subclass t.supers k ≡ false)
 
 -- there is room for it, and it names what there is
 pub record Fits (t : TablesView) (e : Edit) : Type 0 where
@@ -99,9 +112,11 @@ IsJudged t x r = (h : Log) → StandsAt t h → Judges h x r
 -- the tables' rows were changed by an edit, and nothing else
 pub record Writes (old new : TablesView) (e : Edit) : Type 0 where
   pub rows : (rows : List Row) → Holds old.lists rows → Holds new.lists (edited e rows)
-  pub row_count : new.row_count ≡ old.row_count + added e
-  pub rest : new ≡ record old { supers = supers_edited e old.supers; order = new.order; lists = new.lists; row_count = new.row_count }
+  pub row_count : new.row_count + removed old e ≡ old.row_count + added e
+  pub rest : new ≡ record old { supers = supers_edited e old.supers; order = new.order; lists = new.lists; rooms = new.rooms; row_count = new.row_count }
 
--- more rows stand after a change than before
-abbrev pub AddsRows : Log → Change → Type 0
-AddsRows h x = length (table h).rows < length (rows_after (table h) x)
+-- a class reference has no room for the rows that an edit adds
+abbrev pub EditLacksRoom : TablesView → Edit → Type 0
+EditLacksRoom t (Append r) = LacksRoom t r.class 1
+EditLacksRoom t (Attach k methods class_methods) = LacksRoom t (of_class k) (length methods.now) ⊎ LacksRoom t (of_meta k) (length class_methods.now)
+EditLacksRoom t _ = ⊥

@@ -13,3 +13,4 @@ change_fault_number faults.NoMethod = 5
 change_fault_number faults.Limit = 6
 change_fault_number faults.Memory = 7
 change_fault_number faults.DuplicateClass = 8
+change_fault_number faults.ClassInUse = 9

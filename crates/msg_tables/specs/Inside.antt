@@ -1,11 +1,11 @@
 -- The fields of `Tables`.
-use Rattle.std.specs.Prelude.{◌≡◌, ◌≤◌, ◌*◌, true, length}
+use Rattle.std.specs.Prelude.{◌≡◌, ◌≤◌, ◌*◌, true, length, sum_by}
 use Rattle.std.specs.List.{list_all}
 use Rattle.std.specs.Vec.{vec_capacity}
 use Rattle.msg_tables.specs.declared.limits.TheConstants.{MAX_CLASSES}
 use Rattle.msg_tables.specs.Order.{IsOrder}
 use Rattle.msg_tables.specs.Preorder.{HavePreorder}
-use Rattle.msg_tables.specs.RowList.{rows_of}
+use Rattle.msg_tables.specs.RowList.{rooms_of, rows_of}
 use Rattle.msg_tables.specs.View.{TablesView}
 use Rattle.msg_tables.specs.Origin.{last_imp, are_listed}
 use Rattle.msg_tables.specs.declared.tables.Tables.TheInside.{Inside}
@@ -15,7 +15,9 @@ abbrev pub view_of : Inside → TablesView
 view_of t = record {
   supers = t.supers.items;
   order = t.order.items;
+  listed = t.listed;
   lists = rows_of t.lists;
+  rooms = rooms_of t.lists;
   counts = t.counts;
   limits = t.limits;
   row_count = t.row_count;
@@ -33,6 +35,8 @@ pub record AreSoundTables (t : Inside) : Type 0 where
   -- there is a list for each class reference
   pub lists : length t.lists ≡ 2 * length t.supers.items
   pub listed : list_all (are_listed (last_imp t.counts)) (rows_of t.lists) ≡ true
+  -- and all have so many rows
+  pub counted : t.row_count ≡ sum_by length (rows_of t.lists)
   pub few_classes : length t.supers.items ≤ MAX_CLASSES
   pub few_rows : t.row_count ≤ t.limits.rows
   pub few_changes : t.change_count ≤ t.limits.changes

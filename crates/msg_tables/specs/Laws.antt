@@ -27,9 +27,9 @@ abbrev pub MadeClassChangesNoOther : Type 0
 MadeClassChangesNoOther = (h : Log) (k : ℕ) (superclass : Option ℕ) (c : ClassRef) (s : ℕ) → IsSound h.origin → IsLog h
     → refusal h (AddClass k superclass) ≡ None → c.class ≢ k → lookup (and_then h (AddClass k superclass)) c s ≡ lookup h c s
 
--- a class that is present keeps its superclass, and so does its metaclass
+-- a listed class keeps its superclass, and so does its metaclass
 abbrev pub SuperclassStays : Type 0
-SuperclassStays = (later h : Log) (c : ClassRef) → BeginsWith later h → IsLog later → no_class h c ≡ false → superclass later c ≡ superclass h c
+SuperclassStays = (later h : Log) (c : ClassRef) → BeginsWith later h → IsLog later → c.class < length h.origin.superclasses → superclass later c ≡ superclass h c
 
 -- the chain of a class that is present ends at a root class
 abbrev pub ChainEndsAtRoot : Type 0

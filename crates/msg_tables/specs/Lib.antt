@@ -21,6 +21,7 @@ pub mod Made
 pub mod Making
 pub mod Marking
 pub mod Methods
+pub mod Noted
 pub mod Opening
 pub mod Order
 pub mod Origin
@@ -28,6 +29,7 @@ pub mod Preorder
 pub mod Presence
 pub mod Refusal
 pub mod Reserved
+pub mod RoomLaws
 pub mod RowList
 pub mod Rows
 pub mod Several

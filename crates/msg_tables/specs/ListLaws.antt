@@ -1,12 +1,13 @@
 -- Laws of lists of changes, which are made as one or undone.
-use Rattle.std.specs.Prelude.{◌≡◌, ◌||◌, ℕ, List, length, option_map, ◌∷◌, [], ◌++◌, Some, None, true, false}
+use Rattle.std.specs.Prelude.{◌≡◌, ◌≤◌, ◌+◌, ◌||◌, ℕ, List, length, option_map, ◌∷◌, [], ◌++◌, Some, None, true, false}
 use Rattle.msg_names.specs.declared.value.ClassRef.{ClassRef}
 use Rattle.msg_tables.specs.Chain.{is_member}
-use Rattle.msg_tables.specs.Log.{Log, chain_at, table, lookup}
+use Rattle.msg_names.specs.ClassRef.{same_class}
+use Rattle.msg_tables.specs.Log.{Log, and_then, chain_at, table, lookup}
 use Rattle.msg_tables.specs.Origin.{IsSound}
 use Rattle.msg_tables.specs.Refusal.{IsLog, AreAccepted, refusal}
 use Rattle.msg_tables.specs.Several.{and_all, refused_from, is_affected_by_all, is_below, is_of_one, made_by_all, written_by_all}
-use Rattle.msg_tables.specs.Undo.{undo_all}
+use Rattle.msg_tables.specs.Undo.{AreAlike, AreFit, AreNumbered, count_at, undo_all}
 use Rattle.msg_tables.specs.declared.change.Change.{Change}
 use Rattle.msg_tables.specs.declared.fault.ChangeFault.{ChangeFault}
 
@@ -37,22 +38,61 @@ abbrev pub ListAffectsNoMore : Type 0
 ListAffectsNoMore = (h : Log) (xs : List Change) (c : ClassRef) (s : ℕ) → IsSound h.origin → IsLog h → refused_from 0 h xs ≡ None
     → is_affected_by_all h xs c ≡ false → lookup (and_all h xs) c s ≡ lookup h c s
 
--- what stands below a class reference stays there while changes are made
+-- what stands below a class reference stays there while changes are made, unless its class is
+-- disposed of
 abbrev pub WhatIsBelowStays : Type 0
 WhatIsBelowStays = (h : Log) (xs : List Change) (c p : ClassRef) → IsSound h.origin → IsLog h → AreAccepted h xs
-    → is_member p (chain_at h c) ≡ true → is_member p (chain_at (and_all h xs) c) ≡ true
+    → is_of_one (made_by_all xs) c ≡ false → is_member p (chain_at h c) ≡ true → is_member p (chain_at (and_all h xs) c) ≡ true
 
--- what some change of a list affects is, once all are made, of a class that was made, or at a place
--- at which one wrote, or below one
+-- what some change of a list affects is, once all are made, of a class that was made or disposed
+-- of, or at a place at which one wrote, or below one
 abbrev pub AffectedIsAtItsPlaces : Type 0
 AffectedIsAtItsPlaces = (h : Log) (xs : List Change) (c : ClassRef) → IsSound h.origin → IsLog h → AreAccepted h xs → is_affected_by_all h xs c ≡ true
     → (is_of_one (made_by_all xs) c || is_below (and_all h xs) (written_by_all h xs) c) ≡ true
 
--- changes and what takes them back leave the tables as they were
-abbrev pub UndoneTablesAreAsBefore : Type 0
-UndoneTablesAreAsBefore = (h : Log) (xs ys : List Change) → undo_all (table h) xs ≡ Some ys → table (and_all (and_all h xs) ys) ≡ table h
+-- a list is accepted at a log, of which tables could be opened and changed
+pub record IsMadeAt (h : Log) (xs : List Change) : Type 0 where
+  pub sound : IsSound h.origin
+  -- each method that was listed at the opening could be set again
+  pub fit : AreFit h.origin
+  pub log : IsLog h
+  pub accepted : AreAccepted h xs
+  -- selectors that the list attaches are numbered from 1
+  pub numbered : AreNumbered xs
 
--- and so each lookup
-abbrev pub UndoneLookupsAreAsBefore : Type 0
-UndoneLookupsAreAsBefore = (h : Log) (xs ys : List Change) (c : ClassRef) (s : ℕ) → undo_all (table h) xs ≡ Some ys
-    → lookup (and_all (and_all h xs) ys) c s ≡ lookup h c s
+-- Directly after a list its way back is accepted, as long as so many changes are.
+abbrev pub WayBackIsAccepted : Type 0
+WayBackIsAccepted = (h : Log) (xs : List Change) → IsMadeAt h xs → let ys = undo_all (table h) xs in
+    length h.changes + length xs + length ys ≤ h.origin.limits.changes → refused_from 0 (and_all h xs) ys ≡ None
+
+-- it brings back each lookup
+abbrev pub WayBackBringsBackEachLookup : Type 0
+WayBackBringsBackEachLookup = (h : Log) (xs : List Change) (c : ClassRef) (s : ℕ) → IsMadeAt h xs
+    → lookup (and_all (and_all h xs) (undo_all (table h) xs)) c s ≡ lookup h c s
+
+-- and each class with its superclass, and of each class reference the implementations of a
+-- selector, covered ones too
+abbrev pub WayBackBringsBackTheTables : Type 0
+WayBackBringsBackTheTables = (h : Log) (xs : List Change) → IsMadeAt h xs → AreAlike (table (and_all (and_all h xs) (undo_all (table h) xs))) (table h)
+
+-- a list and its way back affect the same class references
+abbrev pub ListAndWayBackReachTheSame : Type 0
+ListAndWayBackReachTheSame = (h : Log) (xs : List Change) (c : ClassRef) → IsMadeAt h xs
+    → is_affected_by_all (and_all h xs) (undo_all (table h) xs) c ≡ is_affected_by_all h xs c
+
+-- at no time a class reference has more than n rows: neither before a list, nor after any of its
+-- changes
+abbrev pub HoldsAtMost : ℕ → ClassRef → Log → List Change → Type 0
+HoldsAtMost n c h [] = count_at (λ d. same_class d c) (table h).rows ≤ n
+HoldsAtMost n c h (x ∷ xs) = (count_at (λ d. same_class d c) (table h).rows ≤ n) × HoldsAtMost n c (and_then h x) xs
+
+-- so many rows as a list has room for, its way back has room for too
+abbrev pub WayBackHoldsNoMore : Type 0
+WayBackHoldsNoMore = (h : Log) (xs : List Change) (c : ClassRef) (n : ℕ) → IsMadeAt h xs → HoldsAtMost n c h xs → HoldsAtMost n c (and_all h xs) (undo_all (table h) xs)
+
+-- So every accepted list has a way back: accepted directly afterwards, as long as so many changes
+-- are, it brings back each lookup.
+abbrev pub EveryListHasWayBack : Type 0
+EveryListHasWayBack = (h : Log) (xs : List Change) → IsMadeAt h xs → (ys : List Change)
+    × (length h.changes + length xs + length ys ≤ h.origin.limits.changes → AreAccepted (and_all h xs) ys)
+    × ((c : ClassRef) (s : ℕ) → lookup (and_all (and_all h xs) ys) c s ≡ lookup h c s)

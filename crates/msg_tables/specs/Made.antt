@@ -28,8 +28,6 @@ pub record AreRefused (xs : List Change) (h : History) (r : Refused) : Type 0 wh
   pub before : refused_from 0 (log h) (take r.place xs) ≡ None
   pub place : r.place < length xs
 
--- What was written tells the way back from changes that are made at a history, where there is one,
--- in two entries for each at most.
+-- What was written tells the way back from changes that are made at a history.
 pub record TellsWayBack (xs : List Change) (h : History) (entries : List Entry) : Type 0 where
   pub undo : undo_all (table (log h)) xs ≡ undo_journal entries
-  pub few : length entries ≤ 2 * length xs

@@ -1,5 +1,5 @@
 -- Changes of a list that were made, and the journal of what they wrote.
-use Rattle.std.specs.Prelude.{◌≡◌, ◌≢◌, ◌<◌, ◌≤◌, ◌+◌, ◌*◌, ◌||◌, Bool, true, List, ◌++◌, Some, None, length, take}
+use Rattle.std.specs.Prelude.{ℕ, ◌⊎◌, ◌≡◌, ◌≢◌, ◌<◌, ◌≤◌, ◌+◌, ◌*◌, ◌||◌, Bool, true, List, ◌++◌, Some, None, length, take}
 use Rattle.msg_names.specs.declared.value.ClassRef.{ClassRef}
 use Rattle.msg_tables.specs.declared.change.Change.{Change}
 use Rattle.msg_tables.specs.declared.change.ChangeRef.{ChangeRef}
@@ -8,28 +8,30 @@ use Rattle.msg_tables.specs.declared.entry.Entry.{Entry}
 use Rattle.msg_tables.specs.declared.fault.ChangeFault.TheVariants.{Memory}
 use Rattle.msg_tables.specs.Affected.{written_refs}
 use Rattle.msg_tables.specs.ChangeList.{change_of}
-use Rattle.msg_tables.specs.Log.{Log, table}
-use Rattle.msg_tables.specs.Marking.{MarksAffected, MarksAffectedByAll}
-use Rattle.msg_tables.specs.Journal.{AllNameListed, IsJournalOf, classes_of, places_of, undo_journal}
+use Rattle.msg_tables.specs.Chain.{is_member}
+use Rattle.msg_tables.specs.Log.{Log, and_then, chain_at, table}
+use Rattle.msg_tables.specs.Marking.{MarksAffectedByAll, is_marked}
+use Rattle.msg_tables.specs.Journal.{AllNameListed, ArePlacesOf, IsJournalOf, classes_of, places_of, undo_journal}
 use Rattle.msg_tables.specs.Origin.{IsSound}
-use Rattle.msg_tables.specs.Refusal.{AreAccepted, refusal}
+use Rattle.msg_tables.specs.Refusal.{AreAccepted}
 use Rattle.msg_tables.specs.Several.{and_all, is_affected_by_all, is_below, is_of_one, made_by, made_by_all, refused_from, written_by_all}
 use Rattle.msg_tables.specs.Stands.{StandsAt}
-use Rattle.msg_tables.specs.Undo.{undo, undo_all}
-use Rattle.msg_tables.specs.View.{TablesView}
+use Rattle.msg_tables.specs.Undo.{count_at, undo, undo_all}
+use Rattle.msg_tables.specs.View.{TablesView, room_of}
+use Rattle.msg_names.specs.ClassRef.{same_class}
+use Rattle.msg_tables.specs.RoomLaws.{HaveRoomFor, LackRoomFor}
 
 -- what no change alters
 pub record IsBeside (old new : TablesView) : Type 0 where
   pub count : length new.supers ≡ length old.supers
-  pub rest : old ≡ record new { supers = old.supers; order = old.order; lists = old.lists; row_count = old.row_count; change_count = old.change_count }
+  pub rest : old ≡ record new { supers = old.supers; order = old.order; lists = old.lists; rooms = old.rooms; row_count = old.row_count; change_count = old.change_count }
 
 -- a change was made, and the journal is longer by what it wrote
 pub record IsPart (x : Change) (journal longer : List Entry) (old new : TablesView) : Type 0 where
   pub entries : List Entry
   pub is : longer ≡ journal ++ entries
-  pub few : length entries ≤ 2
   pub back : IsJournalOf entries old new
-  pub places : (h : Log) → StandsAt old h → places_of entries ≡ written_refs h x
+  pub places : (h : Log) → StandsAt old h → ArePlacesOf (written_refs h x) (made_by x) (places_of entries)
   pub made : classes_of entries ≡ made_by x
   pub undone : (h : Log) → StandsAt old h → undo_journal entries ≡ undo (table h) x
   pub listed : AllNameListed (length old.supers) entries
@@ -39,9 +41,10 @@ pub record IsPart (x : Change) (journal longer : List Entry) (old new : TablesVi
 abbrev pub IsReadPart : ChangeRef → List Entry → List Entry → TablesView → TablesView → Type 0
 IsReadPart r journal longer old new = IsPart (change_of r) journal longer old new
 
--- a journal has the class references at which a list adds or rewrites rows, in their order
+-- a journal has the class references at which a list writes, and beside them only ones of classes
+-- that it makes or disposes of
 abbrev pub HasPlaces : List Change → TablesView → List Entry → Type 0
-HasPlaces xs old journal = (h : Log) → StandsAt old h → places_of journal ≡ written_by_all h xs
+HasPlaces xs old journal = (h : Log) → StandsAt old h → ArePlacesOf (written_by_all h xs) (made_by_all xs) (places_of journal)
 
 -- a journal has what takes a list back
 abbrev pub IsUndone : List Change → TablesView → List Entry → Type 0
@@ -49,7 +52,6 @@ IsUndone xs old journal = (h : Log) → StandsAt old h → undo_all (table h) xs
 
 -- changes were made, and the journal tells what they wrote
 pub record IsMade (xs : List Change) (journal : List Entry) (old new : TablesView) : Type 0 where
-  pub few : length journal ≤ 2 * length xs
   pub back : IsJournalOf journal old new
   pub stands : (h : Log) → StandsAt old h → AreAccepted h xs × StandsAt new (and_all h xs)
   pub places : HasPlaces xs old journal
@@ -78,6 +80,20 @@ IsRefused xs old r = (h : Log) → StandsAt old h → refused_from 0 h xs ≡ So
 abbrev pub IsRefusedUnlessMemory : List Change → TablesView → Refused → Type 0
 IsRefusedUnlessMemory xs old r = r.fault ≢ Memory → IsRefused xs old r
 
+-- where one more change would be made, and memory is wanting, the journal has too little room for
+-- its entries, or some class reference for its rows
+abbrev pub WantsMore : Change → ℕ → ℕ → TablesView → Type 0
+WantsMore x count room old = (h : Log) → StandsAt old h
+    → (room < count + length (undo (table h) x)) ⊎ ((c : ClassRef) × (room_of old c < count_at (λ d. same_class d c) (table (and_then h x)).rows))
+
+-- where memory was wanting, there was too little room for the changes so far and that one
+abbrev pub WantsMemory : List Change → ℕ → TablesView → Refused → Type 0
+WantsMemory xs room old r = r.fault ≡ Memory → (h : Log) → StandsAt old h → LackRoomFor old.rooms room h (take (r.place + 1) xs)
+
+-- there is room now for the rows that each class reference had at any time while a list was made
+abbrev pub AreHeld : List Change → TablesView → TablesView → Type 0
+AreHeld xs old new = (h : Log) → StandsAt old h → HaveRoomFor new.rooms h xs
+
 -- those before it would be made
 abbrev pub AreMadeBefore : List Change → TablesView → Refused → Type 0
 AreMadeBefore xs old r = (h : Log) → StandsAt old h → refused_from 0 h (take r.place xs) ≡ None
@@ -85,14 +101,6 @@ AreMadeBefore xs old r = (h : Log) → StandsAt old h → refused_from 0 h (take
 -- where memory was wanting, the change at that place would be made too
 abbrev pub LacksMemory : List Change → TablesView → Refused → Type 0
 LacksMemory xs old r = r.fault ≡ Memory → (h : Log) → StandsAt old h → refused_from 0 h (take (r.place + 1) xs) ≡ None
-
--- what a change affects is marked, beside what was
-abbrev pub Reaches : Change → TablesView → List Bool → List Bool → Type 0
-Reaches x t old new = (h : Log) → StandsAt t h → MarksAffected (length t.supers) h x old new
-
--- it would be accepted, and what it affects is marked
-abbrev pub AcceptsAndReaches : Change → TablesView → List Bool → List Bool → Type 0
-AcceptsAndReaches x t old new = (h : Log) → StandsAt t h → (refusal h x ≡ None) × MarksAffected (length t.supers) h x old new
 
 -- what a list affects is marked, beside what was
 abbrev pub ReachesAll : List Change → TablesView → List Bool → List Bool → Type 0
@@ -105,6 +113,14 @@ ReachesBefore xs t old new r = r.fault ≢ Memory → ReachesAll (take r.place x
 -- the class reference is of a class that a journal tells of, or is one of its places or below one
 abbrev pub is_told : Log → List Entry → ClassRef → Bool
 is_told h journal c = is_of_one (classes_of journal) c || is_below h (places_of journal) c
+
+-- what entries tell of is marked, beside what was, as the tables are
+abbrev pub MarksTold : TablesView → List Entry → List Bool → List Bool → Type 0
+MarksTold t entries old new = (h : Log) → StandsAt t h → (c : ClassRef) → c.class < length t.supers → is_marked new c ≡ (is_marked old c || is_told h entries c)
+
+-- a class reference and all below it are marked
+abbrev pub IsMarkedBelow : TablesView → List Bool → ClassRef → Type 0
+IsMarkedBelow t marks place = (h : Log) → StandsAt t h → (c : ClassRef) → c.class < length t.supers → is_member place (chain_at h c) ≡ true → is_marked marks c ≡ true
 
 -- what a list affects is found by its journal, once all is made
 abbrev pub TellsAll : List Change → TablesView → List Entry → Type 0

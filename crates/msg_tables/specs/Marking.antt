@@ -1,15 +1,11 @@
 -- Marks on class references.
 use Rattle.std.specs.Prelude.{◌≡◌, ◌==◌, ◌<◌, ◌≤◌, ◌*◌, ◌&&◌, ◌||◌, ℕ, List, Bool, false, if◌then◌else◌, length, slice_index_or}
-use Rattle.std.specs.List.{list_any}
 use Rattle.msg_names.specs.declared.value.ClassRef.{ClassRef}
-use Rattle.msg_names.specs.declared.value.Selector.{Selector}
 use Rattle.msg_names.specs.ClassRef.{slot_of}
-use Rattle.msg_names.specs.Number.{selector_number}
 use Rattle.msg_tables.specs.declared.change.Change.{Change}
 use Rattle.msg_tables.specs.declared.marks.Marks.TheInside.{Inside}
-use Rattle.msg_tables.specs.Affected.{at_most_one, if_any, is_affected}
 use Rattle.msg_tables.specs.Chain.{is_member}
-use Rattle.msg_tables.specs.Log.{Log, chain_at, holder}
+use Rattle.msg_tables.specs.Log.{Log, chain_at}
 use Rattle.msg_tables.specs.Several.{is_affected_by_all}
 use Rattle.msg_tables.specs.Stands.{StandsAt}
 use Rattle.msg_tables.specs.View.{TablesView}
@@ -35,17 +31,8 @@ is_of class own meta c = (if c.meta then meta else own) && (class == c.class)
 abbrev pub MarksThose : (ClassRef → Bool) → List Bool → List Bool → Type 0
 MarksThose test old new = (c : ClassRef) → is_marked new c ≡ (is_marked old c || test c)
 
--- of the class references of n classes those at and below these places are marked, beside those
--- that were
-abbrev pub MarksBelow : ℕ → Log → List ClassRef → List Bool → List Bool → Type 0
-MarksBelow n h places old new = (c : ClassRef) → c.class < n → is_marked new c ≡ (is_marked old c || list_any (λ place. is_member place (chain_at h c)) places)
-
--- of the class references of n classes those that a change affects are marked, beside those that
--- were
-abbrev pub MarksAffected : ℕ → Log → Change → List Bool → List Bool → Type 0
-MarksAffected n h x old new = (c : ClassRef) → c.class < n → is_marked new c ≡ (is_marked old c || is_affected h x c)
-
--- and those that a list of changes affects
+-- of the class references of n classes those that some change of a list affects are marked, beside
+-- those that were
 abbrev pub MarksAffectedByAll : ℕ → Log → List Change → List Bool → List Bool → Type 0
 MarksAffectedByAll n h xs old new = (c : ClassRef) → c.class < n → is_marked new c ≡ (is_marked old c || is_affected_by_all h xs c)
 
@@ -55,11 +42,3 @@ MarksAffectedByAll n h xs old new = (c : ClassRef) → c.class < n → is_marked
 abbrev pub MarksDescendants : TablesView → ClassRef → List Bool → List Bool → Type 0
 MarksDescendants t class old new = (h : Log) → StandsAt t h → (c : ClassRef) → c.class < length t.supers
     → is_marked new c ≡ (is_marked old c || is_member class (chain_at h c))
-
--- the class reference at which a method is found and those below it
-abbrev pub MarksHolder : TablesView → ClassRef → Selector → List Bool → List Bool → Type 0
-MarksHolder t class sel old new = (h : Log) → StandsAt t h → MarksBelow (length t.supers) h (at_most_one (holder h class (selector_number sel))) old new
-
--- a class reference and those below it, where it gets methods
-abbrev pub MarksAttached : TablesView → ClassRef → List (ℕ × ℕ) → List Bool → List Bool → Type 0
-MarksAttached t class methods old new = (h : Log) → StandsAt t h → MarksBelow (length t.supers) h (if_any methods class) old new

@@ -13,7 +13,7 @@ use Rattle.msg_tables.specs.View.{TablesView}
 pub record Adds (old new : TablesView) (more : List Row) : Type 0 where
   pub rows : (rows : List Row) → Holds old.lists rows → Holds new.lists (rows ++ more)
   pub row_count : new.row_count ≡ old.row_count + length more
-  pub rest : new ≡ record old { lists = new.lists; row_count = new.row_count }
+  pub rest : new ≡ record old { lists = new.lists; rooms = new.rooms; row_count = new.row_count }
 
 -- how many rows a method list brings
 abbrev pub size_of_list : MethodsOf → ℕ
@@ -44,6 +44,7 @@ pub record IsFor (o : OriginView) (t : TablesView) : Type 0 where
 -- the tables without rows
 pub record IsBlank (o : OriginView) (t : TablesView) : Type 0 where
   pub supers : t.supers ≡ opened_supers o
+  pub listed : t.listed ≡ length o.superclasses
   pub lists : t.lists ≡ replicate (2 * class_total o) []
   pub counts : t.counts ≡ o.counts
   pub limits : t.limits ≡ o.limits

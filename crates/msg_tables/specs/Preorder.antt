@@ -1,11 +1,11 @@
 -- The classes that are present, in an order in which those below a class come right after it.
-use Rattle.std.specs.Prelude.{◌≡◌, ◌<◌, ◌≤◌, ◌==◌, ℕ, suc, slice_set, List, [], ◌∷◌, Option, Some, None, Bool, true, false, if◌then◌else◌, length, nat_lt, slice_index_or}
+use Rattle.std.specs.Prelude.{◌≡◌, ◌<◌, ◌≤◌, ◌==◌, ℕ, suc, slice_set, List, [], ◌∷◌, Option, Some, None, IfSome, Bool, true, false, if◌then◌else◌, length, nat_lt, slice_index_or}
 use Rattle.std.specs.List.{list_any}
 use Rattle.msg_tables.specs.declared.limits.TheConstants.{MAX_CLASSES}
 use Rattle.msg_tables.specs.declared.preorder.Preorder.{Preorder}
 use Rattle.msg_tables.specs.declared.presence.Presence.{Presence}
 use Rattle.msg_tables.specs.After.{of_class}
-use Rattle.msg_tables.specs.Chain.{is_present, descends}
+use Rattle.msg_tables.specs.Chain.{is_present, descends, has_subclass}
 use Rattle.msg_tables.specs.Order.{present_count}
 
 -- one of the list
@@ -75,6 +75,13 @@ abbrev pub nexts_with : List (Option ℕ) → ℕ → Option ℕ → List (Optio
 nexts_with nexts k None = slice_set nexts k None
 nexts_with nexts k (Some d) = slice_set (slice_set nexts k (next_at nexts d)) d (Some k)
 
+-- a class that came right after its superclass is passed over
+pub record LeavesAfter (nexts : List (Option ℕ)) (k : ℕ) (superclass : Option ℕ) (left : List (Option ℕ)) : Type 0 where
+  pub above : ℕ
+  pub is : superclass ≡ Some above
+  pub first : next_at nexts above ≡ Some k
+  pub rest : left ≡ slice_set nexts above (next_at nexts k)
+
 -- ---- what the program keeps of it
 
 -- there is room for a class, and it is less deep than there may be classes
@@ -91,3 +98,12 @@ CanBeGathered p class room =
 abbrev pub AreAllBelow : Preorder → ℕ → List ℕ → Type 0
 AreAllBelow p class found = (supers : List (Option Presence)) → HavePreorder supers p.depths.items p.nexts.items → is_present supers class ≡ true
     → (k : ℕ) → is_in k found ≡ descends supers (of_class class) (of_class k)
+
+-- this is the order of classes of which one, below which none is, has left, with its superclass
+pub record CanBeForgotten (p : Preorder) (k : ℕ) (superclass : Option ℕ) (supers : List (Option Presence)) : Type 0 where
+  pub was : List (Option Presence)
+  pub order : HavePreorder was p.depths.items p.nexts.items
+  pub here : is_present was k ≡ true
+  pub above : IfSome superclass (λ d. is_present was d ≡ true)
+  pub leaf : has_subclass was k ≡ false
+  pub is : supers ≡ slice_set was k None

@@ -7,10 +7,10 @@ use Rattle.msg_names.specs.declared.value.ImpRef.{ImpRef}
 use Rattle.msg_names.specs.Number.{selector_number, imp_number}
 use Rattle.msg_tables.specs.Origin.{class_total, lacks_imp, misfits_in, unlike_in}
 use Rattle.msg_tables.specs.declared.change.Change.{Change}
-use Rattle.msg_tables.specs.declared.change.Change.TheVariants.{Add, Replace, SetImp, Exchange, Attach, AddClass}
+use Rattle.msg_tables.specs.declared.change.Change.TheVariants.{Add, Replace, SetImp, Exchange, Attach, AddClass, Remove, DisposeClass}
 use Rattle.msg_tables.specs.declared.fault.ChangeFault.{ChangeFault}
-use Rattle.msg_tables.specs.declared.fault.ChangeFault.TheVariants.{NoClass, NoImp, ArgumentCount, MethodPresent, NoMethod, Limit, DuplicateClass}
-use Rattle.msg_tables.specs.Chain.{is_present}
+use Rattle.msg_tables.specs.declared.fault.ChangeFault.TheVariants.{NoClass, NoImp, ArgumentCount, MethodPresent, NoMethod, Limit, DuplicateClass, ClassInUse}
+use Rattle.msg_tables.specs.Chain.{is_present, has_subclass}
 use Rattle.msg_tables.specs.Rows.{own}
 use Rattle.msg_tables.specs.After.{of_class}
 use Rattle.msg_tables.specs.Log.{Log, empty, and_then, table, holder}
@@ -56,6 +56,14 @@ has_own h c s = is_some (own (table h).rows c s)
 unfoldable pub no_method : Log → ClassRef → ℕ → Bool
 no_method h c s = is_none (holder h c s)
 
+-- no selector has the number
+abbrev pub no_selector : Log → Selector → Bool
+no_selector h s = are_unlike h s s
+
+-- the class was listed as tables were opened, or has a class directly below it
+unfoldable pub is_in_use : Log → ℕ → Bool
+is_in_use h k = nat_lt k (length h.origin.superclasses) || has_subclass (table h).supers k
+
 -- no more changes are accepted, or n more rows would be too many
 unfoldable pub is_full : Log → ℕ → Bool
 is_full h n = nat_le h.origin.limits.changes (length h.changes) || nat_lt h.origin.limits.rows (length (table h).rows + n)
@@ -85,6 +93,8 @@ conditions h (Attach k methods class_methods) =
     let all = methods ++ class_methods in
     (no_class h (of_class k), NoClass) ∷ unfit_methods h all ++ (is_full h (length all), Limit) ∷ []
 conditions h (AddClass k d) = (no_number h k || no_superclass h d, NoClass) ∷ (is_full h 0, Limit) ∷ (not (no_class h (of_class k)), DuplicateClass) ∷ []
+conditions h (Remove c s) = (no_class h c, NoClass) ∷ (no_selector h s, ArgumentCount) ∷ (not (has_own h c (selector_number s)), NoMethod) ∷ (is_full h 0, Limit) ∷ []
+conditions h (DisposeClass k) = (no_class h (of_class k), NoClass) ∷ (is_full h 0, Limit) ∷ (is_in_use h k, ClassInUse) ∷ []
 
 -- the least fault for which a change is refused
 unfoldable pub refusal : Log → Change → Option ChangeFault

@@ -1,5 +1,6 @@
 -- The fields of `RowLists`.
 use Rattle.std.specs.Prelude.{◌≤◌, ◌-◌, List, ◌++◌, length, replicate}
+use Rattle.std.specs.Vec.{vec_capacity}
 use Rattle.msg_tables.specs.Kept.{no_rows}
 use Rattle.msg_tables.specs.RowList.{RowList}
 use Rattle.msg_tables.specs.declared.row_lists.RowLists.TheInside.{Inside}
@@ -8,6 +9,7 @@ use Rattle.msg_tables.specs.declared.row_lists.RowLists.TheInside.{Inside}
 abbrev pub row_lists : Inside → List RowList
 row_lists l = l.written.items ++ replicate (l.count - length l.written.items) no_rows
 
--- no more are written than there are
+-- no more are written than there are, and there is room for all
 pub record AreRowLists (l : Inside) : Type 0 where
   pub few : length l.written.items ≤ l.count
+  pub room : l.count ≤ vec_capacity l.written

@@ -5,7 +5,7 @@ use Rattle.std.specs.Option.{option_map_or}
 use Rattle.msg_names.specs.declared.value.ClassRef.{ClassRef}
 use Rattle.msg_tables.specs.declared.change.Change.{Change}
 use Rattle.msg_tables.specs.declared.fault.ChangeFault.{ChangeFault}
-use Rattle.msg_tables.specs.declared.change.Change.TheVariants.{AddClass}
+use Rattle.msg_tables.specs.declared.change.Change.TheVariants.{AddClass, DisposeClass}
 use Rattle.msg_tables.specs.Affected.{is_affected, written_refs}
 use Rattle.msg_tables.specs.Chain.{is_member}
 use Rattle.msg_tables.specs.Log.{Log, and_then, chain_at}
@@ -36,12 +36,13 @@ abbrev pub written_by_all : Log → List Change → List ClassRef
 written_by_all h [] = []
 written_by_all h (x ∷ xs) = written_refs h x ++ written_by_all (and_then h x) xs
 
--- the class that a change makes
+-- the class that a change makes or disposes of
 abbrev pub made_by : Change → List ℕ
 made_by (AddClass k d) = k ∷ []
+made_by (DisposeClass k) = k ∷ []
 made_by _ = []
 
--- the classes that the changes of a list make
+-- the classes that the changes of a list make or dispose of
 abbrev pub made_by_all : List Change → List ℕ
 made_by_all [] = []
 made_by_all (x ∷ xs) = made_by x ++ made_by_all xs

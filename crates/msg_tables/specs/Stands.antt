@@ -20,6 +20,7 @@ pub record Holds (lists : List (List (ℕ × ℕ))) (rows : List Row) : Type 0 w
 pub record StandsAt (t : TablesView) (h : Log) : Type 0 where
   pub log : IsLog h
   pub supers : t.supers ≡ (table h).supers
+  pub listed : t.listed ≡ length h.origin.superclasses
   pub rows : Holds t.lists (table h).rows
   pub row_count : t.row_count ≡ length (table h).rows
   pub changes : t.change_count ≡ length h.changes

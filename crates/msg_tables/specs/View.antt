@@ -1,5 +1,5 @@
 -- What contracts see of `Tables`.
-use Rattle.std.specs.Prelude.{◌≡◌, ℕ, List, [], ◌∷◌, Option, Some, None, slice_index_or, true}
+use Rattle.std.specs.Prelude.{◌≡◌, ◌<◌, ◌≤◌, ◌+◌, ℕ, length, List, [], ◌∷◌, Option, Some, None, slice_index_or, true}
 use Rattle.std.specs.Option.{option_map_or}
 use Rattle.msg_names.specs.ClassRef.{slot_of}
 use Rattle.msg_names.specs.Number.{selector_number}
@@ -17,12 +17,20 @@ pub record TablesView : Type 0 where
   pub supers : List (Option Presence)
   -- the classes that are present, each after its superclass
   pub order : List ℕ
+  -- how many were listed as tables were opened
+  pub listed : ℕ
   -- the rows of each class reference, at its place, oldest first
   pub lists : List (List (ℕ × ℕ))
+  -- and how many of them there is room for
+  pub rooms : List ℕ
   pub counts : Option CountsView
   pub limits : Limits
   pub row_count : ℕ
   pub change_count : ℕ
+
+-- the same tables, but for room
+abbrev pub IsKept : TablesView → TablesView → Type 0
+IsKept old new = new ≡ record old { rooms = new.rooms }
 
 -- the rows kept for a class reference
 abbrev pub kept : List (List (ℕ × ℕ)) → ClassRef → List (ℕ × ℕ)
@@ -32,6 +40,18 @@ kept lists c = slice_index_or lists (slot_of c) []
 abbrev pub kept_method : List (List (ℕ × ℕ)) → List ClassRef → ℕ → Option (ClassRef × ℕ)
 kept_method lists [] s = None
 kept_method lists (c ∷ cs) s = option_map_or (λ i. Some (c, i)) (own_in s (kept lists c)) (kept_method lists cs s)
+
+-- how many rows of a class reference there is room for
+abbrev pub room_of : TablesView → ClassRef → ℕ
+room_of t c = slice_index_or t.rooms (slot_of c) 0
+
+-- a class reference has no room for so many rows more
+abbrev pub LacksRoom : TablesView → ClassRef → ℕ → Type 0
+LacksRoom t c n = room_of t c < length (kept t.lists c) + n
+
+-- each has room for those that it has
+abbrev pub IsWithinRoom : TablesView → Type 0
+IsWithinRoom t = (c : ClassRef) → length (kept t.lists c) ≤ room_of t c
 
 -- the implementation in the own row of a class reference and a selector
 abbrev pub own_of : TablesView → ClassRef → Selector → Option ℕ

@@ -1,11 +1,11 @@
 -- What a change writes where, before it is made.
-use Rattle.std.specs.Prelude.{◌≡◌, ℕ, ◌<◌, ◌==◌, ◌&&◌, Option, Some, None, option_map, reverse, IfSome, if◌then◌else◌}
+use Rattle.std.specs.Prelude.{◌≡◌, ℕ, ◌<◌, ◌==◌, ◌&&◌, Bool, false, Option, Some, None, option_map, reverse, IfSome, if◌then◌else◌}
 use Rattle.msg_names.specs.declared.value.ClassRef.{ClassRef}
 use Rattle.msg_names.specs.declared.value.ImpRef.{ImpRef}
 use Rattle.msg_names.specs.declared.value.Selector.{Selector}
 use Rattle.msg_names.specs.Number.{selector_number, imp_number}
 use Rattle.msg_tables.specs.declared.change.Change.{Change}
-use Rattle.msg_tables.specs.declared.change.Change.TheVariants.{Add, Replace, SetImp, Exchange, Attach, AddClass}
+use Rattle.msg_tables.specs.declared.change.Change.TheVariants.{Add, Replace, SetImp, Exchange, Attach, AddClass, Remove, DisposeClass}
 use Rattle.msg_names.specs.ClassRef.{same_class}
 use Rattle.msg_tables.specs.Rows.{or_else, own}
 use Rattle.msg_tables.specs.RowList.{own_in}
@@ -35,6 +35,14 @@ written h (Attach k methods class_methods) d u = or_else
     (if same_class (of_meta k) d then own_in u (reverse class_methods) else None)
     (if same_class (of_class k) d then own_in u (reverse methods) else None)
 written h (AddClass k d) e u = None
+written h (Remove c s) d u = None
+written h (DisposeClass k) e u = None
+
+-- the own row of a class reference and a selector leaves, where there is one
+abbrev pub row_leaves : Change → ClassRef → ℕ → Bool
+row_leaves (Remove c s) d u = same_class c d && (selector_number s == u)
+row_leaves (DisposeClass k) d u = d.class == k
+row_leaves _ d u = false
 
 -- this is what a change writes at a class reference for a selector, at a log
 abbrev pub IsWrittenAt : Log → Change → ClassRef → Selector → Option ImpRef → Type 0
@@ -60,3 +68,5 @@ SeeksAmong n (SetImp c s i) = c.class < n
 SeeksAmong n (Exchange c s d u) = (c.class < n) × (d.class < n)
 SeeksAmong n (Attach k methods class_methods) = Unit {0}
 SeeksAmong n (AddClass k d) = IfSome d (λ e. e < n)
+SeeksAmong n (Remove c s) = Unit {0}
+SeeksAmong n (DisposeClass k) = Unit {0}

@@ -1,32 +1,36 @@
 //! Making changes.
 
-ghost use Rattle.std.specs.Prelude.{◌≡◌, ◌≢◌, ◌<◌, ◌≤◌, Option, Some, None, OnOk, OnErr, IfErr, IsErrOf, length, ◌+◌, [], ◌∷◌};
-ghost use Rattle.msg_tables.specs.Accepts.{AcceptsRows, Makes, Refuses};
-ghost use Rattle.msg_tables.specs.declared.entry.Entry.{Entry};
+ghost use Rattle.std.specs.Prelude.{◌≡◌, ◌<◌, ◌≤◌, Option, Some, None, OnOk, OnErr, length, ◌+◌, [], ◌∷◌, slice_get, slice_set, true};
+ghost use Rattle.msg_tables.specs.Preorder.{is_in};
 ghost use Rattle.msg_tables.specs.declared.fault.ChangeFault.{ChangeFault};
 ghost use Rattle.msg_tables.specs.declared.edit.Edit.{Edit};
 ghost use Rattle.msg_tables.specs.declared.edit.MethodRow.{MethodRow};
-ghost use Rattle.msg_tables.specs.Edits.{Fits, IsOwn, Writes, added};
+ghost use Rattle.msg_tables.specs.Edits.{EditLacksRoom, Fits, IsOfTables, IsOwn, Writes};
 ghost use Rattle.msg_tables.specs.Log.{Log};
-ghost use Rattle.msg_tables.specs.Journal.{IsImpOf, IsJournalOf, TellAttached, TellBothRewritten, TellsRewritten, lists_rewritten};
+ghost use Rattle.msg_tables.specs.Journal.{IsImpOf, IsJournalOf, IsRemoved, TellAttached, TellBothRewritten, TellsDisposed, TellsRemoved, TellsRewritten, lists_rewritten};
 ghost use Rattle.msg_tables.specs.Refusal.{refusal};
+ghost use Rattle.msg_tables.specs.RowList.{HaveGrown};
 ghost use Rattle.msg_tables.specs.Stands.{StandsAt};
+ghost use Rattle.msg_tables.specs.View.{IsKept};
 
 use crate::change::Change;
-use crate::edit::{Edit, MethodRow};
+use crate::edit::MethodRow;
+use crate::entry::Entry;
 use crate::fault::ChangeFault;
 use crate::methods::MethodList;
 use crate::presence::Presence;
 use crate::tables::Tables;
-use msg_names::{ClassRef, ImpRef};
+use msg_names::{ClassRef, ImpRef, Selector};
 use std::alloc::AllocError;
 
 impl Tables {
     pub(crate) fn append(&mut self, row: MethodRow) -> Result<(), AllocError>
         requires { Fits self.old (Edit.Append row) }
         ensures ok { OnOk result (Writes self.old self.new (Edit.Append row)) }
-        ensures err { OnErr result (self.new ≡ self.old) }
-        ensures back { OnOk result (IsJournalOf (Entry.Added row.class 1 ∷ []) self.old self.new) }
+        ensures err { OnErr result (IsKept self.old self.new) }
+        ensures refused { OnErr result (EditLacksRoom self.old (Edit.Append row)) }
+        ensures grown { HaveGrown self.old.rooms self.new.rooms }
+        ensures back { OnOk result (IsJournalOf (Entry.Added row.class row.sel ∷ []) self.old self.new) }
     {
         self.lists.append_row(row.class.slot(), row.sel, row.imp)?;
         self.row_count += 1;
@@ -38,7 +42,8 @@ impl Tables {
         requires { IsOwn self.old row }
         ensures writes { Writes self.old self.new (Edit.Rewrite row) }
         ensures own { (other : MethodRow) → IsOwn self.old other → IsOwn self.new other }
-        ensures value { self.new ≡ record self.old { lists = lists_rewritten row self.old.lists } }
+        ensures value { self.new ≡ record self.old { lists = lists_rewritten row self.old.lists; rooms = self.new.rooms } }
+        ensures grown { HaveGrown self.old.rooms self.new.rooms }
         ensures was { IsImpOf self.old row result }
         ensures back { TellsRewritten row self.old self.new }
     {
@@ -64,7 +69,9 @@ impl Tables {
     ) -> Result<(), AllocError>
         requires { Fits self.old (Edit.Attach class methods class_methods) }
         ensures ok { OnOk result (Writes self.old self.new (Edit.Attach class methods.entry class_methods.entry)) }
-        ensures err { OnErr result ((self.new ≡ self.old) × (0 < length methods.now + length class_methods.now)) }
+        ensures err { OnErr result (IsKept self.old self.new) }
+        ensures refused { OnErr result (EditLacksRoom self.old (Edit.Attach class methods.entry class_methods.entry)) }
+        ensures grown { HaveGrown self.old.rooms self.new.rooms }
         ensures back { OnOk result (TellAttached class methods.now class_methods.now self.old self.new) }
     {
         let own = methods.as_slice();
@@ -86,30 +93,44 @@ impl Tables {
         self.supers[class as usize] = Some(Presence { superclass });
     }
 
-    fn write(&mut self, edit: Edit) -> Result<(), AllocError>
-        requires { Fits self.old edit }
-        ensures ok { OnOk result (Writes self.old self.new edit.entry) }
-        ensures err { OnErr result ((self.new ≡ self.old) × (0 < added edit.entry)) }
+    // Takes an own row away, and answers what tells of it.
+    pub(crate) fn remove(&mut self, class: ClassRef, sel: Selector) -> Entry
+        requires { IsOfTables self.old (Edit.Remove class sel) }
+        ensures writes { Writes self.old self.new (Edit.Remove class sel) }
+        ensures value { IsRemoved class sel self.old self.new }
+        ensures was { TellsRemoved self.old class sel result }
+        ensures back { IsJournalOf (result ∷ []) self.old self.new }
     {
-        match edit {
-            Edit::Append(row) => self.append(row),
-            Edit::Rewrite(row) => {
-                let _was = self.rewrite(row);
-                Ok(())
-            }
-            Edit::RewriteBoth(first, second) => {
-                self.rewrite_both(first, second);
-                Ok(())
-            }
-            Edit::Attach {
-                class,
-                methods,
-                class_methods,
-            } => self.attach(class, methods, class_methods),
-            Edit::Make(class, superclass) => {
-                self.make(class, superclass);
-                Ok(())
-            }
+        let removed = self.lists.remove_row(class.slot(), sel);
+        let (place, imp) = removed.unwrap();
+        self.row_count -= 1;
+        Entry::Removed {
+            class,
+            sel,
+            imp,
+            place,
+        }
+    }
+
+    // Takes a class out that has none below it, whose rows are gone, and answers what tells of it.
+    // One that comes right after its superclass, as the class that was made last does, costs no
+    // more; else all classes are gone over.
+    pub(crate) fn unmake(&mut self, class: u32) -> Entry
+        requires { IsOfTables self.old (Edit.Dispose class) }
+        ensures value { self.new ≡ record self.old { supers = slice_set self.old.supers class None; order = self.new.order } }
+        ensures was { TellsDisposed self.old class result }
+        ensures back { IsJournalOf (result ∷ []) self.old self.new }
+    {
+        let superclass = self.supers[class as usize].unwrap().superclass;
+        let place = place_in(&self.order, class);
+        let _class = self.order.remove(place);
+        self.supers[class as usize] = None;
+        self.preorder
+            .forget(class, superclass, &self.supers, &self.order);
+        Entry::Disposed {
+            class,
+            superclass,
+            place,
         }
     }
 
@@ -120,22 +141,18 @@ impl Tables {
     {
         self.judge(change.by_ref()).err()
     }
+}
 
-    /// Makes a change, or says why not and changes nothing.
-    ///
-    /// A method is looked up once; a row that is rewritten is found in its bucket. All growths come
-    /// first; only `Attach` goes over more than one row.
-    pub fn apply(&mut self, change: &Change) -> Result<(), ChangeFault>
-        ensures ok { OnOk result (Makes self.old change.now self.new) }
-        ensures err { OnErr result (self.new ≡ self.old) }
-        ensures fault { IfErr result (λ f. f ≢ ChangeFault.Memory → Refuses self.old change.now f) }
-        ensures classes { length self.new.supers ≡ length self.old.supers }
-        ensures counts { self.new.counts ≡ self.old.counts }
-        ensures memory { IsErrOf result ChangeFault.Memory → AcceptsRows self.old change.now }
-    {
-        let edit = self.judge(change.by_ref())?;
-        self.write(edit)?;
-        self.change_count += 1;
-        Ok(())
+// The place of a class in an order that has it. Those that were made last are found at once.
+fn place_in(order: &[u32], class: u32) -> usize
+    requires { is_in class order.now ≡ true }
+    ensures { slice_get order.now result ≡ Some class }
+{
+    for back in 0..order.len() {
+        let place = order.len() - 1 - back;
+        if order[place] == class {
+            return place;
+        }
     }
+    unreachable!()
 }

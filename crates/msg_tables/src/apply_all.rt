@@ -5,9 +5,11 @@ ghost use Rattle.std.specs.Vec.{vec_capacity};
 ghost use Rattle.msg_tables.specs.declared.fault.ChangeFault.{ChangeFault};
 ghost use Rattle.msg_tables.specs.Accepts.{Accepts, Makes, Refuses};
 ghost use Rattle.msg_tables.specs.ChangeList.{change_of};
-ghost use Rattle.msg_tables.specs.Journal.{NamesListed, classes_of};
-ghost use Rattle.msg_tables.specs.Making.{AreMadeBefore, AreMadeTo, HasPlaces, IsMade, IsReadPart, IsRefused, IsRefusedUnlessMemory, IsUndone, LacksMemory, StandAfter, TellsAll};
+ghost use Rattle.msg_tables.specs.Journal.{GoesBack, NamesListed, classes_of};
+ghost use Rattle.msg_tables.specs.Making.{AreHeld, AreMadeBefore, AreMadeTo, WantsMemory, WantsMore, HasPlaces, IsMade, IsReadPart, IsRefused, IsRefusedUnlessMemory, IsUndone, LacksMemory, StandAfter, TellsAll};
+ghost use Rattle.msg_tables.specs.RowList.{HaveGrown};
 ghost use Rattle.msg_tables.specs.Several.{made_by_all};
+ghost use Rattle.msg_tables.specs.View.{IsKept, IsWithinRoom};
 
 use crate::change::ChangeRef;
 use crate::change_list::ChangeList;
@@ -24,24 +26,6 @@ pub struct Refused {
 }
 
 impl Tables {
-    // Why a list isn't made for which there is no room: its first change would be refused, or else
-    // for want of memory.
-    pub(crate) fn lacks_room<L: ChangeList>(&self, changes: &L) -> Refused
-        ensures place { result.place ≡ 0 }
-        ensures fault { result.fault ≢ ChangeFault.Memory → IsRefused (L.changes changes.now) self.now result }
-        ensures memory { LacksMemory (L.changes changes.now) self.now result }
-    {
-        if changes.len() > 0 {
-            if let Err(fault) = self.judge(changes.get(0)) {
-                return Refused { place: 0, fault };
-            }
-        }
-        Refused {
-            place: 0,
-            fault: ChangeFault::Memory,
-        }
-    }
-
     // Makes a change of a list, and notes what it wrote.
     #[inline(always)]
     pub(crate) fn apply_part(
@@ -49,32 +33,39 @@ impl Tables {
         change: ChangeRef<'_>,
         journal: &mut Vec<Entry>,
     ) -> Result<(), ChangeFault>
-        requires { length journal.old.items + 2 ≤ vec_capacity journal.old }
+        requires within { IsWithinRoom self.old }
         ensures ok { OnOk result (Makes self.old (change_of change.entry) self.new) }
         ensures part { OnOk result (IsReadPart change.entry journal.old.items journal.new.items self.old self.new) }
-        ensures err { OnErr result ((self.new ≡ self.old) × (journal.new.items ≡ journal.old.items)) }
+        ensures err { OnErr result ((IsKept self.old self.new) × (journal.new.items ≡ journal.old.items)) }
+        ensures grown { HaveGrown self.old.rooms self.new.rooms }
         ensures fault { IfErr result (λ f. f ≢ ChangeFault.Memory → Refuses self.old (change_of change.entry) f) }
         ensures memory { IsErrOf result ChangeFault.Memory → Accepts self.old (change_of change.entry) }
+        ensures wanting { IsErrOf result ChangeFault.Memory → WantsMore (change_of change.entry) (length journal.old.items) (vec_capacity journal.old) self.old }
+        ensures within { IsWithinRoom self.new }
         ensures room { vec_capacity journal.old ≤ vec_capacity journal.new }
     {
         let edit = self.judge(change)?;
+        journal.reserve(self.entry_count(&edit))?;
         self.write_noted(edit, journal)?;
         self.change_count += 1;
         Ok(())
     }
 
     // Makes changes one after another, as far as one that is refused.
-    fn apply_each<L: ChangeList>(
+    pub(crate) fn apply_each<L: ChangeList>(
         &mut self,
         changes: &L,
         journal: &mut Vec<Entry>,
     ) -> Result<(), Refused>
         requires none { journal.old.items ≡ [] }
-        requires room { 2 * length (L.changes changes.now) ≤ vec_capacity journal.old }
+        requires within { IsWithinRoom self.old }
         ensures ok { OnOk result (IsMade (L.changes changes.now) journal.new.items self.old self.new) }
         ensures err { IfErr result (AreMadeTo (L.changes changes.now) journal.new.items self.old self.new) }
         ensures fault { IfErr result (IsRefusedUnlessMemory (L.changes changes.now) self.old) }
         ensures memory { IfErr result (LacksMemory (L.changes changes.now) self.old) }
+        ensures wanting { IfErr result (WantsMemory (L.changes changes.now) (vec_capacity journal.old) self.old) }
+        ensures held { OnOk result (AreHeld (L.changes changes.now) self.old self.new) }
+        ensures room { vec_capacity journal.old ≤ vec_capacity journal.new }
     {
         for place in 0..changes.len() {
             if let Err(fault) = self.apply_part(changes.get(place), journal) {
@@ -86,42 +77,46 @@ impl Tables {
 
     /// Makes a list of changes as one, or says which would be refused and changes nothing.
     ///
-    /// Each is judged and made after those before it, as by [`apply`](Tables::apply). The room for
-    /// what they write to the journal comes first, of two entries for each: it is that of an
-    /// earlier journal, made larger where it is too small. Where one is refused, or memory is
-    /// wanting, those before it are taken back, from the last to the first; that takes no memory,
-    /// and goes over the rows of the lists that rows are taken from, for each of these rows, and
-    /// over all classes where one was made.
+    /// Each is judged and made after those before it. What they write is noted in the room that is
+    /// lent, in place of what was there, which is made larger where it is too small: one entry for
+    /// each row that is added, rewritten or removed, and for each class. Where one is refused, or
+    /// memory is wanting, those before it are taken back, from the last to the first; that takes no
+    /// memory, and goes over the rows of the lists that rows are taken from, for each of these
+    /// rows, and over all classes where one was made or disposed of.
+    ///
+    /// Directly afterwards [`Written::way_back`] takes the list back. It writes as many entries, so
+    /// that the room of one that was as long serves it: it wants no memory.
     pub fn apply_all<L: ChangeList>(
         &mut self,
         changes: &L,
-        room: Written,
-    ) -> Result<Written, Refused>
+        written: &mut Written,
+    ) -> Result<(), Refused>
         ensures ok { OnOk result (StandAfter (L.changes changes.now) self.old self.new) }
-        ensures err { OnErr result (self.new ≡ self.old) }
+        ensures err { OnErr result (IsKept self.old self.new) }
+        ensures grown { HaveGrown self.old.rooms self.new.rooms }
         ensures fault { IfErr result (IsRefusedUnlessMemory (L.changes changes.now) self.old) }
         ensures memory { IfErr result (LacksMemory (L.changes changes.now) self.old) }
+        ensures wanting { IfErr result (WantsMemory (L.changes changes.now) written.old.room self.old) }
+        ensures held { OnOk result (AreHeld (L.changes changes.now) self.old self.new) }
+        ensures room { written.old.room ≤ written.new.room }
         ensures before { IfErr result (AreMadeBefore (L.changes changes.now) self.old) }
         ensures within { IfErr result (λ r. r.place < length (L.changes changes.now)) }
-        ensures places { IfOk result (HasPlaces (L.changes changes.now) self.old) }
-        ensures made { IfOk result (λ w. classes_of w ≡ made_by_all (L.changes changes.now)) }
-        ensures undo { IfOk result (IsUndone (L.changes changes.now) self.old) }
-        ensures few { IfOk result (λ w. length w ≤ 2 * length (L.changes changes.now)) }
-        ensures affected { IfOk result (TellsAll (L.changes changes.now) self.old) }
-        ensures listed { IfOk result (All (NamesListed (length self.new.supers))) }
+        ensures places { OnOk result (HasPlaces (L.changes changes.now) self.old written.new.entries) }
+        ensures made { OnOk result (classes_of written.new.entries ≡ made_by_all (L.changes changes.now)) }
+        ensures undo { OnOk result (IsUndone (L.changes changes.now) self.old written.new.entries) }
+        ensures noted { length written.new.entries ≤ written.new.room }
+        ensures back { OnOk result (GoesBack written.new.entries self.old.row_count self.old.change_count self.old self.new) }
+        ensures affected { OnOk result (TellsAll (L.changes changes.now) self.old written.new.entries) }
+        ensures listed { OnOk result (All (NamesListed (length self.new.supers)) written.new.entries) }
         ensures classes { length self.new.supers ≡ length self.old.supers }
         ensures counts { self.new.counts ≡ self.old.counts }
     {
         let start = self.start();
-        let Ok(mut entries) = room.emptied(2 * changes.len()) else {
-            return Err(self.lacks_room(changes));
-        };
-        match self.apply_each(changes, &mut entries) {
-            Ok(()) => Ok(Written { entries }),
-            Err(refused) => {
-                self.take_back(start, &mut entries);
-                Err(refused)
-            }
+        written.entries.clear();
+        let outcome = self.apply_each(changes, &mut written.entries);
+        if outcome.is_err() {
+            self.take_back(start, &mut written.entries);
         }
+        outcome
     }
 }

@@ -49,6 +49,18 @@ pub enum Change {
         class: u32,
         superclass: Option<u32>,
     },
+    /// `class_removeMethod` of the runtimes before Objective-C 2.0: the row that the class itself
+    /// has leaves, and one that it covered, as a category's covers that of its class, counts again.
+    /// Refused where the class itself has none.
+    Remove {
+        class: ClassRef,
+        sel: Selector,
+    },
+    /// `objc_disposeClassPair`: a made class, below which is none, leaves with its metaclass and
+    /// the rows of both. It may be made again.
+    DisposeClass {
+        class: u32,
+    },
 }
 
 /// A change whose lists of methods stand elsewhere: one that is read.
@@ -89,6 +101,21 @@ pub enum ChangeRef<'c> {
     AddClass {
         class: u32,
         superclass: Option<u32>,
+    },
+    /// As [`Change::Remove`].
+    Remove {
+        class: ClassRef,
+        sel: Selector,
+    },
+    /// As [`Change::DisposeClass`].
+    DisposeClass {
+        class: u32,
+    },
+    /// [`Change::Attach`] of one method, for a class or for its metaclass: it needs no list.
+    Cover {
+        class: ClassRef,
+        sel: Selector,
+        imp: ImpRef,
     },
 }
 
@@ -138,6 +165,11 @@ impl Change {
                 class: *class,
                 superclass: *superclass,
             },
+            Change::Remove { class, sel } => ChangeRef::Remove {
+                class: *class,
+                sel: *sel,
+            },
+            Change::DisposeClass { class } => ChangeRef::DisposeClass { class: *class },
         }
     }
 }

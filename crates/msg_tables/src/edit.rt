@@ -23,4 +23,6 @@ pub(crate) enum Edit<'c> {
         class_methods: &'c MethodList,
     },
     Make(u32, Option<u32>),
+    Remove(ClassRef, Selector),
+    Dispose(u32),
 }

@@ -1,21 +1,23 @@
 //! What a list of changes wrote.
 
-ghost use Rattle.std.specs.Prelude.{◌≡◌, ◌<◌, ◌≤◌, ℕ, [], IfOk, IfSome, None, OnErr, false, option_map, true};
+ghost use Rattle.std.specs.Prelude.{◌≡◌, ◌<◌, ◌≤◌, ℕ, [], IfOk, IfSome, OnErr};
 ghost use Rattle.std.specs.Vec.{vec_capacity};
-ghost use Rattle.msg_tables.specs.Journal.{AddsUndo, NamesListed, place_of, undo_entry, undo_journal};
+ghost use Rattle.msg_tables.specs.ChangeList.{change_of};
+ghost use Rattle.msg_tables.specs.Journal.{NamesListed, place_of, undo_entry, undo_journal};
 
-use crate::change::Change;
+use crate::change::ChangeRef;
+use crate::change_list::ChangeList;
 use msg_names::{ClassRef, ImpRef, Selector};
 use std::alloc::{AllocError, Global};
 use std::marker::Model;
 
-/// One thing that a change of a list wrote. A change has at most two of them.
+/// One thing that a change of a list wrote: a row, or a class.
 #[derive(Clone, Copy, Debug, PartialEq, Eq)]
 pub enum Entry {
-    /// So many rows at the end of a class reference's, which may be none.
+    /// A row at the end of a class reference's.
     Added {
         class: ClassRef,
-        count: usize,
+        sel: Selector,
     },
     /// Another implementation in an own row. It had this one.
     Rewrote {
@@ -23,9 +25,22 @@ pub enum Entry {
         sel: Selector,
         imp: ImpRef,
     },
+    /// A row that stood at this place of a class reference's rows left.
+    Removed {
+        class: ClassRef,
+        sel: Selector,
+        imp: ImpRef,
+        place: usize,
+    },
     /// A class.
     Made {
         class: u32,
+    },
+    /// A class that stood at this place of the order left.
+    Disposed {
+        class: u32,
+        superclass: Option<u32>,
+        place: usize,
     },
 }
 
@@ -37,88 +52,112 @@ impl Entry {
         ensures listed { (n : ℕ) → NamesListed n self → IfSome result (λ p. p.class < n) }
     {
         match self {
-            Entry::Added { count: 0, .. } => None,
             Entry::Added { class, .. } => Some(class),
             Entry::Rewrote { class, .. } => Some(class),
-            Entry::Made { .. } => None,
+            Entry::Removed { class, .. } => Some(class),
+            Entry::Made { .. } | Entry::Disposed { .. } => None,
         }
     }
 
-    // What takes the entry back, behind other changes. Answers whether anything does.
-    fn give_back(self, changes: &mut Vec<Change>) -> Result<bool, AllocError>
-        ensures back { IfOk result (λ has. has ≡ true → AddsUndo self changes.old.items changes.new.items) }
-        ensures none { IfOk result (λ has. has ≡ false → undo_entry self ≡ None) }
+    /// The change that takes the entry back.
+    pub fn undo(self) -> ChangeRef<'static>
+        ensures { change_of result ≡ undo_entry self }
     {
         match self {
-            Entry::Added { count, .. } => Ok(count == 0),
-            Entry::Rewrote { class, sel, imp } => {
-                changes.push(Change::Replace { class, sel, imp })?;
-                Ok(true)
-            }
-            Entry::Made { .. } => Ok(false),
+            Entry::Added { class, sel } => ChangeRef::Remove { class, sel },
+            Entry::Rewrote { class, sel, imp } => ChangeRef::Replace { class, sel, imp },
+            Entry::Removed {
+                class,
+                sel,
+                imp,
+                ..
+            } => ChangeRef::Cover { class, sel, imp },
+            Entry::Made { class } => ChangeRef::DisposeClass { class },
+            Entry::Disposed {
+                class,
+                superclass,
+                ..
+            } => ChangeRef::AddClass { class, superclass },
         }
     }
 }
 
-/// What a list of changes wrote, from the first entry to the last.
+/// What a list of changes wrote, from the first entry to the last, and room for more.
 #[derive(Drop)]
 pub struct Written {
     pub(crate) entries: Vec<Entry>,
 }
 
 impl Model for Written {
-    ghost use Rattle.std.specs.Prelude.{List};
-    ghost use Rattle.msg_tables.specs.declared.entry.Entry.{Entry};
+    ghost use Rattle.msg_tables.specs.Noted.{WrittenView, written_of};
 
-    ghost Value = { List Entry };
+    ghost Value = { WrittenView };
 
-    ghost view = { λ w. w.entries.items };
+    ghost view = { written_of };
 }
 
 impl Written {
     /// Of no changes, with no room for more.
     pub fn none(alloc: Global) -> Written
-        ensures { result ≡ [] }
+        ensures { result.entries ≡ [] }
     {
         Written {
             entries: Vec::new(alloc),
         }
     }
 
-    // Its room, made large enough for so many entries, with none in it.
-    pub(crate) fn emptied(self, count: usize) -> Result<Vec<Entry>, AllocError>
-        ensures none { IfOk result (λ entries. entries.items ≡ []) }
-        ensures room { IfOk result (λ entries. count ≤ vec_capacity entries) }
-        ensures wanting { OnErr result (0 < count) }
+    /// Of no changes, with room for so many entries.
+    pub fn with_room(alloc: Global, entries: usize) -> Result<Written, AllocError>
+        ensures none { IfOk result (λ w. w.entries ≡ []) }
+        ensures room { IfOk result (λ w. entries ≤ w.room) }
     {
-        let Written { mut entries } = self;
-        entries.clear();
-        entries.reserve(count)?;
-        Ok(entries)
+        Ok(Written {
+            entries: Vec::with_capacity(alloc, entries)?,
+        })
     }
 
-    /// The changes that take the list back directly after it, the last first: each own row that was
-    /// rewritten gets its implementation again. None where rows were added or a class was made,
-    /// which have no way back.
-    pub fn undo(&self, alloc: Global) -> Result<Option<Vec<Change>>, AllocError>
-        ensures { IfOk result (λ undo. option_map (λ changes. changes.items) undo ≡ undo_journal self.now) }
+    /// The changes that take the list back directly after it, the last first. They are read from
+    /// what was written, so that no memory is wanted.
+    pub fn way_back(&self) -> WayBack<'_>
+        ensures { result ≡ undo_journal self.now.entries }
     {
-        let mut changes = Vec::with_capacity(alloc, self.entries.len())?;
-        let mut left = self.entries.len();
-        while left > 0 {
-            left -= 1;
-            let entry = self.entries[left];
-            if !entry.give_back(&mut changes)? {
-                return Ok(None);
-            }
+        WayBack {
+            entries: &self.entries,
         }
-        Ok(Some(changes))
     }
 
     /// The entries.
     pub fn as_slice(&self) -> &[Entry]
-        ensures { result.now ≡ self.now }
+        ensures { result.now ≡ self.now.entries }
     {
         self.entries.as_slice()
+    }
+}
+
+/// The changes that take a list back directly after it, one for each entry, the last first.
+#[derive(Drop)]
+pub struct WayBack<'w> {
+    entries: &'w [Entry],
+}
+
+impl<'w> Model for WayBack<'w> {
+    ghost use Rattle.std.specs.Prelude.{List};
+    ghost use Rattle.msg_tables.specs.declared.change.Change.{Change};
+    ghost use Rattle.msg_tables.specs.Journal.{undo_journal};
+
+    ghost Value = { List Change };
+
+    ghost view = { λ w. undo_journal w.entries.now };
+}
+
+impl<'w> ChangeList for WayBack<'w> {
+    ghost changes = { λ way. way };
+
+    fn len(&self) -> usize {
+        self.entries.len()
+    }
+
+    fn get(&self, place: usize) -> ChangeRef<'_> {
+        self.entries[self.entries.len() - 1 - place].undo()
     }
 }

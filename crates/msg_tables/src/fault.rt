@@ -36,6 +36,9 @@ pub enum ChangeFault {
     /// The class is present already.
     #[error("duplicate class")]
     DuplicateClass,
+    /// The class was listed as tables were opened, or has a class below it.
+    #[error("class in use")]
+    ClassInUse,
 }
 
 impl From<AllocError> for ChangeFault {

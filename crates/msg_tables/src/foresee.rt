@@ -1,14 +1,17 @@
 //! What a lookup will find once a change is made.
 //!
-//! The chain stays, and at each class reference what the change writes comes before the class's own
-//! method. So the answer is known before the change is made, and takes no memory.
+//! The chain stays but for a class that is made or disposed of, and at each class reference what
+//! the change writes comes before the class's own method. So the answer is known before the change
+//! is made, and takes no memory.
 
 ghost use Rattle.std.specs.Prelude.{◌≡◌, ◌<◌, length, option_map, reverse, IfSome, true};
 ghost use Rattle.msg_names.specs.Number.{selector_number, imp_number};
 ghost use Rattle.msg_tables.specs.Log.{Log};
 ghost use Rattle.msg_tables.specs.After.{supers_after};
 ghost use Rattle.msg_tables.specs.Chain.{super_of, is_present};
-ghost use Rattle.msg_tables.specs.RowList.{own_in};
+ghost use Rattle.msg_tables.specs.RowList.{own_in, without_row};
+ghost use Rattle.msg_tables.specs.View.{kept};
+ghost use Rattle.msg_tables.specs.Written as spec;
 ghost use Rattle.msg_tables.specs.Written.{IsFoundAfter, IsOwnAfter, IsWritten, IsWrittenAt};
 ghost use Rattle.msg_tables.specs.Written.{SeeksAmong, imp_at_ref};
 
@@ -80,6 +83,7 @@ fn written(tables: &Tables, change: &Change, here: ClassRef, sel: Selector) -> O
             class_methods,
         } => attached(*class, methods, class_methods, here, sel),
         Change::AddClass { .. } => None,
+        Change::Remove { .. } | Change::DisposeClass { .. } => None,
     }
 }
 
@@ -90,6 +94,7 @@ fn is_present_after(tables: &Tables, change: &Change, here: ClassRef) -> bool
 {
     match change {
         Change::AddClass { class, .. } if *class == here.class => true,
+        Change::DisposeClass { class } if *class == here.class => false,
         _ => tables.present(here).is_some(),
     }
 }
@@ -105,6 +110,7 @@ fn above_after(tables: &Tables, change: &Change, here: ClassRef) -> Option<Class
         Change::AddClass { class, superclass } if *class == here.class => {
             here.above(*superclass)
         }
+        Change::DisposeClass { class } if *class == here.class => None,
         _ => tables.above(here),
     }
 }
@@ -151,12 +157,38 @@ fn exchanged(
     at_ref(second, here, other_sel, sel, tables.lookup(class, named))
 }
 
+// Whether the own row of a class reference and a selector leaves.
+fn row_leaves(change: &Change, here: ClassRef, sel: Selector) -> bool
+    ensures { result ≡ spec.row_leaves change.now here (selector_number sel) }
+{
+    match change {
+        Change::Remove { class, sel: named } => *class == here && *named == sel,
+        Change::DisposeClass { class } => *class == here.class,
+        _ => false,
+    }
+}
+
+// The implementation that a class reference itself will have for a selector whose own row leaves.
+fn own_left(tables: &Tables, change: &Change, here: ClassRef, sel: Selector) -> Option<ImpRef>
+    requires here { here.class < length tables.now.supers }
+    requires leaves { spec.row_leaves change.now here (selector_number sel) ≡ true }
+    ensures { IsOwnAfter tables.now change.now here sel result }
+{
+    match change {
+        Change::Remove { .. } => tables.covered(here, sel),
+        _ => None,
+    }
+}
+
 // The implementation that a class reference itself will have for a selector.
 fn own_after(tables: &Tables, change: &Change, here: ClassRef, sel: Selector) -> Option<ImpRef>
     requires here { here.class < length tables.now.supers }
     requires listed { SeeksAmong (length tables.now.supers) change.now }
     ensures { IsOwnAfter tables.now change.now here sel result }
 {
+    if row_leaves(change, here, sel) {
+        return own_left(tables, change, here, sel);
+    }
     match written(tables, change, here, sel) {
         Some(imp) => Some(imp),
         None => tables.own(here, sel),
@@ -195,6 +227,15 @@ fn found_from(
 }
 
 impl Tables {
+    // The implementation that the class reference itself would have for a selector, were its own
+    // row taken away.
+    fn covered(&self, class: ClassRef, sel: Selector) -> Option<ImpRef>
+        requires { class.class < length self.now.supers }
+        ensures { option_map imp_number result ≡ own_in (selector_number sel) (without_row (selector_number sel) (kept self.now.lists class)) }
+    {
+        self.lists.covered(class.slot(), sel)
+    }
+
     /// The implementation that [`Tables::lookup`] will find once a change is made, which is of
     /// listed classes.
     ///

@@ -1,10 +1,10 @@
 //! The rows of one class reference, with their index.
 
-ghost use Rattle.std.specs.Prelude.{◌≡◌, ◌+◌, ◌<◌, ◌≤◌, [], IfOk, OnOk, OnErr, length, option_map, replicate};
+ghost use Rattle.std.specs.Prelude.{◌≡◌, ◌+◌, ◌^◌, ◌<◌, ◌≤◌, [], IfOk, OnOk, OnErr, length, option_map, replicate, slice_index_or};
 ghost use Rattle.msg_names.specs.Number.{selector_number, imp_number};
 ghost use Rattle.msg_tables.specs.Buckets.{AreLinked, bucket_of};
 ghost use Rattle.msg_tables.specs.Methods.{method_numbers};
-ghost use Rattle.msg_tables.specs.RowList.{own_in, last_index, with_imp, with_row, without_last};
+ghost use Rattle.msg_tables.specs.RowList.{KeepsRoom, own_in, last_index, with_imp, with_row, with_row_at, without_last, without_row};
 
 use msg_names::{ImpRef, Selector};
 use std::alloc::{AllocError, Global};
@@ -33,8 +33,9 @@ impl Model for IndexedRows {
     ghost invariant = { IsIndexed };
 }
 
-// The bucket of a selector, of so many. Numbers that follow one another have buckets that do; those
-// that go by 8, 16 or 32, as where a host makes them of addresses, are spread too.
+// The bucket of a selector, of so many. Numbers that follow one another have buckets that do. Those
+// that go by any step, as where a host makes them of addresses, are spread too: to the number a 32nd
+// of it is added, times the golden ratio's 0.618 (Knuth, The Art of Computer Programming, 6.4).
 #[inline(always)]
 fn bucket(sel: Selector, count: usize) -> usize
     requires { 0 < count }
@@ -42,7 +43,7 @@ fn bucket(sel: Selector, count: usize) -> usize
     ensures inside { result < count }
 {
     let number = sel.number() as usize;
-    (number + number / 32) & (count - 1)
+    (number + number * 2_654_435_769 / 137_438_953_472) & (count - 1)
 }
 
 // Links rows into buckets that are all empty.
@@ -59,6 +60,46 @@ fn link(rows: &[(Selector, ImpRef)], older: &mut [usize], newest: &mut [usize])
         older[at] = newest[bucket];
         newest[bucket] = at + 1;
     }
+}
+
+// Links rows anew, into the buckets that there are.
+fn relink(rows: &[(Selector, ImpRef)], older: &mut [usize], newest: &mut [usize])
+    requires buckets { 0 < length newest.old }
+    requires older { length older.old ≡ length rows.now }
+    ensures linked { AreLinked (method_numbers rows.now) (length rows.now) older.new newest.new }
+    ensures older { length older.new ≡ length older.old }
+    ensures newest { length newest.new ≡ length newest.old }
+{
+    newest.fill(0);
+    link(rows, older, newest);
+}
+
+// Makes so many buckets at least.
+fn widen(
+    alloc: Global,
+    rows: &[(Selector, ImpRef)],
+    older: &mut [usize],
+    newest: &mut Vec<usize>,
+    count: usize,
+) -> Result<(), AllocError>
+    requires buckets { 0 < length newest.old.items }
+    requires older { length older.old ≡ length rows.now }
+    requires linked { AreLinked (method_numbers rows.now) (length rows.now) older.old newest.old.items }
+    ensures linked { AreLinked (method_numbers rows.now) (length rows.now) older.new newest.new.items }
+    ensures older { length older.new ≡ length older.old }
+    ensures more { length newest.old.items ≤ length newest.new.items }
+    ensures ok { OnOk result (count ≤ length newest.new.items) }
+    ensures refused { OnErr result (length newest.old.items < count) }
+{
+    if newest.len() < count {
+        let Some(count) = count.checked_next_power_of_two() else {
+            return Err(AllocError);
+        };
+        let mut wider = vec![in alloc; 0; count]?;
+        link(rows, older, &mut wider);
+        *newest = wider;
+    }
+    Ok(())
 }
 
 impl IndexedRows {
@@ -99,26 +140,28 @@ impl IndexedRows {
         Some(self.rows[self.place(sel)?].1)
     }
 
-    // Makes as many buckets as there will be rows, at least.
-    fn widen(&mut self, alloc: Global, count: usize) -> Result<(), AllocError>
-        ensures { self.new ≡ self.old }
+    // The implementation that would be in a selector's last row, were this one taken away. All rows
+    // are gone over.
+    pub(crate) fn covered(&self, sel: Selector) -> Option<ImpRef>
+        ensures { option_map imp_number result ≡ own_in (selector_number sel) (without_row (selector_number sel) self.now.rows) }
     {
-        if self.newest.len() < count {
-            let Some(count) = count.checked_next_power_of_two() else {
-                return Err(AllocError);
-            };
-            let mut newest = vec![in alloc; 0; count]?;
-            link(&self.rows, &mut self.older, &mut newest);
-            self.newest = newest;
+        let mut last = None;
+        let mut covered = None;
+        for row in &self.rows {
+            if row.0.number() == sel.number() {
+                covered = last;
+                last = Some(row.1);
+            }
         }
-        Ok(())
+        covered
     }
 
     // Makes room for so many more rows.
     pub(crate) fn reserve(&mut self, alloc: Global, more: usize) -> Result<(), AllocError>
         ensures rows { self.new.rows ≡ self.old.rows }
         ensures room { OnOk result (more ≤ self.new.room) }
-        ensures refused { OnErr result (0 < more) }
+        ensures refused { OnErr result (self.old.room < more) }
+        ensures keeps { KeepsRoom self.old self.new }
     {
         if more == 0 {
             return Ok(());
@@ -126,7 +169,7 @@ impl IndexedRows {
         self.rows.reserve(more)?;
         self.older.reserve(more)?;
         let count = self.rows.len().saturating_add(more);
-        self.widen(alloc, count)
+        widen(alloc, &self.rows, &mut self.older, &mut self.newest, count)
     }
 
     pub(crate) fn push(&mut self, sel: Selector, imp: ImpRef)
@@ -147,6 +190,7 @@ impl IndexedRows {
     pub(crate) fn set(&mut self, sel: Selector, imp: ImpRef) -> Option<ImpRef>
         ensures rows { self.new.rows ≡ with_imp sel imp self.old.rows }
         ensures was { option_map imp_number result ≡ own_in (selector_number sel) self.old.rows }
+        ensures keeps { KeepsRoom self.old self.new }
     {
         if let Some(place) = self.place(sel) {
             let was = self.rows[place].1;
@@ -159,7 +203,8 @@ impl IndexedRows {
 
     // Takes the last row away, where there is one.
     fn pop(&mut self)
-        ensures { self.new.rows ≡ without_last 1 self.old.rows }
+        ensures rows { self.new.rows ≡ without_last 1 self.old.rows }
+        ensures keeps { KeepsRoom self.old self.new }
     {
         let Some((sel, _)) = self.rows.pop() else {
             return;
@@ -169,12 +214,68 @@ impl IndexedRows {
         self.newest[bucket] = older.unwrap();
     }
 
+    // How many there are.
+    pub(crate) fn len(&self) -> usize
+        ensures count { result ≡ length self.now.rows }
+        ensures few { result < 2 ^ 63 }
+    {
+        self.rows.as_slice().len()
+    }
+
+    // The row of a place.
+    pub(crate) fn row(&self, place: usize) -> (Selector, ImpRef)
+        requires { place < length self.now.rows }
+        ensures { (selector_number result.0, imp_number result.1) ≡ slice_index_or self.now.rows place (0, 0) }
+    {
+        self.rows[place]
+    }
+
     // Takes so many rows at the end away.
     pub(crate) fn shorten(&mut self, count: usize)
-        ensures { self.new.rows ≡ without_last count self.old.rows }
+        ensures rows { self.new.rows ≡ without_last count self.old.rows }
+        ensures keeps { KeepsRoom self.old self.new }
     {
         for _step in 0..count {
             self.pop();
         }
+    }
+
+    // Takes a selector's last row away, where it has one, and answers where it stood, with its
+    // implementation. There is room for one more row then.
+    //
+    // Where rows stand behind it, all are moved up and linked anew; the last row, as one that was
+    // just added, costs a bucket.
+    pub(crate) fn remove(&mut self, sel: Selector) -> Option<(usize, ImpRef)>
+        ensures rows { self.new.rows ≡ without_row (selector_number sel) self.old.rows }
+        ensures was { option_map (λ r. imp_number r.1) result ≡ own_in (selector_number sel) self.old.rows }
+        ensures place { option_map (λ r. r.0) result ≡ last_index (selector_number sel) self.old.rows }
+        ensures keeps { KeepsRoom self.old self.new }
+    {
+        let Some(place) = self.place(sel) else {
+            return None;
+        };
+        let imp = self.rows[place].1;
+        if place + 1 == self.rows.len() {
+            self.pop();
+            return Some((place, imp));
+        }
+        let _row = self.rows.remove(place);
+        let _older = self.older.pop();
+        relink(&self.rows, &mut self.older, &mut self.newest);
+        Some((place, imp))
+    }
+
+    // Puts a row at the place where it stood, for which there is room.
+    pub(crate) fn put_back(&mut self, place: usize, sel: Selector, imp: ImpRef)
+        requires room { 0 < self.old.room }
+        requires place { place ≤ length self.old.rows }
+        ensures rows { self.new.rows ≡ with_row_at place sel imp self.old.rows }
+        ensures room { self.old.room ≤ self.new.room + 1 }
+    {
+        let row: Result<_, _> = self.rows.insert(place, (sel, imp));
+        row.unwrap();
+        let older: Result<_, _> = self.older.push(0);
+        older.unwrap();
+        relink(&self.rows, &mut self.older, &mut self.newest);
     }
 }

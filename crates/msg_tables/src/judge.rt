@@ -3,7 +3,8 @@
 
 ghost use Rattle.std.specs.Prelude.{◌≡◌, ◌<◌, ◌≤◌, ◌||◌, length, false, true, not, IfOk, IfSome, IsSome, None};
 ghost use Rattle.msg_names.specs.Number.{selector_number, imp_number};
-ghost use Rattle.msg_tables.specs.Chain.{is_present};
+ghost use Rattle.msg_tables.specs.Chain as below;
+ghost use Rattle.msg_tables.specs.Chain.{is_directly_below as spec_below, is_present};
 ghost use Rattle.msg_tables.specs.ChangeList.{change_of};
 ghost use Rattle.msg_tables.specs.Edits.{Fits, HasRoomFor, IsJudged, adding, replacing, setting};
 ghost use Rattle.msg_tables.specs.Edits.{fault_of_methods, fault_of_row};
@@ -12,13 +13,15 @@ ghost use Rattle.msg_tables.specs.Origin.{any_lacks_imp, any_misfits, lacks_imp,
 ghost use Rattle.msg_tables.specs.Refusal as spec;
 ghost use Rattle.msg_tables.specs.Stands.{AtLog};
 ghost use Rattle.msg_tables.specs.View.{HasClass, HaveListedImps, own_of};
-ghost use Rattle.msg_tables.specs.declared.change.Change.TheVariants.{AddClass, Attach, Exchange};
+ghost use Rattle.msg_tables.specs.declared.change.Change.TheVariants.{AddClass, Attach, DisposeClass, Exchange, Remove};
+ghost use Rattle.msg_tables.specs.Undo.{covering};
 
 use crate::change::ChangeRef;
 use crate::counts::{last_imp, misfits, unlike};
 use crate::edit::{Edit, MethodRow};
 use crate::fault::ChangeFault;
 use crate::methods::MethodList;
+use crate::presence::Presence;
 use crate::tables::Tables;
 use msg_names::{ClassRef, ImpRef, Selector};
 
@@ -26,6 +29,25 @@ fn row(class: ClassRef, sel: Selector, imp: ImpRef) -> MethodRow
     ensures { result ≡ record { class = class; sel = sel; imp = imp } }
 {
     MethodRow { class, sel, imp }
+}
+
+// A class has this superclass.
+fn is_directly_below(class: u32, presence: Option<Presence>) -> bool
+    ensures { result ≡ spec_below class presence }
+{
+    match presence {
+        Some(presence) => presence.superclass == Some(class),
+        None => false,
+    }
+}
+
+// Some class that is present stands directly below one. All are gone over.
+fn has_subclass(supers: &[Option<Presence>], class: u32) -> bool
+    ensures { result ≡ below.has_subclass supers.now class }
+{
+    supers
+        .iter()
+        .any(|presence| is_directly_below(class, *presence))
 }
 
 impl Tables {
@@ -332,6 +354,73 @@ impl Tables {
         Ok(Edit::Make(class, superclass))
     }
 
+    fn judge_remove<'c>(&self, class: ClassRef, sel: Selector) -> Result<Edit<'c>, ChangeFault>
+        ensures meaning { IsJudged self.now (Remove class sel) result }
+        ensures fits { IfOk result (Fits self.now) }
+        ensures places { IfOk result (WritesAt self.now (Remove class sel)) }
+        ensures made { IfOk result (MakesTheSame (Remove class sel)) }
+        ensures undo { IfOk result (IsUndoneBy self.now (Remove class sel)) }
+    {
+        if self.no_class(class) {
+            return Err(ChangeFault::NoClass);
+        }
+        if self.unlike(sel, sel) {
+            return Err(ChangeFault::ArgumentCount);
+        }
+        if !self.has_own(class, sel) {
+            return Err(ChangeFault::NoMethod);
+        }
+        if self.is_full(0) {
+            return Err(ChangeFault::Limit);
+        }
+        Ok(Edit::Remove(class, sel))
+    }
+
+    // The class was listed as tables were opened, or has a class below it.
+    fn is_in_use(&self, class: u32) -> bool
+        requires { is_present self.now.supers class ≡ true }
+        ensures meaning { AtLog self.now (λ h. result ≡ spec.is_in_use h class) }
+        ensures below { result ≡ false → below.has_subclass self.now.supers class ≡ false }
+    {
+        class < self.listed || has_subclass(&self.supers, class)
+    }
+
+    fn judge_dispose<'c>(&self, class: u32) -> Result<Edit<'c>, ChangeFault>
+        ensures meaning { IsJudged self.now (DisposeClass class) result }
+        ensures fits { IfOk result (Fits self.now) }
+        ensures places { IfOk result (WritesAt self.now (DisposeClass class)) }
+        ensures made { IfOk result (MakesTheSame (DisposeClass class)) }
+        ensures undo { IfOk result (IsUndoneBy self.now (DisposeClass class)) }
+    {
+        if self.no_class(ClassRef { class, meta: false }) {
+            return Err(ChangeFault::NoClass);
+        }
+        if self.is_full(0) {
+            return Err(ChangeFault::Limit);
+        }
+        if self.is_in_use(class) {
+            return Err(ChangeFault::ClassInUse);
+        }
+        Ok(Edit::Dispose(class))
+    }
+
+    // A category of one method.
+    fn judge_cover<'c>(&self, row: MethodRow) -> Result<Edit<'c>, ChangeFault>
+        ensures meaning { IsJudged self.now (covering row.class (selector_number row.sel) (imp_number row.imp)) result }
+        ensures fits { IfOk result (Fits self.now) }
+        ensures places { IfOk result (WritesAt self.now (covering row.class (selector_number row.sel) (imp_number row.imp))) }
+        ensures made { IfOk result (MakesTheSame (covering row.class (selector_number row.sel) (imp_number row.imp))) }
+        ensures undo { IfOk result (IsUndoneBy self.now (covering row.class (selector_number row.sel) (imp_number row.imp))) }
+    {
+        if let Some(fault) = self.unfit(row) {
+            return Err(fault);
+        }
+        if self.is_full(1) {
+            return Err(ChangeFault::Limit);
+        }
+        Ok(Edit::Append(row))
+    }
+
     // What the change would write, or the least fault for which it is refused.
     #[inline(always)]
     pub(crate) fn judge<'c>(&self, change: ChangeRef<'c>) -> Result<Edit<'c>, ChangeFault>
@@ -357,6 +446,9 @@ impl Tables {
                 class_methods,
             } => self.judge_attach(class, methods, class_methods),
             ChangeRef::AddClass { class, superclass } => self.judge_make(class, superclass),
+            ChangeRef::Remove { class, sel } => self.judge_remove(class, sel),
+            ChangeRef::DisposeClass { class } => self.judge_dispose(class),
+            ChangeRef::Cover { class, sel, imp } => self.judge_cover(row(class, sel, imp)),
         }
     }
 }

@@ -52,7 +52,7 @@ pub fn a_made_class_changes_no_other()
     ensures { MadeClassChangesNoOther }
 {}
 
-/// A class that is present keeps its superclass, and so does its metaclass.
+/// A listed class keeps its superclass, and so does its metaclass.
 pub fn a_superclass_stays()
     ensures { SuperclassStays }
 {}

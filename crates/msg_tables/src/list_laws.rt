@@ -1,10 +1,12 @@
 //! Laws of lists of changes, which are made as one or undone.
 
+ghost use Rattle.msg_tables.specs.RoomLaws.{WayBackWantsNoMemory, WayBackWritesNoMore};
 ghost use Rattle.std.specs.Prelude.{◌≡◌, List};
 ghost use Rattle.msg_tables.specs.History.{History, BeginsWith, log};
 ghost use Rattle.msg_tables.specs.ListLaws.{AcceptedWhereNoneIsRefused, AffectedIsAtItsPlaces, ListAffectsNoMore};
 ghost use Rattle.msg_tables.specs.ListLaws.{NoneIsRefusedWhereAccepted, OneIsRefusedAsItself, RefusedIsFirst};
-ghost use Rattle.msg_tables.specs.ListLaws.{UndoneLookupsAreAsBefore, UndoneTablesAreAsBefore, WhatIsBelowStays};
+ghost use Rattle.msg_tables.specs.ListLaws.{EveryListHasWayBack, ListAndWayBackReachTheSame, WayBackBringsBackEachLookup};
+ghost use Rattle.msg_tables.specs.ListLaws.{WayBackBringsBackTheTables, WayBackHoldsNoMore, WayBackIsAccepted, WhatIsBelowStays};
 ghost use Rattle.msg_tables.specs.Log.{Log, table, table_after_all};
 ghost use Rattle.msg_tables.specs.Refusal.{IsLog};
 ghost use Rattle.msg_tables.specs.Several.{and_all};
@@ -53,20 +55,50 @@ pub fn a_change_of_parts_affects_no_more()
     ensures { ListAffectsNoMore }
 {}
 
-/// What stands below a class reference stays there while parts are made: what a part affects can be
-/// sought once all are made.
+/// What stands below a class reference stays there while parts are made, unless its class is
+/// disposed of: what a part affects can be sought once all are made.
 pub fn what_is_below_stays_below()
     ensures { WhatIsBelowStays }
 {}
 
-/// What some change of a list affects is, once all are made, of a class that was made, or is a
-/// class reference at which one wrote, or below one.
+/// What some change of a list affects is, once all are made, of a class that was made or disposed
+/// of, or is a class reference at which one wrote, or below one.
 pub fn what_is_affected_is_at_its_places()
     ensures { AffectedIsAtItsPlaces }
 {}
 
-/// A change and what takes it back leave the tables, and so each lookup, as they were.
-pub fn an_undone_change_is_as_before()
-    ensures tables { UndoneTablesAreAsBefore }
-    ensures lookups { UndoneLookupsAreAsBefore }
+/// Every accepted list has a way back: accepted directly afterwards, as long as so many changes
+/// are, it brings back each lookup.
+pub fn every_list_has_a_way_back()
+    ensures { EveryListHasWayBack }
+{}
+
+/// Directly after a list its way back is accepted, as long as so many changes are.
+pub fn a_way_back_is_accepted()
+    ensures { WayBackIsAccepted }
+{}
+
+/// A way back brings back each lookup, and the tables but for the order of rows that no lookup
+/// compares.
+pub fn a_way_back_brings_back_each_lookup()
+    ensures lookups { WayBackBringsBackEachLookup }
+    ensures tables { WayBackBringsBackTheTables }
+{}
+
+/// A list and its way back reach the same class references.
+pub fn what_a_list_and_its_way_back_reach_is_the_same()
+    ensures { ListAndWayBackReachTheSame }
+{}
+
+/// A way back holds no more rows at any time than its list did, in each class reference: where
+/// there was room for the list's there is for its own.
+pub fn a_way_back_holds_no_more_rows()
+    ensures { WayBackHoldsNoMore }
+{}
+
+/// A way back writes no more entries than its list did, and wants no memory: where there is as much
+/// room as `Tables::apply_all` left (`held`, `room`), there is enough for it (`wanting`).
+pub fn a_way_back_wants_no_memory()
+    ensures entries { WayBackWritesNoMore }
+    ensures memory { WayBackWantsNoMemory }
 {}

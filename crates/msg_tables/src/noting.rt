@@ -1,18 +1,22 @@
 //! Making changes and noting what they write, so that it can be taken back.
 
-ghost use Rattle.std.specs.Prelude.{◌≡◌, ◌<◌, ◌≤◌, ◌+◌, [], ◌∷◌, ◌++◌, OnOk, OnErr, length};
+ghost use Rattle.std.specs.Prelude.{◌≡◌, ◌<◌, ◌≤◌, ◌+◌, [], ◌∷◌, ◌++◌, OnOk, OnErr, length, option_map, reverse};
 ghost use Rattle.std.specs.Vec.{vec_capacity};
-ghost use Rattle.msg_tables.specs.declared.edit.Edit.TheVariants.{Append, Attach, Make, Rewrite, RewriteBoth};
+ghost use Rattle.msg_tables.specs.declared.edit.Edit.TheVariants.{Append, Attach, Dispose, Make, Remove, Rewrite, RewriteBoth};
+ghost use Rattle.msg_tables.specs.Methods.{method_numbers};
 ghost use Rattle.msg_tables.specs.declared.edit.MethodRow.{MethodRow};
 ghost use Rattle.msg_tables.specs.declared.entry.Entry.{Entry};
-ghost use Rattle.msg_tables.specs.Edits.{Fits, IsOwn};
-ghost use Rattle.msg_tables.specs.Journal.{IsAttachNoted, IsNoted};
+ghost use Rattle.msg_names.specs.Number.{selector_number};
+ghost use Rattle.msg_tables.specs.Edits.{EditLacksRoom, Fits, IsOfTables, IsOwn};
+ghost use Rattle.msg_tables.specs.Journal.{added_all, entry_count, IsAttachNoted, IsNoted, TakesRows};
+ghost use Rattle.msg_tables.specs.RowList.{HaveGrown, last_row};
+ghost use Rattle.msg_tables.specs.View.{IsKept, kept};
 
 use crate::edit::{Edit, MethodRow};
 use crate::entry::Entry;
 use crate::methods::MethodList;
 use crate::tables::Tables;
-use msg_names::{ClassRef, ImpRef};
+use msg_names::{ClassRef, ImpRef, Selector};
 use std::alloc::AllocError;
 
 // One more entry, for which there is room.
@@ -41,23 +45,105 @@ fn note_rewritten(journal: &mut Vec<Entry>, row: MethodRow, was: ImpRef)
     note(journal, rewrote);
 }
 
+// A row that was added.
+#[inline(always)]
+fn note_row(journal: &mut Vec<Entry>, class: ClassRef, sel: Selector)
+    requires { length journal.old.items < vec_capacity journal.old }
+    ensures items { journal.new.items ≡ journal.old.items ++ Entry.Added class sel ∷ [] }
+    ensures room { vec_capacity journal.old ≤ vec_capacity journal.new }
+{
+    note(journal, Entry::Added { class, sel });
+}
+
+// Rows that were added, from the last entry to the first.
+fn note_added(journal: &mut Vec<Entry>, class: ClassRef, methods: &[(Selector, ImpRef)])
+    requires { length journal.old.items + length methods.now ≤ vec_capacity journal.old }
+    ensures items { journal.new.items ≡ journal.old.items ++ added_all class (reverse (method_numbers methods.now)) }
+    ensures room { vec_capacity journal.old ≤ vec_capacity journal.new }
+{
+    for (sel, _) in methods.iter().rev() {
+        note_row(journal, class, *sel);
+    }
+}
+
 impl Tables {
+    // How many entries tell of an edit.
+    pub(crate) fn entry_count(&self, edit: &Edit) -> usize
+        ensures { result ≡ entry_count self.now edit.now }
+    {
+        match edit {
+            Edit::RewriteBoth(_, _) => 2,
+            Edit::Attach {
+                methods,
+                class_methods,
+                ..
+            } => methods.as_slice().len() + class_methods.as_slice().len(),
+            Edit::Dispose(class) => {
+                let at = 2 * *class as usize;
+                self.lists.rows_at(at) + self.lists.rows_at(at + 1) + 1
+            }
+            _ => 1,
+        }
+    }
+
+    // The selector of the last row of a class reference.
+    fn last_selector(&self, class: ClassRef) -> Option<Selector>
+        ensures { option_map selector_number result ≡ option_map (λ m. m.0) (last_row (kept self.now.lists class)) }
+    {
+        Some(self.lists.last_row(class.slot())?.0)
+    }
+
+    fn remove_noted(&mut self, class: ClassRef, sel: Selector, journal: &mut Vec<Entry>)
+        requires own { IsOfTables self.old (Remove class sel) }
+        requires room { length journal.old.items < vec_capacity journal.old }
+        ensures journals { IsNoted (Remove class sel) journal.old journal.new self.old self.new }
+        ensures room { vec_capacity journal.old ≤ vec_capacity journal.new }
+    {
+        let removed = self.remove(class, sel);
+        note(journal, removed);
+    }
+
+    // Takes the rows of a class reference away, the last first, and notes them.
+    fn empty_noted(&mut self, class: ClassRef, journal: &mut Vec<Entry>)
+        requires class { class.class < length self.old.supers }
+        requires room { length journal.old.items + length (kept self.old.lists class) ≤ vec_capacity journal.old }
+        ensures takes { TakesRows class journal.old.items journal.new.items self.old self.new }
+        ensures none { kept self.new.lists class ≡ [] }
+        ensures room { vec_capacity journal.old ≤ vec_capacity journal.new }
+    {
+        while let Some(sel) = self.last_selector(class) {
+            let row = self.remove(class, sel);
+            note(journal, row);
+        }
+    }
+
+    // Its metaclass's rows leave first, so that what takes them back begins with its own, the
+    // oldest first.
+    fn dispose_noted(&mut self, class: u32, journal: &mut Vec<Entry>)
+        requires leaf { IsOfTables self.old (Dispose class) }
+        requires room { length journal.old.items + entry_count self.old (Dispose class) ≤ vec_capacity journal.old }
+        ensures journals { IsNoted (Dispose class) journal.old journal.new self.old self.new }
+        ensures room { vec_capacity journal.old ≤ vec_capacity journal.new }
+    {
+        let _ = &self.supers;
+        self.empty_noted(ClassRef { class, meta: true }, journal);
+        self.empty_noted(ClassRef { class, meta: false }, journal);
+        let disposed = self.unmake(class);
+        note(journal, disposed);
+    }
+
     #[inline(always)]
     fn append_noted(&mut self, row: MethodRow, journal: &mut Vec<Entry>) -> Result<(), AllocError>
         requires fits { Fits self.old (Append row) }
         requires room { length journal.old.items < vec_capacity journal.old }
         ensures ok { OnOk result (IsNoted (Append row) journal.old journal.new self.old self.new) }
-        ensures err { OnErr result ((self.new ≡ self.old) × (journal.new.items ≡ journal.old.items)) }
+        ensures err { OnErr result ((IsKept self.old self.new) × (journal.new.items ≡ journal.old.items)) }
+        ensures refused { OnErr result (EditLacksRoom self.old (Append row)) }
+        ensures grown { HaveGrown self.old.rooms self.new.rooms }
         ensures room { vec_capacity journal.old ≤ vec_capacity journal.new }
     {
         self.append(row)?;
-        note(
-            journal,
-            Entry::Added {
-                class: row.class,
-                count: 1,
-            },
-        );
+        note_row(journal, row.class, row.sel);
         Ok(())
     }
 
@@ -94,26 +180,16 @@ impl Tables {
         journal: &mut Vec<Entry>,
     ) -> Result<(), AllocError>
         requires fits { Fits self.old (Attach class own meta) }
-        requires room { length journal.old.items + 2 ≤ vec_capacity journal.old }
+        requires room { length journal.old.items + (length own.now + length meta.now) ≤ vec_capacity journal.old }
         ensures ok { OnOk result (IsAttachNoted class own.entry meta.entry journal.old journal.new self.old self.new) }
-        ensures err { OnErr result ((self.new ≡ self.old) × (journal.new.items ≡ journal.old.items)) }
+        ensures err { OnErr result ((IsKept self.old self.new) × (journal.new.items ≡ journal.old.items)) }
+        ensures refused { OnErr result (EditLacksRoom self.old (Attach class own.entry meta.entry)) }
+        ensures grown { HaveGrown self.old.rooms self.new.rooms }
         ensures room { vec_capacity journal.old ≤ vec_capacity journal.new }
     {
         self.attach(class, own, meta)?;
-        note(
-            journal,
-            Entry::Added {
-                class: ClassRef { class, meta: false },
-                count: own.as_slice().len(),
-            },
-        );
-        note(
-            journal,
-            Entry::Added {
-                class: ClassRef { class, meta: true },
-                count: meta.as_slice().len(),
-            },
-        );
+        note_added(journal, ClassRef { class, meta: false }, own.as_slice());
+        note_added(journal, ClassRef { class, meta: true }, meta.as_slice());
         Ok(())
     }
 
@@ -135,9 +211,11 @@ impl Tables {
         journal: &mut Vec<Entry>,
     ) -> Result<(), AllocError>
         requires fits { Fits self.old edit }
-        requires room { length journal.old.items + 2 ≤ vec_capacity journal.old }
+        requires room { length journal.old.items + entry_count self.old edit ≤ vec_capacity journal.old }
         ensures ok { OnOk result (IsNoted edit.entry journal.old journal.new self.old self.new) }
-        ensures err { OnErr result ((self.new ≡ self.old) × (journal.new.items ≡ journal.old.items)) }
+        ensures err { OnErr result ((IsKept self.old self.new) × (journal.new.items ≡ journal.old.items)) }
+        ensures refused { OnErr result (EditLacksRoom self.old edit.entry) }
+        ensures grown { HaveGrown self.old.rooms self.new.rooms }
         ensures room { vec_capacity journal.old ≤ vec_capacity journal.new }
     {
         match edit {
@@ -157,6 +235,14 @@ impl Tables {
             } => self.attach_noted(class, methods, class_methods, journal),
             Edit::Make(class, superclass) => {
                 self.make_noted(class, superclass, journal);
+                Ok(())
+            }
+            Edit::Remove(class, sel) => {
+                self.remove_noted(class, sel, journal);
+                Ok(())
+            }
+            Edit::Dispose(class) => {
+                self.dispose_noted(class, journal);
                 Ok(())
             }
         }

@@ -82,6 +82,7 @@ impl Tables {
             supers,
             order,
             preorder,
+            listed: origin.listed_count(),
             lists: RowLists::blank(alloc, 2 * count as usize)?,
             counts: copied_counts(&origin.counts)?,
             limits: origin.limits(),

@@ -1,12 +1,12 @@
 //! The classes that are present, in an order in which those below a class come right after it.
 
-ghost use Rattle.std.specs.Prelude.{◌≡◌, ◌<◌, ◌≤◌, [], ◌∷◌, ◌++◌, length, replicate, true};
+ghost use Rattle.std.specs.Prelude.{◌≡◌, ◌<◌, ◌≤◌, [], ◌∷◌, ◌++◌, length, replicate, false, true};
 ghost use Rattle.std.specs.Prelude.{IfOk, IfSome, None, Some};
 ghost use Rattle.std.specs.Vec.{vec_capacity};
 ghost use Rattle.msg_tables.specs.declared.limits.TheConstants.{MAX_CLASSES};
 ghost use Rattle.msg_tables.specs.Chain.{is_present, presence_of};
 ghost use Rattle.msg_tables.specs.Order.{IsOrder};
-ghost use Rattle.msg_tables.specs.Preorder.{AreAllBelow, CanBeGathered, CanBeSuperclass, HavePreorder};
+ghost use Rattle.msg_tables.specs.Preorder.{AreAllBelow, CanBeForgotten, CanBeGathered, CanBeSuperclass, HavePreorder, LeavesAfter};
 ghost use Rattle.msg_tables.specs.Preorder.{depths_with, nexts_with};
 
 use crate::presence::Presence;
@@ -51,6 +51,44 @@ impl Preorder {
                 self.nexts[class as usize] = None;
             }
         }
+    }
+
+    // Takes a class out that no class is below, and that has left the others and their order. One
+    // that comes right after its superclass costs no more; else all classes are gone over.
+    pub(crate) fn forget(
+        &mut self,
+        class: u32,
+        superclass: Option<u32>,
+        supers: &[Option<Presence>],
+        order: &[u32],
+    )
+        requires was { CanBeForgotten self.old class superclass supers.now }
+        requires order { IsOrder supers.now order.now }
+        requires few { length supers.now ≤ MAX_CLASSES }
+        ensures { HavePreorder supers.now self.new.depths.items self.new.nexts.items }
+    {
+        if !self.leave(class, superclass) {
+            self.rebuild(supers, order);
+        }
+    }
+
+    // Takes a class out that comes right after its superclass. Answers whether it does: else the
+    // order is as it was.
+    fn leave(&mut self, class: u32, superclass: Option<u32>) -> bool
+        requires next { class < length self.old.nexts.items }
+        requires above { IfSome superclass (λ d. d < length self.old.nexts.items) }
+        ensures depths { self.new.depths.items ≡ self.old.depths.items }
+        ensures left { result ≡ true → LeavesAfter self.old.nexts.items class superclass self.new.nexts.items }
+        ensures still { result ≡ false → self.new.nexts.items ≡ self.old.nexts.items }
+    {
+        let Some(above) = superclass else {
+            return false;
+        };
+        if self.nexts[above as usize] != Some(class) {
+            return false;
+        }
+        self.nexts[above as usize] = self.nexts[class as usize];
+        true
     }
 
     // Places the classes of an order anew, in the room that there is.

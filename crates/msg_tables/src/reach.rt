@@ -1,113 +1,109 @@
-//! What a change would reach.
+//! What a list of changes would reach.
 
-ghost use Rattle.std.specs.Prelude.{◌≡◌, ◌<◌, ◌≤◌, ◌*◌, OnOk, OnErr, IfErr, None, length};
-ghost use Rattle.msg_tables.specs.Accepts.{Refuses};
-ghost use Rattle.msg_tables.specs.ChangeList.{change_of};
+ghost use Rattle.std.specs.Prelude.{◌≡◌, ◌<◌, ◌≤◌, ◌*◌, [], ◌∷◌, All, IfErr, IfSome, OnOk, length};
+ghost use Rattle.msg_tables.specs.Journal.{NamesListed};
 ghost use Rattle.msg_tables.specs.Log.{Log};
-ghost use Rattle.msg_tables.specs.Making.{AcceptsAndReaches, Reaches};
-ghost use Rattle.msg_tables.specs.Marking.{MarksAttached, MarksHolder};
-ghost use Rattle.msg_tables.specs.Refusal.{refusal};
+ghost use Rattle.msg_tables.specs.Making.{AreMadeBefore, IsMarkedBelow, IsRefusedUnlessMemory, LacksMemory};
+ghost use Rattle.msg_tables.specs.Making.{MarksTold, ReachesAll, ReachesBefore, RefusesNone, WantsMemory};
+ghost use Rattle.msg_tables.specs.RowList.{HaveGrown};
 ghost use Rattle.msg_tables.specs.Stands.{StandsAt};
+ghost use Rattle.msg_tables.specs.View.{IsKept};
 
+use crate::apply_all::Refused;
 use crate::below::Below;
-use crate::change::{Change, ChangeRef};
-use crate::fault::ChangeFault;
-use crate::marks::{Marks, mark_made};
-use crate::methods::MethodList;
+use crate::change_list::ChangeList;
+use crate::entry::{Entry, Written};
+use crate::marks::mark_made;
 use crate::tables::Tables;
-use msg_names::{ClassRef, Selector};
+use msg_names::ClassRef;
 
 impl Tables {
-    // Marks the class reference at which a method is found, and all below it.
-    fn mark_holder(&self, class: ClassRef, sel: Selector, marked: &mut [bool], below: &mut Below)
-        requires class { class.class < length self.now.supers }
+    // Marks what an entry tells of: a class that was made or disposed of, or where rows were
+    // written and all below, unless these were marked last. Answers what was marked last then.
+    fn mark_entry(
+        &self,
+        entry: Entry,
+        last: Option<ClassRef>,
+        marked: &mut [bool],
+        below: &mut Below,
+    ) -> Option<ClassRef>
+        requires listed { NamesListed (length self.now.supers) entry }
+        requires last { IfSome last (IsMarkedBelow self.now marked.old) }
         requires marks { length marked.old ≡ 2 * length self.now.supers }
         requires room { length self.now.supers ≤ below.old.room }
-        ensures marks { MarksHolder self.now class sel marked.old marked.new }
+        ensures marks { MarksTold self.now (entry ∷ []) marked.old marked.new }
+        ensures last { IfSome result (IsMarkedBelow self.now marked.new) }
         ensures length { length marked.new ≡ length marked.old }
         ensures room { below.old.room ≤ below.new.room }
     {
-        if let Some(place) = self.holder(class, sel) {
+        if let Entry::Made { class } | Entry::Disposed { class, .. } = entry {
+            mark_made(marked, class);
+            return last;
+        }
+        let Some(place) = entry.place() else {
+            return last;
+        };
+        if last != Some(place) {
             self.mark_below(place, marked, below);
         }
+        Some(place)
     }
 
-    // Marks a class reference and all below it, where it gets methods.
-    fn mark_attached(
-        &self,
-        class: ClassRef,
-        methods: &MethodList,
-        marked: &mut [bool],
-        below: &mut Below,
-    )
-        requires class { class.class < length self.now.supers }
+    // Marks what entries tell of. Of those at one place that follow one another the first alone has
+    // its classes gone over.
+    fn mark_written(&self, entries: &[Entry], marked: &mut [bool], below: &mut Below)
+        requires listed { All (NamesListed (length self.now.supers)) entries.now }
         requires marks { length marked.old ≡ 2 * length self.now.supers }
         requires room { length self.now.supers ≤ below.old.room }
-        ensures marks { MarksAttached self.now class methods.now marked.old marked.new }
+        ensures marks { MarksTold self.now entries.now marked.old marked.new }
         ensures length { length marked.new ≡ length marked.old }
         ensures room { below.old.room ≤ below.new.room }
     {
-        if !methods.as_slice().is_empty() {
-            self.mark_below(class, marked, below);
+        let mut last = None;
+        for entry in entries {
+            last = self.mark_entry(*entry, last, marked, below);
         }
     }
 
-    // Marks what an accepted change affects, beside what is marked.
-    pub(crate) fn mark_affected(
-        &self,
-        change: ChangeRef<'_>,
-        marked: &mut [bool],
-        below: &mut Below,
-    )
-        requires accepted { (h : Log) × StandsAt self.now h × (refusal h (change_of change) ≡ None) }
-        requires marks { length marked.old ≡ 2 * length self.now.supers }
-        requires room { length self.now.supers ≤ below.old.room }
-        ensures marks { Reaches (change_of change.entry) self.now marked.old marked.new }
-        ensures length { length marked.new ≡ length marked.old }
-        ensures room { below.old.room ≤ below.new.room }
-    {
-        match change {
-            ChangeRef::Add { class, .. } => self.mark_below(class, marked, below),
-            ChangeRef::Replace { class, .. } => self.mark_below(class, marked, below),
-            ChangeRef::SetImp { class, sel, .. } => self.mark_holder(class, sel, marked, below),
-            ChangeRef::Exchange {
-                class,
-                sel,
-                other,
-                other_sel,
-            } => {
-                self.mark_holder(class, sel, marked, below);
-                self.mark_holder(other, other_sel, marked, below);
-            }
-            ChangeRef::Attach {
-                class,
-                methods,
-                class_methods,
-            } => {
-                let own = ClassRef { class, meta: false };
-                let meta = ClassRef { class, meta: true };
-                self.mark_attached(own, methods, marked, below);
-                self.mark_attached(meta, class_methods, marked, below);
-            }
-            ChangeRef::AddClass { class, .. } => mark_made(marked, class),
-        }
-    }
-
-    /// Marks the class references whose lookups a change may alter, beside those that are marked,
-    /// and doesn't make it; or says why it would be refused, and marks none.
+    /// Marks the class references whose lookups a list of changes may alter if it is made as one,
+    /// beside those that are marked, each at its slot; or says which of them would be refused. No
+    /// lookup of a class reference that it doesn't mark is altered by the list. Where one would be
+    /// refused, what those before it affect is marked; where memory is wanting, the marks say
+    /// nothing.
     ///
-    /// It looks at the classes that it marks and at one or two more, and takes no memory. No lookup
-    /// of a class reference that it doesn't mark is altered by the change.
-    pub fn reach(&self, change: &Change, marks: &mut Marks) -> Result<(), ChangeFault>
-        requires stands { (h : Log) × StandsAt self.now h }
-        requires marks { length marks.old ≡ 2 * length self.now.supers }
-        ensures ok { OnOk result (AcceptsAndReaches change.now self.now marks.old marks.new) }
-        ensures err { OnErr result (marks.new ≡ marks.old) }
-        ensures fault { IfErr result (Refuses self.now change.now) }
-        ensures room { length marks.new ≡ length marks.old }
+    /// The changes are made and taken back, and what they write is noted in the room that is lent:
+    /// what that costs, [`apply_all`](Tables::apply_all) says. Beside that it looks at the classes that it marks,
+    /// once for each place at which the changes write, where those of a place follow one another.
+    pub fn reach_all<L: ChangeList>(
+        &mut self,
+        changes: &L,
+        written: &mut Written,
+        marked: &mut [bool],
+        below: &mut Below,
+    ) -> Result<(), Refused>
+        requires stands { (h : Log) × StandsAt self.old h }
+        requires marks { length marked.old ≡ 2 * length self.old.supers }
+        requires below { length self.old.supers ≤ below.old.room }
+        ensures same { IsKept self.old self.new }
+        ensures grown { HaveGrown self.old.rooms self.new.rooms }
+        ensures ok { OnOk result (RefusesNone (L.changes changes.now) self.old) }
+        ensures marks { OnOk result (ReachesAll (L.changes changes.now) self.old marked.old marked.new) }
+        ensures fault { IfErr result (IsRefusedUnlessMemory (L.changes changes.now) self.old) }
+        ensures memory { IfErr result (LacksMemory (L.changes changes.now) self.old) }
+        ensures before { IfErr result (AreMadeBefore (L.changes changes.now) self.old) }
+        ensures within { IfErr result (λ r. r.place < length (L.changes changes.now)) }
+        ensures kept { IfErr result (ReachesBefore (L.changes changes.now) self.old marked.old marked.new) }
+        ensures length { length marked.new ≡ length marked.old }
+        ensures below { below.old.room ≤ below.new.room }
+        ensures wanting { IfErr result (WantsMemory (L.changes changes.now) written.old.room self.old) }
+        ensures room { written.old.room ≤ written.new.room }
     {
-        self.judge(change.by_ref())?;
-        self.mark_affected(change.by_ref(), &mut marks.marked, &mut marks.below);
-        Ok(())
+        let start = self.start();
+        let entries = &mut written.entries;
+        entries.clear();
+        let outcome = self.apply_each(changes, entries);
+        self.mark_written(entries, marked, below);
+        self.take_back(start, entries);
+        outcome
     }
 }

@@ -1,9 +1,9 @@
 //! The rows of one class reference.
 
-ghost use Rattle.std.specs.Prelude.{◌≡◌, ◌+◌, ◌<◌, ◌≤◌, [], ◌++◌, IfOk, length, reverse, OnOk, OnErr, option_map};
-ghost use Rattle.msg_tables.specs.Methods.{method_numbers};
+ghost use Rattle.std.specs.Prelude.{◌≡◌, ◌+◌, ◌^◌, ◌<◌, ◌≤◌, [], ◌++◌, IfOk, length, reverse, OnOk, OnErr, option_map};
+ghost use Rattle.msg_tables.specs.Methods.{method_number, method_numbers};
 ghost use Rattle.msg_names.specs.Number.{selector_number, imp_number};
-ghost use Rattle.msg_tables.specs.RowList.{own_in, with_imp, with_row, without_last};
+ghost use Rattle.msg_tables.specs.RowList.{KeepsRoom, last_index, last_row, own_in, with_imp, with_row, with_row_at, without_last, without_row};
 
 use crate::indexed_rows::IndexedRows;
 use msg_names::{ImpRef, Selector};
@@ -58,11 +58,19 @@ impl MethodRows {
         self.indexed.as_ref()?.find(sel)
     }
 
+    // The implementation that would be in a selector's last row, were this one taken away.
+    pub(crate) fn covered(&self, sel: Selector) -> Option<ImpRef>
+        ensures { option_map imp_number result ≡ own_in (selector_number sel) (without_row (selector_number sel) self.now.rows) }
+    {
+        self.indexed.as_ref()?.covered(sel)
+    }
+
     // Makes room for so many more rows.
     pub(crate) fn reserve(&mut self, more: usize) -> Result<(), AllocError>
         ensures rows { self.new.rows ≡ self.old.rows }
         ensures room { OnOk result (more ≤ self.new.room) }
-        ensures refused { OnErr result (0 < more) }
+        ensures refused { OnErr result (self.old.room < more) }
+        ensures keeps { KeepsRoom self.old self.new }
     {
         if more == 0 {
             return Ok(());
@@ -89,6 +97,7 @@ impl MethodRows {
     pub(crate) fn set(&mut self, sel: Selector, imp: ImpRef) -> Option<ImpRef>
         ensures rows { self.new.rows ≡ with_imp sel imp self.old.rows }
         ensures was { option_map imp_number result ≡ own_in (selector_number sel) self.old.rows }
+        ensures keeps { KeepsRoom self.old self.new }
     {
         match &mut self.indexed {
             Some(rows) => rows.set(sel, imp),
@@ -96,9 +105,57 @@ impl MethodRows {
         }
     }
 
+    // Takes a selector's last row away, where it has one, and answers where it stood, with its
+    // implementation.
+    pub(crate) fn remove(&mut self, sel: Selector) -> Option<(usize, ImpRef)>
+        ensures rows { self.new.rows ≡ without_row (selector_number sel) self.old.rows }
+        ensures was { option_map (λ r. imp_number r.1) result ≡ own_in (selector_number sel) self.old.rows }
+        ensures place { option_map (λ r. r.0) result ≡ last_index (selector_number sel) self.old.rows }
+        ensures keeps { KeepsRoom self.old self.new }
+    {
+        match &mut self.indexed {
+            Some(rows) => rows.remove(sel),
+            None => None,
+        }
+    }
+
+    // Puts a row at the place where it stood, for which there is room.
+    pub(crate) fn put_back(&mut self, place: usize, sel: Selector, imp: ImpRef)
+        requires room { 0 < self.old.room }
+        requires place { place ≤ length self.old.rows }
+        ensures rows { self.new.rows ≡ with_row_at place sel imp self.old.rows }
+        ensures room { self.old.room ≤ self.new.room + 1 }
+    {
+        self.indexed.as_mut().unwrap().put_back(place, sel, imp);
+    }
+
+    // How many there are.
+    pub(crate) fn len(&self) -> usize
+        ensures count { result ≡ length self.now.rows }
+        ensures few { result < 2 ^ 63 }
+    {
+        match &self.indexed {
+            Some(rows) => rows.len(),
+            None => 0,
+        }
+    }
+
+    // The last row, where there is one.
+    pub(crate) fn last(&self) -> Option<(Selector, ImpRef)>
+        ensures { option_map method_number result ≡ last_row self.now.rows }
+    {
+        let rows = self.indexed.as_ref()?;
+        let count = rows.len();
+        if count == 0 {
+            return None;
+        }
+        Some(rows.row(count - 1))
+    }
+
     // Takes so many rows at the end away.
     pub(crate) fn shorten(&mut self, count: usize)
-        ensures { self.new.rows ≡ without_last count self.old.rows }
+        ensures rows { self.new.rows ≡ without_last count self.old.rows }
+        ensures keeps { KeepsRoom self.old self.new }
     {
         if let Some(rows) = &mut self.indexed {
             rows.shorten(count);
@@ -107,7 +164,8 @@ impl MethodRows {
 
     pub(crate) fn append(&mut self, methods: &[(Selector, ImpRef)])
         requires { length methods.now ≤ self.old.room }
-        ensures { self.new.rows ≡ self.old.rows ++ method_numbers methods.now }
+        ensures rows { self.new.rows ≡ self.old.rows ++ method_numbers methods.now }
+        ensures keeps { KeepsRoom self.old self.new }
     {
         for (sel, imp) in methods {
             self.push(*sel, *imp);
@@ -117,7 +175,8 @@ impl MethodRows {
     // From the last method to the first.
     pub(crate) fn append_reversed(&mut self, methods: &[(Selector, ImpRef)])
         requires { length methods.now ≤ self.old.room }
-        ensures { self.new.rows ≡ self.old.rows ++ reverse (method_numbers methods.now) }
+        ensures rows { self.new.rows ≡ self.old.rows ++ reverse (method_numbers methods.now) }
+        ensures keeps { KeepsRoom self.old self.new }
     {
         for (sel, imp) in methods.iter().rev() {
             self.push(*sel, *imp);

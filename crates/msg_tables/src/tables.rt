@@ -28,6 +28,8 @@ pub struct Tables {
     // made.
     pub(crate) order: Vec<u32>,
     pub(crate) preorder: Preorder,
+    // How many classes were listed as the tables were opened; these stay.
+    pub(crate) listed: u32,
     pub(crate) lists: RowLists,
     pub(crate) counts: Option<Counts>,
     pub(crate) limits: Limits,

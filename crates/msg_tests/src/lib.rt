@@ -32,3 +32,5 @@ mod sets;
 mod tables;
 #[cfg(test)]
 mod trees;
+#[cfg(test)]
+mod ways;

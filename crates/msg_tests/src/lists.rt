@@ -54,15 +54,16 @@ fn a_list_is_made_and_told(rt: HostRuntime) {
     let value = selector(&rt, &image, "value");
     let tag = selector(&rt, &image, "tag");
     let changes = three(&rt, rt.alloc(), value, tag);
-    let written = tables
-        .apply_all(&changes.as_slice(), Written::none(rt.alloc()))
+    let mut written = Written::none(rt.alloc());
+    tables
+        .apply_all(&changes.as_slice(), &mut written)
         .expect(&rt, "no fault");
     let after = [(GRAND, value, 2), (CHILD, value, 12), (SIDE, tag, 1)];
     are_found(&rt, &image, &tables, &after);
     let told = [
         Entry::Added {
             class: GRAND,
-            count: 1,
+            sel: value,
         },
         Entry::Rewrote {
             class: ROOT,
@@ -71,17 +72,24 @@ fn a_list_is_made_and_told(rt: HostRuntime) {
         },
         Entry::Added {
             class: SIDE,
-            count: 2,
+            sel: tag,
+        },
+        Entry::Added {
+            class: SIDE,
+            sel: tag,
         },
         Entry::Added {
             class: metaclass(SIDE),
-            count: 1,
+            sel: value,
         },
     ];
     same(&rt, written.as_slice() == told.as_slice(), true);
     same(&rt, told[1].place(), Some(ROOT));
-    let undo = written.undo(rt.alloc()).expect(&rt, "memory");
-    same(&rt, undo.is_none(), true);
+    let mut other = Written::none(rt.alloc());
+    let back = tables.apply_all(&written.way_back(), &mut other);
+    same(&rt, back, Ok(()));
+    let before = [(GRAND, value, 1), (CHILD, value, 1), (SIDE, tag, 13)];
+    are_found(&rt, &image, &tables, &before);
 }
 
 #[test]
@@ -101,23 +109,14 @@ fn a_refused_list_leaves_all_as_it_was(rt: HostRuntime) {
         place: 3,
         fault: ChangeFault::MethodPresent,
     };
-    same(
-        &rt,
-        tables
-            .apply_all(&changes.as_slice(), Written::none(rt.alloc()))
-            .err(),
-        Some(refused),
-    );
+    let mut written = Written::none(rt.alloc());
+    let outcome = tables.apply_all(&changes.as_slice(), &mut written);
+    same(&rt, outcome, Err(refused));
     let before = [(GRAND, value, 1), (CHILD, value, 1), (SIDE, tag, 13)];
     are_found(&rt, &image, &tables, &before);
     let _last = changes.pop();
-    same(
-        &rt,
-        tables
-            .apply_all(&changes.as_slice(), Written::none(rt.alloc()))
-            .is_ok(),
-        true,
-    );
+    let outcome = tables.apply_all(&changes.as_slice(), &mut written);
+    same(&rt, outcome, Ok(()));
 }
 
 // A method that is set where it stands, and one that is exchanged with it.
@@ -146,20 +145,15 @@ fn a_list_is_undone(rt: HostRuntime) {
     let value = selector(&rt, &image, "value");
     let name = selector(&rt, &image, "name");
     let changes = two(&rt, rt.alloc(), value, name);
-    let written = tables
-        .apply_all(&changes.as_slice(), Written::none(rt.alloc()))
+    let mut written = Written::none(rt.alloc());
+    tables
+        .apply_all(&changes.as_slice(), &mut written)
         .expect(&rt, "no fault");
     let after = [(ROOT, value, 11), (GRAND, name, 12), (SIDE, name, 2)];
     are_found(&rt, &image, &tables, &after);
-    let undo = written.undo(rt.alloc()).expect(&rt, "memory");
-    let back = undo.expect(&rt, "no row was added");
-    same(
-        &rt,
-        tables
-            .apply_all(&back.as_slice(), Written::none(rt.alloc()))
-            .is_ok(),
-        true,
-    );
+    let mut other = Written::none(rt.alloc());
+    let back = tables.apply_all(&written.way_back(), &mut other);
+    same(&rt, back, Ok(()));
     let before = [(ROOT, value, 1), (GRAND, name, 11), (SIDE, name, 2)];
     are_found(&rt, &image, &tables, &before);
 }

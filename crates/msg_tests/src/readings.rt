@@ -336,8 +336,8 @@ fn place_of_change(rt: &impl Abort, change: &Change) -> u32 {
             methods_are(rt, class_methods.as_slice(), &[(11, 10)]);
             6
         }
-        // no item makes a class
-        Change::AddClass { .. } => 0,
+        // no item makes a class, disposes of one or removes a method
+        Change::AddClass { .. } | Change::Remove { .. } | Change::DisposeClass { .. } => 0,
     }
 }
 

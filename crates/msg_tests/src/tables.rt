@@ -8,10 +8,11 @@ use crate::same::{same, same_at};
 use msg_image::{Change, Image, MAX_CHANGES, MethodList, read_document};
 use msg_names::{ClassRef, ImpRef, Selector};
 use msg_samples::{Hog, IMAGE};
-use msg_tables::{ChangeFault, Marks, Tables};
+use msg_tables::{ChangeFault, Marks, Tables, Written};
 use std::alloc::Global;
 use std::fmt::Debug;
 use std::process::Abort;
+use std::slice::from_ref;
 
 pub(crate) const ROOT: ClassRef = ClassRef {
     class: 0,
@@ -204,6 +205,15 @@ fn are_refused(rt: &impl Abort, tables: &Tables) {
     }
 }
 
+// Makes a change, as a list of one, or says why not.
+fn applied(alloc: Global, tables: &mut Tables, change: &Change) -> Option<ChangeFault>
+    ensures { length tables.new.supers ≡ length tables.old.supers }
+{
+    let mut written = Written::none(alloc);
+    let outcome = tables.apply_all(&from_ref(change), &mut written);
+    outcome.err().map(|refused| refused.fault)
+}
+
 // What fresh tables make of a change. Before it is made they are asked for the fault.
 fn fault_is<K: Debug>(
     rt: &impl Abort,
@@ -215,7 +225,7 @@ fn fault_is<K: Debug>(
 ) {
     let mut tables = opened(rt, alloc, image);
     same_at(rt, row, tables.refusal(change), want);
-    same_at(rt, row, tables.apply(change).err(), want);
+    same_at(rt, row, applied(alloc, &mut tables, change), want);
 }
 
 // Fresh tables refuse this method so, where it is added, replaced and set.
@@ -307,7 +317,7 @@ fn found_after(
     sel: Selector,
 ) -> u32 {
     let mut tables = opened(rt, alloc, image);
-    tables.apply(change).expect(rt, "no fault");
+    same(rt, applied(alloc, &mut tables, change), None);
     assert!(rt; class.class < image.class_count());
     tables.lookup(class, sel).number()
 }
@@ -381,45 +391,53 @@ fn lookups_after_a_change(rt: HostRuntime) {
 }
 
 // The change is made again and again.
-fn is_made(rt: &impl Abort, tables: &mut Tables, change: &Change) {
+fn is_made(rt: &impl Abort, alloc: Global, tables: &mut Tables, change: &Change) {
     for place in 0..MAX_CHANGES {
-        same_at(rt, &place, tables.apply(change), Ok(()));
+        same_at(rt, &place, applied(alloc, tables, change), None);
     }
     same(rt, MAX_CHANGES, 65_536);
 }
 
 // A change that the tables would have made before.
-fn is_too_much(rt: &impl Abort, tables: &mut Tables, change: Change) {
-    same(rt, tables.apply(&change), Err(ChangeFault::Limit));
+fn is_too_much(rt: &impl Abort, alloc: Global, tables: &mut Tables, change: Change) {
+    same(
+        rt,
+        applied(alloc, tables, &change),
+        Some(ChangeFault::Limit),
+    );
     same(rt, tables.refusal(&change), Some(ChangeFault::Limit));
 }
 
 // No kind of change is made, and a method that is there is told first.
 fn are_full(rt: &impl Abort, alloc: Global, tables: &mut Tables, sel: Selector, name: Selector) {
     let (class, imp) = (CHILD, ImpRef::of(1));
-    is_too_much(rt, tables, Change::Replace { class, sel, imp });
+    is_too_much(rt, alloc, tables, Change::Replace { class, sel, imp });
     let below = Change::Add {
         class: GRAND,
         sel,
         imp,
     };
-    is_too_much(rt, tables, below);
-    is_too_much(rt, tables, Change::SetImp { class, sel, imp });
+    is_too_much(rt, alloc, tables, below);
+    is_too_much(rt, alloc, tables, Change::SetImp { class, sel, imp });
     let exchange = Change::Exchange {
         class,
         sel,
         other: class,
         other_sel: name,
     };
-    is_too_much(rt, tables, exchange);
+    is_too_much(rt, alloc, tables, exchange);
     let attach = Change::Attach {
         class: 1,
         methods: MethodList::new(Vec::new(alloc)),
         class_methods: MethodList::new(Vec::new(alloc)),
     };
-    is_too_much(rt, tables, attach);
+    is_too_much(rt, alloc, tables, attach);
     let present = Change::Add { class, sel, imp };
-    same(rt, tables.apply(&present), Err(ChangeFault::MethodPresent));
+    same(
+        rt,
+        applied(alloc, tables, &present),
+        Some(ChangeFault::MethodPresent),
+    );
 }
 
 #[test]
@@ -432,7 +450,7 @@ fn no_more_than_65536_changes_are_accepted(rt: HostRuntime) {
         sel,
         imp: ImpRef::of(1),
     };
-    is_made(&rt, &mut tables, &replace);
+    is_made(&rt, rt.alloc(), &mut tables, &replace);
     let name = selector(&rt, &image, "name");
     are_full(&rt, rt.alloc(), &mut tables, sel, name);
 }

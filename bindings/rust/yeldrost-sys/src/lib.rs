@@ -67,12 +67,23 @@ pub struct msg_change {
     pub other_sel: u32,
 }
 
+#[repr(C)]
+#[derive(Clone, Copy, Debug, Default, PartialEq, Eq)]
+pub struct msg_lookup_row {
+    pub number: u32,
+    pub meta: u32,
+    pub sel: u32,
+}
+
 pub const MSG_ADDS: u32 = 1;
 pub const MSG_REPLACES: u32 = 2;
 pub const MSG_SETS_IMP: u32 = 3;
 pub const MSG_EXCHANGES: u32 = 4;
 pub const MSG_MAKES_CLASS: u32 = 5;
 pub const MSG_MAKES_ROOT_CLASS: u32 = 6;
+pub const MSG_REMOVES: u32 = 7;
+pub const MSG_DISPOSES_CLASS: u32 = 8;
+pub const MSG_COVERS: u32 = 9;
 
 #[repr(C)]
 #[derive(Clone, Copy, Debug, Default, PartialEq, Eq)]
@@ -117,6 +128,7 @@ pub const MSG_NO_METHOD: u32 = 5;
 pub const MSG_LIMIT: u32 = 6;
 pub const MSG_CHANGE_MEMORY: u32 = 7;
 pub const MSG_DUPLICATE_CLASS: u32 = 8;
+pub const MSG_CLASS_IN_USE: u32 = 9;
 pub const MSG_CLOSED: u32 = 64;
 pub const MSG_ALREADY_OPEN: u32 = 65;
 pub const MSG_NO_CLASS: u32 = 66;
@@ -190,6 +202,8 @@ extern "C" {
     ) -> u32;
     pub fn msg_make_class(runtime: *mut msg_runtime, number: u32, superclass: u32) -> u32;
     pub fn msg_make_root_class(runtime: *mut msg_runtime, number: u32) -> u32;
+    pub fn msg_remove(runtime: *mut msg_runtime, number: u32, meta: bool, sel: u32) -> u32;
+    pub fn msg_dispose_class(runtime: *mut msg_runtime, number: u32) -> u32;
     pub fn msg_change_all(
         runtime: *mut msg_runtime,
         changes: *const msg_change,
@@ -224,6 +238,15 @@ extern "C" {
         sel: u32,
         imp: *mut u32,
     ) -> u32;
+    pub fn msg_fill_all(
+        runtime: *mut msg_runtime,
+        sender: *mut msg_sender,
+        lookups: *const msg_lookup_row,
+        count: usize,
+        imps: *mut u32,
+        room: usize,
+        place: *mut usize,
+    ) -> u32;
     pub fn msg_meet(runtime: *mut msg_runtime, sender: *mut msg_sender) -> u32;
     pub fn msg_version() -> u32;
     pub fn msg_sender_size() -> usize;
@@ -234,6 +257,14 @@ extern "C" {
         meta: bool,
         sel: u32,
         imp: *mut u32,
+    ) -> u32;
+    pub fn msg_probe_all(
+        sender: *mut msg_sender,
+        lookups: *const msg_lookup_row,
+        count: usize,
+        imps: *mut u32,
+        room: usize,
+        place: *mut usize,
     ) -> u32;
     pub fn msg_refresh(sender: *mut msg_sender, count: *mut u64) -> u32;
     pub fn msg_stamp(sender: *mut msg_sender, number: u32, meta: bool, stamp: *mut u64) -> u32;
@@ -259,6 +290,22 @@ extern "C" {
         length: *mut usize,
     ) -> u32;
     pub fn msg_texts_colons(texts: *mut msg_texts, number: u32, count: *mut usize) -> u32;
+    pub fn msg_type_first(
+        text: *const u8,
+        length: usize,
+        size: *mut u64,
+        align: *mut u64,
+    ) -> usize;
+    pub fn msg_type_member(
+        text: *const u8,
+        length: usize,
+        before: u64,
+        begin: *mut usize,
+        end: *mut usize,
+        first: *mut u64,
+        last: *mut u64,
+        align: *mut u64,
+    ) -> u32;
 }
 
 /// Opens a runtime by a config.
@@ -394,3 +441,4 @@ use core::mem::size_of;
 const _: () =
     assert!(size_of::<msg_note>() == 32 && size_of::<msg_sender>() == 16 + 32 * MSG_NOTES);
 const _: () = assert!(size_of::<msg_change>() == 32);
+const _: () = assert!(size_of::<msg_lookup_row>() == 12);

@@ -34,6 +34,19 @@ pub enum Change {
     MakeRootClass {
         number: u32,
     },
+    Remove {
+        of: ClassRef,
+        selector: Selector,
+    },
+    DisposeClass {
+        number: u32,
+    },
+    /// As [`attach`](crate::Locked::attach) of one method: it stands before the one that is there.
+    Cover {
+        of: ClassRef,
+        selector: Selector,
+        imp: Imp,
+    },
 }
 
 fn of_method(kind: u32, of: ClassRef, selector: Selector) -> sys::msg_change {
@@ -63,15 +76,35 @@ fn of_class(kind: u32, number: u32, superclass: u32) -> sys::msg_change {
 }
 
 impl Change {
-    // The replacement that a row means which takes a change back.
-    pub(crate) fn of_replacement(row: &sys::msg_change) -> Option<Change> {
-        Some(Change::Replace {
-            of: ClassRef {
-                number: row.number,
-                meta: row.meta == 1,
+    // The change that a row means which takes a change back.
+    pub(crate) fn of_row(row: &sys::msg_change) -> Option<Change> {
+        let number = row.number;
+        let of = ClassRef {
+            number,
+            meta: row.meta == 1,
+        };
+        Some(match row.kind {
+            sys::MSG_REPLACES => Change::Replace {
+                of,
+                selector: Selector::new(row.sel)?,
+                imp: Imp::new(row.imp)?,
             },
-            selector: Selector::new(row.sel)?,
-            imp: Imp::new(row.imp)?,
+            sys::MSG_REMOVES => Change::Remove {
+                of,
+                selector: Selector::new(row.sel)?,
+            },
+            sys::MSG_COVERS => Change::Cover {
+                of,
+                selector: Selector::new(row.sel)?,
+                imp: Imp::new(row.imp)?,
+            },
+            sys::MSG_MAKES_CLASS => Change::MakeClass {
+                number,
+                superclass: row.other,
+            },
+            sys::MSG_MAKES_ROOT_CLASS => Change::MakeRootClass { number },
+            sys::MSG_DISPOSES_CLASS => Change::DisposeClass { number },
+            _ => return None,
         })
     }
 
@@ -95,6 +128,9 @@ impl Change {
                 of_class(sys::MSG_MAKES_CLASS, number, superclass)
             }
             Change::MakeRootClass { number } => of_class(sys::MSG_MAKES_ROOT_CLASS, number, 0),
+            Change::Remove { of, selector } => of_method(sys::MSG_REMOVES, of, selector),
+            Change::DisposeClass { number } => of_class(sys::MSG_DISPOSES_CLASS, number, 0),
+            Change::Cover { of, selector, imp } => with_imp(sys::MSG_COVERS, of, selector, imp),
         }
     }
 }

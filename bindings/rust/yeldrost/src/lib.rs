@@ -24,6 +24,7 @@ mod fault;
 mod locked;
 mod sender;
 mod texts;
+mod types;
 
 pub use change::{Change, Refused};
 pub use fault::Fault;
@@ -33,6 +34,7 @@ use std::num::NonZeroU32;
 use std::sync::{Arc, Mutex, MutexGuard, PoisonError};
 pub use sys::{msg_config as Config, msg_report_row as Report};
 pub use texts::Texts;
+pub use types::{EncodedMember, EncodedType, first_type, next_member};
 use yeldrost_sys as sys;
 
 /// A selector's number, from 1, which the caller gives.

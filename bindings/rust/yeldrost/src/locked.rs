@@ -168,6 +168,18 @@ impl<'r> Locked<'r> {
         })
     }
 
+    /// Takes away the method that the class has of its own. One that it hid counts again.
+    pub fn remove(&mut self, of: ClassRef, selector: Selector) -> Result<&mut Self, Fault> {
+        self.change(|runtime| unsafe {
+            sys::msg_remove(runtime, of.number, of.meta, selector.get())
+        })
+    }
+
+    /// Takes a class away that no class is below, with its metaclass and the methods of both.
+    pub fn dispose_class(&mut self, number: u32) -> Result<&mut Self, Fault> {
+        self.change(|runtime| unsafe { sys::msg_dispose_class(runtime, number) })
+    }
+
     /// Makes several changes as one: each lookup answers from before all of them or after all. It is refused as the
     /// first is that would be refused where those before it were made.
     pub fn change_all(&mut self, changes: &[Change]) -> Result<&mut Self, Refused> {
@@ -180,32 +192,32 @@ impl<'r> Locked<'r> {
     }
 
     /// As [`change_all`](Locked::change_all), and answers what takes the changes back if it is made as one directly
-    /// afterwards; nothing where there is no way back, since a method was added or a class made.
-    pub fn change_all_with_undo(
-        &mut self,
-        changes: &[Change],
-    ) -> Result<Option<Vec<Change>>, Refused> {
+    /// afterwards.
+    pub fn change_all_with_undo(&mut self, changes: &[Change]) -> Result<Vec<Change>, Refused> {
         let rows: Vec<sys::msg_change> = changes.iter().map(|it| it.row()).collect();
-        let mut undo = vec![sys::msg_change::default(); 2 * rows.len()];
-        let (mut undone, mut place) = (0, 0);
-        let made = |runtime: *mut sys::msg_runtime| unsafe {
-            let (undo, room) = (undo.as_mut_ptr(), undo.len());
-            sys::msg_change_all_with_undo(
-                runtime,
-                rows.as_ptr(),
-                rows.len(),
-                undo,
-                room,
-                &mut undone,
-                &mut place,
-            )
+        let mut undo = Vec::new();
+        let (mut undone, mut place) = (2 * rows.len(), 0);
+        let answer = loop {
+            undo.resize(undone, sys::msg_change::default());
+            let (places, room) = (undo.as_mut_ptr(), undo.len());
+            let answer = unsafe {
+                sys::msg_change_all_with_undo(
+                    &mut self.handle.0,
+                    rows.as_ptr(),
+                    rows.len(),
+                    places,
+                    room,
+                    &mut undone,
+                    &mut place,
+                )
+            };
+            // nothing was made: so many places are wanted
+            if answer != sys::MSG_NO_ROOM {
+                break answer;
+            }
         };
-        self.change(made)
-            .map_err(|fault| Refused::of(fault, place))?;
-        if undone == 0 && !rows.is_empty() {
-            return Ok(None);
-        }
-        Ok(undo[..undone].iter().map(Change::of_replacement).collect())
+        Fault::of(answer).map_err(|fault| Refused::of(fault, place))?;
+        Ok(undo[..undone].iter().filter_map(Change::of_row).collect())
     }
 
     /// Which lookups [`change_all`](Locked::change_all) would alter, without making the changes: those of these class

@@ -1,4 +1,4 @@
-use crate::{ClassRef, Fault, Imp, Selector, Shared};
+use crate::{ClassRef, Fault, Imp, Refused, Selector, Shared};
 use std::alloc::{alloc_zeroed, handle_alloc_error, Layout};
 use std::sync::Arc;
 use yeldrost_sys as sys;
@@ -55,6 +55,27 @@ impl Sender {
         }
         Fault::of(answer)?;
         Ok(Imp::new(imp))
+    }
+
+    /// Several as one: all at one version, which the sender has then seen. An error has the place of the lookup that
+    /// isn't asked.
+    pub fn find_all(
+        &mut self,
+        lookups: &[(ClassRef, Selector)],
+    ) -> Result<Vec<Option<Imp>>, Refused> {
+        let rows: Vec<_> = lookups.iter().map(|&(of, sel)| row(of, sel)).collect();
+        let (mut imps, mut place) = (vec![0; rows.len()], 0);
+        let (raw, count, into) = (&mut *self.raw, rows.len(), imps.as_mut_ptr());
+        let mut answer =
+            unsafe { sys::msg_probe_all(raw, rows.as_ptr(), count, into, count, &mut place) };
+        if answer == sys::MSG_MISSED {
+            let mut held = self.shared.held();
+            answer = unsafe {
+                sys::msg_fill_all(&mut held.0, raw, rows.as_ptr(), count, into, count, &mut place)
+            };
+        }
+        Fault::of(answer).map_err(|fault| Refused::of(fault, place))?;
+        Ok(imps.into_iter().map(Imp::new).collect())
     }
 
     /// Noted or cached, at what the sender has then seen: an implementation, or inside there is none. Nothing where
@@ -134,6 +155,15 @@ impl std::fmt::Debug for Sender {
         f.debug_struct("Sender")
             .field("open", &self.raw.open)
             .finish_non_exhaustive()
+    }
+}
+
+/// A lookup as the header has it.
+fn row(of: ClassRef, selector: Selector) -> sys::msg_lookup_row {
+    sys::msg_lookup_row {
+        number: of.number,
+        meta: of.meta.into(),
+        sel: selector.get(),
     }
 }
 

@@ -182,16 +182,46 @@ fn the_way_back_and_what_is_reached() {
     assert_eq!(Ok(vec![CHILDREN]), runtime.lock().reach(&changes));
     assert_eq!(Ok(Some(i(3))), sender.find(CHILDREN, s(NAME)));
     let undo = runtime.lock().change_all_with_undo(&changes);
-    assert_eq!(Ok(Some(vec![replace(CHILDREN, NAME, 3)])), undo);
+    assert_eq!(Ok(vec![replace(CHILDREN, NAME, 3)]), undo);
     assert_eq!(Ok(Some(i(5))), sender.find(CHILDREN, s(NAME)));
-    runtime.lock().change_all(&undo.unwrap().unwrap()).unwrap();
+    runtime.lock().change_all(&undo.unwrap()).unwrap();
     assert_eq!(Ok(Some(i(3))), sender.find(CHILDREN, s(NAME)));
     let made = [Change::MakeClass {
         number: OTHER,
         superclass: CHILD,
     }];
-    assert_eq!(Ok(None), runtime.lock().change_all_with_undo(&made));
-    assert_eq!(Ok(Some(vec![])), runtime.lock().change_all_with_undo(&[]));
+    let undo = runtime.lock().change_all_with_undo(&made);
+    assert_eq!(Ok(vec![Change::DisposeClass { number: OTHER }]), undo);
+    assert_eq!(Ok(vec![]), runtime.lock().change_all_with_undo(&[]));
+}
+
+#[test]
+fn a_class_that_comes_and_goes() {
+    let runtime = opened();
+    let mut sender = runtime.sender().unwrap();
+    let others = ClassRef::instances_of(OTHER);
+    let mut now = runtime.lock();
+    now.make_class(OTHER, CHILD).unwrap();
+    for selector in 90..99 {
+        now.add(others, s(selector), i(7)).unwrap();
+    }
+    assert_eq!(Some(Fault::ClassInUse), now.dispose_class(CHILD).err());
+    let gone = [Change::DisposeClass { number: OTHER }];
+    let undo = now.change_all_with_undo(&gone).unwrap();
+    assert_eq!(10, undo.len());
+    let made = Change::MakeClass {
+        number: OTHER,
+        superclass: CHILD,
+    };
+    assert_eq!(made, undo[0]);
+    assert_eq!(Ok(None), now.lookup(others, s(95)));
+    now.change_all(&undo).unwrap();
+    assert_eq!(Ok(Some(i(7))), now.lookup(others, s(95)));
+    now.attach(OTHER, &[method(95, 8)], &[]).unwrap();
+    assert_eq!(Ok(Some(i(8))), now.lookup(others, s(95)));
+    now.remove(others, s(95)).unwrap();
+    drop(now);
+    assert_eq!(Ok(Some(i(7))), sender.find(others, s(95)));
 }
 
 #[test]
@@ -288,6 +318,29 @@ fn senders() {
 }
 
 #[test]
+fn several_as_one() {
+    let runtime = opened();
+    let mut sender = runtime.sender().unwrap();
+    let three = [
+        (CHILDREN, s(NAME)),
+        (CHILD_ITSELF, s(NEW)),
+        (CHILDREN, s(TAKE)),
+    ];
+    let found = |imp| Ok(vec![Some(i(imp)), Some(i(4)), None]);
+    assert_eq!(found(3), sender.find_all(&three));
+    assert_eq!(found(3), sender.find_all(&three));
+    runtime.lock().replace(CHILDREN, s(NAME), i(8)).unwrap();
+    assert_eq!(found(8), sender.find_all(&three));
+    assert_eq!(Ok(vec![]), sender.find_all(&[]));
+    let beyond = [(CHILDREN, s(NAME)), (ClassRef::instances_of(u32::MAX), s(NAME))];
+    let refused = Refused {
+        fault: Fault::NoClass,
+        place: Some(1),
+    };
+    assert_eq!(Err(refused), sender.find_all(&beyond));
+}
+
+#[test]
 fn a_refused_change_is_no_change() {
     let runtime = opened();
     let mut sender = runtime.sender().unwrap();
@@ -354,4 +407,15 @@ fn texts() {
         (texts.colons(1), texts.colons(2))
     );
     assert_eq!(Ok(None), texts.colons(4));
+}
+
+#[test]
+fn types_are_read() {
+    let type_ = yeldrost::first_type(b"{inner=cs}8@0");
+    assert_eq!((4, 2, 10), (type_.size, type_.align, type_.end));
+    assert_eq!(0, yeldrost::first_type(b"").end);
+    let member = yeldrost::next_member(b"\"s\"s}", 8).unwrap();
+    assert_eq!((3, 4), (member.begin, member.end));
+    assert_eq!((16, 32, 2), (member.first, member.last, member.align));
+    assert_eq!(None, yeldrost::next_member(b"}", 8));
 }

@@ -73,11 +73,12 @@ impl<'v> Test<Change<'v>> for ClassOutside<'_, '_> {
         match change {
             Change::Add { method, .. }
             | Change::Replace { method, .. }
-            | Change::SetImp { method, .. } => self.classes.lacks(method.class),
+            | Change::SetImp { method, .. }
+            | Change::Remove { method } => self.classes.lacks(method.class),
             Change::Exchange { method, other } => {
                 self.classes.lacks(method.class) || self.classes.lacks(other.class)
             }
-            Change::Attach { class, .. } => self.classes.lacks(*class),
+            Change::Attach { class, .. } | Change::Dispose { class } => self.classes.lacks(*class),
             Change::Make { class, superclass } => {
                 self.classes.lacks(*class) || is_outside(self.classes, *superclass)
             }

@@ -88,6 +88,30 @@ fn make<'v>(values: &[Tree<'v, '_>]) -> Option<Change<'v>>
     })
 }
 
+#[tactic(auto, unfolding(crate::specs::Shape::remove_of))]
+fn remove<'v>(values: &[Tree<'v, '_>]) -> Option<Change<'v>>
+    ensures { option_map change_view result ≡ spec.remove_of (map view values.now) }
+{
+    if values.len() != 4 {
+        return None;
+    }
+    Some(Change::Remove {
+        method: method(values, 1)?,
+    })
+}
+
+#[tactic(auto, unfolding(crate::specs::Shape::dispose_of))]
+fn dispose<'v>(values: &[Tree<'v, '_>]) -> Option<Change<'v>>
+    ensures { option_map change_view result ≡ spec.dispose_of (map view values.now) }
+{
+    if values.len() != 2 {
+        return None;
+    }
+    Some(Change::Dispose {
+        class: name_in(values, 1)?,
+    })
+}
+
 /// A change that takes no lists.
 #[tactic(auto, unfolding(crate::specs::Shape::worded_change_of))]
 fn plain_change<'v>(word: &str, values: &[Tree<'v, '_>]) -> Option<Change<'v>>
@@ -109,6 +133,8 @@ fn plain_change<'v>(word: &str, values: &[Tree<'v, '_>]) -> Option<Change<'v>>
         }
         "exchange" => exchange(values),
         "make" => make(values),
+        "remove" => remove(values),
+        "dispose" => dispose(values),
         _ => None,
     }
 }

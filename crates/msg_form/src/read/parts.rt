@@ -228,22 +228,26 @@ fn version(value: &Tree<'_, '_>) -> Option<i64>
     whole(get(value, "version")?)
 }
 
-fn is_all(item: &Item) -> bool
-    ensures { result ≡ spec.is_all (item_view item.now) }
+fn is_newest(item: &Item) -> bool
+    ensures { result ≡ spec.is_newest (item_view item.now) }
 {
-    matches!(item, Item::ChangeAll(_))
+    match item {
+        Item::ChangeAll(_) => true,
+        Item::Change(Change::Remove { .. } | Change::Dispose { .. }) => true,
+        _ => false,
+    }
 }
 
-fn has_all(items: &[Item]) -> bool
-    ensures { result ≡ list_any (λ i. spec.is_all (item_view i)) items.now }
+fn has_newest(items: &[Item]) -> bool
+    ensures { result ≡ list_any (λ i. spec.is_newest (item_view i)) items.now }
 {
-    items.iter().any(is_all)
+    items.iter().any(is_newest)
 }
 
 fn is_later(item: &Item) -> bool
     ensures { result ≡ spec.is_later (item_view item.now) }
 {
-    matches!(item, Item::Change(Change::Make { .. })) || is_all(item)
+    matches!(item, Item::Change(Change::Make { .. })) || is_newest(item)
 }
 
 fn has_later(items: &[Item]) -> bool
@@ -326,7 +330,7 @@ impl<'v> Form<'v> {
         ensures { Fills self.new result (spec.second_form_of self.old.version (view value.now)) }
     {
         self.fill_third(alloc, bump, value)?;
-        if has_all(&self.items) {
+        if has_newest(&self.items) {
             return Err(ReadFault::Shape);
         }
         Ok(())

@@ -1,19 +1,16 @@
-use Rattle.std.proofs.Common.{sym, ◌∙◌, arith}
+use Rattle.std.proofs.Common.{arith}
 use Rattle.msg_explain.proofs.explaining.explain_bytes.Goals as goal
-use Rattle.msg_explain.proofs.explaining.explain_bytes.Goals.{in-Ok, in-Err}
 
-pub returns-clause-answered : goal.returns-clause-answered
-returns-clause-answered g c zero =
-    elim c.match-read_document.branch [
-      | in-Ok w ↦ (_, w.in-Ok.ensures.ok)
-      | in-Err w ↦ absurd (omega (arith, zero, w.result-is, w.refuse.ensures.status))
-    ]
+pub returns-in-Ok-clause-answered : goal.returns-in-Ok-clause-answered
+returns-in-Ok-clause-answered g c zero = (_, c.in-Ok.ensures.ok, c.tell_reasons.ensures.told zero)
 
-pub returns-clause-refused : goal.returns-clause-refused
-returns-clause-refused g c two =
-    elim c.match-read_document.branch [
-      | in-Ok w ↦ absurd (omega (arith, two, w.result-is, w.say.ensures.status))
-      | in-Err w ↦
-          let said = w.refuse.ensures.said (sym w.result-is ∙ two) in
-          (w.in-Err.fault, w.in-Err.ensures.err said.0, rw w.errors-is said.1)
-    ]
+pub returns-in-Ok-clause-refused : goal.returns-in-Ok-clause-refused
+returns-in-Ok-clause-refused g c two = absurd (omega (arith, two, c.tell_reasons.ensures.status))
+
+pub returns-in-Err-clause-answered : goal.returns-in-Err-clause-answered
+returns-in-Err-clause-answered g c zero = absurd (omega (arith, zero, c.refuse.ensures.status))
+
+pub returns-in-Err-clause-refused : goal.returns-in-Err-clause-refused
+returns-in-Err-clause-refused g c two =
+    let said = c.refuse.ensures.said two in
+    (c.in-Err.fault, c.in-Err.ensures.err said.0, said.1)

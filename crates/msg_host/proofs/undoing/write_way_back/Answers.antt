@@ -1,28 +1,26 @@
-use Rattle.std.proofs.Common.{◌≡◌, ◌+◌, ◌-◌, Some, refl, subst, sym, ◌∙◌, take, arith}
-use Rattle.msg_tables.specs.Journal.{undo_journal}
-use Rattle.msg_tables.specs.Undo.{and_before}
-use Rattle.msg_tables.proofs.UndoJournalLemmas.{given-back, not-given}
+use Rattle.std.proofs.Common.{◌≡◌, ◌≤◌, ◌<◌, ◌+◌, ◌-◌, length, take, drop, subst, sym, ap, ◌∙◌, arith}
+use Rattle.std.proofs.lemmas.List.{length-set}
+use Rattle.msg_tables.specs.Journal.{undo_entry, undo_journal}
+use Rattle.msg_host.specs.Listing.{AreMeant, change_in}
+use Rattle.msg_host.proofs.ListingLemmas.{one-more, undo-drop, undoing-meant}
 use Rattle.msg_host.proofs.undoing.write_way_back.Goals as goal
 
-pub returns-in_err-count-clause-none : goal.returns-in_err-count-clause-none
-returns-in_err-count-clause-none c none =
-    let entries = c.args.entries.now in
-    let at = c.loop-left.left - 1 in
-    let (ys, meant, back) = c.loop-left.invariant.undo in
-    let next : at + 1 ≡ c.loop-left.left = omega (arith, c.loop-left-test.true) in
-    let so-far = subst (λ n. and_before (undo_journal (take n entries)) (Some ys) ≡ undo_journal entries) (sym next) back in
-    sym (not-given entries at c.index-entries-left.result ys (undo_journal entries) (omega (arith, c.loop-left-test.true, c.loop-left.invariant.within)) c.index-entries-left.is (c.in_err-count.ensures.none refl) so-far)
-
-pub loop-left-preserved : goal.loop-left-preserved
-loop-left-preserved c =
-    let entries = c.args.entries.now in
-    let at = c.loop-left.left - 1 in
-    let (ys, meant, back) = c.loop-left.invariant.undo in
-    let next : at + 1 ≡ c.loop-left.left = omega (arith, c.loop-left-test.true) in
-    let so-far = subst (λ n. and_before (undo_journal (take n entries)) (Some ys) ≡ undo_journal entries) (sym next) back in
-    let (zs, one, more) = c.in_ok-count.ensures.some ys meant in
+pub loop-place-preserved : goal.loop-place-preserved
+loop-place-preserved c =
+    let es = c.args.entries.now in
+    let i = c.loop-place.place in
+    let e = c.index-entries-entries.result in
+    let inside : i < length es = c.loop-place-test.true in
     record {
-      within = omega (arith, c.loop-left.invariant.within, c.in_ok-count.ensures.few, c.loop-left-test.true);
-      length = c.give_back.ensures.length ∙ c.loop-left.invariant.length;
-      undo = (zs, more, given-back entries at c.index-entries-left.result ys zs (undo_journal entries) (omega (arith, c.loop-left-test.true, c.loop-left.invariant.within)) c.index-entries-left.is one so-far);
+      meant = subst (AreMeant (take (i + 1) _)) (sym (undo-drop es i e inside c.index-entries-entries.is))
+          (one-more c.loop-place.rows i c.undoing.result (undo_journal (drop (length es - i) es)) (undo_entry e) (omega (arith, inside, c.loop-place.invariant.length, c.requires)) (ap change_in c.undoing.ensures ∙ undoing-meant e) c.loop-place.invariant.meant);
+      length = length-set c.loop-place.rows i c.undoing.result ∙ c.loop-place.invariant.length;
     }
+
+pub returns-clause-meant : goal.returns-clause-meant
+returns-clause-meant c =
+    let es = c.args.entries.now in
+    let end : c.loop-place.place ≡ length es = omega (arith, c.loop-place-test.false) in
+    let none : length es - length es ≡ 0 = omega arith in
+    subst (λ k. AreMeant (take (length es) c.loop-place.rows) (undo_journal (drop k es))) none
+    (subst (λ n. AreMeant (take n c.loop-place.rows) (undo_journal (drop (length es - n) es))) end c.loop-place.invariant.meant)

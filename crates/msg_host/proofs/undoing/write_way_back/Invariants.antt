@@ -1,17 +1,11 @@
-use Rattle.std.proofs.Common.{◌≡◌, ◌≤◌, ◌+◌, List, Some, length, take}
-use Rattle.msg_tables.specs.declared.change.Change.{Change}
+use Rattle.std.proofs.Common.{◌≡◌, ◌-◌, drop, length, take}
 use Rattle.msg_tables.specs.Journal.{undo_journal}
-use Rattle.msg_tables.specs.Undo.{and_before}
 use Rattle.msg_host.specs.Listing.{AreMeant}
 use Rattle.msg_host.proofs.undoing.write_way_back.Given as goal
 
--- the entries that are left, and then what was given back
-abbrev pub invariant-loop-left : goal.invariant-loop-left
-invariant-loop-left l = record {
-  within : l.count + l.left ≤ length l.entries;
-  length : length l.rows ≡ length l.initial.rows;
-  undo : (ys : List Change) × AreMeant (take l.count l.rows) ys × (and_before (undo_journal (take l.left l.entries)) (Some ys) ≡ undo_journal l.entries);
+-- the first rows mean what takes the last entries back
+abbrev pub invariant-loop-place : goal.invariant-loop-place
+invariant-loop-place l = record {
+  meant : AreMeant (take l.place l.rows) (undo_journal (drop (length l.entries - l.place) l.entries));
+  length : length l.rows ≡ length l.fn.rows;
 }
-
-abbrev pub decreases-loop-left : goal.decreases-loop-left
-decreases-loop-left l = l.left

@@ -24,5 +24,5 @@ pub returns-clause-flushed : goal.returns-clause-flushed
 returns-clause-flushed c = λ h stands d told.
     let items = c.as_slice-entry-items.result.now in
     let end : c.loop-entry.entry-index ≡ length items = omega (arith, c.loop-entry-test.false, c.loop-entry.auto.entry-index-end) in
-    let whole : take c.loop-entry.entry-index items ≡ c.args.written.now = ap (λ n. take n items) end ∙ take-length items ∙ c.as_slice-entry-items.ensures in
+    let whole : take c.loop-entry.entry-index items ≡ c.args.written.now.entries = ap (λ n. take n items) end ∙ take-length items ∙ c.as_slice-entry-items.ensures in
     c.loop-entry.invariant.flushed h stands d (subst (λ es. is_told h es d ≡ true) (sym whole) told)

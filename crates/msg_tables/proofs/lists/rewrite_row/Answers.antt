@@ -3,6 +3,7 @@ use Rattle.msg_names.specs.Number.{selector_number, imp_number}
 use Rattle.msg_tables.specs.RowList.{own_in, set_last}
 use Rattle.msg_tables.proofs.ListedLemmas.{read-rows}
 use Rattle.msg_tables.proofs.ListLemmas.{rows_of-set}
+use Rattle.msg_tables.proofs.RoomLemmas.{keep-set}
 use Rattle.msg_tables.proofs.lists.rewrite_row.Goals as goal
 
 pub returns-clause-rows : goal.returns-clause-rows
@@ -10,3 +11,6 @@ returns-clause-rows c = rows_of-set c.args.lists.now.items c.args.at c.index_mut
 
 pub returns-clause-was : goal.returns-clause-was
 returns-clause-was c = c.set.ensures.was ∙ ap (own_in (selector_number c.args.sel)) (read-rows c.args.lists.now.items c.args.at c.index_mut-rows.result.now c.requires c.index_mut-rows.ensures.value)
+
+pub returns-clause-keeps : goal.returns-clause-keeps
+returns-clause-keeps c = keep-set c.args.lists.now.items c.args.at c.index_mut-rows.result.now c.set.new.self c.index_mut-rows.ensures.value c.set.ensures.keeps

@@ -1,6 +1,7 @@
-use Rattle.std.proofs.Common.{◌≡◌, ◌≤◌, ◌+◌, ◌-◌, ◌++◌, [], ◌∷◌, List, length, length-append, replicate, append_assoc, ap, ◌∙◌, arith}
+use Rattle.std.proofs.Common.{◌≡◌, ◌≤◌, ◌+◌, ◌-◌, ◌++◌, [], ◌∷◌, List, length, length-append, replicate, append_assoc, ap, sym, subst, ◌∙◌, arith}
 use Rattle.std.proofs.lemmas.List.{map-append, replicate-append-replicate}
-use Rattle.msg_tables.specs.RowList.{RowList, rows_of}
+use Rattle.msg_tables.specs.RowList.{KeepRoom, RowList, rooms_of, rows_of}
+use Rattle.msg_tables.proofs.RoomLemmas.{grown-on, keep-pushed}
 use Rattle.msg_tables.proofs.row_lists.reach.Goals as goal
 
 -- one more without rows
@@ -13,10 +14,12 @@ one_more xs ys r zs none is more e =
 pub loop-alloc-preserved : goal.loop-alloc-preserved
 loop-alloc-preserved c =
     let was = c.loop-alloc.lists.items in
-    let is = c.in_ok-push.ensures.items in
-    let count : length c.push.new.self.items ≡ length was + 1 = omega (arith, ap length is, length-append was (c.new.result ∷ [])) in
+    let is = rw c.unwrap.ensures at c.push-pushed.ensures.items in
+    let count : length c.push-pushed.new.self.items ≡ length was + 1 = omega (arith, ap length is, length-append was (c.new.result ∷ [])) in
     record {
-      rows = one_more c.args.lists.now.items was c.new.result c.push.new.self.items c.new.ensures is c.loop-alloc.invariant.more c.loop-alloc.invariant.rows;
+      rows = one_more c.args.lists.now.items was c.new.result c.push-pushed.new.self.items c.new.ensures is c.loop-alloc.invariant.more c.loop-alloc.invariant.rows;
+      keeps = grown-on (rooms_of c.args.lists.now.items) (rooms_of was) (rooms_of c.push-pushed.new.self.items) c.loop-alloc.invariant.keeps (subst (KeepRoom was) (sym is) (keep-pushed was c.new.result));
       more = omega (arith, count, c.loop-alloc.invariant.more);
+      room = omega (arith, c.loop-alloc.invariant.room, c.push-pushed.ensures.capacity);
       few = λ n at first. omega (arith, count, at, c.loop-alloc-test.true, c.loop-alloc.lists.ok.0, c.len.ensures);
     }

@@ -1,7 +1,7 @@
-use Rattle.std.proofs.Common.{◌≡◌, false, length}
+use Rattle.std.proofs.Common.{◌≡◌, ◌≤◌, false, length}
 use Rattle.std.specs.Vec.{vec_capacity}
-use Rattle.msg_tables.specs.Journal.{lists_before, supers_before, order_before, before_all}
-use Rattle.msg_tables.specs.RowList.{rows_of}
+use Rattle.msg_tables.specs.Journal.{CanAllGoBack, lists_before, supers_before, order_before, before_all}
+use Rattle.msg_tables.specs.RowList.{KeepRoom, rows_of}
 use Rattle.msg_tables.proofs.take_back.unwrite_all.Given as goal
 
 -- what is left to be taken back gives what all of it did
@@ -11,6 +11,9 @@ invariant-loop-entry l = record {
   order : before_all order_before l.journal.items l.order.items ≡ before_all order_before l.initial.journal.items l.initial.order.items;
   lists : before_all lists_before l.journal.items (rows_of l.lists) ≡ before_all lists_before l.initial.journal.items (rows_of l.initial.lists);
   room : vec_capacity l.order ≡ vec_capacity l.initial.order;
+  back : CanAllGoBack l.journal.items (vec_capacity l.order) l.lists l.order.items;
+  keeps : KeepRoom l.initial.lists l.lists;
+  journal : vec_capacity l.initial.journal ≤ vec_capacity l.journal;
   kept : l.made ≡ false → l.supers.items ≡ l.initial.supers.items;
 }
 

@@ -9,7 +9,7 @@ use Rattle.msg_core.specs.Inside.{view_of}
 use Rattle.msg_core.proofs.OpenLemmas.{IsNew, new_layout, new_state, new_whole}
 use Rattle.msg_core.proofs.machine.Machine.of.Goals as goal
 
-is_new : (c : goal.In_ok-vec-3) → IsNew c.args.origin.now c.args.senders c.args.arrays.now (view_of (record { origin = c.of.result; changes = c.new.result; tables = c.in_ok-open.field-0; live = c.in_ok-vec.field-0; arrays = c.in_ok-empty_arrays.field-0; standings = c.in_ok-vec-2.field-0; whereabouts = c.in_ok-vec-3.field-0 }))
+is_new : (c : goal.In_ok-vec-3) → IsNew c.args.origin.now c.args.senders c.args.arrays.now (view_of (record { origin = c.of.result; changes = c.new.result; tables = c.in_ok-open.field-0; written = c.none.result; live = c.in_ok-vec.field-0; arrays = c.in_ok-empty_arrays.field-0; standings = c.in_ok-vec-2.field-0; whereabouts = c.in_ok-vec-3.field-0 }))
 is_new c =
     let live : c.in_ok-vec.field-0.items ≡ replicate (2 * c.class_count-classes.result) None = search rules in
     let standings : c.in_ok-vec-2.field-0.items ≡ replicate (length c.args.arrays.now) Free = search rules in

@@ -64,6 +64,23 @@ returns-clause-some c =
     found ∙ sym (longer-stays sees probed c.args.class (selector_number c.args.sel) ok.origin ok.changes c.stamp-after.ensures.begins few)
 
 -- and it was found after so many
+pub returns-clause-counted : goal.returns-clause-counted
+returns-clause-counted c =
+    let saw = c.args.self.now.sender.front in
+    let probed = c.probe.new.self.sender.front in
+    let sees = c.stamp-after.new.self.sender.front in
+    let ok = c.stamp-after.ensures.accepted in
+    let onward = c.stamp-after.ensures.begins in
+    let on : BeginsWith probed saw = search rules in
+    let n : ℕ = c.args.count in
+    let sel : ℕ = selector_number c.args.sel in
+    let few : last_affected sees c.args.class ≤ length probed.changes = omega (arith, as_long probed saw on, c.requires.count, c.if-count-after.false, c.stamp-after.ensures.since) in
+    let last : last_affected sees c.args.class ≤ n = omega (arith, c.if-count-after.false, c.stamp-after.ensures.since) in
+    let within : n ≤ length sees.changes = omega (arith, as_long probed saw on, as_long sees probed onward, c.requires.count) in
+    let found : imp_number c.in_ok-imp.imp ≡ lookup probed c.args.class sel = search rules in
+    found ∙ sym (longer-stays sees probed c.args.class sel ok.origin ok.changes onward few) ∙ sym (stays-since sees c.args.class sel n ok.origin ok.changes last within)
+
+-- so it is noted
 pub returns-clause-notes : goal.returns-clause-notes
 returns-clause-notes c =
     let grows = c.notes_are_of_longer_histories.ensures in

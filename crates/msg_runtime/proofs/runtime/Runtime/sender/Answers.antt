@@ -21,6 +21,8 @@ loop-number-init c = record {
   keeper = ap (λ v. v.keeper) c.self.view_is;
   remembered = ap (λ v. v.remembered) c.self.view_is;
   report = ap (λ v. v.report) c.self.view_is;
+  rooms = ap (λ v. v.rooms) c.self.view_is;
+  written = ap (λ v. v.written) c.self.view_is;
   out = λ n below. absurd (omega arith);
 }
 
@@ -41,5 +43,7 @@ loop-number-preserved c =
       keeper = e.view ∙ inv.keeper;
       remembered = e.remembered ∙ inv.remembered;
       report = e.report ∙ inv.report;
+      rooms = inv.rooms;
+      written = inv.written;
       out = out_on c.args.self.now.keeper c.loop-number.number inv.out (subst (λ (k : KeeperView). awaits k.given c.loop-number.number ≡ true) inv.keeper here);
     }

@@ -10,5 +10,7 @@ invariant-loop-number l = record {
   keeper : keeper_view l.self-inside.keeper ≡ l.fn.self.keeper;
   remembered : keeper_remembered l.self-inside.keeper ≡ l.fn.self.remembered;
   report : keeper_report l.self-inside.keeper ≡ l.fn.self.report;
+  rooms : l.self-inside.tables.rooms ≡ l.fn.self.rooms;
+  written : l.self-inside.written ≡ l.fn.self.written;
   out : AreOut l.number l.fn.self.keeper;
 }

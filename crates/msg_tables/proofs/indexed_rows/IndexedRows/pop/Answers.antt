@@ -23,6 +23,7 @@ invariant_of-self-2 c =
     let there : c.bucket-bucket.result < length newest = omega (arith, c.bucket-bucket.ensures.inside, wide) in
     record {
       some = omega (arith, length-set newest c.bucket-bucket.result c.unwrap.result, c.self.invariant.some);
+      wide = omega (arith, length-set newest c.bucket-bucket.result c.unwrap.result, ap length split, length-append rest (m ∷ []), c.self.invariant.wide);
       each = omega (arith, ap length split, length-append rest (m ∷ []), ap length parted, length-append left (c.unwrap.result ∷ []), c.self.invariant.each);
       linked = linked-pop rows rest m older left newest c.bucket-bucket.result c.unwrap.result split parted named there c.self.invariant.each c.self.invariant.linked;
     }

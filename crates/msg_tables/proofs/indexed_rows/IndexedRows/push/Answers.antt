@@ -21,6 +21,7 @@ invariant_of-self c =
     let count : c.len-2.result ≡ length rows + 1 = c.len-2.ensures ∙ c.push-pushed.new.self.ok.0 ∙ ap length pushed ∙ more in
     record {
       some = omega (arith, length-set newest c.bucket-bucket.result c.len-2.result, c.self.invariant.some);
+      wide = let room = rw (← c.self.view_is) at c.requires in omega (arith, length-set newest c.bucket-bucket.result c.len-2.result, ap length pushed, more, room);
       each = ap length linked ∙ length-append c.self.inside.older.items (c.index.result.now ∷ []) ∙ ap (λ n. n + 1) c.self.invariant.each ∙ sym more ∙ sym (ap length pushed);
       linked = rw (pushed, linked, more, count) (linked-push rows m c.self.inside.older.items newest c.bucket-bucket.result c.index.result.now named there c.index.ensures c.self.invariant.each c.self.invariant.linked);
     }

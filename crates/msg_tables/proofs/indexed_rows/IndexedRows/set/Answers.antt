@@ -27,6 +27,7 @@ invariant_of-self c =
     let found : last_index s (method_numbers rows) ≡ Some c.in-Some.place = sym is ∙ c.in-Some.is in
     record {
       some = c.self.invariant.some;
+      wide = omega (arith, c.self.invariant.wide, length-set rows c.in-Some.place (c.args.sel, c.args.imp));
       each = c.self.invariant.each ∙ sym (length-set rows c.in-Some.place (c.args.sel, c.args.imp));
       linked = linked-set rows c.in-Some.place c.args.sel c.args.imp c.self.inside.older.items c.self.inside.newest.items found (place_inside rows s c.place.result is c.in-Some.place c.in-Some.is) c.self.invariant.linked;
     }

@@ -2,11 +2,8 @@ use Rattle.std.proofs.Common.{◌≡◌, ◌≤◌, ℕ, List, [], length, optio
 use Rattle.std.specs.Prelude.{false, nat_lt, slice_index_or}
 use Rattle.msg_names.specs.Number.{selector_number, imp_number}
 use Rattle.msg_tables.specs.RowList.{RowList, rows_of, own_in}
-use Rattle.msg_tables.proofs.ReservedLemmas.{all-none}
+use Rattle.msg_tables.proofs.ReservedLemmas.{all-none, past-of}
 use Rattle.msg_tables.proofs.row_lists.RowLists.find.Goals as goal
-
-past-of : (k m n : ℕ) → false ≡ nat_lt k m → m ≡ n → n ≤ k
-past-of k m n test same = grind arith
 
 pub returns-in_err-get : goal.returns-in_err-get
 returns-in_err-get c =

@@ -3,7 +3,7 @@ use Rattle.msg_tables.specs.Order.{IsOrder}
 use Rattle.msg_tables.specs.Origin.{last_imp}
 use Rattle.msg_tables.specs.Preorder.{HavePreorder}
 use Rattle.msg_tables.proofs.ListedOrderLemmas.{length-opened}
-use Rattle.msg_tables.proofs.OpeningLemmas.{listed-blank}
+use Rattle.msg_tables.proofs.OpeningLemmas.{counted-blank, listed-blank}
 use Rattle.msg_tables.proofs.tables.Tables.blank.Goals as goal
 
 pub invariant_of-result : goal.invariant_of-result
@@ -13,6 +13,7 @@ invariant_of-result c =
     let lists = c.in_ok-blank.ensures.rows in
     let classes = c.class_count-count in
     record {
+      counted = rw lists (counted-blank (2 * classes.result));
       order = subst (λ s. IsOrder s c.in_ok-order.order.items) (sym supers) c.in_ok-order.ensures.order;
       room = omega (arith, count, c.in_ok-order.ensures.room);
       preorder = subst (λ s. HavePreorder s c.in_ok-preorder.preorder.depths.items c.in_ok-preorder.preorder.nexts.items) c.deref.ensures.value c.in_ok-preorder.ensures;

@@ -1,7 +1,7 @@
 use Rattle.std.proofs.Common.{refl, ◌∙◌, sym, true, false}
 use Rattle.msg_tables.proofs.JudgeLemmas.{unfit-replace, fit-replace, rows-replace}
 use Rattle.msg_tables.proofs.PlaceLemmas.{places-replace, places-replace-add}
-use Rattle.msg_tables.proofs.UndoJournalLemmas.{undo-replace, undo-add}
+use Rattle.msg_tables.proofs.UndoJournalLemmas.{undo-replace, undo-replace-add}
 use Rattle.msg_tables.proofs.tables.Tables.judge_replace.Goals as goal
 
 pub returns-in-Some-clause-meaning : goal.returns-in-Some-clause-meaning
@@ -34,7 +34,7 @@ pub returns-clause-places : goal.returns-clause-places
 returns-clause-places c = λ h stands. places-replace-add h c.args.row
 
 pub returns-then-has_own-clause-undo : goal.returns-then-has_own-clause-undo
-returns-then-has_own-clause-undo c = λ h stands. undo-replace c.args.self.now h stands c.args.row
+returns-then-has_own-clause-undo c = λ h stands. undo-replace c.args.self.now h stands c.args.row (c.has_own.ensures.own c.if-has_own.true)
 
 pub returns-clause-undo : goal.returns-clause-undo
-returns-clause-undo c = λ h stands. undo-add c.args.self.now h stands c.args.row (sym (c.has_own.ensures.meaning h stands) ∙ c.if-has_own.false)
+returns-clause-undo c = λ h stands. undo-replace-add c.args.self.now h stands c.args.row (sym (c.has_own.ensures.meaning h stands) ∙ c.if-has_own.false)

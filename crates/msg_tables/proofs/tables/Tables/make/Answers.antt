@@ -10,6 +10,8 @@ use Rattle.msg_tables.proofs.PlacedLemmas.{made-ready, made-preorder}
 use Rattle.msg_tables.specs.declared.entry.Entry.TheVariants.{Made}
 use Rattle.msg_tables.specs.Journal.{order_before}
 use Rattle.msg_tables.proofs.JournalLemmas.{back-supers, back-order}
+use Rattle.msg_tables.specs.RowList.{rooms_of}
+use Rattle.msg_tables.proofs.RoomLemmas.{grown-same}
 use Rattle.msg_tables.proofs.tables.Tables.make.Goals as goal
 
 pub unwrap-requires : goal.unwrap-requires
@@ -42,6 +44,7 @@ invariant_of-self c =
     let pushed : c.push-pushed.new.self.items ≡ order ++ c.args.class ∷ [] =
     c.push-pushed.ensures.items ∙ ap (λ r. cond (is_ok r) (order ++ c.args.class ∷ []) order) c.unwrap.ensures in
     record {
+      counted = c.self.invariant.counted;
       order = subst (λ o. IsOrder (slice_set was c.args.class (Some made)) o) (sym pushed) (made-order was order c.self.invariant.order c.args.class c.args.superclass fits.named.0 fits.named.1 fits.named.2);
       room = omega (arith, grown, c.self.invariant.room, c.push-pushed.ensures.capacity);
       preorder = subst (λ ds. HavePreorder (slice_set was c.args.class (Some made)) ds c.place.new.self.nexts.items) (sym c.place.ensures.depths)
@@ -65,4 +68,6 @@ returns-clause-back c =
       lists = refl;
       supers = back-supers was c.args.class (record { superclass = c.args.superclass }) fits.named.1;
       order = ap (order_before (Made c.args.class)) pushed ∙ back-order order c.args.class;
+      grown = grown-same (rooms_of c.self.inside.lists);
+      room = (tt, tt);
     }

@@ -1,4 +1,4 @@
-use Rattle.std.proofs.Common.{◌≡◌, ◌<◌, [], ◌++◌, length, refl, sym, ap, ◌∙◌, subst, arith}
+use Rattle.std.proofs.Common.{◌≡◌, ◌<◌, [], ◌++◌, length, length-append, refl, sym, ap, ◌∙◌, subst, arith}
 use Rattle.std.specs.Prelude.{slice_set, slice_index_or}
 use Rattle.msg_tables.specs.Methods.{method_numbers}
 use Rattle.msg_tables.specs.RowList.{rows_of}
@@ -7,6 +7,7 @@ use Rattle.msg_tables.specs.Stands.{Holds}
 use Rattle.msg_names.specs.ClassRef.{slot_of}
 use Rattle.msg_tables.specs.View.{kept}
 use Rattle.msg_tables.proofs.HoldsLemmas.{holds-append, length-rows_at, length-method_numbers}
+use Rattle.msg_tables.proofs.EditLemmas.{counted-put}
 use Rattle.msg_tables.proofs.ListedLemmas.{listed-append}
 use Rattle.msg_names.proofs.ClassRefLemmas.{slot_of-inside}
 use Rattle.msg_tables.proofs.PutLemmas.{put-length, put-listed, length-rows_of}
@@ -19,7 +20,14 @@ invariant_of-self-2 c =
     let now = c.in_ok-append_rows.ensures.ok in
     let methods = method_numbers c.args.methods.now in
     let n = last_imp c.self.inside.counts in
+    let was = c.self.inside.lists in
+    let inside = slot_of-inside c.args.class (length c.self.inside.supers.items) (length was) c.self.invariant.lists given.class in
+    let there : c.slot.result < length (rows_of was) = omega (arith, c.slot.ensures, inside, length-rows_of was) in
+    let before = slice_index_or (rows_of was) c.slot.result [] in
+    let total = counted-put (rows_of was) (rows_of c.append_rows.new.self) c.slot.result c.self.inside.row_count (before ++ methods) there now c.self.invariant.counted in
+    let more = length-append before methods in
     record {
+      counted = omega (arith, total, more, length-method_numbers c.args.methods.now);
       order = c.self.invariant.order;
       room = c.self.invariant.room;
       preorder = c.self.invariant.preorder;

@@ -1,7 +1,8 @@
 use Rattle.std.proofs.Common.{◌≡◌, ◌<◌, [], length, option_map, refl, sym, ap, ◌∙◌, subst, arith}
 use Rattle.std.specs.Prelude.{slice_set, slice_index_or}
 use Rattle.msg_names.specs.Number.{selector_number, imp_number}
-use Rattle.msg_tables.specs.RowList.{own_in, rows_of, set_last}
+use Rattle.msg_tables.specs.RowList.{own_in, rooms_of, rows_of, set_last}
+use Rattle.msg_tables.proofs.EditLemmas.{counted-put, length-set_last}
 use Rattle.msg_tables.specs.After.{set_own}
 use Rattle.msg_tables.specs.Stands.{Holds}
 use Rattle.msg_names.specs.ClassRef.{slot_of}
@@ -23,7 +24,14 @@ invariant_of-self c =
     let now = c.rewrite_row-was.ensures.rows in
     let n = last_imp c.self.inside.counts in
     let write = set_last (selector_number c.args.row.sel) (imp_number c.args.row.imp) in
+    let was = c.self.inside.lists in
+    let inside = slot_of-inside c.args.row.class (length c.self.inside.supers.items) (length was) c.self.invariant.lists own.class in
+    let there : c.slot.result < length (rows_of was) = omega (arith, c.slot.ensures, inside, length-rows_of was) in
+    let before = slice_index_or (rows_of was) c.slot.result [] in
+    let total = counted-put (rows_of was) (rows_of c.rewrite_row-was.new.self) c.slot.result c.self.inside.row_count (write before) there now c.self.invariant.counted in
+    let many = length-set_last (selector_number c.args.row.sel) (imp_number c.args.row.imp) before in
     record {
+      counted = omega (arith, total, many);
       order = c.self.invariant.order;
       room = c.self.invariant.room;
       preorder = c.self.invariant.preorder;
@@ -86,6 +94,8 @@ returns-clause-back c old known =
       lists = ap (lists_before (Rewrote class c.args.row.sel old)) is ∙ back-rewrote (rows_of was) class c.args.row.sel old i room known;
       supers = refl;
       order = refl;
+      grown = c.rewrite_row-was.ensures.keeps;
+      room = (tt, tt);
     }
 
 pub returns-clause-value : goal.returns-clause-value
@@ -96,7 +106,7 @@ returns-clause-value c =
     let i = imp_number c.args.row.imp in
     let is : rows_of c.rewrite_row-was.new.self ≡ slice_set (rows_of was) (slot_of class) (set_last s i (kept (rows_of was) class)) =
     c.rewrite_row-was.ensures.rows ∙ ap (λ p. slice_set (rows_of was) p (set_last s i (slice_index_or (rows_of was) p []))) c.slot.ensures in
-    rw (← c.self.view_is) (ap (λ lists. record (view_of c.self.inside) { lists = lists }) is)
+    rw (← c.self.view_is) (ap (λ lists. record (view_of c.self.inside) { lists = lists; rooms = rooms_of c.rewrite_row-was.new.self }) is)
 
 pub returns-clause-was : goal.returns-clause-was
 returns-clause-was c =

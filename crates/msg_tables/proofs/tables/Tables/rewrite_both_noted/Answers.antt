@@ -2,6 +2,7 @@ use Rattle.std.proofs.Common.{[], ◌∷◌, ◌++◌, append_assoc, option_map,
 use Rattle.msg_names.specs.Number.{imp_number}
 use Rattle.msg_tables.specs.declared.entry.Entry.TheVariants.{Rewrote}
 use Rattle.msg_tables.proofs.UndoJournalLemmas.{undone-both}
+use Rattle.msg_tables.proofs.NoteLemmas.{places-equal}
 use Rattle.msg_tables.proofs.tables.Tables.rewrite_both_noted.Goals as goal
 
 pub returns-clause-journals : goal.returns-clause-journals
@@ -17,9 +18,8 @@ returns-clause-journals c =
       writes = c.rewrite_both.ensures.writes;
       entries = Rewrote first.class first.sel one ∷ b;
       is = c.note_rewritten-2.ensures.items ∙ ap (λ es. es ++ b) c.note_rewritten.ensures.items ∙ append_assoc c.args.journal.now.items (Rewrote first.class first.sel one ∷ []) b;
-      few = omega arith;
       back = c.rewrite_both.ensures.back one two is js;
-      places = refl;
+      places = places-equal _ [] _ refl;
       made = refl;
       undone = undone-both c.args.self.now first second one two is js;
       listed = (c.requires.first.class, (c.requires.second.class, tt));

@@ -1,6 +1,7 @@
 use Rattle.std.proofs.Common.{[], ◌∷◌, refl, arith}
 use Rattle.msg_tables.specs.declared.entry.Entry.TheVariants.{Rewrote}
 use Rattle.msg_tables.proofs.UndoJournalLemmas.{undone-own}
+use Rattle.msg_tables.proofs.NoteLemmas.{places-equal}
 use Rattle.msg_tables.proofs.tables.Tables.rewrite_noted.Goals as goal
 
 pub returns-clause-journals : goal.returns-clause-journals
@@ -11,9 +12,8 @@ returns-clause-journals c =
       writes = c.rewrite-was.ensures.writes;
       entries = Rewrote c.args.row.class c.args.row.sel was ∷ [];
       is = c.note_rewritten.ensures.items;
-      few = omega arith;
       back = c.rewrite-was.ensures.back was is;
-      places = refl;
+      places = places-equal _ [] _ refl;
       made = refl;
       undone = undone-own c.args.self.now c.args.row was is;
       listed = (c.requires.own.class, tt);

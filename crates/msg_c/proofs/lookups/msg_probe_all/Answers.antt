@@ -1,0 +1,29 @@
+use Rattle.std.proofs.Common.{◌≡◌, rules, subst}
+use Rattle.msg_host.specs.Lookups.{RowsLackOne, RowsMissOne}
+use Rattle.msg_host.specs.View.{SenderView}
+use Rattle.msg_c.proofs.NoteLemmas.{notes_left}
+use Rattle.msg_c.proofs.lookups.msg_probe_all.Goals as goal
+
+pub probe_all-found-requires : goal.probe_all-found-requires
+probe_all-found-requires c = record { notes = c.args.sender.now.noted.seen c.deref_mut.result.now.seen.front (search rules) }
+
+pub invariant_of-sender-clause-noted : goal.invariant_of-sender-clause-noted
+invariant_of-sender-clause-noted c =
+    notes_left c.args.sender.now.held.state c.put.new.self.state c.take-asker.result.value c.deref_mut.result.now c.probe_all-found.new.self c.args.sender.now.notes c.probe_all-found.new.notes
+    c.args.sender.now.noted c.take-asker.ensures.taken c.deref_mut.ensures.value c.probe_all-found.ensures.arena c.probe_all-found.ensures.notes c.probe_all-found.ensures.stamped c.put.ensures
+
+pub returns-in-Ok-false-clause-recalled : goal.returns-in-Ok-false-clause-recalled
+returns-in-Ok-false-clause-recalled c missed u w was is =
+    let before : c.deref_mut.result.now ≡ u = search rules in
+    let after : c.probe_all-found.new.self ≡ w = search rules in
+    subst (λ (v : SenderView). RowsLackOne v.arena c.args.sender.now.notes c.args.lookups.now v.seen w.seen) before
+    (subst (λ (v : SenderView). RowsLackOne c.deref_mut.result.now.arena c.args.sender.now.notes c.args.lookups.now c.deref_mut.result.now.seen v.seen) after
+    (c.probe_all-found.ensures.recalled (search rules)))
+
+pub returns-in-Ok-false-clause-missed : goal.returns-in-Ok-false-clause-missed
+returns-in-Ok-false-clause-missed c missed u w was is =
+    let before : c.deref_mut.result.now ≡ u = search rules in
+    let after : c.probe_all-found.new.self ≡ w = search rules in
+    subst (λ (v : SenderView). RowsMissOne v.arena c.args.lookups.now v.seen w.seen) before
+    (subst (λ (v : SenderView). RowsMissOne c.deref_mut.result.now.arena c.args.lookups.now c.deref_mut.result.now.seen v.seen) after
+    (c.probe_all-found.ensures.missed (search rules)))

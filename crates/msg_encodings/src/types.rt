@@ -1,0 +1,81 @@
+//! A type, and a member of a structure, by their places in a text.
+
+ghost use Rattle.std.specs.Prelude.{◌≡◌, ◌≤◌, ◌<◌, length, IfSome};
+ghost use Rattle.msg_encodings.specs.Members.{type_of, member_of, stops};
+
+use crate::letters::DEEPEST;
+use crate::reading::first;
+use crate::texts::past_name;
+
+/// A type in front of a text.
+#[derive(Clone, Copy, Debug, PartialEq, Eq)]
+pub struct Extent {
+    /// In bytes, at most [`crate::LARGEST`].
+    pub size: u64,
+    /// In bytes, from 1 to [`crate::LARGEST`].
+    pub align: u64,
+    /// The place in the text behind the type.
+    pub end: usize,
+}
+
+/// A member in front of the text of those of a structure.
+#[derive(Clone, Copy, Debug, PartialEq, Eq)]
+pub struct Member {
+    /// The place in the text of the member's type, behind its name.
+    pub begin: usize,
+    /// The place in the text behind the member.
+    pub end: usize,
+    /// The first bit that it takes of the structure.
+    pub first: u64,
+    /// The bit behind the last that it takes.
+    pub last: u64,
+    /// The alignment of its type, in bytes.
+    pub align: u64,
+}
+
+/// The first type of a text.
+pub fn first_type(text: &[u8]) -> Extent
+    ensures value { result ≡ type_of text.now }
+    ensures inside { result.end ≤ length text.now }
+    ensures goes_on { 0 < length text.now → 0 < result.end }
+    ensures some { 0 < result.align }
+{
+    let (shape, rest) = first(text, DEEPEST);
+    Extent {
+        size: shape.size,
+        align: shape.align,
+        end: text.len() - rest.len(),
+    }
+}
+
+// Whether no member stands here.
+fn stops(text: &[u8]) -> bool
+    ensures { result ≡ stops text.now }
+{
+    match text {
+        [] => true,
+        [letter, ..] => *letter == b'}' || *letter == b')',
+    }
+}
+
+/// The member of a structure that stands in front of a text, where those before it end before this
+/// bit; of a union, 0. None where the structure or the text ends.
+pub fn next_member(text: &[u8], before: u64) -> Option<Member>
+    ensures value { result ≡ member_of text.now before }
+    ensures inside { IfSome result (λ m. m.end ≤ length text.now) }
+    ensures goes_on { IfSome result (λ m. m.begin < m.end) }
+{
+    let at = past_name(text);
+    if stops(at) {
+        return None;
+    }
+    let (shape, rest) = first(at, DEEPEST);
+    let (first, last) = shape.place(before);
+    Some(Member {
+        begin: text.len() - at.len(),
+        end: text.len() - rest.len(),
+        first,
+        last,
+        align: shape.align,
+    })
+}

@@ -1,0 +1,21 @@
+use Rattle.std.proofs.Common.{ap, subst, sym, ◌∙◌}
+use Rattle.msg_tables.specs.History.{History}
+use Rattle.msg_cache.specs.Views.{ArenaView, classes, layout}
+use Rattle.msg_reader.specs.Notes.{StayStamped}
+use Rattle.msg_runtime.specs.View.{RuntimeView}
+use Rattle.msg_host.proofs.runtime.HostedRuntime.answer_all.Goals as goal
+
+pub invariant_of-self : goal.invariant_of-self
+invariant_of-self g c =
+    let e = c.answer_all.ensures in
+    record {
+      arena = c.self.invariant.arena ∙ sym e.arena;
+      turn = e.turn ∙ ap (λ (a : ArenaView). a.table) (sym e.arena);
+      away = e.away;
+      classes = c.self.invariant.classes ∙ ap classes (sym e.arena);
+      few_classes = c.self.invariant.few_classes;
+      history = ap (λ (h : History). h.origin) e.history ∙ c.self.invariant.history ∙ ap (λ (a : ArenaView). a.key.origin) (sym e.arena);
+    }
+
+pub returns-clause-stamped : goal.returns-clause-stamped
+returns-clause-stamped g c = subst (λ (v : RuntimeView). StayStamped (layout v.arena) c.args.notes.now c.answer_all.new.notes) c.self.view_is c.answer_all.ensures.stamped

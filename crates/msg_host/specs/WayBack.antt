@@ -1,0 +1,33 @@
+-- That each list of rows has a way back.
+use Rattle.std.specs.Prelude.{◌≡◌, ◌≤◌, ◌+◌, ℕ, List, None, false, length, take}
+use Rattle.msg_names.specs.declared.value.ClassRef.{ClassRef}
+use Rattle.msg_tables.specs.History.{log, lookup}
+use Rattle.msg_tables.specs.Made.{and_as_one}
+use Rattle.msg_tables.specs.Refusal.{IsLog}
+use Rattle.msg_tables.specs.Several.{refused_from}
+use Rattle.msg_tables.specs.declared.change.Change.{Change}
+use Rattle.msg_runtime.specs.View.{RuntimeView}
+use Rattle.msg_host.specs.Config.{host_origin, is_beyond}
+use Rattle.msg_host.specs.Listing.{AreMeant, LackMemoryAt, MakesRows, UndoesRows}
+use Rattle.msg_host.specs.declared.config.HostConfig.{HostConfig}
+use Rattle.msg_host.specs.declared.config.TheConstants.{HOST_CHANGES}
+use Rattle.msg_host.specs.declared.listing.ChangeRow.{ChangeRow}
+
+-- The rows take a runtime back from w to what it was at v. They are accepted, as long as so many
+-- changes are, each lookup is then what it was, and they don't want memory.
+pub record TakesBack (rows : List ChangeRow) (v w : RuntimeView) : Type 0 where
+  pub changes : List Change
+  pub meant : AreMeant rows changes
+  pub accepted : length (log w.keeper.history).changes + length changes ≤ HOST_CHANGES → refused_from 0 (log w.keeper.history) changes ≡ None
+  pub lookups : (c : ClassRef) (s : ℕ) → lookup (and_as_one w.keeper.history changes) c s ≡ lookup v.keeper.history c s
+  pub memory : (place : ℕ) → LackMemoryAt rows w place → ⊥
+
+-- The history is one of accepted changes, and began as a config says.
+pub record IsHosts (config : HostConfig) (v : RuntimeView) : Type 0 where
+  pub within : is_beyond config ≡ false
+  pub origin : v.keeper.history.origin ≡ host_origin config
+  pub log : IsLog (log v.keeper.history)
+
+-- So it is of the rows that are written where a list of rows is made, directly after it.
+abbrev pub EveryListHasWayBack : Type 0
+EveryListHasWayBack = (config : HostConfig) (v w : RuntimeView) (rows undo : List ChangeRow) (n : ℕ) → IsHosts config v → MakesRows rows v w → UndoesRows rows v.keeper.history undo n → TakesBack (take n undo) v w

@@ -1,0 +1,20 @@
+//! Laws of lists of rows.
+
+ghost use Rattle.msg_host.specs.WayBack.{EveryListHasWayBack};
+
+use msg_tables::list_laws::{
+    a_way_back_brings_back_each_lookup, a_way_back_is_accepted, a_way_back_wants_no_memory,
+    parts_are_accepted_one_after_another,
+};
+
+/// Every list of rows that was made has a way back, which is written with it. Made directly
+/// afterwards, it is accepted, as long as so many changes are, it brings back each lookup, and it
+/// wants no memory.
+pub fn every_list_of_rows_has_a_way_back()
+    ensures { EveryListHasWayBack }
+{
+    parts_are_accepted_one_after_another();
+    a_way_back_is_accepted();
+    a_way_back_brings_back_each_lookup();
+    a_way_back_wants_no_memory();
+}

@@ -1,0 +1,96 @@
+-- Several lookups that are answered as one.
+use Rattle.std.proofs.Common.{◌≡◌, ◌<◌, ◌≤◌, ◌+◌, ℕ, suc, false, List, [], ◌∷◌, ◌++◌, length, map, take, Some, None, inl, inr, sym, ap, ap₂, ◌∙◌, arith, append_assoc}
+use Rattle.std.specs.Prelude.{◌⊎◌, Option, IsSome, is_some, slice_get, slice_set}
+use Rattle.std.proofs.Math.Seq.{take-suc}
+use Rattle.std.proofs.lemmas.List.{length-take-le, map-append, take_all, take_more_set}
+use Rattle.std.proofs.lemmas.Option.{get_or_from_slice_get, slice_get_within}
+use Rattle.msg_names.specs.declared.value.ClassRef.{ClassRef}
+use Rattle.msg_names.specs.declared.value.ImpRef.{ImpRef}
+use Rattle.msg_tables.specs.History.{History, BeginsWith}
+use Rattle.msg_tables.proofs.BeginsLemmas.{begins_same}
+use Rattle.msg_core.specs.State.{first}
+use Rattle.msg_cache.proofs.PastLemmas.{begins_first, first_begins}
+use Rattle.msg_cache.specs.declared.view.SenderView.{SenderView}
+use Rattle.msg_reader.specs.Kept.{LoadsMore}
+use Rattle.msg_reader.specs.Notes.{recalled_of}
+use Rattle.msg_reader.specs.Several.{AreFoundAfter, AreFoundAt, AreFoundTogether, IsAmong, LackOne, LacksIt, LoadsAmong, found_of}
+use Rattle.msg_reader.specs.declared.lookup.Lookup.{Lookup}
+use Rattle.msg_reader.specs.declared.notes.Notes.{Notes}
+use Rattle.msg_reader.proofs.ReaderLemmas.{as_long}
+
+-- the first changes of a longer history are those of one that has so many
+pub first_is : (p h : History) (n : ℕ) → BeginsWith p h → n ≡ length h.changes → first n p ≡ h
+first_is p h n b is =
+    let some : n ≤ length p.changes = omega (arith, as_long p h b, is) in
+    begins_same (first n p) h (begins_first p h n b (omega (arith, is))) (length-take-le n p.changes some ∙ is)
+
+-- ---- what is found
+
+take_one : (ks : List Lookup) (place : ℕ) (k : Lookup) → slice_get ks place ≡ Some k → take (place + 1) ks ≡ take place ks ++ k ∷ []
+take_one ks place k is =
+    let more : place + 1 ≡ suc place = omega arith in
+    ap (λ n. take n ks) more ∙ take-suc ks place k (slice_get_within ks place k is) ∙ ap (λ x. take place ks ++ x ∷ []) (get_or_from_slice_get ks place k k is)
+
+-- one answer more
+pub found_next : (h : History) (ks : List Lookup) (imps : List ℕ) (place : ℕ) (k : Lookup) (i : ℕ) → place < length imps → slice_get ks place ≡ Some k → i ≡ found_of h k
+    → AreFoundAt h (take place ks) (take place imps) → AreFoundAt h (take (place + 1) ks) (take (place + 1) (slice_set imps place i))
+found_next h ks imps place k i inside at is so =
+    take_more_set imps place i inside
+    ∙ ap₂ (λ a b. a ++ b ∷ []) so is
+    ∙ sym (map-append (found_of h) (take place ks) (k ∷ []))
+    ∙ sym (ap (map (found_of h)) (take_one ks place k at))
+
+-- all of them
+pub found_whole : (h : History) (ks : List Lookup) (imps : List ℕ) (place : ℕ) → length imps ≡ length ks → length ks ≤ place → AreFoundAt h (take place ks) (take place imps) → AreFoundAt h ks imps
+found_whole h ks imps place same all so =
+    sym (take_all place imps (omega (arith, same, all))) ∙ so ∙ ap (map (found_of h)) (take_all place ks all)
+
+-- after so many changes that are seen then is at one history
+pub found_together : (v w : SenderView) (ks : List Lookup) (imps : List ℕ) (n : ℕ) → BeginsWith w.front v.front → AreFoundAfter v w ks imps n → AreFoundTogether v w ks imps
+found_together v w ks imps n b are = (first n w.front, begins_first w.front v.front n b are.since, first_begins n w.front, are.found)
+
+-- ---- what isn't
+
+-- a stamp that was loaded later, or with others after it
+pub among_later : (c : ClassRef) (n : ℕ) (v u w : SenderView) → LoadsMore v u → LoadsAmong c n u w → LoadsAmong c n v w
+among_later c n v u w (start, from) (more, before, is) =
+    let grouped : before ++ u.stamps ≡ (before ++ start) ++ v.stamps = ap (λ (l : List (ClassRef × ℕ)). before ++ l) from ∙ sym (append_assoc before start v.stamps) in
+    (more, before ++ start, is ∙ ap (λ (l : List (ClassRef × ℕ)). more ++ ((c, n) ∷ l)) grouped)
+
+pub among_before : (c : ClassRef) (n : ℕ) (v u w : SenderView) → LoadsAmong c n v u → LoadsMore u w → LoadsAmong c n v w
+among_before c n v u w (more, before, is) (last, from) =
+    (last ++ more, before, from ∙ ap (λ (l : List (ClassRef × ℕ)). last ++ l) is ∙ sym (append_assoc last more ((c, n) ∷ (before ++ v.stamps))))
+
+pub more_more : (v u w : SenderView) → LoadsMore v u → LoadsMore u w → LoadsMore v w
+more_more v u w (start, from) (last, to) = (last ++ start, to ∙ ap (λ (l : List (ClassRef × ℕ)). last ++ l) from ∙ sym (append_assoc last start v.stamps))
+
+-- the notes stay as long as they have each lookup
+abbrev pub StayUnlessLacking : Notes → List Lookup → SenderView → SenderView → Notes → Type 0
+StayUnlessLacking n ks v w m = (m ≡ n) ⊎ LackOne n ks v w
+
+module _ (n : Notes) (ks : List Lookup) (k : Lookup) (count : ℕ) (v u w : SenderView) (some : length v.front.changes ≤ count) (among : IsAmong ks k) (start : LoadsMore v u) (next : LoadsMore u w) where
+  lack_later : (m : Notes) → m ≡ n → LacksIt m count k u w → LackOne n ks v w
+  lack_later m same (since, loaded, inl above) = (k, among, (since, among_later k.class since v u w start loaded, inl (omega (arith, some, above))))
+  lack_later m same (since, loaded, inr none) = (k, among, (since, among_later k.class since v u w start loaded, inr (ap (λ (q : Notes). recalled_of q since k.class k.sel) (sym same) ∙ none)))
+
+  lack_before : LackOne n ks v u → LackOne n ks v w
+  lack_before (j, is, (since, loaded, why)) = (j, is, (since, among_before j.class since v u w loaded next, why))
+
+  -- one lookup more, which finds something or nothing
+  pub stay_next : (m m' : Notes) (found : Option ImpRef) → StayUnlessLacking n ks v u m → (IsSome found × (m' ≡ m)) ⊎ LacksIt m count k u w → StayUnlessLacking n ks v w m'
+  stay_next m m' found (inl same) (inl (is, kept)) = inl (kept ∙ same)
+  stay_next m m' found (inl same) (inr lacks) = inr (lack_later m same lacks)
+  stay_next m m' found (inr lacked) step = inr (lack_before lacked)
+
+  pub lack_next : (m m' : Notes) (found : Option ImpRef) → found ≡ None → StayUnlessLacking n ks v u m → (IsSome found × (m' ≡ m)) ⊎ LacksIt m count k u w → LackOne n ks v w
+  lack_next m m' found none (inl same) (inl (is, kept)) =
+      let off : is_some found ≡ false = ap is_some none in
+      absurd (cc)
+  lack_next m m' found none (inl same) (inr lacks) = lack_later m same lacks
+  lack_next m m' found none (inr lacked) step = lack_before lacked
+
+-- ---- behind the lock
+
+-- histories that begin with one another are one
+pub same_both : (p h : History) → BeginsWith p h → BeginsWith h p → p ≡ h
+same_both p h b d = begins_same p h b (omega (arith, as_long p h b, as_long h p d))

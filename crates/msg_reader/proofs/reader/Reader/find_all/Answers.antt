@@ -1,0 +1,62 @@
+use Rattle.std.proofs.Common.{◌≡◌, ◌≤◌, ◌<◌, ◌∙◌, [], length, refl, ap, inl, arith}
+use Rattle.std.proofs.lemmas.List.{length-set}
+use Rattle.msg_names.specs.Number.{selector_number}
+use Rattle.msg_tables.proofs.BeginsLemmas.{begins_refl, begins_trans}
+use Rattle.msg_reader.specs.Several.{found_of}
+use Rattle.msg_reader.proofs.ReaderLemmas.{as_long, missed_before}
+use Rattle.msg_reader.proofs.SeveralLemmas.{first_is, found_next, lack_next, more_more, stay_next}
+use Rattle.msg_reader.proofs.reader.Reader.find_all.Goals as goal
+
+pub loop-place-init : goal.loop-place-init
+loop-place-init g c = record {
+  reader = c.refresh-count.ensures.reader;
+  begins = begins_refl c.refresh-count.new.self.sender.front;
+  notes = c.notes_are_of_longer_histories.ensures c.refresh-count.new.self.sender.front c.args.self.now.sender.front c.args.notes.now c.refresh-count.ensures.begins c.requires.notes;
+  stamped = λ are. are;
+  room = refl;
+  found = refl;
+  stamps = ([], c.refresh-count.ensures.stamps);
+  stays = inl refl;
+}
+
+pub returns-in_default-clause-stamped : goal.returns-in_default-clause-stamped
+returns-in_default-clause-stamped g c = λ are. c.find_after.ensures.stamped (c.loop-place.invariant.stamped are)
+
+pub returns-in_default-clause-recalled : goal.returns-in_default-clause-recalled
+returns-in_default-clause-recalled g c =
+    let v = c.args.self.now.sender in
+    let some : length v.front.changes ≤ c.refresh-count.result = omega (arith, as_long c.refresh-count.new.self.sender.front v.front c.refresh-count.ensures.begins, c.refresh-count.ensures.length) in
+    lack_next c.args.notes.now (g.L.LookupList.lookups c.args.lookups.now) c.get-lookup.result c.refresh-count.result v c.loop-place.self.sender c.find_after.new.self.sender some (c.loop-place.place, c.get-lookup.ensures) c.loop-place.invariant.stamps c.find_after.ensures.stamps
+    c.loop-place.notes c.find_after.new.notes c.find_after.result c.in_default.is c.loop-place.invariant.stays c.find_after.ensures.recalled
+
+pub returns-in_default-clause-missed : goal.returns-in_default-clause-missed
+returns-in_default-clause-missed g c =
+    let v = c.args.self.now.sender in
+    let k = c.get-lookup.result in
+    let some : length v.front.changes ≤ c.refresh-count.result = omega (arith, as_long c.refresh-count.new.self.sender.front v.front c.refresh-count.ensures.begins, c.refresh-count.ensures.length) in
+    (k, (c.loop-place.place, c.get-lookup.ensures), missed_before c.args.arena.now k.class (selector_number k.sel) (length v.front.changes) c.refresh-count.result c.find_after.new.self.sender some c.in_default.ensures.missed)
+
+pub loop-place-preserved : goal.loop-place-preserved
+loop-place-preserved g c =
+    let ks = g.L.LookupList.lookups c.args.lookups.now in
+    let v = c.args.self.now.sender in
+    let u = c.loop-place.self.sender in
+    let w = c.find_after.new.self.sender in
+    let k = c.get-lookup.result in
+    let place = c.loop-place.place in
+    let start = c.refresh-count.new.self.sender.front in
+    let some : length v.front.changes ≤ c.refresh-count.result = omega (arith, as_long start v.front c.refresh-count.ensures.begins, c.refresh-count.ensures.length) in
+    let on = begins_trans w.front u.front start c.find_after.ensures.begins c.loop-place.invariant.begins in
+    let then = first_is w.front start c.refresh-count.result on c.refresh-count.ensures.length in
+    let is : c.number.result ≡ found_of start k = c.number.ensures ∙ c.in-Some.ensures.counted ∙ ap (λ h. found_of h k) then in
+    let inside : place < length c.loop-place.imps = omega (arith, c.loop-place-test.true, c.len-place-end.ensures.count, c.loop-place.invariant.room, c.requires.room) in
+    record {
+      reader = c.find_after.ensures.reader;
+      begins = on;
+      notes = c.find_after.ensures.notes;
+      stamped = λ are. c.find_after.ensures.stamped (c.loop-place.invariant.stamped are);
+      room = length-set c.loop-place.imps place c.number.result ∙ c.loop-place.invariant.room;
+      found = found_next start ks c.loop-place.imps place k c.number.result inside c.get-lookup.ensures is c.loop-place.invariant.found;
+      stamps = more_more v u w c.loop-place.invariant.stamps c.find_after.ensures.stamps;
+      stays = stay_next c.args.notes.now ks k c.refresh-count.result v u w some (place, c.get-lookup.ensures) c.loop-place.invariant.stamps c.find_after.ensures.stamps c.loop-place.notes c.find_after.new.notes c.find_after.result c.loop-place.invariant.stays c.find_after.ensures.recalled;
+    }

@@ -1,0 +1,5 @@
+pub mod ChangingLemmas
+pub mod DispatchLemmas
+pub mod ExplanationLemmas
+pub mod ItemLemmas
+pub mod NotedLemmas

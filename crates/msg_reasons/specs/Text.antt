@@ -1,0 +1,65 @@
+-- How the answers of a document are explained: under each line its lookups, and how many they are.
+use Rattle.std.specs.Prelude.{ℕ, ◌-◌, List, [], ◌++◌, Option, Some, None, codes, if◌then◌else◌, length, unwrap_or}
+use Rattle.std.specs.List.{flat_map}
+use Rattle.msg_names.specs.Numbering.{name_at}
+use Rattle.msg_names.specs.declared.value.ClassRef.{ClassRef}
+use Rattle.msg_image.specs.Items.{DocumentParts}
+use Rattle.msg_image.specs.Parts.{ImageParts}
+use Rattle.msg_devices.specs.Decimal.{digits}
+use Rattle.msg_answers.specs.Serial.{Answer, Replied, Changed}
+use Rattle.msg_answers.specs.Text.{answer_line, class_name, line_of}
+use Rattle.msg_reasons.specs.Categories.{category_of}
+use Rattle.msg_reasons.specs.Explanation.{Reason, explanation_of}
+use Rattle.msg_reasons.specs.Lookups.{Looked}
+
+-- a method by the number of its selector, as `-[Class selector]`, or `+[Class selector]`
+abbrev pub asked_text : ImageParts → ClassRef → ℕ → List ℕ
+asked_text image c s = (if c.meta then codes "+[" else codes "-[") ++ class_name image c.class ++ codes " " ++ unwrap_or (name_at image.names s) [] ++ codes "]"
+
+-- the class reference where a method stands
+abbrev pub place_text : ImageParts → ClassRef → List ℕ
+place_text image c = (if c.meta then codes " found in metaclass " else codes " found in ") ++ class_name image c.class
+
+-- a category, by its place in the document
+abbrev pub place_of_category : ℕ → List ℕ
+place_of_category place = codes "categories[" ++ digits place ++ codes "]"
+
+-- the category of which it is, if it is of one of the document's
+abbrev pub category_text : Option ℕ → List ℕ
+category_text None = []
+category_text (Some place) = codes " of " ++ place_of_category place
+
+-- the implementation of a method that stands at a class reference, by its place in the document, and
+-- the category of which it is
+abbrev pub listed_text : ImageParts → Looked → ClassRef → List ℕ
+listed_text image l c = codes ": imps[" ++ digits (l.imp - 1) ++ codes "]" ++ category_text (category_of image.categories c l.sel l.imp)
+
+-- what a lookup found, and where
+abbrev pub found_text : ImageParts → Looked → Option ClassRef → List ℕ
+found_text image l None = codes " not found"
+found_text image l (Some c) = place_text image c ++ listed_text image l c
+
+-- a lookup, on a line
+abbrev pub lookup_line : ImageParts → Looked → List ℕ
+lookup_line image l = line_of (codes "  " ++ asked_text image l.class l.sel ++ found_text image l l.holder)
+
+-- how many lookups there were
+abbrev pub count_line : ℕ → List ℕ
+count_line n = line_of (codes "  lookups: " ++ digits n)
+
+-- the lookups of a send, a line for each, and how many there were
+abbrev pub lookups_text : ImageParts → List Looked → List ℕ
+lookups_text image ls = flat_map (lookup_line image) ls ++ count_line (length ls)
+
+-- what is said behind an answer; of what became of changes nothing
+abbrev pub lookup_lines : ImageParts → Answer → List Looked → List ℕ
+lookup_lines image (Replied r) ls = lookups_text image ls
+lookup_lines image (Changed o) ls = []
+
+-- an answer's line, and those of its lookups
+abbrev pub reason_lines : ImageParts → Reason → List ℕ
+reason_lines image r = answer_line image r.answer ++ lookup_lines image r.answer r.lookups
+
+-- what is said of a document that is answered
+unfoldable pub explanation_text : DocumentParts → List ℕ
+explanation_text d = flat_map (reason_lines d.image) (explanation_of d)

@@ -1,0 +1,123 @@
+//! What is said of a document that is answered.
+
+ghost use Rattle.std.specs.Prelude.{◌≡◌, IfOk, OnOk};
+ghost use Rattle.msg_image.specs.DocumentParts.{document_parts};
+ghost use Rattle.msg_image.specs.Items.{SendItem};
+ghost use Rattle.msg_image.specs.Plain.{item_parts};
+ghost use Rattle.msg_image.specs.Sound.{IsOf, IsSoundItem};
+ghost use Rattle.msg_devices.specs.Reading.{IsSoundDocument};
+ghost use Rattle.msg_eval.specs.Facts.{AreOf};
+ghost use Rattle.msg_eval.specs.Finder.{sizes_of, table_sizes};
+ghost use Rattle.msg_reasons.specs.Changing.{KeepsSizes};
+ghost use Rattle.msg_reasons.specs.Explained.{IsRoomy};
+ghost use Rattle.msg_reasons.specs.Items.{ExplainsItem, IsOpened};
+ghost use Rattle.msg_reasons.specs.Text.{explanation_text};
+
+use crate::changing::{change_as_one, change_one};
+use crate::eval::send;
+use crate::notes::Notes;
+use crate::text::push_lookups;
+use msg_answers::{push_outcome, push_reply};
+use msg_eval::{Args, MAX_LOOKUPS};
+use msg_image::{Document, Image, Item};
+use msg_names::{Selector, Value};
+use msg_tables::{Tables, Written};
+use std::alloc::{AllocError, Global};
+
+// The tables that a document's items are answered by, and what is noted on the way.
+#[derive(Drop)]
+struct Explainer {
+    tables: Tables,
+    written: Written,
+    notes: Notes,
+}
+
+impl Explainer {
+    // An explainer that has explained nothing.
+    fn open(alloc: Global, image: &Image) -> Result<Explainer, AllocError>
+        ensures { IfOk result (IsOpened image.now) }
+    {
+        Ok(Explainer {
+            tables: Tables::open(alloc, image)?,
+            written: Written::none(alloc),
+            notes: Notes {
+                lookups: Vec::with_capacity(alloc, MAX_LOOKUPS as usize)?,
+                left: 0,
+            },
+        })
+    }
+
+    // Answers a send, and says why.
+    fn explain_send(
+        &mut self,
+        image: &Image,
+        receiver: Value,
+        sel: Selector,
+        args: &Args,
+        text: &mut Vec<u8>,
+    ) -> Result<(), AllocError>
+        requires sizes { table_sizes self.old.tables ≡ sizes_of image.now }
+        requires room { IsRoomy self.old.notes }
+        requires receiver_of { IsOf image.now receiver }
+        requires args_of { AreOf image.now args.now.items }
+        ensures same { self.new.tables ≡ self.old.tables }
+        ensures room { IsRoomy self.new.notes }
+        ensures item { OnOk result (ExplainsItem image.now (SendItem receiver sel args.now.items)
+            self.old.tables self.new.tables text.old.items text.new.items) }
+    {
+        let reply = send(&self.tables, image, receiver, sel, args, &mut self.notes);
+        push_reply(text, image, reply)?;
+        push_lookups(text, image, &self.notes.lookups)?;
+        Ok(())
+    }
+
+    // Answers an item, and says why.
+    fn explain_item(
+        &mut self,
+        image: &Image,
+        item: &Item,
+        text: &mut Vec<u8>,
+    ) -> Result<(), AllocError>
+        requires sizes { table_sizes self.old.tables ≡ sizes_of image.now }
+        requires room { IsRoomy self.old.notes }
+        requires sound { IsSoundItem image.now (item_parts item.now) }
+        ensures sizes { KeepsSizes self.old.tables self.new.tables }
+        ensures room { IsRoomy self.new.notes }
+        ensures item { OnOk result (ExplainsItem image.now (item_parts item.now)
+            self.old.tables self.new.tables text.old.items text.new.items) }
+    {
+        match item {
+            Item::Send {
+                receiver,
+                sel,
+                args,
+            } => self.explain_send(image, *receiver, *sel, args, text),
+            Item::Change(change) => {
+                let outcome = change_one(&mut self.tables, change, &mut self.written)?;
+                push_outcome(text, outcome)
+            }
+            Item::ChangeAll(changes) => {
+                let outcome = change_as_one(&mut self.tables, changes, &mut self.written)?;
+                push_outcome(text, outcome)
+            }
+        }
+    }
+}
+
+/// Answers a document's items in their order, and says under each answer which lookups are behind
+/// it: each lookup of a send on a line, with the class where the method stands that it found, and
+/// how many there are.
+///
+/// Without the lines of lookups it is the text that `answer_document` of `msg_runner` answers. Only
+/// memory can fail.
+pub fn explain_document(alloc: Global, document: &Document) -> Result<Vec<u8>, AllocError>
+    requires { IsSoundDocument (document_parts document.now) }
+    ensures { IfOk result (λ text. text.items ≡ explanation_text (document_parts document.now)) }
+{
+    let mut explainer = Explainer::open(alloc, &document.image)?;
+    let mut text = Vec::new(alloc);
+    for item in &document.items {
+        explainer.explain_item(&document.image, item, &mut text)?;
+    }
+    Ok(text)
+}

@@ -1,0 +1,13 @@
+//! Laws of explanations.
+
+ghost use Rattle.std.specs.Prelude.{◌≡◌, length};
+ghost use Rattle.msg_image.specs.Items.{DocumentParts};
+ghost use Rattle.msg_answers.specs.Serial.{serial};
+ghost use Rattle.msg_answers.specs.Text.{output_of, text_of};
+ghost use Rattle.msg_reasons.specs.Explanation.{answers_of, explanation_of};
+
+/// The answers of an explanation are those of a run, and their lines the text that it writes.
+pub fn the_answers_are_the_runs()
+    ensures answers { (d : DocumentParts) → answers_of (explanation_of d) ≡ serial d }
+    ensures text { (d : DocumentParts) → text_of d.image (answers_of (explanation_of d)) ≡ output_of d }
+{}

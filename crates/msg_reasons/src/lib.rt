@@ -1,0 +1,17 @@
+//! Why a document is answered as it is: under each answer the lookups behind it.
+//!
+//! [`explain_document`] answers the items as one thread does that searches the method lists, and
+//! notes each lookup of each send, with the class where the method stands that it found.
+#![tactic(auto)]
+
+mod changing;
+mod eval;
+mod explaining;
+pub mod laws;
+mod lookups;
+mod notes;
+mod text;
+
+pub use explaining::explain_document;
+pub use notes::Lookup;
+pub use text::{category_of, push_lookup};

@@ -1,0 +1,189 @@
+//! How lookups are told.
+
+ghost use Rattle.std.specs.Prelude.{◌≡◌, OnOk};
+ghost use Rattle.std.specs.List.{flat_map};
+ghost use Rattle.msg_devices.specs.Writing.{Gains};
+ghost use Rattle.msg_names.specs.Number.{selector_number, imp_number};
+ghost use Rattle.msg_tables.specs.Methods.{method_numbers};
+ghost use Rattle.msg_reasons.specs.Categories as chosen;
+ghost use Rattle.msg_reasons.specs.Explained.{all_looked, looked};
+ghost use Rattle.msg_reasons.specs.Text as spec;
+
+use crate::notes::Lookup;
+use msg_answers::{class_name, push_method};
+use msg_devices::push_digits;
+use msg_image::{Category, Image};
+use msg_names::{ClassRef, ImpRef, Selector};
+use std::alloc::AllocError;
+
+const NEWLINE: u8 = b'\n';
+
+fn push(text: &mut Vec<u8>, part: &str) -> Result<(), AllocError>
+    ensures { OnOk result (Gains text.old text.new part.now) }
+{
+    text.extend_from_slice(part.as_bytes())
+}
+
+// Whether a method list has this implementation of the selector.
+fn has_method(methods: &[(Selector, ImpRef)], sel: Selector, imp: ImpRef) -> bool
+    ensures { result
+        ≡ chosen.has_method (selector_number sel) (imp_number imp) (method_numbers methods.now) }
+{
+    for method in methods {
+        if method.0.number() == sel.number() && method.1.number() == imp.number() {
+            return true;
+        }
+    }
+    false
+}
+
+// Whether a category gives a class reference this implementation of the selector.
+fn gives(category: &Category, class: ClassRef, sel: Selector, imp: ImpRef) -> bool
+    ensures { result ≡ chosen.gives class (selector_number sel) (imp_number imp) category.now }
+{
+    if category.class != class.class {
+        return false;
+    }
+    if class.meta {
+        has_method(category.class_methods.as_slice(), sel, imp)
+    } else {
+        has_method(category.methods.as_slice(), sel, imp)
+    }
+}
+
+fn last_that_gives(
+    categories: &[Category],
+    class: ClassRef,
+    sel: Selector,
+    imp: ImpRef,
+) -> Option<usize>
+    ensures { result
+        ≡ chosen.category_of categories.now class (selector_number sel) (imp_number imp) }
+{
+    let mut found = None;
+    for (place, category) in categories.iter().enumerate() {
+        if gives(category, class, sel, imp) {
+            found = Some(place);
+        }
+    }
+    found
+}
+
+/// The place of the document's category of which a method is that stands at a class reference. Of
+/// two that list it the one listed last counts.
+pub fn category_of(image: &Image, class: ClassRef, sel: Selector, imp: ImpRef) -> Option<usize>
+    ensures { result
+        ≡ chosen.category_of image.now.categories class (selector_number sel) (imp_number imp) }
+{
+    last_that_gives(image.categories(), class, sel, imp)
+}
+
+fn push_place_of_category(text: &mut Vec<u8>, place: usize) -> Result<(), AllocError>
+    ensures { OnOk result (Gains text.old text.new (spec.place_of_category place)) }
+{
+    push(text, "categories[")?;
+    push_digits(text, place)?;
+    text.push(b']')?;
+    Ok(())
+}
+
+fn push_category(text: &mut Vec<u8>, category: Option<usize>) -> Result<(), AllocError>
+    ensures { OnOk result (Gains text.old text.new (spec.category_text category)) }
+{
+    match category {
+        Some(place) => {
+            push(text, " of ")?;
+            push_place_of_category(text, place)
+        }
+        None => Ok(()),
+    }
+}
+
+fn push_place(text: &mut Vec<u8>, image: &Image, class: ClassRef) -> Result<(), AllocError>
+    ensures { OnOk result (Gains text.old text.new (spec.place_text image.now class)) }
+{
+    push(
+        text,
+        if class.meta {
+            " found in metaclass "
+        } else {
+            " found in "
+        },
+    )?;
+    push(text, class_name(image, class.class))
+}
+
+fn push_listed(
+    text: &mut Vec<u8>,
+    image: &Image,
+    lookup: &Lookup,
+    class: ClassRef,
+) -> Result<(), AllocError>
+    ensures { OnOk result
+        (Gains text.old text.new (spec.listed_text image.now (looked lookup.now) class)) }
+{
+    push(text, ": imps[")?;
+    push_digits(text, (lookup.imp.number() as usize).saturating_sub(1))?;
+    push(text, "]")?;
+    push_category(text, category_of(image, class, lookup.sel, lookup.imp))
+}
+
+fn push_found(text: &mut Vec<u8>, image: &Image, lookup: &Lookup) -> Result<(), AllocError>
+    ensures { OnOk result
+        (Gains text.old text.new (spec.found_text image.now (looked lookup.now) lookup.now.holder)) }
+{
+    match lookup.holder {
+        Some(class) => {
+            push_place(text, image, class)?;
+            push_listed(text, image, lookup, class)
+        }
+        None => push(text, " not found"),
+    }
+}
+
+/// Appends the line of a lookup.
+pub fn push_lookup(text: &mut Vec<u8>, image: &Image, lookup: &Lookup) -> Result<(), AllocError>
+    ensures { OnOk result
+        (Gains text.old text.new (spec.lookup_line image.now (looked lookup.now))) }
+{
+    push(text, "  ")?;
+    push_method(text, image, lookup.class, lookup.sel)?;
+    push_found(text, image, lookup)?;
+    text.push(NEWLINE)?;
+    Ok(())
+}
+
+// Appends a line for each lookup.
+fn push_lines(text: &mut Vec<u8>, image: &Image, lookups: &[Lookup]) -> Result<(), AllocError>
+    ensures { OnOk result
+        (Gains text.old text.new (flat_map (spec.lookup_line image.now) (all_looked lookups.now))) }
+{
+    for lookup in lookups {
+        push_lookup(text, image, lookup)?;
+    }
+    Ok(())
+}
+
+fn push_count(text: &mut Vec<u8>, count: usize) -> Result<(), AllocError>
+    ensures { OnOk result (Gains text.old text.new (spec.count_line count)) }
+{
+    push(text, "  lookups: ")?;
+    push_digits(text, count)?;
+    text.push(NEWLINE)?;
+    Ok(())
+}
+
+// Appends the lines of a send's lookups, and how many they are.
+#[tactic(auto, using(crate::proofs::NotedLemmas::count_looked))]
+pub(crate) fn push_lookups(
+    text: &mut Vec<u8>,
+    image: &Image,
+    lookups: &[Lookup],
+) -> Result<(), AllocError>
+    ensures { OnOk result
+        (Gains text.old text.new (spec.lookups_text image.now (all_looked lookups.now))) }
+{
+    push_lines(text, image, lookups)?;
+    push_count(text, lookups.len())?;
+    Ok(())
+}

@@ -1,0 +1,36 @@
+-- A change that is made alone, as a list of one.
+use Rattle.std.proofs.Common.{◌≡◌, ◌<◌, ◌+◌, ℕ, [], ◌∷◌, Option, None, Some, length, take, refl, sym, ap, subst, ◌∙◌, arith}
+use Rattle.std.specs.Prelude.{option_map}
+use Rattle.msg_tables.specs.declared.apply_all.Refused.{Refused}
+use Rattle.msg_tables.specs.declared.change.Change.{Change}
+use Rattle.msg_tables.specs.declared.fault.ChangeFault.{ChangeFault}
+use Rattle.msg_tables.specs.declared.fault.ChangeFault.TheVariants.{Memory}
+use Rattle.msg_tables.specs.History.{History, log}
+use Rattle.msg_tables.specs.Made.{AreMade, AreRefused}
+use Rattle.msg_tables.specs.Refusal.{refusal}
+use Rattle.msg_tables.specs.Several.{refused_from}
+use Rattle.msg_tables.proofs.SeveralLemmas.{refused-one_at}
+use Rattle.msg_runtime.specs.Changed.{IsAccepted, IsMadeAt, IsRefusedAt}
+
+none-alone : (o : Option ChangeFault) → option_map (λ f. (let p : ℕ × ChangeFault = (0, f) in p)) o ≡ None → o ≡ None
+none-alone None e = refl
+none-alone (Some f) e = cc
+
+some-alone : (o : Option ChangeFault) (n : ℕ) (f : ChangeFault) → option_map (λ g. (let p : ℕ × ChangeFault = (0, g) in p)) o ≡ Some (n, f) → o ≡ Some f
+some-alone None n f e = cc
+some-alone (Some g) n f e = ap (λ o. option_map (λ (p : ℕ × ChangeFault). p.1) o) e
+
+accepted-alone : (h : History) (x : Change) → refused_from 0 (log h) (x ∷ []) ≡ None → IsAccepted h x
+accepted-alone h x none = none-alone (refusal (log h) x) (sym (refused-one_at (log h) x) ∙ none)
+
+pub made_alone : (old new : History) (x : Change) (n : ℕ) → AreMade (x ∷ []) old new → n ≡ length new.changes → IsMadeAt old x new n
+made_alone old new x n made count = (accepted-alone old x made.accepted, made.history, count)
+
+pub refused_alone : (h : History) (x : Change) (r : Refused) → AreRefused (x ∷ []) h r → IsRefusedAt h x r.fault
+refused_alone h x r refused = λ other. some-alone (refusal (log h) x) r.place r.fault (sym (refused-one_at (log h) x) ∙ refused.fault other)
+
+-- where memory was wanting for it, it was accepted
+pub wanting_alone : (h : History) (x : Change) (r : Refused) → AreRefused (x ∷ []) h r → r.fault ≡ Memory → IsAccepted h x
+wanting_alone h x r refused memory =
+    let first : r.place ≡ 0 = omega (arith, refused.place) in
+    accepted-alone h x (subst (λ n. refused_from 0 (log h) (take (n + 1) (x ∷ [])) ≡ None) first (refused.memory memory))

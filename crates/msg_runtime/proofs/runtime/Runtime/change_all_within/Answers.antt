@@ -1,0 +1,61 @@
+-- the tables stand at the longer history, and what the list affects is flushed
+use Rattle.std.proofs.Common.{rules, ◌≡◌, ◌≤◌, ◌||◌, length, true, false, Bool, ap, sym, subst, refl, ◌∙◌, arith}
+use Rattle.std.specs.Prelude.{is_some}
+use Rattle.msg_names.specs.declared.value.ClassRef.{ClassRef}
+use Rattle.msg_tables.specs.History.{History, and_then, log}
+use Rattle.msg_tables.specs.Log as logs
+use Rattle.msg_tables.specs.Making.{is_told}
+use Rattle.msg_tables.specs.Origin.{class_total}
+use Rattle.msg_tables.specs.Several.{and_all, is_affected_by_all, refusal_of_all}
+use Rattle.msg_tables.specs.Stands.{StandsAt}
+use Rattle.msg_tables.proofs.HistoryLemmas.{log-all}
+use Rattle.msg_tables.proofs.SeveralLemmas.{none-refused}
+use Rattle.msg_tables.proofs.WayLemmas.{length-undo}
+use Rattle.msg_cache.specs.Views.{ArenaView}
+use Rattle.msg_cache.specs.declared.view.KeeperView.{KeeperView}
+use Rattle.msg_runtime.specs.Parts.{IsKeeperOf, keeper_history}
+use Rattle.msg_runtime.specs.Reach.{is_flushed, is_set_alone}
+use Rattle.msg_runtime.specs.View.{RuntimeView}
+use Rattle.msg_runtime.proofs.runtime.Runtime.change_all_within.Goals as goal
+
+either : (a b : Bool) → b ≡ true → (a || b) ≡ true
+either true b e = refl
+either false b e = e
+
+pub commit_all-requires-clause-accepted : goal.commit_all-requires-clause-accepted
+commit_all-requires-clause-accepted g c =
+    let h = keeper_history c.self.inside.keeper in
+    let same : keeper_history c.flush_changed.new.keeper ≡ h = c.flush_changed.ensures.history ∙ ap (λ (k : KeeperView). k.history) c.face.ensures.same in
+    ap (λ (k : History). refusal_of_all (log k) (g.L.ChangeList.changes c.args.changes.now)) same ∙ none-refused (log h) (g.L.ChangeList.changes c.args.changes.now) (c.in_default.ensures.ok (log h) c.self.invariant.tables).0
+
+pub invariant_of-self-2 : goal.invariant_of-self-2
+invariant_of-self-2 g c =
+    let xs = g.L.ChangeList.changes c.args.changes.now in
+    let was = c.self.invariant in
+    let h = keeper_history c.self.inside.keeper in
+    let same : keeper_history c.flush_changed.new.keeper ≡ h = c.flush_changed.ensures.history ∙ ap (λ (k : KeeperView). k.history) c.face.ensures.same in
+    let longer : keeper_history c.commit_all.new.self ≡ and_then h xs = ap (λ (k : KeeperView). k.history) c.commit_all.ensures.committed ∙ ap (λ (k : History). and_then k xs) same in
+    let keeper : IsKeeperOf c.self.inside.arena.value c.commit_all.new.self = search rules in
+    let room : c.self.inside.classes ≤ c.flush_changed.new.below.room = search rules in
+    record {
+      keeper = keeper;
+      tables = subst (λ k. StandsAt c.apply_all.new.self k) (sym (ap log longer ∙ log-all h xs)) (c.in_default.ensures.ok (log h) was.tables).1;
+      origin = ap (λ (k : History). k.origin) longer ∙ was.origin;
+      classes = was.classes ∙ ap (λ (k : History). class_total k.origin) (sym longer);
+      room = room;
+    }
+
+pub returns-then-most-count-clause-unmade : goal.returns-then-most-count-clause-unmade
+returns-then-most-count-clause-unmade g c =
+    let h = log (keeper_history c.self.inside.keeper) in
+    let entries = c.apply_all.new.written.entries in
+    let none = (c.in_default.ensures.ok h c.self.invariant.tables).0 in
+    let count : length c.as_slice-count.result.now ≡ length entries = ap length c.as_slice-count.ensures in
+    rw (← c.self.view_is) (none, count ∙ sym (length-undo entries) ∙ sym (ap length (c.in_default.ensures.undo h c.self.invariant.tables)), c.if-most-count.true)
+
+pub returns-clause-held : goal.returns-clause-held
+returns-clause-held g c =
+    let h = log (keeper_history c.self.inside.keeper) in
+    let many = length-undo c.apply_all.new.written.entries in
+    let all = ap length (c.in_default.ensures.undo h c.self.invariant.tables) in
+    rw (← c.self.view_is) record { rows = c.in_default.ensures.held h c.self.invariant.tables; entries = omega (arith, many, all, c.in_default.ensures.noted) }

@@ -1,0 +1,14 @@
+-- What contracts see of `Written`.
+use Rattle.std.specs.Prelude.{ℕ, List}
+use Rattle.std.specs.Vec.{vec_capacity}
+use Rattle.msg_tables.specs.declared.entry.Entry.{Entry}
+use Rattle.msg_tables.specs.declared.entry.Written.TheInside.{Inside}
+
+-- what a list wrote, from the first entry to the last, and how many entries there is room for
+pub record WrittenView : Type 0 where
+  pub entries : List Entry
+  pub room : ℕ
+
+-- so it is of what `Written` holds
+abbrev pub written_of : Inside → WrittenView
+written_of w = record { entries = w.entries.items; room = vec_capacity w.entries }

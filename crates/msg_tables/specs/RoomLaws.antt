@@ -1,0 +1,33 @@
+-- What lists of changes need of memory, and their ways back.
+use Rattle.std.specs.Prelude.{◌<◌, ◌≤◌, ◌⊎◌, ℕ, List, length, slice_index_or, take}
+use Rattle.msg_names.specs.ClassRef.{slot_of}
+use Rattle.msg_names.specs.declared.value.ClassRef.{ClassRef}
+use Rattle.msg_tables.specs.ListLaws.{HoldsAtMost, IsMadeAt}
+use Rattle.msg_tables.specs.Log.{Log, table}
+use Rattle.msg_tables.specs.Several.{and_all}
+use Rattle.msg_tables.specs.Undo.{undo_all}
+use Rattle.msg_tables.specs.declared.change.Change.{Change}
+
+-- so many rows of a class reference there is room for
+abbrev pub room_in : List ℕ → ClassRef → ℕ
+room_in rooms c = slice_index_or rooms (slot_of c) 0
+
+-- there is room for as many rows of each class reference as there are at any time while a list is
+-- made
+abbrev pub HaveRoomFor : List ℕ → Log → List Change → Type 0
+HaveRoomFor rooms h xs = (c : ClassRef) → HoldsAtMost (room_in rooms c) c h xs
+
+-- there is too little room for the entries that a list writes, or for the rows of some class
+-- reference
+abbrev pub LackRoomFor : List ℕ → ℕ → Log → List Change → Type 0
+LackRoomFor rooms room h xs = (room < length (undo_all (table h) xs)) ⊎ ((c : ClassRef) × (HoldsAtMost (room_in rooms c) c h xs → ⊥))
+
+-- a way back writes no more entries than its list did
+abbrev pub WayBackWritesNoMore : Type 0
+WayBackWritesNoMore = (h : Log) (xs : List Change) (k : ℕ) → IsMadeAt h xs → length (undo_all (table (and_all h xs)) (take k (undo_all (table h) xs))) ≤ length (undo_all (table h) xs)
+
+-- So it wants no memory: where there is room for the rows that each class reference had at any time
+-- while its list was made, and for as many entries, there is for it, as far as it is made.
+abbrev pub WayBackWantsNoMemory : Type 0
+WayBackWantsNoMemory = (h : Log) (xs : List Change) (rooms : List ℕ) (room k : ℕ) → IsMadeAt h xs → HaveRoomFor rooms h xs → length (undo_all (table h) xs) ≤ room
+    → LackRoomFor rooms room (and_all h xs) (take k (undo_all (table h) xs)) → ⊥
