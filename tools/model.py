@@ -467,7 +467,7 @@ class Run:
     def __init__(self, document):
         self.document, self.tables = document, Tables(document)
         self.imps, self.class_of = {it[0]: it for it in document.imps}, dict(document.objects)
-        self.lookups = self.active = 0
+        self.lookups = self.active = self.made = 0
         self.seen = []
 
     def lines(self):
@@ -475,12 +475,13 @@ class Run:
             yield self.changed(rest[0]) if kind == "change" else self.sent(*rest)
 
     def reasons(self):
-        """The lines, and under each answer to a send those of its lookups, and their count."""
+        """The lines, and under each answer to a send those of its lookups, their count, and how
+        many changes were made before."""
         for line, (kind, *_) in zip(self.lines(), self.document.items):
             yield line
             if kind == "send":
                 yield from map(self.reason, self.seen)
-                yield f"  lookups: {len(self.seen)}"
+                yield f"  lookups: {len(self.seen)}, changes before: {self.made}"
 
     def reason(self, looked):
         at, selector, holder, imp = looked
@@ -501,6 +502,7 @@ class Run:
             self.tables.above, self.tables.rows = before
             return f"refused at {place}: {refused}" if given[0] == "all" else f"refused: {refused}"
         self.tables.changes += 1
+        self.made += len(given[1]) if given[0] == "all" else 1
         return "ok"
 
     def sent(self, receiver, selector, values):

@@ -11,7 +11,7 @@
 enum { CLASS, SELECTORS = 10, ROUNDS = 20000, WINDOWS = 31, STACK = 65536 };
 
 static atomic_int answered;
-static atomic_bool is_over;
+static pthread_mutex_t gate = PTHREAD_MUTEX_INITIALIZER; /* taken until the end */
 static msg_lookup_row rows[SELECTORS];
 
 static void must(uint32_t fault)
@@ -27,7 +27,8 @@ static void *stay(void *unused)
     (void)unused;
     must(msg_process_find(CLASS, false, 1, &imp));
     answered++;
-    while (!is_over) nanosleep(&(struct timespec){.tv_nsec = 10000000}, NULL);
+    pthread_mutex_lock(&gate);
+    pthread_mutex_unlock(&gate);
     return NULL;
 }
 
@@ -140,12 +141,13 @@ int main(int count, char **words)
     tell("a change", change, ROUNDS / 10);
     tell("a change, and a rest after it", change_and_rest, ROUNDS / 10);
     tell("who is in old code, of one thread", ask, ROUNDS);
+    pthread_mutex_lock(&gate);
     for (int i = 0; i < threads; i++)
         if (pthread_create(&all[i], &small, stay, NULL)) exit(1);
     while (answered < threads) sched_yield();
     printf("%d threads:\n", threads);
     tell("who is in old code, of so many more", ask, ROUNDS / 20);
-    is_over = true;
+    pthread_mutex_unlock(&gate);
     for (int i = 0; i < threads; i++) pthread_join(all[i], NULL);
     return 0;
 }

@@ -17,12 +17,13 @@ use Rattle.msg_tables.specs.Stands.{StandsAt}
 use Rattle.msg_tables.specs.View.{TablesView}
 use Rattle.msg_eval.specs.declared.reply.Reply.{Reply}
 use Rattle.msg_eval.specs.Evaluation.{send_of}
+use Rattle.msg_eval.specs.Points.{plain_reply}
 use Rattle.msg_eval.specs.Finder.{Sizes, sizes_of, table_sizes}
 use Rattle.msg_answers.specs.Serial.{history_after}
 use Rattle.msg_answers.specs.Text.{line_of, reply_text}
 use Rattle.msg_reasons.specs.Changing.{KeepsSizes}
 use Rattle.msg_reasons.specs.Explained.{IsExplained, all_looked}
-use Rattle.msg_reasons.specs.Lookups.{Looked}
+use Rattle.msg_reasons.specs.Lookups.{Looked, lookups_of}
 use Rattle.msg_reasons.specs.declared.notes.Lookup.{Lookup}
 use Rattle.msg_reasons.specs.Explanation.{reason_at, reasons_from}
 use Rattle.msg_reasons.specs.Items.{ExplainsItem}
@@ -89,11 +90,13 @@ sizes-kept image old new kept sizes =
 -- ---- one item
 
 pub sent-explained : (image : ImageParts) (receiver : Value) (s : Selector) (xs : List Value) (tables : TablesView) (text mid more : List ℕ) (ls : List Lookup) (reply : Reply)
-    → IsExplained tables (send_of image receiver s xs) (all_looked ls) reply → mid ≡ text ++ line_of (reply_text image reply) → more ≡ mid ++ lookups_text image (all_looked ls) → ExplainsItem image (SendItem receiver s xs) tables tables text more
+    → IsExplained tables (send_of image receiver s xs) (all_looked ls) reply → mid ≡ text ++ line_of (reply_text image reply) → more ≡ mid ++ lookups_text image (all_looked ls) tables.change_count
+    → ExplainsItem image (SendItem receiver s xs) tables tables text more
 sent-explained image receiver s xs tables text mid more ls reply explained first second = λ h st.
     let (lookups, replied) = explained h st in (
-      second ∙ ap (λ t. t ++ lookups_text image (all_looked ls)) first
-          ∙ append_assoc text (line_of (reply_text image reply)) (lookups_text image (all_looked ls))
-          ∙ ap₂ (λ (r : Reply) (seen : List Looked). text ++ (line_of (reply_text image r) ++ lookups_text image seen)) replied lookups,
+      second ∙ ap (λ t. t ++ lookups_text image (all_looked ls) tables.change_count) first
+          ∙ append_assoc text (line_of (reply_text image reply)) (lookups_text image (all_looked ls) tables.change_count)
+          ∙ ap₂ (λ (r : Reply) (seen : List Looked). text ++ (line_of (reply_text image r) ++ lookups_text image seen tables.change_count)) replied lookups
+          ∙ ap (λ n. text ++ (line_of (reply_text image (plain_reply h (send_of image receiver s xs))) ++ lookups_text image (lookups_of h (send_of image receiver s xs)) n)) st.changes,
       st,
     )

@@ -1,12 +1,12 @@
 -- What is noted of a send.
-use Rattle.std.proofs.Common.{◌≡◌, ◌+◌, ℕ, zero, suc, List, [], ◌∷◌, ◌++◌, length, refl, sym, ap, ◌∙◌, append_assoc, append-nil, arith}
+use Rattle.std.proofs.Common.{◌≡◌, ℕ, zero, suc, List, [], ◌∷◌, ◌++◌, length, refl, sym, ap, ◌∙◌, append_assoc, append-nil, arith}
 use Rattle.msg_names.specs.declared.value.ClassRef.{ClassRef}
 use Rattle.msg_tables.specs.History.{History, lookup}
 use Rattle.msg_eval.specs.declared.reply.Reply.{Reply}
 use Rattle.msg_eval.specs.declared.reply.SendFault.TheVariants.{Budget}
 use Rattle.msg_eval.specs.Meaning.{Meaning, Ends, Asks, ask, fault}
 use Rattle.msg_eval.specs.Points.{plain_reply}
-use Rattle.msg_reasons.specs.Explained.{all_looked, explained, looked}
+use Rattle.msg_reasons.specs.Explained.{all_looked, explained}
 use Rattle.msg_reasons.specs.Lookups.{Looked, looked_at, lookups_of}
 use Rattle.msg_reasons.specs.declared.notes.Lookup.{Lookup}
 

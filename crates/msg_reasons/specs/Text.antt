@@ -43,22 +43,26 @@ found_text image l (Some c) = place_text image c ++ listed_text image l c
 abbrev pub lookup_line : ImageParts → Looked → List ℕ
 lookup_line image l = line_of (codes "  " ++ asked_text image l.class l.sel ++ found_text image l l.holder)
 
--- how many lookups there were
-abbrev pub count_line : ℕ → List ℕ
-count_line n = line_of (codes "  lookups: " ++ digits n)
+-- some words, and a number
+abbrev pub number_text : List ℕ → ℕ → List ℕ
+number_text words n = words ++ digits n
 
--- the lookups of a send, a line for each, and how many there were
-abbrev pub lookups_text : ImageParts → List Looked → List ℕ
-lookups_text image ls = flat_map (lookup_line image) ls ++ count_line (length ls)
+-- how many lookups there were, and how many changes before them
+abbrev pub count_line : ℕ → ℕ → List ℕ
+count_line n changes = line_of (number_text (codes "  lookups: ") n ++ number_text (codes ", changes before: ") changes)
 
--- what is said behind an answer; of what became of changes nothing
-abbrev pub lookup_lines : ImageParts → Answer → List Looked → List ℕ
-lookup_lines image (Replied r) ls = lookups_text image ls
-lookup_lines image (Changed o) ls = []
+-- the lookups of a send, a line for each, and how many there were, after so many changes
+abbrev pub lookups_text : ImageParts → List Looked → ℕ → List ℕ
+lookups_text image ls changes = flat_map (lookup_line image) ls ++ count_line (length ls) changes
+
+-- what is said behind an answer after so many changes; of what became of changes nothing
+abbrev pub lookup_lines : ImageParts → Answer → List Looked → ℕ → List ℕ
+lookup_lines image (Replied r) ls changes = lookups_text image ls changes
+lookup_lines image (Changed o) ls changes = []
 
 -- an answer's line, and those of its lookups
 abbrev pub reason_lines : ImageParts → Reason → List ℕ
-reason_lines image r = answer_line image r.answer ++ lookup_lines image r.answer r.lookups
+reason_lines image r = answer_line image r.answer ++ lookup_lines image r.answer r.lookups r.changes
 
 -- what is said of a document that is answered
 unfoldable pub explanation_text : DocumentParts → List ℕ

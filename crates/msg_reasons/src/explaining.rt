@@ -67,7 +67,8 @@ impl Explainer {
     {
         let reply = send(&self.tables, image, receiver, sel, args, &mut self.notes);
         push_reply(text, image, reply)?;
-        push_lookups(text, image, &self.notes.lookups)?;
+        let changes = self.tables.start().changes as usize;
+        push_lookups(text, image, &self.notes.lookups, changes)?;
         Ok(())
     }
 

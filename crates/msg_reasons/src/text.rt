@@ -164,26 +164,35 @@ fn push_lines(text: &mut Vec<u8>, image: &Image, lookups: &[Lookup]) -> Result<(
     Ok(())
 }
 
-fn push_count(text: &mut Vec<u8>, count: usize) -> Result<(), AllocError>
-    ensures { OnOk result (Gains text.old text.new (spec.count_line count)) }
+// Appends some words, and a number.
+fn push_number(text: &mut Vec<u8>, words: &str, number: usize) -> Result<(), AllocError>
+    ensures { OnOk result (Gains text.old text.new (spec.number_text words.now number)) }
 {
-    push(text, "  lookups: ")?;
-    push_digits(text, count)?;
+    push(text, words)?;
+    push_digits(text, number)
+}
+
+fn push_count(text: &mut Vec<u8>, count: usize, changes: usize) -> Result<(), AllocError>
+    ensures { OnOk result (Gains text.old text.new (spec.count_line count changes)) }
+{
+    push_number(text, "  lookups: ", count)?;
+    push_number(text, ", changes before: ", changes)?;
     text.push(NEWLINE)?;
     Ok(())
 }
 
-// Appends the lines of a send's lookups, and how many they are.
+// Appends the lines of a send's lookups, and how many they are, after so many changes.
 #[tactic(auto, using(crate::proofs::NotedLemmas::count_looked))]
 pub(crate) fn push_lookups(
     text: &mut Vec<u8>,
     image: &Image,
     lookups: &[Lookup],
+    changes: usize,
 ) -> Result<(), AllocError>
     ensures { OnOk result
-        (Gains text.old text.new (spec.lookups_text image.now (all_looked lookups.now))) }
+        (Gains text.old text.new (spec.lookups_text image.now (all_looked lookups.now) changes)) }
 {
     push_lines(text, image, lookups)?;
-    push_count(text, lookups.len())?;
+    push_count(text, lookups.len(), changes)?;
     Ok(())
 }
