@@ -36,12 +36,12 @@ size_t objc_exchange_methods(const struct objc_method_pair *pairs, size_t count)
 
 struct objc_method_lookup { Class class_; SEL sel; IMP imp; };
 
-/* What the objects of each row's class are answered by, or its class where the row names the
- * metaclass; all of them at once. So what one list above replaced is found all as it was, or all as
- * it became. Sets `imp` of each row, NULL where there is no method, and answers `count`. Else the
- * place of the first row that can't be asked: without a class that is registered, or a selector; 0
- * also in a handler of a signal that interrupted a change of its own thread. It sends nothing, nor
- * +initialize, and calls malloc. */
+/* Looks up each row's selector in its class, or a class method if the row names the metaclass, all
+ * at once: methods that one call above replaced are found all as they were, or all as they became.
+ * Sets `imp` of each row, to NULL if there is no method, and returns `count`. Else it returns the
+ * place of the first row without a registered class or a selector; or 0, in a handler of a signal
+ * that interrupted a change of its own thread. It sends no message, not even +initialize, and it
+ * calls malloc. */
 size_t objc_lookup_methods(struct objc_method_lookup *rows, size_t count);
 
 #ifdef __cplusplus

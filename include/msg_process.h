@@ -51,20 +51,19 @@ void msg_process_unlock(void);
  * nothing where that has no sender. */
 void msg_process_cache(uint64_t key);
 
-/* Where no old code is in use. A thread that was answered by a find may be in code that it was
- * answered, until it rests: it says by this call that it is in none, nor keeps a number to call.
- * It costs two loads where nothing has changed since the last rest, and the lock once after a
- * change. Not in a handler, nor under the lock, where it answers MSG_LOCK_HELD. */
+/* The calling thread rests: it is in no method that a find returned, and keeps no number to call
+ * later. Call it between two events, not in a handler. It costs two loads if nothing has changed
+ * since the thread's last rest, else the lock once. MSG_LOCK_HELD under the lock. */
 uint32_t msg_process_rest(void);
-/* A rest before the thread waits for long: until its next find, which takes the lock, it holds
- * nobody back. */
+/* A rest before the thread waits for long. Until its next find, which takes the lock, no host waits
+ * for it. */
 uint32_t msg_process_away(void);
-/* How many changes there had been at the last rest of each thread that may be in old code, the
- * least of them; all, where no thread may be. From then on nobody is in code that a change up to
- * that count took away, nor will be answered it. A thread that ends, is away, or was never
- * answered counts no more. `thread`: the kernel's number of the one that holds the others back, or
- * 0. MSG_NONE where a thread was answered whose end the C library can't tell. Cost: a walk over
- * those threads, under the lock. */
+/* Tells when old code can go. No thread is in a method that one of the first `changes` changes took
+ * away, and no find returns it any more. This is the least count of changes at which a thread
+ * rested last. A thread that has ended, is away or never found anything doesn't count; if none
+ * counts, it is the count of all changes. `thread` is the kernel's number of the thread that rested
+ * at the least count, or 0 if all have rested since the last change. MSG_NONE if the C library
+ * can't tell the end of some thread. Cost: a walk over the threads that count, under the lock. */
 uint32_t msg_process_seen_by_all(uint64_t *changes, uint64_t *thread);
 
 /* By a thread that may take memory, outside the lock: so that a thread's first find has a sender
@@ -78,8 +77,9 @@ void msg_process_spare(void);
 enum { MSG_WAITS_NOT, MSG_WAITS, MSG_WAITS_A_WHILE };
 uint32_t msg_process_find_slowly(uint64_t key, unsigned waits, uint32_t *imp);
 
-/* What several lookups find, all at one version, as msg_find_all says. `imps` has `count` entries.
- * Faults are those of msg_probe_all, and MSG_LOCK_HELD; then what is in `imps` means nothing. */
+/* Finds several lookups at one version, as msg_find_all does, by the calling thread's sender.
+ * `imps` has `count` entries. Faults are those of msg_probe_all, and MSG_LOCK_HELD; after a fault
+ * what is in `imps` means nothing. */
 uint32_t msg_process_find_all(const msg_lookup_row *lookups, size_t count, uint32_t *imps,
                               size_t *place);
 

@@ -34,10 +34,11 @@
  *     waits for a number.
  *  8. `started` is stored by a release, and loaded by an acquire before all else: who goes on has
  *     the key of threads.
- *  9. A thread stands among `stays` before it is first given an answer, under the lock, with the
- *     count of changes at its last rest. It leaves them at its end, and while it is away; then its
- *     sender isn't shown, so that its next find comes by the lock. Each find answers by all changes
- *     that had returned: of one that begins after a rest nothing is from before that count. */
+ *  9. A thread joins `stays` under the lock, before its first find returns. Its entry has the count
+ *     of changes at its last rest. It leaves at its end, and while it is away; its sender is hidden
+ *     then, so its next find takes the lock and joins again. A find returns what is right after all
+ *     changes that had returned before it, so one that begins after a rest returns nothing older
+ *     than that count. */
 #define _DEFAULT_SOURCE 1 /* for MAP_ANONYMOUS */
 #include "msg_process.h"
 #include <sched.h>
@@ -52,7 +53,7 @@ enum { SPARES = 2, PATIENCE = 64 };
 enum { SLICE = 1000000, SLICES = 1000 }; /* of a wait for a while: nanoseconds, and how many */
 
 struct seat { _Alignas(64) msg_sender sender; struct seat *next; atomic_bool asks; };
-/* Of a thread that may be in code that it was answered: the changes at its last rest. */
+/* A thread that may be in code that a find returned, and the count of changes at its last rest. */
 struct stay { struct stay *next; uint64_t changes, thread; };
 
 _Alignas(64) struct msg_process_words msg_process_words = {.at = &msg_process_words.none};
@@ -64,7 +65,7 @@ static pthread_mutex_t lock = PTHREAD_MUTEX_INITIALIZER;
 static msg_runtime runtime = MSG_RUNTIME_INIT;
 static struct seat *seats, *spares; /* threads', and nobody's, which are open */
 static struct stay *stays;
-static bool is_unsure; /* a thread was answered whose end isn't told */
+static bool is_unsure; /* a find returned in a thread whose end nobody is told of */
 static atomic_uint spare_count, spare_most; /* read without it; none before msg_process_spare */
 
 static atomic_bool started;
@@ -184,7 +185,7 @@ static void stand_up(void)
     else close_seat(seat);
 }
 
-/* ---- who may be in old code, under the lock ---- */
+/* ---- threads that may be in old code, under the lock ---- */
 
 static void end_stay(void)
 {
@@ -205,7 +206,7 @@ static void begin_stay(void)
     stays_on = true;
 }
 
-/* Without a seat. Nobody would take a thread away whose end isn't told. */
+/* In a thread without a seat. It joins only if its end is told: else its entry would stay. */
 static void begin_stay_alone(void)
 {
     bool is_told = own || stays_on || is_over || !pthread_setspecific(key, &stay);
@@ -308,7 +309,7 @@ static uint32_t probe(struct seat *seat, uint64_t key, uint32_t *imp)
     return answer;
 }
 
-/* The seat that is hidden meanwhile; or NULL. */
+/* The thread's seat, which is hidden until it is shown again; or NULL. */
 static struct seat *seat_by(unsigned waits)
 {
     struct seat *seat = hide();
@@ -356,7 +357,7 @@ static uint32_t probe_all(struct seat *seat, const struct several *s)
     return answer;
 }
 
-/* Under one lock all are of one version. */
+/* All are of one version, since the lock is held. */
 static uint32_t fill_all(struct seat *seat, const struct several *s)
 {
     size_t count = s->count;
@@ -410,7 +411,7 @@ void msg_process_unlock(void) { if (holds) give(); }
 
 /* ---- resting ---- */
 
-/* The sender that is hidden stays so while the thread is away. */
+/* While the thread is away its sender stays hidden. */
 static uint32_t rest(bool goes)
 {
     if (!atomic_load_explicit(&started, memory_order_acquire)) return MSG_CLOSED;

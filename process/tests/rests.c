@@ -1,6 +1,7 @@
-/* Rests: whom msg_process_seen_by_all waits for, and that nobody is in a page that it said is left.
- * Each version of a method has a page of its own, whose number a thread reads for a while after it
- * found it; the one who changes the method takes a page away once the change is seen by all. */
+/* Rests: which threads msg_process_seen_by_all waits for, and that no thread reads a page that is
+ * unmapped once it said so. Each version of a method has a page of its own. A thread that finds the
+ * method reads the page for a while, as if it were in the method's code. The thread that changes
+ * the method unmaps the old page once the change is seen by all. */
 #define _DEFAULT_SOURCE 1 /* for syscall and MAP_ANONYMOUS */
 #include "msg_process.h"
 #include <sched.h>
