@@ -1,6 +1,9 @@
-/* What replacements take one by one, and as a list: tools/measure_lists. Each call on the runtime is made under a lock, as in a host with threads.
+/* What replacements take one by one, and as a list: tools/measure_lists. Each call on the runtime
+ * is made under a lock, as in a host with threads.
  *
- *     lists time WINDOWS ROUNDS          for each size: the medians of nanoseconds a round, one by one and as a list, and of the ratios of windows beside each other
+ *     lists time WINDOWS ROUNDS          for each size: the medians of nanoseconds a round, one by
+ *                                        one and as a list, and of the ratios of windows beside
+ *                                        each other
  *     lists one|list COUNT CLASSES ROUNDS   so many rounds, for a count of instructions */
 #include "msg_runtime.h"
 #include <pthread.h>
