@@ -11,7 +11,8 @@
  *
  * Threads: any. A thread gets its sender at its first find, and gives it back at its end. A thread
  * that finds as many out as the config says, or no memory, finds under the lock as long as it
- * lives; so does a thread that ends, from where its sender is given back.
+ * lives; so does a thread that ends, from where its sender is given back. A thread's first find
+ * comes before the second round of its destructors (pthread_key_create).
  *
  * Fork: the child has its thread, that thread's sender and the runtime, as they were; the others'
  * senders are closed in it. It may find, change and start threads. Fork in no handler of a signal.
@@ -62,8 +63,10 @@ uint32_t msg_process_away(void);
  * away, and no find returns it any more. This is the least count of changes at which a thread
  * rested last. A thread that has ended, is away or never found anything doesn't count; if none
  * counts, it is the count of all changes. `thread` is the kernel's number of the thread that rested
- * at the least count, or 0 if all have rested since the last change. MSG_NONE if the C library
- * can't tell the end of some thread. Cost: a walk over the threads that count, under the lock. */
+ * at the least count, or 0 if all have rested since the last change. MSG_NONE if the end of some
+ * thread isn't told: the C library had no memory for that, or the thread found something later than
+ * in the second round of its destructors. Cost: a walk over the threads that count, under the lock.
+ */
 uint32_t msg_process_seen_by_all(uint64_t *changes, uint64_t *thread);
 
 /* By a thread that may take memory, outside the lock: so that a thread's first find has a sender

@@ -49,8 +49,8 @@
  *
  * Visibility. Whoever finds a number that a change gave sees what the host
  * wrote before it made that change. So does whoever is told of the change by
- * msg_refresh, msg_probe, msg_fill or msg_meet: the library's shared words are
- * stored and loaded sequentially consistent. So a table of functions may grow
+ * msg_refresh, msg_probe, msg_fill, msg_meet or msg_rest: the library's shared
+ * words are stored and loaded sequentially consistent. So a table of functions may grow
  * while threads send: first the new slot, then the change. What a host writes
  * before a change returns, inside the lock too, another thread may see while it
  * still finds what was before the change; what it writes after that, nobody.
@@ -347,6 +347,17 @@ uint32_t msg_fill_all(msg_runtime *runtime, msg_sender *sender,
                       uint32_t *imps, size_t room, size_t *place);
 /* Shows the sender all changes so far. It forgets nothing. */
 uint32_t msg_meet(msg_runtime *runtime, msg_sender *sender);
+/* msg_meet, and notes that the sender rests: the host says by it that nothing
+ * the sender found before is in use. Its thread runs no such function, and
+ * keeps none to call. A sender also rests when it is opened. */
+uint32_t msg_rest(msg_runtime *runtime, msg_sender *sender);
+/* When old code can go: how many changes every open sender had seen when it
+ * rested last. All changes if none is open. No sender will find what was
+ * before them, so a function that the first `count` changes took out may be
+ * freed. The host sees to it that no later change puts it back, and that
+ * nobody calls msg_lookup, or msg_recall with less than `count`, for it.
+ * Cost: it goes over all sender numbers of the config. */
+uint32_t msg_seen_by_all(msg_runtime *runtime, uint64_t *count);
 
 /* ---- sending, without a lock ---- */
 

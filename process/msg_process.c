@@ -38,9 +38,14 @@
  *     of changes at its last rest. It leaves at its end, and while it is away; its sender is hidden
  *     then, so its next find takes the lock and joins again. A find returns what is right after all
  *     changes that had returned before it, so one that begins after a rest returns nothing older
- *     than that count. */
+ *     than that count.
+ * 10. Destructors that come after `at_thread_end` may find. So it is to be called in the next of
+ *     their rounds, too, and ends then what they began; but MOST_ENDS times, so that there is such
+ *     a round also where a thread's first find is in one of the first round. Of a find after the
+ *     last call nobody is told the end: then no old code is told as left by all. */
 #define _DEFAULT_SOURCE 1 /* for MAP_ANONYMOUS */
 #include "msg_process.h"
+#include <limits.h>
 #include <sched.h>
 #include <stdatomic.h>
 #include <sys/mman.h>
@@ -49,7 +54,7 @@
 #include <unistd.h>
 
 #define PARTS_OF(key) MSG_SLOT_OF(key) / 2, MSG_SLOT_OF(key) % 2, MSG_SEL_OF(key)
-enum { SPARES = 2, PATIENCE = 64 };
+enum { SPARES = 2, PATIENCE = 64, MOST_ENDS = PTHREAD_DESTRUCTOR_ITERATIONS - 1 };
 enum { SLICE = 1000000, SLICES = 1000 }; /* of a wait for a while: nanoseconds, and how many */
 
 struct seat { _Alignas(64) msg_sender sender; struct seat *next; atomic_bool asks; };
@@ -76,7 +81,8 @@ static __thread struct seat *own;
 static __thread volatile bool holds, tried, kept; /* `kept`: the lock was held before the fork */
 static __thread volatile unsigned stood;          /* finds without a seat, while none was spare */
 static __thread struct stay stay;
-static __thread volatile bool stays_on, is_away, is_over; /* among `stays`; as said; at its end */
+static __thread volatile bool stays_on, is_away, is_over; /* among `stays`; as said; rule 10 */
+static __thread unsigned end_count;                       /* how often its end was told */
 
 /* POSIX has it, and a source that includes this may have asked for less. */
 int pthread_mutex_timedlock(pthread_mutex_t *, const struct timespec *);
@@ -198,7 +204,7 @@ static void end_stay(void)
 
 static void begin_stay(void)
 {
-    if (stays_on || is_over) return;
+    if (stays_on) return;
     stay.thread = own_number();
     msg_change_count(&runtime, &stay.changes);
     stay.next = stays;
@@ -206,12 +212,13 @@ static void begin_stay(void)
     stays_on = true;
 }
 
-/* In a thread without a seat. It joins only if its end is told: else its entry would stay. */
+/* In a thread without a seat. It joins only if its end is told: else its entry would stay. Once
+ * that can't be, it doesn't join any more, since it may be too late then. */
 static void begin_stay_alone(void)
 {
-    bool is_told = own || stays_on || is_over || !pthread_setspecific(key, &stay);
+    bool is_told = own || stays_on || (!is_over && !pthread_setspecific(key, &stay));
     if (is_told) begin_stay();
-    else is_unsure = true;
+    else is_unsure = is_over = tried = true;
 }
 
 /* ---- a thread's seat ---- */
@@ -239,7 +246,7 @@ static void at_thread_end(void *unused)
     take(MSG_WAITS); /* or the thread ends with the lock, which is given below */
     stand_up();
     end_stay();
-    is_over = true;
+    is_over = is_over || ++end_count >= MOST_ENDS || pthread_setspecific(key, &stay);
     give();
 }
 
@@ -300,11 +307,22 @@ static struct seat *come_back(unsigned waits)
 
 /* ---- finding ---- */
 
-static uint32_t probe(struct seat *seat, uint64_t key, uint32_t *imp)
+/* A key; or, where there is a place, several lookups as one. */
+struct asked {
+    uint64_t key; uint32_t *imps; const msg_lookup_row *lookups; size_t count, *place;
+};
+
+static inline uint32_t probe_by(msg_sender *sender, const struct asked *a)
+{
+    if (!a->place) return msg_probe(sender, PARTS_OF(a->key), a->imps);
+    return msg_probe_all(sender, a->lookups, a->count, a->imps, a->count, a->place);
+}
+
+static inline uint32_t probe(struct seat *seat, const struct asked *a)
 {
     uint32_t answer = MSG_MISSED;
     atomic_store(&seat->asks, true);
-    if (!atomic_load(&forks)) answer = msg_probe(&seat->sender, PARTS_OF(key), imp);
+    if (!atomic_load(&forks)) answer = probe_by(&seat->sender, a);
     atomic_store_explicit(&seat->asks, false, memory_order_release);
     return answer;
 }
@@ -330,63 +348,45 @@ static inline uint32_t fill(struct seat *seat, uint64_t key, uint32_t *imp)
     return fault;
 }
 
-uint32_t msg_process_find_slowly(uint64_t key, unsigned waits, uint32_t *imp)
+/* All are of one version, since the lock is held. */
+static inline uint32_t fill_all(struct seat *seat, const struct asked *a)
+{
+    size_t count = a->count;
+    if (seat)
+        return msg_fill_all(&runtime, &seat->sender, a->lookups, count, a->imps, count, a->place);
+    begin_stay_alone();
+    for (size_t i = 0; i < count; i++) {
+        const msg_lookup_row *row = &a->lookups[i];
+        uint32_t fault = MSG_BAD_CHANGE;
+        if (row->meta <= 1)
+            fault = msg_lookup(&runtime, row->number, row->meta, row->sel, &a->imps[i]);
+        if (fault) return *a->place = i, fault;
+    }
+    return MSG_DONE;
+}
+
+static inline uint32_t find_by(const struct asked *a, unsigned waits)
 {
     if (!atomic_load_explicit(&started, memory_order_acquire)) return MSG_CLOSED;
     struct seat *seat = seat_by(waits);
-    uint32_t answer = seat ? probe(seat, key, imp) : (uint32_t)MSG_MISSED;
+    uint32_t answer = seat ? probe(seat, a) : (uint32_t)MSG_MISSED;
     if (answer == MSG_MISSED && !(answer = take(waits))) {
-        answer = fill(seat, key, imp);
+        answer = a->place ? fill_all(seat, a) : fill(seat, a->key, a->imps);
         give();
     }
     show(seat);
     return answer;
 }
 
-/* ---- finding several as one ---- */
-
-struct several { const msg_lookup_row *lookups; size_t count; uint32_t *imps; size_t *place; };
-
-static uint32_t probe_all(struct seat *seat, const struct several *s)
+uint32_t msg_process_find_slowly(uint64_t key, unsigned waits, uint32_t *imp)
 {
-    uint32_t answer = MSG_MISSED;
-    atomic_store(&seat->asks, true);
-    if (!atomic_load(&forks))
-        answer = msg_probe_all(&seat->sender, s->lookups, s->count, s->imps, s->count, s->place);
-    atomic_store_explicit(&seat->asks, false, memory_order_release);
-    return answer;
-}
-
-/* All are of one version, since the lock is held. */
-static uint32_t fill_all(struct seat *seat, const struct several *s)
-{
-    size_t count = s->count;
-    if (seat)
-        return msg_fill_all(&runtime, &seat->sender, s->lookups, count, s->imps, count, s->place);
-    begin_stay_alone();
-    for (size_t i = 0; i < count; i++) {
-        const msg_lookup_row *row = &s->lookups[i];
-        uint32_t fault = MSG_BAD_CHANGE;
-        if (row->meta <= 1)
-            fault = msg_lookup(&runtime, row->number, row->meta, row->sel, &s->imps[i]);
-        if (fault) return *s->place = i, fault;
-    }
-    return MSG_DONE;
+    return find_by(&(struct asked){.key = key, .imps = imp}, waits);
 }
 
 uint32_t msg_process_find_all(const msg_lookup_row *lookups, size_t count, uint32_t *imps,
                               size_t *place)
 {
-    const struct several all = {lookups, count, imps, place};
-    if (!atomic_load_explicit(&started, memory_order_acquire)) return MSG_CLOSED;
-    struct seat *seat = seat_by(MSG_WAITS);
-    uint32_t answer = seat ? probe_all(seat, &all) : (uint32_t)MSG_MISSED;
-    if (answer == MSG_MISSED && !(answer = take(MSG_WAITS))) {
-        answer = fill_all(seat, &all);
-        give();
-    }
-    show(seat);
-    return answer;
+    return find_by(&(struct asked){0, imps, lookups, count, place}, MSG_WAITS);
 }
 
 void msg_process_cache(uint64_t key)

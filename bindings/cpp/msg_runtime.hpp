@@ -121,6 +121,8 @@ public:
 
     std::uint32_t class_count() { return told<std::uint32_t>(msg_class_count); }
     std::uint64_t change_count() { return told<std::uint64_t>(msg_change_count); }
+    // How many changes every open sender had seen when it rested last: what they took out may go.
+    std::uint64_t seen_by_all() { return told<std::uint64_t>(msg_seen_by_all); }
     msg_report_row report()
     {
         msg_report_row row{};
@@ -253,6 +255,8 @@ public:
     std::uint32_t fill(sender &of, class_ref receiver, std::uint32_t selector);
     // The sender has then seen all changes.
     void meet(sender &of);
+    // The same, and nothing that the sender found before is in use.
+    void rest(sender &of);
 
 private:
     friend class runtime;
@@ -461,6 +465,12 @@ inline void locked::meet(sender &of)
 {
     if (of.at != at) throw std::invalid_argument("the sender is of another runtime");
     must(msg_meet(&at->handle, of.own.get()));
+}
+
+inline void locked::rest(sender &of)
+{
+    if (of.at != at) throw std::invalid_argument("the sender is of another runtime");
+    must(msg_rest(&at->handle, of.own.get()));
 }
 
 // Texts of any bytes with numbers, from 1 in the order in which they first came. As a container of the standard library:

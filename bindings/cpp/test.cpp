@@ -176,6 +176,9 @@ static void senders()
     runtime.lock().replace(child, VALUE, 6);
     CHECK(sender.refresh() == 6 && sender.find_called(child, VALUE) == 6);
     runtime.lock().meet(sender);
+    CHECK(runtime.lock().seen_by_all() == 4); // a meeting is no rest
+    runtime.lock().rest(sender);
+    CHECK(runtime.lock().seen_by_all() == 6);
     FAULT(MSG_NO_CLASS, sender.find(msg::instances_of(16384), VALUE));
     FAULT(MSG_NO_CLASS, sender.find(msg::instances_of(UINT32_C(1) << 31 | CHILD), VALUE));
     FAULT(MSG_NO_SELECTOR, sender.probe(child, 0));

@@ -44,7 +44,7 @@ struct tables {
 };
 
 /* What a sender's handle points to. */
-struct asker { struct tables *tables; uint64_t seen; struct asker *next; };
+struct asker { struct tables *tables; uint64_t seen, rested; struct asker *next; };
 
 static void must(bool holds) { if (!holds) abort(); }
 
@@ -611,7 +611,7 @@ uint32_t msg_sender_open(msg_runtime *runtime, msg_sender *sender)
     }
     struct asker *asker = malloc(sizeof *asker);
     if (!asker) return MSG_NO_MEMORY;
-    *asker = (struct asker){tables, version(tables), tables->askers};
+    *asker = (struct asker){tables, version(tables), version(tables), tables->askers};
     tables->askers = asker;
     tables->out++;
     sender->at = asker;
@@ -806,6 +806,24 @@ uint32_t msg_meet(msg_runtime *runtime, msg_sender *sender)
     struct asker *asker = sender->at;
     must(asker && runtime->at == asker->tables);
     asker->seen = version(asker->tables);
+    return MSG_DONE;
+}
+
+uint32_t msg_rest(msg_runtime *runtime, msg_sender *sender)
+{
+    uint32_t answer = msg_meet(runtime, sender);
+    struct asker *asker = sender->at;
+    if (!answer) asker->rested = asker->seen;
+    return answer;
+}
+
+uint32_t msg_seen_by_all(msg_runtime *runtime, uint64_t *count)
+{
+    if (!runtime->open) return MSG_CLOSED;
+    const struct tables *tables = runtime->at;
+    *count = version(tables);
+    for (const struct asker *one = tables->askers; one; one = one->next)
+        if (one->rested < *count) *count = one->rested;
     return MSG_DONE;
 }
 

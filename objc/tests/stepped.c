@@ -2,8 +2,6 @@
  * sends: what it finds, and what it came between, is by the changes that there are. */
 #define _GNU_SOURCE /* for the names of registers */
 #include "modules.h"
-#include <signal.h>
-#include <ucontext.h>
 
 enum { ENDLESS = 100000 };
 
@@ -12,28 +10,15 @@ static id object;
 static long wrong, handled;
 
 #if defined(__x86_64__) && !defined(SANITIZED)
-enum { TRAP = 1 << 8 };
+#include "../../process/tests/stepping.h"
 
-static volatile long step, at;
+static volatile long at;
 
-static void on_step(int number, siginfo_t *info, void *context)
+static bool at_step(void)
 {
-    (void)number, (void)info;
-    if (step++ < at) return;
+    if (step++ < at) return true;
     handled = send(object, first);
-    ((ucontext_t *)context)->uc_mcontext.gregs[REG_EFL] &= ~TRAP;
-}
-
-static inline __attribute__((always_inline)) void trap(int on)
-{
-    unsigned long flags = __builtin_ia32_readeflags_u64();
-    __builtin_ia32_writeeflags_u64(on ? flags | TRAP : flags & ~(unsigned long)TRAP);
-}
-
-static void set_handler(void)
-{
-    struct sigaction action = {.sa_sigaction = on_step, .sa_flags = SA_SIGINFO};
-    sigaction(SIGTRAP, &action, NULL);
+    return false;
 }
 
 static IMP lookup(SEL sel)
@@ -60,7 +45,7 @@ static int begin(long next)
     return over;
 }
 #else
-static void set_handler(void) {}
+static void set_steps(void) {}
 static IMP lookup(SEL sel) { return objc_msg_lookup(object, sel); }
 static void replace(SEL sel, IMP imp) { class_replaceMethod(&root, sel, imp, "@16@0:8"); }
 static int begin(long next) { return next > 1; }
@@ -118,7 +103,7 @@ int main(void)
     object = class_createInstance(&child, 0);
     send(object, first);
     send(object, second);
-    set_handler();
+    set_steps();
     long ended = send_each(first, 1) < ENDLESS && send_each(second, 1) < ENDLESS;
     ended += send_each(first, 0) < ENDLESS && send_each(second, 0) < ENDLESS;
     ended += change_each() < ENDLESS;

@@ -1,6 +1,8 @@
 /* What several lookups as one take, a rest, and asking who is in old code:
  *
- *     rests THREADS    the last with so many threads that were answered; nanoseconds, a line each */
+ *     rests THREADS    the last with so many threads that were answered; nanoseconds, a line each
+ *
+ * So too of senders of a host's own. */
 #include "msg_process.h"
 #include <sched.h>
 #include <stdatomic.h>
@@ -118,6 +120,41 @@ static void make_class(msg_runtime *runtime)
     }
 }
 
+/* Senders of the host's own, of a runtime that has room for the most. */
+enum { MOST = 16384 };
+static struct { _Alignas(64) msg_sender sender; } own[MOST]; /* zero bytes: closed */
+static msg_runtime full = MSG_RUNTIME_INIT;
+
+static void own_rest(void) { must(msg_rest(&full, &own[0].sender)); }
+
+static void own_ask(void)
+{
+    uint64_t count;
+    must(msg_seen_by_all(&full, &count));
+}
+
+static void open_and_close(void)
+{
+    must(msg_sender_open(&full, &own[MOST - 1].sender));
+    must(msg_sender_close(&full, &own[MOST - 1].sender));
+}
+
+static void tell_own(void)
+{
+    static const int open[] = {1, 1000, MOST - 1};
+    msg_config config = {.senders = MOST};
+    char what[64];
+    must(msg_open(&full, &config));
+    for (int i = 0, k = 0; k < 3; k++) {
+        while (i < open[k]) must(msg_sender_open(&full, &own[i++].sender));
+        if (!k) tell("a rest of one's own sender", own_rest, ROUNDS);
+        snprintf(what, sizeof what, "asking, %d senders of one's own", open[k]);
+        tell(what, own_ask, 200);
+        snprintf(what, sizeof what, "opening and closing one more than %d", open[k]);
+        tell(what, open_and_close, 200);
+    }
+}
+
 int main(int count, char **words)
 {
     int threads = count > 1 ? atoi(words[1]) : 1000;
@@ -141,6 +178,7 @@ int main(int count, char **words)
     tell("a change", change, ROUNDS / 10);
     tell("a change, and a rest after it", change_and_rest, ROUNDS / 10);
     tell("who is in old code, of one thread", ask, ROUNDS);
+    tell_own();
     pthread_mutex_lock(&gate);
     for (int i = 0; i < threads; i++)
         if (pthread_create(&all[i], &small, stay, NULL)) exit(1);

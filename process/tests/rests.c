@@ -15,6 +15,14 @@
 #include <unistd.h>
 
 enum { CLASS, SEL = 1, THREADS = 8, CHANGES = 2000, ROOM = 64, PAGE = 4096 };
+enum { ROUNDS = 2 }; /* of a thread's destructors, in which finds count */
+
+/* ThreadSanitizer ends a thread before its last destructors, and has no threads in a child. */
+#ifdef SANITIZED_thread
+enum { ENDS_EARLY = true };
+#else
+enum { ENDS_EARLY = false };
+#endif
 
 static long wrong;
 
@@ -164,6 +172,67 @@ static void one_after_another(void)
     MUST(is_held_by(changes, 0));
 }
 
+/* ---- a thread at its end ---- */
+
+static pthread_key_t ending;
+static atomic_int left_rounds;
+
+/* After the layer's own, whose key came first. What it finds is in use as long as it goes on. */
+static void at_end(void *round)
+{
+    work(NULL);
+    if (--left_rounds > 0) pthread_setspecific(ending, round);
+}
+
+static void *end_in_rounds(void *none)
+{
+    pthread_setspecific(ending, &ending);
+    return work(none);
+}
+
+/* What destructors find holds the next change back, until they end. Of what they find later than
+ * in these rounds nobody is told the end, and then no old code is told as left by all. */
+static void at_an_end(int rounds)
+{
+    pthread_t thread;
+    uint64_t changes = 0, seen, holder;
+    left_rounds = rounds;
+    pthread_create(&thread, NULL, end_in_rounds, NULL);
+    ask(FINDS);
+    ask(ENDS);
+    for (int round = 1; round <= rounds && round <= ROUNDS; round++) {
+        ask(round % 2 ? FINDS : FINDS_AT_ONCE);
+        changes = change(40);
+        MUST(!msg_process_rest() && is_held_by(changes - 1, worker));
+        ask(FINDS); /* of the newest, which isn't a rest */
+        MUST(is_held_by(changes - 1, worker));
+        if (round == 2) {
+            ask(RESTS);
+            MUST(is_held_by(changes, 0));
+        }
+        if (round < rounds) ask(ENDS);
+    }
+    if (rounds > ROUNDS) {
+        ask(FINDS);
+        MUST(msg_process_seen_by_all(&seen, &holder) == MSG_NONE);
+    }
+    ask(ENDS);
+    pthread_join(thread, NULL);
+    if (rounds <= ROUNDS) MUST(is_held_by(changes, 0));
+}
+
+/* In a child, since nobody is told of old code after it. */
+static void at_the_last_end(void)
+{
+    int status = 1;
+    pid_t child = fork();
+    if (!child) {
+        at_an_end(ROUNDS + 1);
+        _exit(wrong != 0);
+    }
+    MUST(waitpid(child, &status, 0) == child && !status);
+}
+
 /* ---- all at once ---- */
 
 static uint32_t *_Atomic pages[ROOM];
@@ -196,7 +265,10 @@ static void *live(void *seed)
 {
     unsigned random = (unsigned)(uintptr_t)seed;
     for (int i = 0; i < 200 && !is_over; i++) {
-        for (int j = 0; j < 3; j++) be_in_it(find(), (random = random * 1664525 + 1013904223) >> 27);
+        for (int j = 0; j < 3; j++) {
+            random = random * 1664525 + 1013904223;
+            be_in_it(find(), random >> 27);
+        }
         if (random >> 20 & 7) MUST(!msg_process_rest());
         else MUST(!msg_process_away());
     }
@@ -249,7 +321,10 @@ int main(void)
     MUST(!msg_process_lock(&runtime));
     MUST(!msg_make_root_class(runtime, CLASS));
     msg_process_unlock();
+    pthread_key_create(&ending, at_end);
     one_after_another();
+    for (int rounds = 1; rounds <= ROUNDS && !ENDS_EARLY; rounds++) at_an_end(rounds);
+    if (!ENDS_EARLY) at_the_last_end();
     if (!wrong) all_at_once();
     printf("rests: %ld wrong\n", wrong);
     return wrong != 0;

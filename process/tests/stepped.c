@@ -4,15 +4,15 @@
  * what the find was reading. */
 #define _GNU_SOURCE /* for the names of registers */
 #include "msg_process.h"
-#include <signal.h>
 #include <stdio.h>
-#include <ucontext.h>
 
 #ifdef __x86_64__
-enum { ONE = 1, OTHER = ONE + MSG_NOTES, OF_OTHER = 7 };
-enum { SHORT = 60, BETWEEN = 100, ENDLESS = 100000, TRAP = 1 << 8 };
+#include "stepping.h"
 
-static volatile long step, at, again_at;
+enum { ONE = 1, OTHER = ONE + MSG_NOTES, OF_OTHER = 7 };
+enum { SHORT = 60, BETWEEN = 100, ENDLESS = 100000 };
+
+static volatile long at, again_at;
 static volatile uint32_t handled, again;
 static long wrong, tried;
 static bool at_once;
@@ -31,19 +31,12 @@ static uint32_t find(uint32_t sel)
     return fault ? 1000000 + fault : imp;
 }
 
-static void on_step(int number, siginfo_t *info, void *context)
+static bool at_step(void)
 {
     long now = step++;
-    (void)number, (void)info;
     if (now == at) handled = find(OTHER);
     if (now == again_at) again = find(ONE);
-    if (now >= at && now >= again_at) ((ucontext_t *)context)->uc_mcontext.gregs[REG_EFL] &= ~TRAP;
-}
-
-static inline __attribute__((always_inline)) void trap(int on)
-{
-    unsigned long flags = __builtin_ia32_readeflags_u64();
-    __builtin_ia32_writeeflags_u64(on ? flags | TRAP : flags & ~(unsigned long)TRAP);
+    return now < at || now < again_at;
 }
 
 static void begin(long first, long second)
@@ -150,9 +143,8 @@ static uint32_t open_all(void)
 
 int main(void)
 {
-    struct sigaction action = {.sa_sigaction = on_step, .sa_flags = SA_SIGINFO};
     want("the start", !open_all() && !change(100) && find(ONE) == 100 && find(OTHER) == OF_OTHER);
-    sigaction(SIGTRAP, &action, NULL);
+    set_steps();
     find_noted(100);
     find_slowly(true);
     change_in_steps(find_slowly(false));

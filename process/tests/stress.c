@@ -7,12 +7,18 @@
  * another. The methods stand in the roots of TREES trees, on both of their sides: what is cached
  * for one tree outlasts the changes of the others.
  *
+ * Threads rest now and then, or go away. One asks what all have seen: from then on the steps that
+ * it took away are gone. No find answers one, and no thread is in one that it found since it
+ * rested.
+ *
  * What is stored plainly before a change call, who finds what that change gave sees: else
  * ThreadSanitizer tells a race, too. And a thread may see it, inside the lock, while it still finds
  * what was before the change: such finds are counted. */
 #define _GNU_SOURCE
 #include "msg_process.h"
 #include <errno.h>
+#include <limits.h>
+#include <sched.h>
 #include <signal.h>
 #include <stdatomic.h>
 #include <stdio.h>
@@ -29,11 +35,15 @@ enum { METHODS = 16, PATIENCE = 60 };
 
 static atomic_bool is_over;
 static atomic_long begun, returned, made, answers, held, handled, refused, ended, without, opened;
-static atomic_long forked, ready, ahead, wrong;
-static uint32_t before[1 << 20]; /* by steps: what is stored before a step's change call */
+static atomic_long forked, ready, ahead, wrong, gone, rested;
+enum { STORED = 1 << 20 };
+static uint32_t before[STORED]; /* by steps: what is stored before a step's change call */
+static atomic_ulong counts[STORED]; /* the count of changes after it */
 
 static _Thread_local volatile long seen;
 static _Thread_local volatile uint32_t drawn;
+static _Thread_local volatile bool handles;
+static _Thread_local long oldest = LONG_MAX; /* that the thread found since it rested */
 
 static void tell(const char *what, long one, long other)
 {
@@ -58,7 +68,7 @@ static bool is_of_class(long method) { return method / TREES % 2; }
 /* Whether what was stored before the step's change call is seen. */
 static bool is_stored(long step)
 {
-    return step >= (long)(sizeof before / sizeof *before) || before[step] == step;
+    return step >= STORED || before[step] == step;
 }
 
 /* The class of the method's tree that is near the given one; 0 and so many are made. */
@@ -88,7 +98,9 @@ static void find(uint32_t class_, long method, bool may_hold)
     else if (step + METHODS <= least) tell("older than what was seen, seen", step, least);
     else if (step > most) tell("newer than what was begun, begun", step, most);
     else if (!is_stored(step)) tell("without what was stored before it", step, 0);
+    else if (step <= gone) tell("what is gone, gone", step, gone);
     else if (step > seen) seen = step;
+    if (!fault && !handles && step < oldest) oldest = step;
     if (!fault && step + METHODS <= stored) ahead++;
 }
 
@@ -100,6 +112,24 @@ static void find_some(bool may_hold)
     find(below(count), method, may_hold);
     find(below(8), method, may_hold);
     find(below(8), (method + METHODS / 2) % METHODS, may_hold);
+}
+
+static void want(uint32_t fault, uint32_t wanted)
+{
+    if (fault != wanted) tell("a call answers, wanted", fault, wanted);
+}
+
+static void rest(bool goes)
+{
+    if (oldest <= gone) tell("the thread is in what is gone, gone", oldest, gone);
+    oldest = LONG_MAX;
+    want(goes ? msg_process_away() : msg_process_rest(), MSG_DONE);
+    rested++;
+}
+
+static void rest_at_times(void)
+{
+    if (!below(8)) rest(!below(8));
 }
 
 /* A thread's first find is outside of handlers. */
@@ -114,14 +144,12 @@ static void *find_on(void *number)
 {
     long count = 0;
     begin_thread((long)number);
-    for (; !is_over; count += 3) find_some(false);
+    for (; !is_over; count += 3) {
+        find_some(false);
+        rest_at_times();
+    }
     answers += count;
     return NULL;
-}
-
-static void want(uint32_t fault, uint32_t wanted)
-{
-    if (fault != wanted) tell("a call answers, wanted", fault, wanted);
 }
 
 /* The next steps, and a change that is refused. */
@@ -132,7 +160,10 @@ static void change(msg_runtime *runtime, int steps)
         uint32_t root = root_of(method), sel = selector(method);
         bool meta = is_of_class(method);
         if (!is_stored(step)) before[step] = (uint32_t)step;
+        uint64_t changes = 0;
         want(msg_replace(runtime, root, meta, sel, (uint32_t)step), MSG_DONE);
+        want(msg_change_count(runtime, &changes), MSG_DONE);
+        if (step < STORED) counts[step] = changes;
         returned = step; /* from here on each thread has to see it, though the lock is held */
         if (below(2)) msg_process_cache(msg_key(2 * root + meta, sel));
         seen = step;
@@ -159,6 +190,7 @@ static void *change_on(void *number)
     while (!is_over) {
         long step = change_some();
         find_some(false);
+        rest_at_times();
         if (step % 8 == 0) usleep(50);
     }
     return NULL;
@@ -177,9 +209,22 @@ static void *make_on(void *number)
         msg_process_unlock();
         if (next < CLASSES) made++;
         find_some(false);
+        rest(below(2));
         usleep(2000);
     }
     return NULL;
+}
+
+/* A step is gone once all have seen the step that took it away. */
+static void *ask_on(void *none)
+{
+    for (long next = 1; !is_over && !wrong; sched_yield()) {
+        uint64_t changes = 0, thread = 0;
+        want(msg_process_seen_by_all(&changes, &thread), MSG_DONE);
+        while (next < STORED && counts[next] && counts[next] <= changes) next++;
+        if (next > METHODS) gone = next - 1 - METHODS;
+    }
+    return none;
 }
 
 /* ---- threads that come and go ---- */
@@ -195,7 +240,10 @@ static void at_end(void *rounds)
 static void *find_and_end(void *number)
 {
     begin_thread((long)number);
-    for (uint32_t i = below(30); i-- && !is_over;) find_some(false);
+    for (uint32_t i = below(30); i-- && !is_over;) {
+        find_some(false);
+        rest_at_times();
+    }
     without += !msg_process_own.sender->open;
     pthread_setspecific(ending, (void *)(size_t)(1 + below(3)));
     ended++;
@@ -234,6 +282,7 @@ static void *begin_and_end(void *number)
             if (pthread_create(&threads[are], NULL, find_and_end, number_of)) break;
         }
         if (are < count) tell("no thread", are, count);
+        rest(true);
         while (are) pthread_join(threads[--are], NULL);
     }
     return NULL;
@@ -274,8 +323,12 @@ static void child(bool has_sender)
 {
     pthread_t thread;
     msg_runtime *runtime;
+    uint64_t changes, thread_number = 1;
     wrong = 0;
     alarm(PATIENCE);
+    rest(below(2));
+    want(msg_process_seen_by_all(&changes, &thread_number), MSG_DONE);
+    if (thread_number) tell("in a child another holds old code, by number", (long)thread_number, 0);
     for (int i = 0; i < 50; i++) {
         find_some(false);
         change_some();
@@ -302,6 +355,7 @@ static void *fork_on(void *number)
         pid_t pid = fork();
         if (!pid) child(has_sender);
         int status = 0;
+        rest(true);
         while (pid > 0 && waitpid(pid, &status, 0) < 0 && errno == EINTR) {}
         if (pid < 0 || status) tell("a child ended otherwise, status", pid, status);
         usleep(1000 + below(4000));
@@ -315,7 +369,9 @@ static void handle(int signal)
 {
     int kept = errno;
     (void)signal;
+    handles = true;
     find_some(true);
+    handles = false;
     if (!below(16)) {
         msg_runtime *runtime;
         uint32_t fault = msg_process_lock(&runtime);
@@ -329,15 +385,15 @@ static void handle(int signal)
 static bool is_little(void)
 {
     return !refused || !ended || !without || !opened || (FORKS && !forked) || !handled || !held ||
-           !ahead || made < 9;
+           !ahead || made < 9 || gone < METHODS;
 }
 
 int main(void)
 {
     enum { THREADS = FINDERS + CHANGERS + 1 };
     static void *(*const others[])(void *) = {begin_and_end, begin_and_end,
-                                              FORKS ? fork_on : find_on};
-    pthread_t threads[THREADS], beside[3];
+                                              FORKS ? fork_on : find_on, ask_on};
+    pthread_t threads[THREADS], beside[4];
     msg_runtime *runtime;
     msg_config config = {.classes = CLASSES, .senders = SENDERS};
     alarm(PATIENCE + SECONDS);
@@ -350,6 +406,7 @@ int main(void)
     made = 2 * TREES;
     while (begun < METHODS) change(runtime, 1);
     msg_process_unlock();
+    rest(true);
 
     sigaction(SIGUSR1, &(struct sigaction){.sa_handler = handle, .sa_flags = SA_RESTART}, NULL);
     for (long i = 0; i < THREADS; i++)
@@ -357,7 +414,7 @@ int main(void)
                        i < FINDERS ? find_on : i < FINDERS + CHANGERS ? change_on : make_on,
                        (void *)(i + 1));
     while (ready < THREADS) usleep(1000);
-    for (long i = 0; i < 3; i++) pthread_create(&beside[i], NULL, others[i], (void *)(i + 100));
+    for (long i = 0; i < 4; i++) pthread_create(&beside[i], NULL, others[i], (void *)(i + 100));
     time_t end = time(NULL) + SECONDS;
     while (!wrong && (time(NULL) < end || (is_little() && time(NULL) < end + PATIENCE / 2))) {
         pthread_kill(threads[below(THREADS)], SIGUSR1);
@@ -365,15 +422,17 @@ int main(void)
     }
     is_over = true;
     for (int i = 0; i < THREADS; i++) pthread_join(threads[i], NULL);
-    for (int i = 0; i < 3; i++) pthread_join(beside[i], NULL);
+    for (int i = 0; i < 4; i++) pthread_join(beside[i], NULL);
     /* this thread has none */
     if (left() != SENDERS) tell("senders that are left", left(), SENDERS);
     fprintf(stderr,
             "%ld answers beside %ld steps, %ld older than what was stored for the next; "
             "%ld refused changes, %ld classes, %ld threads (%ld without a sender), %ld senders, "
-            "%ld forks; %ld signals, %ld answered that the lock is held\n",
+            "%ld forks; %ld rests, %ld steps gone; %ld signals, %ld answered that the lock is "
+            "held\n",
             (long)answers, (long)begun, (long)ahead, (long)refused, (long)made, (long)ended,
-            (long)without, (long)opened, (long)forked, (long)handled, (long)held);
+            (long)without, (long)opened, (long)forked, (long)rested, (long)gone, (long)handled,
+            (long)held);
     printf("stress: %ld wrong%s\n", (long)wrong, is_little() ? ", and too little was tried" : "");
     return wrong || is_little();
 }

@@ -64,7 +64,7 @@ source = swap(
     ("return seat == MAP_FAILED ? NULL : seat;",
      "return seat ? *(struct seat *)seat = (struct seat){0}, seat : NULL;"),
     ("munmap(seat, sizeof *seat)", "cv_free(seat)"),
-    ("(uint64_t)syscall(SYS_gettid)", "1"),
+    ("(uint64_t)syscall(SYS_gettid)", "cv_number"),
     ("SPARES = 2, PATIENCE = 64", "SPARES = 1, PATIENCE = 2"),
     ("SLICES = 1000 }", "SLICES = 1 }"))
 head, body = source.split("static inline uint32_t take(", 1)

@@ -35,13 +35,18 @@ static unsigned long words[3]; /* the count of changes, and the stamps of two cl
 #define __atomic_store_n(p, v, order) cv_store(p, v)
 #define __atomic_exchange_n(p, v, order) \
     ({ STEP(); __typeof__(*(p)) cv_old = *(p); *(p) = (v); cv_old; })
-#define atomic_load(p) (STEP(), *(p))
+#ifdef FORKS /* the guest shares more: `forks`, and its own `asks` */
+#define GUEST_MAY() other(false)
+#else
+#define GUEST_MAY() ((void)0)
+#endif
+#define atomic_load(p) (STEP(), GUEST_MAY(), *(p))
 #define atomic_store(p, v) cv_store(p, v)
 #define atomic_load_explicit(p, order) (STEP(), *(p))
 #define atomic_store_explicit(p, v, order) cv_store(p, v)
 #define atomic_signal_fence(order) ((void)0)
 #define __atomic_signal_fence(order) ((void)0)
-#define atomic_fetch_add(p, v) ({ STEP(); *(p) += (v); })
+#define atomic_fetch_add(p, v) ({ STEP(); GUEST_MAY(); *(p) += (v); })
 #define atomic_fetch_sub(p, v) ({ STEP(); *(p) -= (v); })
 #define _Atomic
 #define atomic_bool _Bool
@@ -84,6 +89,7 @@ static uint64_t cv_stamp_and_count(const msg_note *note, uint64_t *count);
 #endif
 struct seat *cv_seat(void);
 void cv_free(struct seat *);
+static uint64_t cv_number = 1; /* the kernel's, of the thread */
 #include "msg_process.c"
 #include "shim_note.h"
 
@@ -289,9 +295,17 @@ static void tell_what_is_seen(void)
         __CPROVER_assert(in_use[key] == NOTHING || last_affected[told][key] <= in_use[key],
                          "SEEN: nobody is in what a change took away that is seen by all");
 }
+#ifdef FORKS
+static void guest(void);
+#endif
+static bool is_alone; /* in the child of a fork */
 static void other(bool all)
 {
     tell_what_is_seen();
+    if (is_alone) return;
+#ifdef FORKS
+    guest();
+#endif
     /* a find that missed: it fills under the lock, so stamps are opened */
     if (state == 0 && holder == 0 && others_finds < FINDS && !all && any_bool()) {
         holder = 2; others_finds++; state = 3;
@@ -339,10 +353,75 @@ int pthread_mutex_unlock(pthread_mutex_t *l)
     holder = 0;
     return 0;
 }
-int pthread_setspecific(pthread_key_t k, const void *v) { return any_refused(); }
+static bool is_told; /* of the thread's end, by the key */
+int pthread_setspecific(pthread_key_t k, const void *v)
+{
+    if (any_refused()) return 12;
+    is_told = true;
+    return 0;
+}
 int pthread_key_create(pthread_key_t *k, void (*f)(void *)) { return 0; }
 int pthread_atfork(void (*a)(void), void (*b)(void), void (*c)(void)) { return 0; }
+#ifndef FORKS
 int sched_yield(void) { return 0; }
+#else
+/* A thread with a seat of its own: it is in calls without the lock, is answered, rests, and goes
+ * away, each at any time, GUEST times in all. */
+#ifndef GUEST
+#define GUEST 3
+#endif
+enum { GUESTS = SEATS - 1 };
+static struct stay guests;
+static bool guest_stays;
+static int guest_acts, guest_is; /* in a call: it asks, is in it, has left it */
+static void guest_calls_on(void)
+{
+    if (guest_is == 1) {
+        guest_is = forks ? 3 : 2;
+        inside[GUESTS] = guest_is == 2;
+    } else if (guest_is == 2) {
+        inside[GUESTS] = false;
+        guest_is = 3;
+    } else {
+        pool[GUESTS].asks = false;
+        guest_is = 0;
+    }
+}
+static void guest_is_answered(void)
+{
+    if (!guest_stays) guests.next = stays, stays = &guests;
+    if (!guest_stays) guests.changes = made;
+    guest_stays = true;
+}
+static void guest_goes(void)
+{
+    struct stay **at = &stays;
+    while (*at != &guests) at = &(*at)->next;
+    *at = guests.next;
+    guest_stays = false;
+}
+static void guest(void)
+{
+    if (guest_is) {
+        if (any_bool()) guest_calls_on();
+        return;
+    }
+    if (guest_acts == GUEST || !any_bool()) return;
+    guest_acts++;
+    if (any_bool()) {
+        guest_is = 1;
+        pool[GUESTS].asks = true;
+    } else if (holder) return; /* the rest is under the lock */
+    else if (!guest_stays) guest_is_answered();
+    else if (any_bool()) guests.changes = made;
+    else guest_goes();
+}
+int sched_yield(void)
+{
+    while (guest_is) guest_calls_on(); /* it isn't waited for for ever */
+    return 0;
+}
+#endif
 
 /* The loads before that of the seal: where the stamp lies, the stamp, and the count before or after
  * them, as the compiler likes. */
@@ -374,7 +453,7 @@ static void is_right(uint32_t key, uint64_t least, uint64_t before, uint32_t imp
     bool is_so = false;
     uint64_t since = since_of(key, imp);
     __CPROVER_assert(since >= before, "RIGHT: no answer is older than one that the thread had");
-    if (!is_over) { /* then nobody asks what it is in */
+    if (!is_unsure) { /* else nobody is told what it is in */
         __CPROVER_assert(last_affected[told][key] <= since, "SEEN: nor is answered it any more");
         if (!depth && since < in_use[key]) in_use[key] = since;
     }
@@ -464,10 +543,23 @@ static bool ended;
 static void ends(void)
 {
     in_use[A] = in_use[B] = NOTHING;
+    is_told = false;
     at_thread_end(NULL);
     ended = true;
     unsigned open = opened[0] + opened[1] + opened[2] + opened[3];
     __CPROVER_assert(!own && !seats && open == spare_count, "its seat is given back");
+}
+/* All rounds of its destructors, each of which may find after the layer's own; but not for the
+ * first time after the first. */
+static void ends_in_rounds(bool has_found)
+{
+    for (int round = 0; round < PTHREAD_DESTRUCTOR_ITERATIONS; round++) {
+        if (is_told) ends();
+        if ((round && !has_found) || !any_bool()) continue;
+        finds(any_bool(), false);
+        has_found = has_found || stays_on || is_unsure; /* it was answered */
+    }
+    __CPROVER_assert(!stays_on && !stays, "who is gone has no entry left");
 }
 /* The thread rests, or goes away. */
 static void rests(void)
@@ -479,6 +571,58 @@ static void rests(void)
     __CPROVER_assert(fault == MSG_DONE, "a rest is made");
     other(false);
 }
+#ifdef FORKS
+static void invite(void)
+{
+    taken[GUESTS] = opened[GUESTS] = true;
+    push(&seats, &pool[GUESTS]);
+    guests.thread = 7;
+}
+/* All that was done before is as it was. The child has nobody but its own thread. */
+static void asks_alone(void)
+{
+    uint64_t seen = 77, thread = 77;
+    bool is_held = stays_on && stay.changes < made;
+    uint32_t fault = msg_process_seen_by_all(&seen, &thread);
+    SAY("asks in the child: seen, thread", seen, thread);
+    if (is_unsure) return;
+    __CPROVER_assert(!fault && seen == (is_held ? stay.changes : made), "CHILD: nobody else holds");
+    __CPROVER_assert(thread == (is_held ? cv_number : 0), "CHILD: by its own number");
+}
+static void forks_once(void)
+{
+    msg_runtime *r;
+    bool locks = any_bool();
+    if (locks && msg_process_lock(&r)) return;
+    other(false);
+    before_fork();
+    __CPROVER_assert(holder == 1, "RULE 5: the lock is held");
+    __CPROVER_assert(locks || !inside[GUESTS], "RULE 5: no other sender is in a call");
+    is_alone = any_bool();
+    SAY("forks: with the lock, and goes on as the child", locks, is_alone);
+    if (!is_alone) in_parent();
+    else {
+        bool stays_open = inside[GUESTS];
+        cv_number = 2;
+        in_child();
+        __CPROVER_assert(!opened[GUESTS] || locks, "CHILD: the others' senders are closed");
+        __CPROVER_assert(opened[GUESTS] || !stays_open, "CHILD: but for one that is in a call");
+    }
+    if (locks) msg_process_unlock();
+    if (is_alone) asks_alone();
+}
+static void guest_leaves(void)
+{
+    struct seat **at = &seats;
+    while (*at && *at != &pool[GUESTS]) at = &(*at)->next;
+    __CPROVER_assert(!*at == is_alone, "the guest has its seat, but in a child");
+    if (*at) *at = (*at)->next;
+    const struct stay *one = stays;
+    while (one && one != &guests) one = one->next;
+    __CPROVER_assert(!one == (is_alone || !guest_stays), "and its entry");
+    taken[GUESTS] = opened[GUESTS] = inside[GUESTS] = false;
+}
+#endif
 /* Each way of a find or a send; and what a thread does between them. */
 static void any_way(bool in_handler)
 {
@@ -522,12 +666,25 @@ static int one_run(void)
 #elif defined CHANGES
     finds(true, false); changes(); finds(true, false);
 #elif defined ENDS
-    finds(true, false); ends(); finds(true, false);
+    if (any_bool()) finds(any_bool(), false);
+    ends_in_rounds(stays_on || is_unsure);
 #elif defined RESTS
     finds(any_bool(), false); rests(); finds(any_bool(), false);
     for (int i = 0; i < 4; i++) other(false); /* a change, and what is told after it */
+#elif defined FORKS
+    invite();
+    if (any_bool()) finds(true, false);
+    if (any_bool()) rests();
+    forks_once();
+    finds(any_bool(), false);
+    if (is_alone) changes();
+    rests();
+    if (is_alone) asks_alone();
 #else
     finds(true, false); finds(true, false);
+#endif
+#ifdef FORKS
+    guest_leaves();
 #endif
     __CPROVER_assert(!ended || !own, "a thread that ends has no sender from then on");
     __CPROVER_assert(seats == own && (!own || !own->next), "a thread has one sender");

@@ -195,6 +195,10 @@ class Runtime:
     def change_count(self):
         return self._told(ctypes.c_uint64, "msg_change_count").value
 
+    def seen_by_all(self):
+        """How many changes every open sender had seen when it rested last, or was opened: what they took out may go."""
+        return self._told(ctypes.c_uint64, "msg_seen_by_all").value
+
     def report(self):
         """What was done to caches since it was opened, by name."""
         row = _header.msg_report_row()
@@ -415,6 +419,13 @@ class Sender:
         shared = self._shared
         with shared.lock:
             _must(shared.library.msg_meet(shared.handle, self._at))
+
+    def rest(self):
+        """As meet. Nothing that the sender found before is in use: its thread runs and keeps no such function."""
+        self._own()
+        shared = self._shared
+        with shared.lock:
+            _must(shared.library.msg_rest(shared.handle, self._at))
 
     def refresh(self):
         """How many changes there are, which the sender has then seen."""

@@ -121,6 +121,8 @@ CALLS = {
     "msg_fill": (_answer, (_runtime, _sender, _number, _meta, _selector, _told32)),
     "msg_fill_all": (_answer, (_runtime, _sender, _lookups, c.c_size_t, _told32, c.c_size_t, _size)),
     "msg_meet": (_answer, (_runtime, _sender)),
+    "msg_rest": (_answer, (_runtime, _sender)),
+    "msg_seen_by_all": (_answer, (_runtime, _told64)),
     "msg_version": (c.c_uint32, ()),
     "msg_sender_size": (c.c_size_t, ()),
     "msg_recall": (c.c_size_t, (_sender, c.c_size_t, _selector, c.c_uint64)),

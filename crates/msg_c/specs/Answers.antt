@@ -7,7 +7,6 @@ use Rattle.msg_host.specs.Asking.{ask_fault, ask_fault_number}
 use Rattle.msg_host.specs.Config.{are_known, config_of, is_beyond}
 use Rattle.msg_host.specs.Named.{ref_of}
 use Rattle.msg_host.specs.View.{SenderView}
-use Rattle.msg_runtime.specs.Calls.{beside_room}
 use Rattle.msg_runtime.specs.View.{RuntimeView}
 use Rattle.msg_tables.specs.Noted.{WrittenView}
 use Rattle.msg_host.specs.declared.fault.AskFault.{AskFault}
@@ -71,9 +70,9 @@ runtime_rooms = option_map (λ v. v.rooms)
 abbrev pub runtime_written : Option RuntimeView → Option WrittenView
 runtime_written = option_map (λ v. v.written)
 
--- all but its room
-abbrev pub runtime_beside_room : Option RuntimeView → Option RuntimeView
-runtime_beside_room = option_map (λ v. beside_room v)
+-- after how many changes each sender rested
+abbrev pub runtime_rested : Option RuntimeView → Option (List ℕ)
+runtime_rested = option_map (λ v. v.rested)
 
 -- which sender numbers are out
 abbrev pub runtime_given : Option RuntimeView → Option (List Bool)

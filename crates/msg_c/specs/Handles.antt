@@ -1,5 +1,5 @@
 -- What handles hold, where they are open, and what calls make of it.
-use Rattle.std.specs.Prelude.{◌≡◌, ◌≢◌, ◌<◌, ◌≤◌, ◌+◌, ◌%◌, ℕ, Bool, List, Option, Some, IfSome, is_some, true}
+use Rattle.std.specs.Prelude.{◌≡◌, ◌≢◌, ◌<◌, ◌≤◌, ◌+◌, ◌%◌, ℕ, Bool, List, Option, Some, IfSome, is_some, length, slice_index, true}
 use Rattle.msg_names.specs.declared.value.ClassRef.{ClassRef}
 use Rattle.msg_tables.specs.declared.change.Change.{Change}
 use Rattle.msg_tables.specs.declared.change.Change.TheVariants.{AddClass}
@@ -9,20 +9,22 @@ use Rattle.msg_cache.specs.Plays.{given_again, taken_in}
 use Rattle.msg_cache.specs.Views.{ArenaView, classes}
 use Rattle.msg_reader.specs.Kept.{FindsUnprobed, HaveNotedSince, LoadsStamp}
 use Rattle.msg_reader.specs.Notes.{HaveNoted, IsRecalledSince}
-use Rattle.msg_host.specs.Asking.{AnswersChange}
+use Rattle.msg_host.specs.Asking.{AnswersChange, IsLeft}
 use Rattle.msg_host.specs.Listing.{AreRefusedRows, LackMemoryIf, MakesRows, ReachesRows, RefusesToReach}
-use Rattle.msg_host.specs.Lookups.{AreRefusedLookups, AreRowsFound, AreTakenLookups, RowsLackOne, RowsMissOne}
+use Rattle.msg_host.specs.Lookups.{AreRefusedLookups, AreRowsFound, AreTakenLookups, RowsAreNoted, RowsAreNotedOrAt, RowsKeepOthers, RowsLackOne, RowsMissOne}
 use Rattle.msg_host.specs.Named.{TellsAttachFault, attachment, exchange, ref_of}
 use Rattle.msg_host.specs.Opening.{OpensAs}
 use Rattle.msg_host.specs.View.{SenderView}
-use Rattle.msg_runtime.specs.Calls.{AllAreOut, CachesNumber}
+use Rattle.msg_core.specs.State.{awaits}
+use Rattle.msg_runtime.specs.Calls.{AllAreOut, CachesNumber, RestsAs}
+use Rattle.msg_runtime.specs.Resting.{HaveAllSeen, IsLeastOut}
 use Rattle.msg_runtime.specs.Parts.{IsNew}
 use Rattle.msg_runtime.specs.View.{RuntimeView}
 use Rattle.msg_host.specs.declared.changing.MethodRow.{MethodRow}
 use Rattle.msg_host.specs.declared.config.HostConfig.{HostConfig}
 use Rattle.msg_host.specs.declared.listing.ChangeRow.{ChangeRow}
 use Rattle.msg_host.specs.declared.lookups.LookupRow.{LookupRow}
-use Rattle.msg_c.specs.Answers.{SeesOn, fault_in, runtime_arena, runtime_beside_room, runtime_given, runtime_history, runtime_rooms, runtime_written, sender_arena, sender_front}
+use Rattle.msg_c.specs.Answers.{SeesOn, fault_in, runtime_arena, runtime_given, runtime_history, runtime_rested, runtime_rooms, runtime_written, sender_arena, sender_front}
 use Rattle.msg_c.specs.Interned.{TextsView}
 use Rattle.msg_c.specs.declared.answer.TheConstants.{MISSED, NOT_NOTED, NOTED_NONE}
 use Rattle.msg_c.specs.declared.runtime_handle.RuntimeHandle.{RuntimeHandle}
@@ -56,13 +58,22 @@ pub record StaysAt (was is : RuntimeHandle) : Type 0 where
   pub rooms : runtime_rooms is.held.state ≡ runtime_rooms was.held.state
   pub written : runtime_written is.held.state ≡ runtime_written was.held.state
 
--- what it holds has not changed, but that there may be more room
-abbrev pub Leaves : RuntimeHandle → RuntimeHandle → Type 0
-Leaves was is = runtime_beside_room is.held.state ≡ runtime_beside_room was.held.state
+-- a handle stays open or closed, and what it holds is left as it was
+pub record Leaves (was is : RuntimeHandle) : Type 0 where
+  pub stays : is_some is.held.state ≡ is_some was.held.state
+  pub left : (v w : RuntimeView) → was.held.state ≡ Some v → is.held.state ≡ Some w → IsLeft v w
 
 -- the same sender numbers are out
 abbrev pub LeavesNumbers : RuntimeHandle → RuntimeHandle → Type 0
 LeavesNumbers was is = runtime_given is.held.state ≡ runtime_given was.held.state
+
+-- each sender rested after as many changes as before
+abbrev pub LeavesRests : RuntimeHandle → RuntimeHandle → Type 0
+LeavesRests was is = runtime_rested is.held.state ≡ runtime_rested was.held.state
+
+-- so has each of those that are out
+abbrev pub LeavesRestsOut : RuntimeHandle → RuntimeHandle → Type 0
+LeavesRestsOut was is = (v w : RuntimeView) (n : ℕ) → was.held.state ≡ Some v → is.held.state ≡ Some w → awaits v.keeper.given n ≡ true → slice_index w.rested n ≡ slice_index v.rested n
 
 -- as many senders are out as there may be
 abbrev pub HasAllOut : RuntimeHandle → Type 0
@@ -83,6 +94,19 @@ TakesBack was is s = GoesWith was is s (λ v w u. w ≡ record v { keeper = take
 -- it was shown the whole history
 abbrev pub Meets : RuntimeHandle → RuntimeHandle → SenderHandle → Type 0
 Meets was is s = GoesWith was is s (λ v w u. w ≡ record v { keeper = given_again u.seen v.keeper })
+
+-- so it was, and it rested
+abbrev pub Rests : RuntimeHandle → RuntimeHandle → SenderHandle → Type 0
+Rests was is s = GoesWith was is s (λ v w u. (w ≡ record v { keeper = given_again u.seen v.keeper; rested = w.rested }) × RestsAs u.seen v w)
+
+-- the sender that is given out counts as one that rests
+abbrev pub RestsAtOpening : RuntimeHandle → RuntimeHandle → SenderHandle → Type 0
+RestsAtOpening was is s = GoesWith was is s (λ v w u. RestsAs u.seen v w)
+
+-- this is the least of the numbers of changes after which those that are out have rested, and all
+-- where none is out; each has seen as many, and none is answered from before them any more
+abbrev pub IsSeenByAll : RuntimeHandle → ℕ → Type 0
+IsSeenByAll r n = IfOpen r (λ v. IsLeastOut v.keeper.given v.rested (length v.keeper.history.changes) n × HaveAllSeen v.arena.key v.keeper n)
 
 -- what was found for a class reference and a selector was cached, where there was room, and counted
 abbrev pub CachesIn : RuntimeHandle → RuntimeHandle → SenderHandle → ClassRef → ℕ → ℕ → Type 0
@@ -197,6 +221,18 @@ LacksRowIn was is rows = IfSenders was is (λ u w. RowsLackOne u.arena was.notes
 -- more changes than it had seen
 abbrev pub MissesRowIn : SenderHandle → SenderHandle → List LookupRow → Type 0
 MissesRowIn was is rows = IfSenders was is (λ u w. RowsMissOne u.arena rows u.seen w.seen)
+
+-- what each of the lookups found is noted in the handle, unless the note of a later one lies there
+abbrev pub NotesRowsIn : SenderHandle → SenderHandle → List LookupRow → List ℕ → Type 0
+NotesRowsIn was is rows imps = IfSenders was is (λ u w. RowsAreNoted u.arena is.notes u.seen w.seen rows imps)
+
+-- so it is where they were answered at the history of the runtime in an open handle
+abbrev pub NotesRowsAt : RuntimeHandle → SenderHandle → SenderHandle → List LookupRow → List ℕ → Type 0
+NotesRowsAt r was is rows imps = IfAt r (λ h. IfSenders was is (λ u w. RowsAreNotedOrAt u.arena h is.notes u.seen w.seen rows imps))
+
+-- where none of the lookups is noted, the handle has the notes that it had
+abbrev pub KeepsOtherNotes : SenderHandle → SenderHandle → List LookupRow → Type 0
+KeepsOtherNotes was is rows = IfOfArena was (λ a. RowsKeepOthers a was.notes is.notes rows)
 
 -- as many answers as rows have a place, each row means a lookup of its classes, and no place of a
 -- row is told

@@ -25,6 +25,9 @@ mod parts;
 #[cfg(test)]
 mod report_tests;
 mod reporting;
+#[cfg(test)]
+mod rest_tests;
+mod resting;
 mod runtime_handle;
 #[cfg(test)]
 mod same;

@@ -5,7 +5,7 @@ ghost use Rattle.msg_cache.specs.Views.{classes};
 ghost use Rattle.msg_host.specs.Asking.{IsRefusal, want_of_memory, want_of_room};
 ghost use Rattle.msg_host.specs.Listing.{UndoesRows, WeighRows};
 ghost use Rattle.msg_c.specs.Answers.{runtime_arena};
-ghost use Rattle.msg_c.specs.Handles.{IfOpen, LacksMemoryIn, Leaves, LeavesNumbers, MakesRowsIn};
+ghost use Rattle.msg_c.specs.Handles.{IfOpen, LacksMemoryIn, Leaves, LeavesNumbers, LeavesRests, MakesRowsIn};
 ghost use Rattle.msg_c.specs.Handles.{ReachesRowsIn, RefusesReachIn, RefusesRowsIn};
 
 use crate::answer::CLOSED;
@@ -28,6 +28,7 @@ pub extern "C" fn msg_change_all(
 ) -> u32
     ensures arena { runtime_arena runtime.new.held.state ≡ runtime_arena runtime.old.held.state }
     ensures given { LeavesNumbers runtime.old runtime.new }
+    ensures rested { LeavesRests runtime.old runtime.new }
     ensures closed { runtime.old.held.state ≡ None → (result ≡ CLOSED) × (place.new ≡ place.old) }
     ensures left { result ≢ 0 → Leaves runtime.old runtime.new }
     ensures made { result ≡ 0 → MakesRowsIn changes.now runtime.old runtime.new }
@@ -59,6 +60,7 @@ pub extern "C" fn msg_change_all_with_undo(
 ) -> u32
     ensures arena { runtime_arena runtime.new.held.state ≡ runtime_arena runtime.old.held.state }
     ensures given { LeavesNumbers runtime.old runtime.new }
+    ensures rested { LeavesRests runtime.old runtime.new }
     ensures closed { runtime.old.held.state ≡ None → (result ≡ CLOSED) × (place.new ≡ place.old) }
     ensures left { result ≢ 0 → Leaves runtime.old runtime.new }
     ensures made { result ≡ 0 → MakesRowsIn changes.now runtime.old runtime.new }

@@ -3,8 +3,9 @@
 ghost use Rattle.std.specs.Prelude.{◌≡◌, ◌≢◌, ◌⊎◌, None, length};
 ghost use Rattle.msg_host.specs.Lookups.{AreRowsFoundAt};
 ghost use Rattle.msg_c.specs.Answers.{AreOfOneArena, sender_arena};
-ghost use Rattle.msg_c.specs.Handles.{FindsRowsIn, HasRuntime, HasSeenAll, IfAt, LacksRowIn, MissesRowIn};
-ghost use Rattle.msg_c.specs.Handles.{RefusesLookupsIn, SeesMore, StaysAt, TakesLookupsIn};
+ghost use Rattle.msg_c.specs.Handles.{FindsRowsIn, HasRuntime, HasSeenAll, IfAt, KeepsOtherNotes, LacksRowIn, LeavesRests};
+ghost use Rattle.msg_c.specs.Handles.{LooksOnceMore, MissesRowIn, NotesRowsAt, NotesRowsIn, RefusesLookupsIn, SeesMore};
+ghost use Rattle.msg_c.specs.Handles.{StaysAt, TakesLookupsIn};
 
 use crate::answer::{CLOSED, DONE, MISSED};
 use crate::runtime_handle::RuntimeHandle;
@@ -32,7 +33,10 @@ pub extern "C" fn msg_probe_all(
     ensures still { result ≢ 0 → result ≢ MISSED → sender.new.held.state ≡ sender.old.held.state }
     ensures unnoted { result ≢ 0 → result ≢ MISSED → sender.new.notes ≡ sender.old.notes }
     ensures begins { SeesMore sender.old sender.new }
+    ensures looked { (result ≡ 0) ⊎ (result ≡ MISSED) → LooksOnceMore sender.old sender.new }
     ensures hit { result ≡ 0 → FindsRowsIn sender.old sender.new lookups.now imps.new }
+    ensures noted { result ≡ 0 → NotesRowsIn sender.old sender.new lookups.now imps.new }
+    ensures others { KeepsOtherNotes sender.old sender.new lookups.now }
     ensures taken { (result ≡ 0) ⊎ (result ≡ MISSED)
         → TakesLookupsIn sender.old lookups.now (length imps.old) place.old place.new }
     ensures fault { result ≢ 0 → result ≢ MISSED
@@ -66,6 +70,7 @@ pub extern "C" fn msg_fill_all(
 ) -> u32
     requires together { AreOfOneArena runtime.old.held.state sender.old.held.state }
     ensures kept { StaysAt runtime.old runtime.new }
+    ensures rested { LeavesRests runtime.old runtime.new }
     ensures unfilled { result ≢ 0 → runtime.new.held.state ≡ runtime.old.held.state }
     ensures arena { sender_arena sender.new.held.state ≡ sender_arena sender.old.held.state }
     ensures closed { runtime.old.held.state ≡ None → (result ≡ CLOSED) × (place.new ≡ place.old) }
@@ -74,6 +79,8 @@ pub extern "C" fn msg_fill_all(
     ensures still { result ≢ 0 → sender.new.held.state ≡ sender.old.held.state }
     ensures unnoted { result ≢ 0 → sender.new.notes ≡ sender.old.notes }
     ensures done { result ≡ 0 → IfAt runtime.old (λ h. AreRowsFoundAt h lookups.now imps.new) }
+    ensures noted { result ≡ 0 → NotesRowsAt runtime.old sender.old sender.new lookups.now imps.new }
+    ensures others { KeepsOtherNotes sender.old sender.new lookups.now }
     ensures front { result ≡ 0 → HasSeenAll sender.new runtime.old }
     ensures begins { result ≡ 0 → SeesMore sender.old sender.new }
     ensures taken { result ≡ 0 → TakesLookupsIn sender.old lookups.now (length imps.old) place.old place.new }

@@ -11,8 +11,9 @@ ghost use Rattle.msg_c.specs.Answers.{number_of_recalled, sender_arena};
 ghost use Rattle.msg_host.specs.Named.{ref_of};
 ghost use Rattle.msg_c.specs.Handles.{AnswersAsked, CachesIn, FindsNotedIn, GivesOut, HasAllOut, HasNotedAt, HasNotedSince};
 ghost use Rattle.msg_c.specs.Handles.{HasRuntime, HasSeenAll, HasSender, IfAt, IfOfArena, IfSeen};
-ghost use Rattle.msg_c.specs.Handles.{IsListedIn, IsOfRuntime, LeavesNumbers, LoadsStampIn, LooksOnceMore, Meets};
-ghost use Rattle.msg_c.specs.Handles.{Recalls, SeesMore, StaysAt, TakesBack, TellsFaultIn};
+ghost use Rattle.msg_c.specs.Handles.{IsListedIn, IsOfRuntime, LeavesNumbers, LeavesRests, LeavesRestsOut};
+ghost use Rattle.msg_c.specs.Handles.{LoadsStampIn, LooksOnceMore, Meets, Recalls, RestsAtOpening, SeesMore};
+ghost use Rattle.msg_c.specs.Handles.{StaysAt, TakesBack, TellsFaultIn};
 
 use crate::answer::{
     ALREADY_OPEN, CLOSED, DONE, MISSED, NO_MEMORY, NO_SENDER, NOT_NOTED, NOTED_NONE,
@@ -51,6 +52,8 @@ pub extern "C" fn msg_sender_open(
         → (result ≡ NO_SENDER) ⊎ (result ≡ NO_MEMORY) }
     ensures none { result ≡ NO_SENDER → HasAllOut runtime.old }
     ensures given { result ≡ 0 → GivesOut runtime.old runtime.new sender.new }
+    ensures rests { result ≡ 0 → RestsAtOpening runtime.old runtime.new sender.new }
+    ensures rested { LeavesRestsOut runtime.old runtime.new }
     ensures unused { result ≢ 0 → LeavesNumbers runtime.old runtime.new }
     ensures already { HasSender sender.old → result ≡ ALREADY_OPEN }
     ensures left { result ≢ 0 → sender.new.held.state ≡ sender.old.held.state }
@@ -225,6 +228,7 @@ pub extern "C" fn msg_fill(
 ) -> u32
     requires together { AreOfOneArena runtime.old.held.state sender.old.held.state }
     ensures kept { StaysAt runtime.old runtime.new }
+    ensures rested { LeavesRests runtime.old runtime.new }
     ensures cached { result ≡ 0 → CachesIn runtime.old runtime.new sender.old (ref_of class meta) sel imp.new }
     ensures unfilled { result ≢ 0 → runtime.new.held.state ≡ runtime.old.held.state }
     ensures arena { sender_arena sender.new.held.state ≡ sender_arena sender.old.held.state }

@@ -1,7 +1,6 @@
 -- Class references that are closed, and such without a live array.
 use Rattle.std.proofs.Common.{◌≡◌, ◌≢◌, ℕ, ◌+◌, ◌<◌, List, [], ◌∷◌, length, Bool, true, false, None, cond, refl, sym, ap, ◌∙◌, subst, ⊎_elim, arith}
 use Rattle.std.specs.Prelude.{if◌then◌else◌, slice_index}
-use Rattle.std.proofs.lemmas.Bool.{eq-eqb, ne_eqb}
 use Rattle.std.proofs.lemmas.List.{get_or-set_other, get_or-set_same}
 use Rattle.msg_names.specs.declared.value.ClassRef.{ClassRef}
 use Rattle.msg_core.specs.State.{Layout, size}
@@ -11,7 +10,7 @@ use Rattle.msg_cache.specs.declared.view.KeeperView.{KeeperView}
 use Rattle.msg_cache.specs.declared.keeper.TheConstants.{CLOSED}
 use Rattle.msg_cache.specs.Layout.{header_at, stamp_at, probes}
 use Rattle.msg_cache.specs.Rule.{named, live_in}
-use Rattle.msg_cache.specs.Ours.{OpenKeeps, all_closed, closed, is_closed, opened}
+use Rattle.msg_cache.specs.Ours.{OpenKeeps, all_closed, closed, is_closed}
 use Rattle.msg_cache.specs.Plays.{stored, flushed}
 use Rattle.msg_cache.proofs.LayoutLemmas.{stamp_inside, stamp_same, stamp_no_header}
 use Rattle.msg_cache.proofs.ShownLemmas.{live_is, live_set, live_stamp}
@@ -25,9 +24,9 @@ Cold z k c = (live_in z k.words c ≡ None) × Closed z k c
 pub open_keeps : OpenKeeps
 open_keeps z c k = at (is_closed z k c)
   where
-    at : (b : Bool) → let j : KeeperView = if b then stored (stamp_at z c) (size k.history) k else k in (j.history ≡ k.history) × (j.standings ≡ k.standings) × (j.given ≡ k.given) × (j.turn ≡ k.turn)
-    at true = (refl, refl, refl, refl)
-    at false = (refl, refl, refl, refl)
+    at : (b : Bool) → let j : KeeperView = if b then stored (stamp_at z c) (size k.history) k else k in (j.history ≡ k.history) × (j.standings ≡ k.standings) × (j.given ≡ k.given) × (j.turn ≡ k.turn) × (j.since ≡ k.since)
+    at true = (refl, refl, refl, refl, refl)
+    at false = (refl, refl, refl, refl, refl)
 
 -- what holds of a view whether or not a stamp is stored there holds of it once a class reference is
 -- closed
@@ -70,7 +69,8 @@ module _ (z : Layout) (k : KeeperView) (c : ClassRef) (lt : c.class < z.classes)
   flush_chills true is none = (ap (λ f. f c) (live_set z k.words c 0 lt len) ∙ at_class_same (live_in z k.words) c None, still_closed true c is)
   flush_chills false is none = (live_is z k.words c lt ∙ ap named (none refl), is)
 
--- what is closed, and taken away, leaves the history and the numbers that are given out
+-- what is closed, and taken away, leaves the history, the numbers that are given out, and since
+-- when they are
 pub chilled_history : (a : Bool) (c : ClassRef) (z : Layout) (k : KeeperView) → (cond a (flushed c (closed z c k)) (closed z c k)).history ≡ k.history
 chilled_history true c z k = by_stamp (λ j. j.history ≡ k.history) z c k refl refl
 chilled_history false c z k = by_stamp (λ j. j.history ≡ k.history) z c k refl refl
@@ -78,6 +78,10 @@ chilled_history false c z k = by_stamp (λ j. j.history ≡ k.history) z c k ref
 pub chilled_given : (a : Bool) (c : ClassRef) (z : Layout) (k : KeeperView) → (cond a (flushed c (closed z c k)) (closed z c k)).given ≡ k.given
 chilled_given true c z k = by_stamp (λ j. j.given ≡ k.given) z c k refl refl
 chilled_given false c z k = by_stamp (λ j. j.given ≡ k.given) z c k refl refl
+
+pub chilled_since : (a : Bool) (c : ClassRef) (z : Layout) (k : KeeperView) → (cond a (flushed c (closed z c k)) (closed z c k)).since ≡ k.since
+chilled_since true c z k = by_stamp (λ j. j.since ≡ k.since) z c k refl refl
+chilled_since false c z k = by_stamp (λ j. j.since ≡ k.since) z c k refl refl
 
 -- ---- several, one after another
 

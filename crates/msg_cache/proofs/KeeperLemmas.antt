@@ -134,14 +134,14 @@ module _ (look : History → ClassRef → ℕ → ℕ) (z : Layout) (origin : Or
 
   -- a step of the keeper that is an event
   by_event : (words' : List ℕ) (k' : KeeperView) (e : Event) → IsKept z origin k' → IsCopied z k' r.whereabouts words' → Legal look z (shown_by look z origin r) e → shown z k' r.whereabouts ≡ after z (shown_by look z origin r) e
-      → k'.given ≡ r.keeper.given → BeginsWith k'.history r.keeper.history
+      → k'.given ≡ r.keeper.given → k'.since ≡ r.keeper.since → BeginsWith k'.history r.keeper.history
       → ((c : ClassRef) (a m : ℕ) (aw : List Bool) → standing_at k'.standings a ≡ Retired c m aw
       → ((old : List Bool) × (standing_at r.keeper.standings a ≡ Retired c m old)) ⊎ (size r.keeper.history ≤ m))
       → ((k'.turn ≡ r.keeper.turn) × (k'.history ≡ r.keeper.history)) ⊎ (r.keeper.turn ≢ Away)
       → GoesBy look z origin r e words' (slice_set views id (Keeper k'))
-  by_event words' k' e kept copies legal is given grows behind turn =
+  by_event words' k' e kept copies legal is given since grows behind turn =
       let next = keeper_goes look z origin words words' views r id k' at_id kept copies
-      (subst (Sound look z) (sym is) (sound_after look z r.kept.some_sender (shown_by look z origin r) e r.sound legal)) given grows behind turn in
+      (subst (Sound look z) (sym is) (sound_after look z r.kept.some_sender (shown_by look z origin r) e r.sound legal)) given since grows behind turn in
       (legal, (next.0, next.1 ∙ is))
 
   -- an entry is stored in an empty bucket of an array that is live for c
@@ -159,7 +159,7 @@ module _ (look : History → ClassRef → ℕ → ℕ) (z : Layout) (origin : Or
       (copies_store z k (stored i w k) r.whereabouts words i w il r.kept.words refl r.copies)
       (may_fill look z m c a p w (r.sound.in_range.live_class c a lives) live lt (word_is z k.words a p lt ∙ clear) sel imp)
       (λ j. state_from k.history (live_bucket z k.words a p w j) (words_are j) (standing_at k.standings) r.whereabouts)
-      refl (begins_refl k.history) (λ d b n aw e. inl (aw, e)) (inl (refl, refl))
+      refl refl (begins_refl k.history) (λ d b n aw e. inl (aw, e)) (inl (refl, refl))
 
   -- a word of a free array is cleared
   pub clear_step : (a p : ℕ) → standing_at r.keeper.standings a ≡ Free → p < capacity z a
@@ -172,7 +172,7 @@ module _ (look : History → ClassRef → ℕ → ℕ) (z : Layout) (origin : Or
       (copies_store z k (stored i 0 k) r.whereabouts words i 0 (inside z a p lt) r.kept.words refl r.copies)
       (may_clear look z (shown_by look z origin r) a p (below_entry z.capacities a p lt) lt free)
       (λ j. state_from k.history (live_bucket z k.words a p 0 j) (word_set z k.words a p 0 lt r.kept.words j) (standing_at k.standings) r.whereabouts)
-      refl (begins_refl k.history) (λ d b n aw e. inl (aw, e)) (inl (refl, refl))
+      refl refl (begins_refl k.history) (λ d b n aw e. inl (aw, e)) (inl (refl, refl))
 
   -- the version word is stored, with the turn at home
   pub commit_step : (x : List Change) (g : History) → 0 < length x → r.keeper.turn ≡ Home g
@@ -200,7 +200,7 @@ module _ (look : History → ClassRef → ℕ → ℕ) (z : Layout) (origin : Or
       })
       (copies_store z k k' r.whereabouts words 0 w (omega arith) r.kept.words refl r.copies) legal
       (λ j. state_from (and_then k.history x) (live_version z k.words w j) (word_version z k.words w j) (standing_at k.standings) r.whereabouts)
-      refl more (λ d b n aw e. inl (aw, e)) (inr (λ e. not_both g (sym home ∙ e)))
+      refl refl more (λ d b n aw e. inl (aw, e)) (inr (λ e. not_both g (sym home ∙ e)))
     where
       home_is : (g' g : History) → Home g ≡ Home g' → g' ≡ g
       home_is g' g e = cc
@@ -236,7 +236,7 @@ module _ (look : History → ClassRef → ℕ → ℕ) (z : Layout) (origin : Or
       (copies_store z k (flushed c k) r.whereabouts words i 0 (header_inside z c lt) r.kept.words refl r.copies)
       (may_flush look z m c a lt (is ∙ ap named here))
       (λ j. state_from k.history (live_set z k.words c 0 lt r.kept.words j) (word_header z k.words c 0 lt j) (stands j) r.whereabouts)
-      refl (begins_refl k.history) (λ d b n aw e. retired_or z k r.whereabouts c (m.live c) b d n aw (sym (ap (λ f. f b) stands) ∙ e)) (inl (refl, refl))
+      refl refl (begins_refl k.history) (λ d b n aw e. retired_or z k r.whereabouts c (m.live c) b d n aw (sym (ap (λ f. f b) stands) ∙ e)) (inl (refl, refl))
 
   -- an empty array that is free becomes the live one of a class reference; the one before is
   -- retired
@@ -256,7 +256,7 @@ module _ (look : History → ClassRef → ℕ → ℕ) (z : Layout) (origin : Or
       (copies_store z k (installed c a k) r.whereabouts words i (suc a) (header_inside z c lt) r.kept.words refl r.copies)
       (may_install look z m c a lt there free (λ q ql. word_is z k.words a q ql ∙ clear q ql))
       (λ j. state_from k.history (live_set z k.words c (suc a) lt r.kept.words j) (word_header z k.words c (suc a) lt j) (stands j) r.whereabouts)
-      refl (begins_refl k.history)
+      refl refl (begins_refl k.history)
       (λ d b n aw e. ⊎_elim
       (λ (eq : b ≡ a). let u : Live c ≡ Retired d n aw = sym (ap (at (retired z m c (m.live c)) a (Live c)) eq ∙ at_same (retired z m c (m.live c)) a (Live c)) ∙ sym (ap (λ f. f b) stands) ∙ e in absurd (cc))
       (λ (ne : b ≢ a). retired_or z k r.whereabouts c (m.live c) b d n aw (sym (at_other (retired z m c (m.live c)) a (Live c) b ne) ∙ sym (ap (λ f. f b) stands) ∙ e))
@@ -286,7 +286,7 @@ module _ (look : History → ClassRef → ℕ → ℕ) (z : Layout) (origin : Or
           subst Goal (sym (ne_eqb (slice_index words i) 0 apart))
           (by_event (slice_set words i (slice_index words i)) (looked n false r.keeper) (Look n) (kept_looked z origin r.keeper n false r.kept)
           (let s = copies_same z r.keeper r.whereabouts words i r.copies in record { copied = s.copied; probed = s.probed; count = s.count }) (may_look look z (shown_by look z origin r) n lt) (still (r.whereabouts n) (ap is_out e ∙ isnt))
-          refl (begins_refl r.keeper.history) (λ d b m aw h. inl (aw, h)) (inl (refl, refl)))
+          refl refl (begins_refl r.keeper.history) (λ d b m aw h. inl (aw, h)) (inl (refl, refl)))
 
       by_place : (p : Whereabouts) → r.whereabouts n ≡ p → Goal (slice_index words i == 0)
       by_place Out e =
@@ -298,7 +298,7 @@ module _ (look : History → ClassRef → ℕ → ℕ) (z : Layout) (origin : Or
           (let s = copies_same z r.keeper r.whereabouts words i r.copies in record { copied = s.copied; probed = s.probed; count = s.count })
           (may_look look z (shown_by look z origin r) n lt)
           (λ j. state_from r.keeper.history (live_in z r.keeper.words) (word_in z r.keeper.words) (seen j) r.whereabouts)
-          refl (begins_refl r.keeper.history)
+          refl refl (begins_refl r.keeper.history)
           (λ d b m aw h. let t = looked_retired n d m aw (standing_at r.keeper.standings b) (sym (ap (λ f. f b) (standings_looked n r.keeper.standings)) ∙ h) in inl (t.0, t.1)) (inl (refl, refl)))
       by_place In e = inside_it In e refl (λ h. cc)
       by_place (Holding c a) e = inside_it (Holding c a) e refl (λ h. cc)
@@ -314,13 +314,13 @@ module _ (look : History → ClassRef → ℕ → ℕ) (z : Layout) (origin : Or
       (record { copied = r.copies.copied; probed = r.copies.probed; count = r.copies.count })
       (may_look look z (shown_by look z origin r) n lt)
       (λ j. state_from k.history (live_in z k.words) (word_in z k.words) (seen j) r.whereabouts)
-      refl (begins_refl k.history)
+      refl refl (begins_refl k.history)
       (λ d b m aw h. let t = looked_retired n d m aw (standing_at k.standings b) (sym (ap (λ f. f b) (standings_looked n k.standings)) ∙ h) in inl (t.0, t.1)) (inl (refl, refl))
 
   -- a load that changes no view
   pub idle_step : (i : ℕ) → Stays look z origin r (slice_set words i (slice_index words i)) (slice_set views id (Keeper r.keeper))
   idle_step i = keeper_goes look z origin words (slice_set words i (slice_index words i)) views r id r.keeper at_id r.kept (copies_same z r.keeper r.whereabouts words i r.copies) r.sound
-      refl (begins_refl r.keeper.history) (λ d b m aw e. inl (aw, e)) (inl (refl, refl))
+      refl refl (begins_refl r.keeper.history) (λ d b m aw e. inl (aw, e)) (inl (refl, refl))
 
   -- a stamp is stored, of at least the number of the last change that affects its class reference
   pub stamp_step : (c : ClassRef) (w : ℕ) → c.class < z.classes → last_affected r.keeper.history c ≤ w
@@ -338,5 +338,5 @@ module _ (look : History → ClassRef → ℕ → ℕ) (z : Layout) (origin : Or
       (λ (ne : d ≢ c). let g = get_or-set_other k.words i (stamp_at z d) w 0 (λ e. ne (stamp_same z d c e)) in let t = r.kept.stamps d dl in omega arith)
       (class_or d c)))
       (copies_store z k (stored i w k) r.whereabouts words i w il r.kept.words refl r.copies)
-      (subst (Sound look z) (sym same) r.sound) refl (begins_refl k.history) (λ d b m aw e. inl (aw, e)) (inl (refl, refl)) in
+      (subst (Sound look z) (sym same) r.sound) refl refl (begins_refl k.history) (λ d b m aw e. inl (aw, e)) (inl (refl, refl)) in
       (next.0, next.1 ∙ same)

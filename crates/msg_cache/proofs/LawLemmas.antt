@@ -1,5 +1,5 @@
 -- One state is shown, and each step is its event.
-use Rattle.std.proofs.Common.{◌≡◌, ℕ, suc, ◌+◌, ◌-◌, ◌<◌, List, Bool, true, false, refl, sym, ap, ◌∙◌, subst, arith}
+use Rattle.std.proofs.Common.{◌≡◌, ℕ, suc, ◌+◌, ◌-◌, ◌<◌, ◌≤◌, List, Bool, true, false, refl, sym, ap, ◌∙◌, subst, arith}
 use Rattle.std.specs.Prelude.{◌==◌, slice_index}
 use mathlib.Core.Option.{some}
 use lib.ListN.{get_elem?}
@@ -16,9 +16,9 @@ use Rattle.msg_core.specs.State.{Layout, awaits, size}
 use Rattle.msg_cache.specs.declared.view.KeeperView.{KeeperView}
 use Rattle.msg_cache.specs.declared.view.View.{View}
 use Rattle.msg_cache.specs.declared.view.View.TheVariants.{Sender, Keeper}
-use Rattle.msg_cache.specs.Laws.{KeeperFills, KeeperInstalls, KeeperFlushes, KeeperLooks, KeeperRestLooks, KeeperClears, KeeperCommits, KeeperWitnesses, KeeperSplits, KeeperJoins, KeeperSplitsTurn, KeeperJoinsTurn, IsEvent, IsNone, seen_in, shown_at, OneIsShown, ShownIsLawful, ShownIsSound, OpeningIsShown, EnterIsEnter, LeaveIsLeave, HeaderIsHeader, BucketIsRead, VersionIsNone, StoreIsFill, StoreIsInstall, StoreIsFlush, LoadIsLook, LoadIsRest, StoreIsClear, StoreIsCommit, WitnessIsNone, SplitIsNone, JoinIsNone, SplitTurnIsNone, JoinTurnIsNone, StampLoadIsNone, StampStoreIsNone, KeeperStamps}
+use Rattle.msg_cache.specs.Laws.{KeeperFills, KeeperInstalls, KeeperFlushes, KeeperLooks, KeeperRestLooks, KeeperClears, KeeperCommits, KeeperWitnesses, KeeperSplits, KeeperJoins, KeeperSplitsTurn, KeeperJoinsTurn, IsEvent, IsNone, seen_in, shown_at, OneIsShown, SendersHaveSeen, ShownIsLawful, ShownIsSound, OpeningIsShown, EnterIsEnter, LeaveIsLeave, HeaderIsHeader, BucketIsRead, VersionIsNone, StoreIsFill, StoreIsInstall, StoreIsFlush, LoadIsLook, LoadIsRest, StoreIsClear, StoreIsCommit, WitnessIsNone, SplitIsNone, JoinIsNone, SplitTurnIsNone, JoinTurnIsNone, StampLoadIsNone, StampStoreIsNone, KeeperStamps}
 use Rattle.msg_cache.specs.Layout.{SettingView, layout_of, header_at, base, probe_at, word_count}
-use Rattle.msg_cache.specs.Rule.{in_word, shown, Ruled, shown_by, holds, GoesBy, Stays}
+use Rattle.msg_cache.specs.Rule.{in_word, shown, since_of, Ruled, shown_by, holds, GoesBy, Stays}
 use Rattle.msg_cache.proofs.KeeperLemmas.{fill_step, clear_step, stamp_step, commit_step, flush_step, install_step, look_step, idle_step}
 use Rattle.msg_cache.proofs.NobodyLemmas.{rest_step}
 use Rattle.msg_cache.proofs.OpeningLemmas.{opens}
@@ -51,6 +51,11 @@ none key s s' r t = record { keeps_rule = t.0; shows = λ r'. one_shown lookup (
 -- what holds of the rule's keeper holds of the view that the seat has
 of_keeper : (key : SettingView) (s : Table ℕ View) (r : holds lookup key s) (id : ℕ) (P : KeeperView → Type 0) → (get_elem? s.views id ≡ some (Keeper r.keeper) → P r.keeper) → (k : KeeperView) → get_elem? s.views id ≡ some (Keeper k) → P k
 of_keeper key s r id P f k at = let is = (r.views_fit id (Keeper k) at).1 in subst P is (f (at ∙ ap (λ (x : KeeperView). some (Keeper x)) (sym is)))
+
+pub senders_have_seen : SendersHaveSeen
+senders_have_seen key s r chair k at id v at' =
+    let f = r.views_fit id (Sender v) at' in
+    subst (λ (x : KeeperView). (awaits x.given v.number ≡ true) × (since_of x.since v.number ≤ size v.front)) (r.views_fit chair (Keeper k) at).1 (f.given, f.since)
 
 pub one_is_shown : OneIsShown
 one_is_shown key s r r' = one_shown lookup (layout_of key) key.origin s.words s.views r r'

@@ -40,6 +40,7 @@ headed_probes {z} {arrays} {c} {s} {n} {v} {m'} t = subst (Probes z c s v) (sym 
   accepted = t.accepted;
   counted = refl;
   stamps = refl;
+  looks = refl;
   class_is = refl;
   sel_is = refl;
   no_array = λ e. refl;
@@ -71,6 +72,7 @@ read_probes {look} {z} {c} {s} {i} {n} {u} {v} {m'} a p t q array none lt here a
   accepted = t.accepted;
   counted = q.counted;
   stamps = q.stamps;
+  looks = q.looks;
   class_is = q.class_is;
   sel_is = q.sel_is;
   no_array = λ e. let x : Some a ≡ None = sym array ∙ e in absurd (cc);

@@ -19,9 +19,10 @@ pub record Rest : Type 0 where
   pub history : History
   pub given : List Bool
   pub turn : TurnAt
+  pub since : List (ℕ × ℕ)
 
 abbrev pub rest : KeeperView → Rest
-rest k = record { history = k.history; given = k.given; turn = k.turn }
+rest k = record { history = k.history; given = k.given; turn = k.turn; since = k.since }
 
 -- ---- a collection
 

@@ -18,7 +18,7 @@ use Rattle.msg_cache.specs.declared.view.TurnAt.TheVariants.{Away}
 use Rattle.msg_cache.specs.declared.view.KeeperView.{KeeperView}
 use Rattle.msg_cache.specs.declared.view.View.{View}
 use Rattle.msg_cache.specs.declared.view.View.TheVariants.{Sender, Keeper, Turn, Spent}
-use Rattle.msg_cache.specs.Rule.{shown, FitsSender, Fits, IsCopied, IsKept, Ruled, shown_by}
+use Rattle.msg_cache.specs.Rule.{shown, since_of, FitsSender, Fits, IsCopied, IsKept, Ruled, shown_by}
 use Rattle.msg_cache.proofs.LayoutLemmas.{awaits_length}
 use Rattle.msg_tables.proofs.BeginsLemmas.{begins_trans, begins_length}
 
@@ -72,12 +72,12 @@ module _ (look : History → ClassRef → ℕ → ℕ) (z : Layout) (origin : Or
 
   -- a sender steps: its new view, and where senders are then
   pub sender_goes : (id : ℕ) (v w : SenderView) (whereabouts' : ℕ → Whereabouts) → get_elem? views id ≡ some (Sender v) → w.number ≡ v.number → whereabouts' v.number ≡ w.whereabouts → ((n : ℕ) → n ≢ v.number → whereabouts' n ≡ r.whereabouts n)
-      → BeginsWith r.keeper.history w.front
+      → BeginsWith r.keeper.history w.front → size v.front ≤ size w.front
       → ((c : ClassRef) (a n : ℕ) (aw : List Bool) → w.whereabouts ≡ Holding c a → standing_at r.keeper.standings a ≡ Retired c n aw → size w.front ≤ n)
       → IsCopied z r.keeper whereabouts' words'
       → Sound look z (shown z r.keeper whereabouts')
       → (r' : Ruled look z origin words' (slice_set views id (Sender w))) × (shown_by look z origin r' ≡ shown z r.keeper whereabouts')
-  sender_goes id v w whereabouts' at same here away begins behind copies sound =
+  sender_goes id v w whereabouts' at same here away begins longer behind copies sound =
       let k = r.keeper in
       let mine : FitsSender k r.seat r.whereabouts id v = r.views_fit id (Sender v) at in (
         record {
@@ -92,7 +92,7 @@ module _ (look : History → ClassRef → ℕ → ℕ) (z : Layout) (origin : Or
           outside = λ n e. away n (λ eq. true≢false (sym mine.given ∙ ap (awaits k.given) (sym eq) ∙ e)) ∙ r.outside n e;
           views_fit = views_set (Fits k r.chair r.away r.seat r.whereabouts) (Fits k r.chair r.away r.seat whereabouts') views id (Sender w) r.views_fit
               (λ j u ne f. others id mine.seated j u ne f)
-              (record { seated = ap r.seat same ∙ mine.seated; given = ap (awaits k.given) same ∙ mine.given; placed = ap whereabouts' same ∙ here; begins = begins; behind = behind });
+              (record { seated = ap r.seat same ∙ mine.seated; given = ap (awaits k.given) same ∙ mine.given; placed = ap whereabouts' same ∙ here; begins = begins; since = (let s = mine.since in omega (arith, ap (since_of k.since) same)); behind = behind });
           chair_is = set_else views id r.chair (Sender w) (λ eq. views_apart views id r.chair (Sender v) (Keeper k) at r.chair_is (not_keeper v k) (sym eq)) ∙ r.chair_is;
           sits = λ n given. ⊎_elim
               (λ (eq : n ≡ v.number). (w, ap (get_elem? (slice_set views id (Sender w))) (ap r.seat eq ∙ mine.seated) ∙ set_here views id (Sender w) (at_below views id (Sender v) at), same ∙ sym eq))
@@ -112,6 +112,7 @@ module _ (look : History → ClassRef → ℕ → ℕ) (z : Layout) (origin : Or
       others id is j (Sender u) ne f = record {
         seated = f.seated;
         given = f.given;
+        since = f.since;
         placed = away u.number (λ eq. ne (sym f.seated ∙ ap r.seat eq ∙ is)) ∙ f.placed;
         begins = f.begins;
         behind = f.behind;
@@ -119,12 +120,12 @@ module _ (look : History → ClassRef → ℕ → ℕ) (z : Layout) (origin : Or
 
   -- the keeper steps: its new view
   pub keeper_goes : (id : ℕ) (k' : KeeperView) → get_elem? views id ≡ some (Keeper r.keeper) → IsKept z origin k' → IsCopied z k' r.whereabouts words' → Sound look z (shown z k' r.whereabouts)
-      → k'.given ≡ r.keeper.given → BeginsWith k'.history r.keeper.history
+      → k'.given ≡ r.keeper.given → k'.since ≡ r.keeper.since → BeginsWith k'.history r.keeper.history
       → ((c : ClassRef) (a m : ℕ) (aw : List Bool) → standing_at k'.standings a ≡ Retired c m aw
       → ((old : List Bool) × (standing_at r.keeper.standings a ≡ Retired c m old)) ⊎ (size r.keeper.history ≤ m))
       → ((k'.turn ≡ r.keeper.turn) × (k'.history ≡ r.keeper.history)) ⊎ (r.keeper.turn ≢ Away)
       → (r' : Ruled look z origin words' (slice_set views id (Keeper k'))) × (shown_by look z origin r' ≡ shown z k' r.whereabouts)
-  keeper_goes id k' at kept copies sound given grows behind turn =
+  keeper_goes id k' at kept copies sound given since grows behind turn =
       let mine : (r.chair ≡ id) × (r.keeper ≡ r.keeper) = r.views_fit id (Keeper r.keeper) at in (
         record {
           keeper = k';
@@ -157,6 +158,7 @@ module _ (look : History → ClassRef → ℕ → ℕ) (z : Layout) (origin : Or
         given = ap (λ g. awaits g u.number) given ∙ f.given;
         placed = f.placed;
         begins = begins_trans k'.history r.keeper.history u.front grows f.begins;
+        since = (let s = f.since in omega (arith, ap (λ g. since_of g u.number) since));
         behind = λ c a m aw e gone. ⊎_elim
             (λ (t : (old : List Bool) × (standing_at r.keeper.standings a ≡ Retired c m old)). f.behind c a m t.0 e t.1)
             (λ (t : size r.keeper.history ≤ m). let s = begins_length r.keeper.history u.front f.begins in omega arith)

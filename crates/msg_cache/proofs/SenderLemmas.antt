@@ -27,7 +27,7 @@ use Rattle.msg_cache.specs.Rule.{named, word_in, in_word, shown, FitsSender, IsC
 use Rattle.msg_cache.specs.Plays.{headed, read_on, gone_to, told_to, stamped_to}
 use Rattle.msg_cache.proofs.LayoutLemmas.{inside, header_inside, stamp_inside}
 use Rattle.msg_core.proofs.LegalSteps.{may_enter, may_load, may_read, may_leave}
-use Rattle.msg_tables.proofs.BeginsLemmas.{begins_refl}
+use Rattle.msg_tables.proofs.BeginsLemmas.{begins_refl, begins_length}
 use Rattle.msg_cache.proofs.PastLemmas.{first_begins, begins_first}
 use Rattle.msg_cache.proofs.SeatLemmas.{number_below, sender_goes}
 use Rattle.msg_cache.proofs.ShownLemmas.{live_is, word_is}
@@ -71,7 +71,7 @@ module _ (look : History → ClassRef → ℕ → ℕ) (z : Layout) (origin : Or
       let legal = may_enter look z (shown_by look z origin r) v.number below (mine.placed ∙ out) in (
         legal,
         sender_goes look z origin words (slice_set words (probe_at z v.number) 1) views r id v (gone_to v v.front In) (at r.whereabouts v.number In) at_id refl (at_same r.whereabouts v.number In) (at_other r.whereabouts v.number In)
-            mine.begins (λ c a m aw e. absurd (cc)) (copies_probe 1 In refl) (sound_after look z r.kept.some_sender (shown_by look z origin r) (Enter v.number) r.sound legal),
+            mine.begins (omega arith) (λ c a m aw e. absurd (cc)) (copies_probe 1 In refl) (sound_after look z r.kept.some_sender (shown_by look z origin r) (Enter v.number) r.sound legal),
       )
 
   pub leave_step : v.whereabouts ≢ Out → GoesBy look z origin r (Leave v.number) (slice_set words (probe_at z v.number) 0) (slice_set views id (Sender (gone_to v v.front Out)))
@@ -79,7 +79,7 @@ module _ (look : History → ClassRef → ℕ → ℕ) (z : Layout) (origin : Or
       let legal = may_leave look z (shown_by look z origin r) v.number below (λ e. in_it (sym mine.placed ∙ e)) in (
         legal,
         sender_goes look z origin words (slice_set words (probe_at z v.number) 0) views r id v (gone_to v v.front Out) (at r.whereabouts v.number Out) at_id refl (at_same r.whereabouts v.number Out) (at_other r.whereabouts v.number Out)
-            mine.begins (λ c a m aw e. absurd (cc)) (copies_probe 0 Out refl) (sound_after look z r.kept.some_sender (shown_by look z origin r) (Leave v.number) r.sound legal),
+            mine.begins (omega arith) (λ c a m aw e. absurd (cc)) (copies_probe 0 Out refl) (sound_after look z r.kept.some_sender (shown_by look z origin r) (Leave v.number) r.sound legal),
       )
 
   -- the live array that a header load sees, and the word that a read sees, are the shown ones
@@ -101,7 +101,7 @@ module _ (look : History → ClassRef → ℕ → ℕ) (z : Layout) (origin : Or
       let is : m.live c ≡ named n = header_seen c n lt found in
       let goes : at r.whereabouts v.number (seeing c (m.live c)) ≡ at r.whereabouts v.number (seeing c (named n)) = ap (λ o. at r.whereabouts v.number (seeing c o)) is in
       let next = sender_goes look z origin words (slice_set words (header_at c) n) views r id v (headed c s k.history v n) (at r.whereabouts v.number (seeing c (named n))) at_id refl (at_same r.whereabouts v.number (seeing c (named n)))
-      (at_other r.whereabouts v.number (seeing c (named n))) (begins_refl k.history)
+      (at_other r.whereabouts v.number (seeing c (named n))) (begins_refl k.history) (begins_length k.history v.front mine.begins)
       (λ d a y aw e gone. let lives = (holds_seen look z r.kept.some_sender m c (named n) r.sound lt is d a e).0 in let u : Live d ≡ Retired d y aw = sym lives ∙ gone in absurd (cc))
       (copies_load look z origin words views r (header_at c) n v.number (at r.whereabouts v.number (seeing c (named n))) found
       (ap in_word (at_same r.whereabouts v.number (seeing c (named n))) ∙ in_is n ∙ sym (ap in_word (mine.placed ∙ is_in))) (at_other r.whereabouts v.number (seeing c (named n))))
@@ -134,11 +134,11 @@ module _ (look : History → ClassRef → ℕ → ℕ) (z : Layout) (origin : Or
       Goal = (g : History) × GoesBy look z origin r (Read v.number p) (slice_set words i n) (slice_set views id (Sender (read_on g v i n))) × BeginsWith g v.front
           × (sel_of n ≡ v.last.sel → imp_of n ≡ look g v.last.class v.last.sel) × (sel_of n ≢ v.last.sel → g ≡ v.front)
 
-      goes : (g : History) → BeginsWith r.keeper.history g → ((c : ClassRef) (b m : ℕ) (aw : List Bool) → v.whereabouts ≡ Holding c b → standing_at r.keeper.standings b ≡ Retired c m aw → size g ≤ m)
+      goes : (g : History) → BeginsWith r.keeper.history g → size v.front ≤ size g → ((c : ClassRef) (b m : ℕ) (aw : List Bool) → v.whereabouts ≡ Holding c b → standing_at r.keeper.standings b ≡ Retired c m aw → size g ≤ m)
           → GoesBy look z origin r (Read v.number p) (slice_set words i n) (slice_set views id (Sender (read_on g v i n)))
-      goes g begins behind = (
+      goes g begins longer behind = (
         may_read look z (shown_by look z origin r) v.number p v.last.class a below (mine.placed ∙ holds) lt,
-        sender_goes look z origin words (slice_set words i n) views r id v (read_on g v i n) r.whereabouts at_id refl mine.placed (λ m ne. refl) begins behind
+        sender_goes look z origin words (slice_set words i n) views r id v (read_on g v i n) r.whereabouts at_id refl mine.placed (λ m ne. refl) begins longer behind
             (copies_load look z origin words views r i n v.number r.whereabouts found refl (λ m ne. refl)) r.sound,
       )
 
@@ -153,7 +153,7 @@ module _ (look : History → ClassRef → ℕ → ℕ) (z : Layout) (origin : Or
       hit : sel_of n ≡ v.last.sel → KeepsFor (standing_at r.keeper.standings a) v.last.class v.number → Goal
       hit eq (inl live) = (
         r.keeper.history,
-        goes r.keeper.history (begins_refl r.keeper.history)
+        goes r.keeper.history (begins_refl r.keeper.history) (begins_length r.keeper.history v.front mine.begins)
             (λ c b m aw e gone. let u : Live v.last.class ≡ Retired c m aw = sym live ∙ ap (standing_at r.keeper.standings) (same_array c b e) ∙ gone in absurd (cc)),
         mine.begins,
         (λ _. good (look r.keeper.history) eq (r.sound.lawful.live_words v.last.class a p live lt)),
@@ -161,7 +161,7 @@ module _ (look : History → ClassRef → ℕ → ℕ) (z : Layout) (origin : Or
       )
       hit eq (inr (m, aw, gone, waits)) = (
         first m r.keeper.history,
-        goes (first m r.keeper.history) (first_begins m r.keeper.history)
+        goes (first m r.keeper.history) (first_begins m r.keeper.history) (begins_length (first m r.keeper.history) v.front (begins_first r.keeper.history v.front m mine.begins (mine.behind v.last.class a m aw holds gone)))
             (λ c b m' aw' e gone'.
             let u : Retired v.last.class m aw ≡ Retired c m' aw' = sym gone ∙ ap (standing_at r.keeper.standings) (same_array c b e) ∙ gone' in
             let mm : m ≡ m' = cc in omega (arith, length-take m r.keeper.history.changes)),
@@ -171,12 +171,12 @@ module _ (look : History → ClassRef → ℕ → ℕ) (z : Layout) (origin : Or
       )
 
       miss : sel_of n ≢ v.last.sel → Goal
-      miss ne = (v.front, goes v.front mine.begins mine.behind, record { same = refl; rest = (begins_refl v.front).rest }, (λ eq. absurd (ne eq)), (λ _. refl))
+      miss ne = (v.front, goes v.front mine.begins (omega arith) mine.behind, record { same = refl; rest = (begins_refl v.front).rest }, (λ eq. absurd (ne eq)), (λ _. refl))
 
   pub version_step : (n : ℕ) → ((c : ClassRef) (a : ℕ) → v.whereabouts ≢ Holding c a) → n ≡ slice_index words 0
       → Stays look z origin r (slice_set words 0 n) (slice_set views id (Sender (told_to v r.keeper.history))) × BeginsWith r.keeper.history v.front × (size r.keeper.history ≡ n)
   version_step n free found = (
-    sender_goes look z origin words (slice_set words 0 n) views r id v (told_to v r.keeper.history) r.whereabouts at_id refl mine.placed (λ m ne. refl) (begins_refl r.keeper.history)
+    sender_goes look z origin words (slice_set words 0 n) views r id v (told_to v r.keeper.history) r.whereabouts at_id refl mine.placed (λ m ne. refl) (begins_refl r.keeper.history) (begins_length r.keeper.history v.front mine.begins)
         (λ c a m aw e. absurd (free c a e)) (copies_load look z origin words views r 0 n v.number r.whereabouts found refl (λ m ne. refl)) r.sound,
     mine.begins,
     sym (found ∙ r.copies.copied 0 (omega arith) ∙ r.kept.version),
@@ -186,7 +186,7 @@ module _ (look : History → ClassRef → ℕ → ℕ) (z : Layout) (origin : Or
   pub stamp_step : (c : ClassRef) (n : ℕ) → c.class < z.classes → ((d : ClassRef) (a : ℕ) → v.whereabouts ≢ Holding d a) → n ≡ slice_index words (stamp_at z c)
       → Stays look z origin r (slice_set words (stamp_at z c) n) (slice_set views id (Sender (stamped_to v r.keeper.history c n))) × BeginsWith r.keeper.history v.front × (last_affected r.keeper.history c ≤ n)
   stamp_step c n lt free found = (
-    sender_goes look z origin words (slice_set words (stamp_at z c) n) views r id v (stamped_to v r.keeper.history c n) r.whereabouts at_id refl mine.placed (λ m ne. refl) (begins_refl r.keeper.history)
+    sender_goes look z origin words (slice_set words (stamp_at z c) n) views r id v (stamped_to v r.keeper.history c n) r.whereabouts at_id refl mine.placed (λ m ne. refl) (begins_refl r.keeper.history) (begins_length r.keeper.history v.front mine.begins)
         (λ d a m aw e. absurd (free d a e)) (copies_load look z origin words views r (stamp_at z c) n v.number r.whereabouts found refl (λ m ne. refl)) r.sound,
     mine.begins,
     (let e = found ∙ r.copies.copied (stamp_at z c) (stamp_inside z c lt) in let t = r.kept.stamps c lt in omega arith),

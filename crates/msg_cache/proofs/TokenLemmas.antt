@@ -1,6 +1,7 @@
 -- Seats that are split off and joined: the state that is shown stays.
 use Rattle.std.proofs.Common.{◌≡◌, ◌≢◌, ℕ, ◌<◌, List, [], ◌∷◌, ◌++◌, length, true, false, true≢false, refl, sym, ap, ◌∙◌, subst, ⊎_elim, arith}
 use Rattle.std.specs.Prelude.{slice_set}
+use Rattle.std.proofs.lemmas.Bool.Decides.{nat_tests}
 use Rattle.std.proofs.lemmas.List.{get_or-set_other, get_or-set_same}
 use Rattle.std.proofs.Math.ListN.{length-set}
 use mathlib.Core.Option.{some}
@@ -74,6 +75,7 @@ module _ (look : History → ClassRef → ℕ → ℕ) (z : Layout) (origin : Or
                 given = get_or-set_same r.keeper.given n true false there;
                 placed = r.outside n free;
                 begins = begins_refl r.keeper.history;
+                since = grind (arith, nat_tests);
                 behind = λ c a m aw out. absurd (cc);
               }))
               (at_last_or (slice_set views id (Keeper k')) (Sender (newcomer_with n stamps r.keeper.history)) u j e);
@@ -108,6 +110,7 @@ module _ (look : History → ClassRef → ℕ → ℕ) (z : Layout) (origin : Or
             given = get_or-set_other r.keeper.given n u.number true false apart ∙ f.given;
             placed = f.placed;
             begins = f.begins;
+            since = (let s = f.since in grind (arith, nat_tests));
             behind = f.behind;
           }
 
@@ -169,6 +172,7 @@ module _ (look : History → ClassRef → ℕ → ℕ) (z : Layout) (origin : Or
         given = get_or-set_other r.keeper.given v.number u.number false false (λ eq. nt (sym f.seated ∙ ap r.seat eq ∙ is)) ∙ f.given;
         placed = f.placed;
         begins = f.begins;
+        since = f.since;
         behind = f.behind;
       }
 
@@ -217,7 +221,7 @@ module _ (look : History → ClassRef → ℕ → ℕ) (z : Layout) (origin : Or
       others home here j (Keeper x) ne f = absurd (ne (sym f.0 ∙ here))
       others home here j (Turn g) ne f = absurd (home f.1)
       others home here j Spent ne f = f
-      others home here j (Sender u) ne f = record { seated = f.seated; given = f.given; placed = f.placed; begins = f.begins; behind = f.behind }
+      others home here j (Sender u) ne f = record { seated = f.seated; given = f.given; placed = f.placed; begins = f.begins; since = f.since; behind = f.behind }
 
   -- the turn's seat is joined
   pub home_step : (other : ℕ) (g : History) → ¬ (other ≡ id) → get_elem? (slice_set views id (Keeper (at_home g r.keeper))) other ≡ some (Turn g)
@@ -269,4 +273,4 @@ module _ (look : History → ClassRef → ℕ → ℕ) (z : Layout) (origin : Or
       others other g is here j (Keeper x) ne nt f = absurd (ne (sym f.0 ∙ here))
       others other g is here j (Turn g') ne nt f = absurd (nt (sym f.0 ∙ is))
       others other g is here j Spent ne nt f = f
-      others other g is here j (Sender u) ne nt f = record { seated = f.seated; given = f.given; placed = f.placed; begins = f.begins; behind = f.behind }
+      others other g is here j (Sender u) ne nt f = record { seated = f.seated; given = f.given; placed = f.placed; begins = f.begins; since = f.since; behind = f.behind }

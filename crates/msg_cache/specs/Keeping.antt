@@ -227,11 +227,11 @@ abbrev pub FillLaw : Type 0
 FillLaw = (z : Layout) (remembered : List ℕ) (c : ClassRef) (s i : ℕ) (k k' : KeeperView) (answer : Filled) → Fills z remembered c s i k k' answer
     → ((answer ≡ DidNothing) ↔ IsPresent z k c s) × ((answer ≡ Used) ↔ ((IsPresent z k c s → ⊥) × HasRoom z k c)) × ((answer ≡ DidNothing) → k' ≡ k) × ((answer ≡ NoArray) → NoneIsFree z k k')
 
--- A fill changes caches alone: not the history, nor which sender numbers are given out, nor where
--- the turn is.
+-- A fill changes caches alone: not the history, nor which sender numbers are given out, nor since
+-- when, nor where the turn is.
 abbrev pub FillKeeps : Type 0
 FillKeeps = (z : Layout) (remembered : List ℕ) (c : ClassRef) (s i : ℕ) (k k' : KeeperView) (answer : Filled) → Fills z remembered c s i k k' answer
-    → (k'.history ≡ k.history) × (k'.given ≡ k.given) × (k'.turn ≡ k.turn)
+    → (k'.history ≡ k.history) × (k'.given ≡ k.given) × (k'.turn ≡ k.turn) × (k'.since ≡ k.since)
 
 -- ---- between calls
 

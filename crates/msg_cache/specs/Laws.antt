@@ -26,7 +26,7 @@ use Rattle.msg_cache.specs.declared.view.View.TheVariants.{Sender, Keeper, Turn,
 use Rattle.msg_core.specs.Stamps.{last_affected}
 use Rattle.msg_cache.specs.Layout.{SettingView, layout_of, header_at, base, stamp_at, probe_at, word_count}
 use Rattle.msg_cache.specs.Plays.{headed, read_on, gone_to, told_to, stamped_to, newcomer_with, stored, flushed, installed, committed, looked, rest_looked, given_out, taken_in, at_home, lent}
-use Rattle.msg_cache.specs.Rule.{HasNoEntry, NoneIsGivenFrom, StampsAreClosedFor, holds, named, shown_by, first_keeper}
+use Rattle.msg_cache.specs.Rule.{HasNoEntry, NoneIsGivenFrom, StampsAreClosedFor, holds, named, shown_by, since_of, first_keeper}
 
 -- the state that a table shows, while the rule holds of it
 abbrev pub shown_at : (key : SettingView) (s : Table ℕ View) → holds lookup key s → State
@@ -93,6 +93,12 @@ abbrev pub OpeningIsShown : Type 0
 OpeningIsShown = (key : SettingView) → IsSound key.origin → 0 < key.senders
     → let s = opened (replicate (word_count (layout_of key)) 0) [] (Keeper (first_keeper key)) in
     holds lookup key s × ((r : holds lookup key s) → shown_at key s r ≡ opening key.origin)
+
+-- The number of each sender is given out, and it has seen all changes that there were when it was
+-- given out last, as the keeper knows it.
+abbrev pub SendersHaveSeen : Type 0
+SendersHaveSeen = (key : SettingView) (s : Table ℕ View) → holds lookup key s → (chair : ℕ) (k : KeeperView) → get_elem? s.views chair ≡ some (Keeper k)
+    → (id : ℕ) (v : SenderView) → get_elem? s.views id ≡ some (Sender v) → (awaits k.given v.number ≡ true) × (since_of k.since v.number ≤ size v.front)
 
 -- ---- a sender's steps
 

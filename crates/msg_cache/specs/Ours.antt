@@ -108,9 +108,10 @@ closed z c k = if is_closed z k c then k else stored (stamp_at z c) CLOSED k
 abbrev pub opened : Layout → ClassRef → KeeperView → KeeperView
 opened z c k = if is_closed z k c then stored (stamp_at z c) (size k.history) k else k
 
--- an opening leaves the history, the standings of arrays, the numbers that are out, and the turn
+-- an opening leaves the history, the standings of arrays, the numbers that are out, since when they
+-- are, and the turn
 abbrev pub OpenKeeps : Type 0
-OpenKeeps = (z : Layout) (c : ClassRef) (k : KeeperView) → ((opened z c k).history ≡ k.history) × ((opened z c k).standings ≡ k.standings) × ((opened z c k).given ≡ k.given) × ((opened z c k).turn ≡ k.turn)
+OpenKeeps = (z : Layout) (c : ClassRef) (k : KeeperView) → ((opened z c k).history ≡ k.history) × ((opened z c k).standings ≡ k.standings) × ((opened z c k).given ≡ k.given) × ((opened z c k).turn ≡ k.turn) × ((opened z c k).since ≡ k.since)
 
 -- these were closed, the first of them last
 abbrev pub all_closed : Layout → List ClassRef → KeeperView → KeeperView

@@ -40,7 +40,7 @@ abbrev pub nobody : SenderView
 nobody = record { number = 0; front = no_history; whereabouts = Out; count = 0; looks = 0; stamps = []; last = record { class = no_class; sel = 0; array = None; reads = [] } }
 
 abbrev pub no_keeper : KeeperView
-no_keeper = record { history = no_history; words = []; standings = []; given = []; turn = Never; told = no_history; stores = []; looked_at = [] }
+no_keeper = record { history = no_history; words = []; standings = []; given = []; since = []; turn = Never; told = no_history; stores = []; looked_at = [] }
 
 -- a setting
 abbrev pub no_setting : SettingView
@@ -195,9 +195,9 @@ abbrev pub rest_looked : ℕ → ℕ → KeeperView → KeeperView
 rest_looked n zero k = k
 rest_looked n (suc d) k = looked (n + d) true (rest_looked n d k)
 
--- a sender number is out
+-- a sender number is out, and how many changes there are is noted
 abbrev pub given_out : ℕ → KeeperView → KeeperView
-given_out n k = record k { given = slice_set k.given n true }
+given_out n k = record k { given = slice_set k.given n true; since = (n, size k.history) ∷ k.since }
 
 -- a sender is back, and what it had seen is told
 abbrev pub taken_in : SenderView → KeeperView → KeeperView

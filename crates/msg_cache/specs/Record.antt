@@ -35,8 +35,9 @@ pub record Probes (z : Layout) (c : ClassRef) (s : ℕ) (v w : SenderView) : Typ
   pub begins : BeginsWith w.front v.front
   pub accepted : IsAccepted w.front
   pub counted : w.count ≡ v.count + 1
-  -- no stamp is loaded
+  -- no stamp is loaded, nor the count of changes
   pub stamps : w.stamps ≡ v.stamps
+  pub looks : w.looks ≡ v.looks
   pub class_is : w.last.class ≡ c
   pub sel_is : w.last.sel ≡ s
   -- where no array was seen nothing is read

@@ -1,6 +1,6 @@
 -- The rule of a table: what its words, the keeper's view and the senders' views have to do with one
 -- another, and the state that it shows.
-use Rattle.std.specs.Prelude.{◌≡◌, ℕ, zero, suc, ◌+◌, ◌<◌, ◌≤◌, List, [], length, Bool, true, false, nat_lt, Option, Some, None, slice_index, replicate, if◌then◌else◌, All}
+use Rattle.std.specs.Prelude.{◌≡◌, ℕ, zero, suc, ◌+◌, ◌<◌, ◌≤◌, ◌==◌, List, [], ◌∷◌, length, Bool, true, false, nat_lt, Option, Some, None, slice_index, replicate, if◌then◌else◌, All}
 use mathlib.Core.Option.{some}
 use lib.ListN.{get_elem?}
 use Rattle.atomic_table.specs.Table.{State as Table}
@@ -70,6 +70,11 @@ pub record IsAccepted (h : History) : Type 0 where
   pub changes : IsLog (log h)
   pub some : All (λ xs. 0 < length xs) h.changes
 
+-- how many changes there were when a sender number was given out last, 0 where it never was
+abbrev pub since_of : List (ℕ × ℕ) → ℕ → ℕ
+since_of [] n = 0
+since_of (g ∷ gs) n = if g.0 == n then g.1 else since_of gs n
+
 -- a probe word
 abbrev pub in_word : Whereabouts → ℕ
 in_word Out = 0
@@ -84,6 +89,8 @@ pub record FitsSender (k : KeeperView) (seat : ℕ → ℕ) (whereabouts : ℕ �
   pub placed : whereabouts v.number ≡ v.whereabouts
   -- what it has seen is a beginning of the history
   pub begins : BeginsWith k.history v.front
+  -- with all changes that there were when its number was given out last
+  pub since : since_of k.since v.number ≤ size v.front
   -- and no longer than the history was when the array that it holds was retired
   pub behind : (c : ClassRef) (a r : ℕ) (awaited : List Bool) → v.whereabouts ≡ Holding c a → standing_at k.standings a ≡ Retired c r awaited → size v.front ≤ r
 
@@ -167,4 +174,4 @@ holds look key s = RuledBy look key s.words s.views
 abbrev pub first_keeper : SettingView → KeeperView
 first_keeper key =
     let z = layout_of key in
-    record { history = empty key.origin; words = replicate (probes z) 0; standings = replicate (length z.capacities) Free; given = replicate z.senders false; turn = Never; told = empty key.origin; stores = []; looked_at = [] }
+    record { history = empty key.origin; words = replicate (probes z) 0; standings = replicate (length z.capacities) Free; given = replicate z.senders false; since = []; turn = Never; told = empty key.origin; stores = []; looked_at = [] }

@@ -381,6 +381,14 @@ impl Keeper {
         self.count
     }
 
+    /// Whether a sender number is given out.
+    #[inline]
+    pub fn is_out(&self, number: usize) -> bool
+        ensures { result ≡ awaits (view self.now).given number }
+    {
+        number < self.given.len() && self.given[number]
+    }
+
     /// What was done so far.
     pub fn report(&self) -> Report
         ensures value { result ≡ self.now.report }
@@ -466,6 +474,7 @@ impl Keeper {
         ensures view { Chills arena.now class self.old self.new }
         ensures history { (view self.new).history ≡ (view self.old).history }
         ensures given { (view self.new).given ≡ (view self.old).given }
+        ensures since { (view self.new).since ≡ (view self.old).since }
         ensures cold { IsCold arena.now self.new class }
         ensures others { StayCold arena.now self.old self.new }
     {
@@ -485,6 +494,7 @@ impl Keeper {
         ensures view { view self.new ≡ opened (layout arena.now) class (view self.old) }
         ensures history { (view self.new).history ≡ (view self.old).history }
         ensures given { (view self.new).given ≡ (view self.old).given }
+        ensures since { (view self.new).since ≡ (view self.old).since }
     {
         let place = arena.stamp_at(class);
         let stamp = self.words[place];

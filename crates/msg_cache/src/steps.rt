@@ -336,7 +336,8 @@ pub(crate) fn split_again<Q: Gives>(
     ensures seat { IsSameSeat seat.old seat.new }
     ensures told { KnowsNow (given_out number) seat.old seat.new }
     ensures table { result.table_id ≡ seat.old.table_id }
-    ensures sender { result.me ≡ seated (newcomer_with number _before.now.value.sender.stamps (keeper_at seat.old).history) }
+    ensures sender { result.me
+        ≡ seated (newcomer_with number _before.now.value.sender.stamps (keeper_at seat.old).history) }
 {
     words.split_seat::<Give<Q>>(seat)
 }

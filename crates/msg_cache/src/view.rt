@@ -50,7 +50,8 @@ pub enum TurnAt {
 }
 
 /// What the keeper's seat knows: the history, a copy of all words but the probe words, what each
-/// array is for, which sender numbers are given out, where the turn is, what a joined sender had
+/// array is for, which sender numbers are given out, each number that was ever given out, the last
+/// one first, with how many changes there were then, where the turn is, what a joined sender had
 /// seen, each word that was stored, with its place in the table, and each sender number that was
 /// looked at.
 pub struct KeeperView {
@@ -58,6 +59,7 @@ pub struct KeeperView {
     pub words: LinkedList<u64>,
     pub standings: LinkedList<Standing>,
     pub given: LinkedList<bool>,
+    pub since: LinkedList<(u64, u64)>,
     pub turn: TurnAt,
     pub told: Past,
     pub stores: LinkedList<(u64, u64)>,

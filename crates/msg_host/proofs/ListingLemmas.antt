@@ -1,5 +1,5 @@
 -- Rows that mean changes, and rows that take them back.
-use Rattle.std.proofs.Common.{◌≡◌, ◌≢◌, ◌<◌, ◌+◌, ℕ, List, [], ◌∷◌, ◌++◌, Bool, true, false, Option, None, Some, Ok, length, map, take, drop, refl, sym, subst, ap, ap₂, ◌∙◌, arith}
+use Rattle.std.proofs.Common.{◌≡◌, ◌≢◌, ◌<◌, ◌+◌, ℕ, List, [], ◌∷◌, ◌++◌, Bool, true, false, None, Some, Ok, length, map, take, drop, refl, sym, subst, ap, ap₂, ◌∙◌, arith}
 use Rattle.std.specs.Prelude.{◌==◌, ◌-◌, if◌then◌else◌, slice_set, slice_index_or, Result, Err}
 use Rattle.std.specs.Result.{is_ok}
 use Rattle.std.proofs.lemmas.Bool.{and_parts}
@@ -20,7 +20,7 @@ use Rattle.msg_tables.specs.FaultNumber.{change_fault_number}
 use Rattle.msg_tables.specs.declared.fault.ChangeFault.{ChangeFault}
 use Rattle.msg_tables.specs.declared.fault.ChangeFault.TheVariants as faults
 use Rattle.msg_host.specs.Asking.{want_of_room}
-use Rattle.msg_host.specs.Listing.{AreMeant, TellsRowsBack, UndoesRows, WeighRows, are_meant, change_in, change_or_other, changes_in, ref_in, selector_in, undoing}
+use Rattle.msg_host.specs.Listing.{AreMeant, TellsRowsBack, UndoesRows, are_meant, change_in, change_or_other, changes_in, ref_in, selector_in, undoing}
 use Rattle.msg_host.specs.declared.fault.AskFault.{AskFault}
 use Rattle.msg_host.specs.declared.listing.ChangeRow.{ChangeRow}
 

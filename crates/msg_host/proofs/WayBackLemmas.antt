@@ -1,5 +1,5 @@
 -- What rows mean can be taken back.
-use Rattle.std.proofs.Common.{◌≡◌, ◌<◌, ℕ, List, [], ◌∷◌, Bool, true, false, Result, Ok, Err, Option, Some, None, ◌+◌, length, length-append, refl, sym, ap, subst, ◌∙◌, arith}
+use Rattle.std.proofs.Common.{◌≡◌, ℕ, List, [], ◌∷◌, Bool, true, false, Result, Ok, Err, ◌+◌, length, length-append, refl, sym, ap, ◌∙◌, arith}
 use Rattle.std.specs.Prelude.{◌&&◌, ◌==◌, nat_lt, if◌then◌else◌}
 use Rattle.std.proofs.lemmas.Bool.Decides.{nat_tests}
 use Rattle.std.specs.List.{list_all}
@@ -13,9 +13,9 @@ use Rattle.msg_tables.specs.Log.{Log, and_then}
 use Rattle.msg_tables.specs.Made.{and_as_one}
 use Rattle.msg_tables.specs.Several.{and_all}
 use Rattle.msg_tables.proofs.HistoryLemmas.{log-all}
-use Rattle.msg_tables.specs.declared.change.Change.TheVariants.{Add, Replace, SetImp, Exchange, Attach, AddClass, Remove, DisposeClass}
+use Rattle.msg_tables.specs.declared.change.Change.TheVariants.{Add, Replace, SetImp, Attach, Remove}
 use Rattle.msg_host.specs.Config.{host_origin}
-use Rattle.msg_host.specs.Listing.{AreMeant, change_in, change_of, covering_in, exchange_in, exchange_of, method_in, both, removal_in}
+use Rattle.msg_host.specs.Listing.{AreMeant, change_in, change_of, exchange_of, method_in, both}
 use Rattle.msg_host.specs.declared.config.HostConfig.{HostConfig}
 use Rattle.msg_host.specs.declared.fault.AskFault.{AskFault}
 use Rattle.msg_host.specs.declared.listing.ChangeRow.{ChangeRow}

@@ -1,11 +1,13 @@
 -- Which numbers mean something, and what changes in numbers do.
-use Rattle.std.specs.Prelude.{◌≡◌, ◌≢◌, ℕ, ◌==◌, nat_lt, if◌then◌else◌, List, [], ◌∷◌, map, Option, Some, None, option_map, ◌⊎◌, Contains}
+use Rattle.std.specs.Prelude.{◌≡◌, ◌≢◌, ◌<◌, true, ℕ, ◌==◌, nat_lt, if◌then◌else◌, List, [], ◌∷◌, map, Option, Some, None, option_map, ◌⊎◌, Contains}
 use Rattle.msg_tables.specs.declared.change.Change.{Change}
 use Rattle.msg_tables.specs.FaultNumber.{change_fault_number}
 use Rattle.msg_tables.specs.History.{and_then, log}
 use Rattle.msg_tables.specs.Refusal.{refusal}
+use Rattle.msg_tables.specs.RoomLaws.{adds_no_row}
 use Rattle.msg_runtime.specs.Calls.{HoldsRoomFor, KeepsAtLeastRoom, LacksRoomFor, beside_room}
 use Rattle.msg_runtime.specs.View.{RuntimeView}
+use Rattle.msg_runtime.specs.declared.runtime.TheConstants.{OPENING_ENTRIES}
 use Rattle.msg_host.specs.declared.changing.MethodRow.{MethodRow}
 use Rattle.msg_host.specs.declared.fault.AskFault.{AskFault}
 use Rattle.msg_host.specs.declared.fault.AskFault.TheVariants.{NoClass, NoSelector, BadRow}
@@ -40,16 +42,18 @@ IsRefusal n = (n ≢ 0) × (n ≢ want_of_memory) × (n ≢ want_of_room)
 abbrev pub LacksSelector : RuntimeView → RuntimeView → ℕ → ℕ → Type 0
 LacksSelector v w sel n = sel ≡ 0 → (n ≡ want_of_selector) × (w ≡ v)
 
--- nothing has changed, but that there may be more room
+-- nothing has changed, but that there may be more room, and what was written last may be forgotten
 pub record IsLeft (v w : RuntimeView) : Type 0 where
   pub same : beside_room w ≡ beside_room v
   pub room : KeepsAtLeastRoom v w
+  pub written : (w.written.entries ≡ v.written.entries) ⊎ (w.written.entries ≡ [])
 
 -- A change took a runtime from v to w with the answer n: 0 where it was made, and else its fault's
 -- number, and nothing has changed.
 pub record AnswersChange (v w : RuntimeView) (x : Change) (n : ℕ) : Type 0 where
   pub arena : w.arena ≡ v.arena
   pub given : w.keeper.given ≡ v.keeper.given
+  pub rested : w.rested ≡ v.rested
   pub made : n ≡ 0 → (refusal (log v.keeper.history) x ≡ None) × (w.keeper.history ≡ and_then v.keeper.history (x ∷ []))
   pub held : n ≡ 0 → HoldsRoomFor v w (x ∷ [])
   pub left : n ≢ 0 → IsLeft v w
@@ -57,6 +61,9 @@ pub record AnswersChange (v w : RuntimeView) (x : Change) (n : ℕ) : Type 0 whe
   -- want of memory is answered only where nothing else speaks against it, and there is too little
   -- room
   pub memory : n ≡ want_of_memory → (refusal (log v.keeper.history) x ≡ None) × LacksRoomFor v (x ∷ [])
+  -- a change that adds no row wants none, if there is room for what an exchange writes: as much as
+  -- at the opening
+  pub no_row : adds_no_row x ≡ true → n ≡ want_of_memory → v.written.room < OPENING_ENTRIES
 
 -- the rows of a method list, as pairs of numbers
 abbrev pub pairs_of : List MethodRow → List (ℕ × ℕ)

@@ -3,7 +3,6 @@ use Rattle.std.specs.Prelude.{◌≡◌, ◌≢◌, ◌<◌, ◌+◌, ◌⊎◌,
 use Rattle.std.specs.List.{list_all}
 use Rattle.std.specs.Result.{is_ok}
 use Rattle.msg_names.specs.declared.value.ClassRef.{ClassRef}
-use Rattle.msg_names.specs.declared.value.ImpRef.{ImpRef}
 use Rattle.msg_names.specs.declared.value.Selector.{Selector}
 use Rattle.msg_names.specs.Number.{imp_number, imp_ref_of, selector_number, selector_of}
 use Rattle.msg_tables.specs.ChangeList as by_ref
@@ -19,7 +18,6 @@ use Rattle.msg_tables.specs.Log.{table}
 use Rattle.msg_tables.specs.Made.{AreMade, TellsWayBack}
 use Rattle.msg_tables.specs.Marking.{MarksAffectedByAll}
 use Rattle.msg_tables.specs.Several.{refused_from}
-use Rattle.msg_tables.specs.Journal.{undo_journal}
 use Rattle.msg_tables.specs.Undo.{covering, undo_all}
 use Rattle.msg_cache.specs.Views.{classes}
 use Rattle.msg_runtime.specs.Calls.{HoldsRoomFor, LacksRoomFor}

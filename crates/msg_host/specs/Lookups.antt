@@ -6,7 +6,7 @@ use Rattle.msg_names.specs.Number.{selector_of}
 use Rattle.msg_tables.specs.History.{History, BeginsWith, lookup}
 use Rattle.msg_cache.specs.declared.view.SenderView.{SenderView as Seen}
 use Rattle.msg_cache.specs.Views.{ArenaView, classes}
-use Rattle.msg_reader.specs.Several.{LackOne, MissOne}
+use Rattle.msg_reader.specs.Several.{AreNoted, AreNotedOrAt, KeepOthersOfAll, LackOne, MissOne}
 use Rattle.msg_reader.specs.declared.lookup.Lookup.{Lookup}
 use Rattle.msg_reader.specs.declared.notes.Notes.{Notes}
 use Rattle.msg_host.specs.Asking.{ask_fault_number, want_of_room}
@@ -75,3 +75,17 @@ RowsLackOne a n rows v w = LackOne n (lookups_in (classes a) rows) v w
 -- says more changes than the sender had seen
 abbrev pub RowsMissOne : ArenaView → List LookupRow → Seen → Seen → Type 0
 RowsMissOne a rows v w = MissOne a (lookups_in (classes a) rows) v w
+
+-- ---- what is noted
+
+-- what each of the lookups found is noted, unless the note of a later one lies there
+abbrev pub RowsAreNoted : ArenaView → Notes → Seen → Seen → List LookupRow → List ℕ → Type 0
+RowsAreNoted a n v w rows imps = AreNoted n v w (lookups_in (classes a) rows) imps
+
+-- so it is where they were answered at this history
+abbrev pub RowsAreNotedOrAt : ArenaView → History → Notes → Seen → Seen → List LookupRow → List ℕ → Type 0
+RowsAreNotedOrAt a h n v w rows imps = AreNotedOrAt h n v w (lookups_in (classes a) rows) imps
+
+-- at each place but those of the lookups, notes have what they had
+abbrev pub RowsKeepOthers : ArenaView → Notes → Notes → List LookupRow → Type 0
+RowsKeepOthers a old new rows = KeepOthersOfAll old new (lookups_in (classes a) rows)

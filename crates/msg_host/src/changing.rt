@@ -123,6 +123,7 @@ impl HostedRuntime {
     ) -> u32
         ensures arena { self.new.arena ≡ self.old.arena }
         ensures given { self.new.keeper.given ≡ self.old.keeper.given }
+        ensures rested { self.new.rested ≡ self.old.rested }
         ensures made { TellsAttached self.old self.new class methods.now class_methods.now result }
         ensures left { result ≢ 0 → IsLeft self.old self.new }
         ensures fault { TellsAttachFault self.old self.new class methods.now class_methods.now result }

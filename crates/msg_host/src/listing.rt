@@ -202,8 +202,8 @@ pub(crate) fn meant(rows: &[ChangeRow]) -> Result<MeantRows<'_>, RowFault>
     Ok(MeantRows { rows })
 }
 
-// Why the changes of rows aren't made: a fault, or that their way back has so many changes, more than
-// it may have.
+// Why the changes of rows aren't made: a fault, or that their way back has so many changes, which
+// is more than it may have.
 #[derive(Clone, Copy)]
 pub(crate) enum RowsUnmade {
     Fault(RowFault),
@@ -216,6 +216,7 @@ impl HostedRuntime {
     pub(crate) fn change_rows(&mut self, rows: &[ChangeRow], most: usize) -> Result<(), RowsUnmade>
         ensures arena { self.new.arena ≡ self.old.arena }
         ensures given { self.new.keeper.given ≡ self.old.keeper.given }
+        ensures rested { self.new.rested ≡ self.old.rested }
         ensures made { OnOk result (MakesRows rows.now self.old self.new) }
         ensures back { OnOk result (TellsRowsBack rows.now self.old.keeper.history self.new.written.entries) }
         ensures fits { OnOk result (length self.new.written.entries ≤ most) }
@@ -240,6 +241,7 @@ impl HostedRuntime {
     pub fn make_all(&mut self, rows: &[ChangeRow], place: &mut usize) -> u32
         ensures arena { self.new.arena ≡ self.old.arena }
         ensures given { self.new.keeper.given ≡ self.old.keeper.given }
+        ensures rested { self.new.rested ≡ self.old.rested }
         ensures made { result ≡ 0 → MakesRows rows.now self.old self.new }
         ensures left { result ≢ 0 → IsLeft self.old self.new }
         ensures place { result ≢ 0 → place.new < length rows.now }

@@ -1,13 +1,14 @@
 //! Several lookups in numbers, answered as one.
 
-ghost use Rattle.std.specs.Prelude.{◌≡◌, true, false, Ok, IfOk, IfErr, OnErr, OnOk, length};
+ghost use Rattle.std.specs.Prelude.{◌≡◌, ◌+◌, true, false, Ok, IfOk, IfErr, OnErr, OnOk, length};
 ghost use Rattle.msg_tables.specs.History.{BeginsWith};
 ghost use Rattle.msg_cache.specs.Views.{classes, layout};
 ghost use Rattle.msg_reader.specs.Notes.{AreNotesOf, StayStamped};
 ghost use Rattle.msg_runtime.specs.Calls.{KeepsRoom};
 ghost use Rattle.msg_host.specs.Lookups as spec;
 ghost use Rattle.msg_host.specs.Lookups.{AreRefusedLookups, AreRowsFound, AreRowsFoundAt, AreTakenLookups};
-ghost use Rattle.msg_host.specs.Lookups.{RowsLackOne, RowsMissOne, are_asked, lookup_in, lookups_in};
+ghost use Rattle.msg_host.specs.Lookups.{RowsAreNoted, RowsAreNotedOrAt, RowsKeepOthers, RowsLackOne, RowsMissOne};
+ghost use Rattle.msg_host.specs.Lookups.{are_asked, lookup_in, lookups_in};
 
 use crate::fault::{AskFault, NO_ROOM, asked_class, selector};
 use crate::runtime::HostedRuntime;
@@ -113,6 +114,10 @@ impl HostedSender {
         ensures arena { self.new.arena ≡ self.old.arena }
         ensures begins { BeginsWith self.new.seen.front self.old.seen.front }
         ensures found { result ≡ Ok true → AreRowsFound self.old.seen self.new.seen rows.now imps.new }
+        ensures noted { result ≡ Ok true
+            → RowsAreNoted self.old.arena notes.new self.old.seen self.new.seen rows.now imps.new }
+        ensures others { OnOk result (RowsKeepOthers self.old.arena notes.old notes.new rows.now) }
+        ensures looked { OnOk result (self.new.seen.looks ≡ self.old.seen.looks + 1) }
         ensures recalled { result ≡ Ok false
             → RowsLackOne self.old.arena notes.old rows.now self.old.seen self.new.seen }
         ensures missed { result ≡ Ok false → RowsMissOne self.old.arena rows.now self.old.seen self.new.seen }
@@ -131,9 +136,8 @@ impl HostedSender {
 
 impl HostedRuntime {
     /// Answers the lookups of rows by the numbers of the implementations, 0 for forwarding, all at
-    /// the whole history, which the sender has then seen. What its notes lack is cached, where there
-    /// is room, and noted. Or the number of a fault, as of
-    /// [`probe_all`](HostedSender::probe_all).
+    /// the whole history, which the sender has then seen. What its notes lack is noted, and cached
+    /// if there is room. Or the number of a fault, as of [`probe_all`](HostedSender::probe_all).
     pub fn fill_all(
         &mut self,
         sender: &mut HostedSender,
@@ -148,11 +152,15 @@ impl HostedRuntime {
         ensures history { self.new.keeper.history ≡ self.old.keeper.history }
         ensures remembered { self.new.remembered ≡ self.old.remembered }
         ensures room { KeepsRoom self.old self.new }
+        ensures rested { self.new.rested ≡ self.old.rested }
         ensures unfilled { OnErr result (self.new ≡ self.old) }
         ensures arena { sender.new.arena ≡ sender.old.arena }
         ensures begins { OnOk result (BeginsWith self.old.keeper.history sender.old.seen.front) }
         ensures front { OnOk result (sender.new.seen.front ≡ self.old.keeper.history) }
         ensures found { OnOk result (AreRowsFoundAt self.old.keeper.history rows.now imps.new) }
+        ensures noted { OnOk result (RowsAreNotedOrAt self.old.arena self.old.keeper.history notes.new
+            sender.old.seen sender.new.seen rows.now imps.new) }
+        ensures others { OnOk result (RowsKeepOthers self.old.arena notes.old notes.new rows.now) }
         ensures ok { OnOk result
             (AreTakenLookups (classes self.old.arena) rows.now (length imps.old) place.old place.new) }
         ensures err { IfErr result

@@ -52,6 +52,7 @@ pub(crate) fn opened(
     ensures turn { IfOk result (λ r. r.2.table ≡ r.1.arena.table) }
     ensures away { IfOk result (λ r. r.1.keeper.turn ≡ Away) }
     ensures given { IfOk result (λ r. r.1.keeper.given ≡ replicate r.1.arena.key.senders false) }
+    ensures rested { IfOk result (λ r. r.1.rested ≡ replicate r.1.arena.key.senders 0) }
     ensures entries { IfOk result (λ r. OPENING_ENTRIES ≤ r.1.written.room) }
 {
     let (arena, keeper) = arena_of(alloc, origin, config)?;

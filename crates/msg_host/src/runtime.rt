@@ -6,6 +6,7 @@ ghost use Rattle.msg_tables.specs.Origin.{last_imp};
 ghost use Rattle.msg_tables.specs.History.{BeginsWith, lookup, log};
 ghost use Rattle.msg_tables.specs.Made.{AreMade, AreRefused, TellsWayBack};
 ghost use Rattle.msg_tables.specs.Refusal.{IsLog};
+ghost use Rattle.msg_tables.specs.RoomLaws.{adds_no_row};
 ghost use Rattle.msg_tables.specs.Several.{refused_from};
 ghost use Rattle.msg_tables.specs.declared.fault.ChangeFault.{ChangeFault};
 ghost use Rattle.msg_cache.specs.Counts.{AreCounts, after_refusal};
@@ -14,11 +15,12 @@ ghost use Rattle.msg_address.specs.Address.{IsNotNull};
 ghost use Rattle.msg_cache.specs.Views.{classes, layout};
 ghost use Rattle.msg_reader.specs.Kept.{KeepOthers};
 ghost use Rattle.msg_reader.specs.Notes.{AreNotesOf, HaveNotedFor, StayStamped};
-ghost use Rattle.msg_reader.specs.Several.{AreAsked, AreFoundAt};
+ghost use Rattle.msg_reader.specs.Several.{AreAsked, AreFoundAt, AreNotedOrAt, KeepOthersOfAll};
 ghost use Rattle.msg_runtime.specs.Changed.{IsAccepted, IsMadeAt, IsRefusedAt, IsUnmade};
-ghost use Rattle.msg_runtime.specs.Calls.{AllAreOut, CachesAnswer, HoldsRoomFor, KeepsAtLeastRoom, KeepsRoom, LacksRoomFor, MarksAllReached, WantsRoom, WantsRoomIf};
+ghost use Rattle.msg_runtime.specs.Calls.{AllAreOut, CachesAnswer, HoldsRoomFor, KeepsAtLeastRoom, KeepsRoom, LacksRoomFor, MarksAllReached, RestsAs, WantsRoom, WantsRoomIf};
 ghost use Rattle.msg_host.specs.Asking.{IsLeft};
 ghost use Rattle.msg_runtime.specs.Parts.{IsNew};
+ghost use Rattle.msg_runtime.specs.declared.runtime.TheConstants.{OPENING_ENTRIES};
 ghost use Rattle.msg_host.specs.Config.{is_beyond};
 ghost use Rattle.msg_host.specs.Opening.{OpensAs};
 ghost use Rattle.msg_host.specs.declared.fault.OpenFault.{OpenFault};
@@ -45,9 +47,9 @@ use std::sync::Arc;
 /// It is used by one thread at a time. Which one it is the host settles, by its lock.
 #[derive(Drop)]
 pub struct HostedRuntime {
-    arena: Arc<Arena, Global>,
+    pub(crate) arena: Arc<Arena, Global>,
     pub(crate) runtime: Runtime,
-    turn: Turn,
+    pub(crate) turn: Turn,
     // how many class numbers are reserved
     classes: u32,
 }
@@ -131,10 +133,13 @@ impl HostedRuntime {
         ensures held { OnOk result (HoldsRoomFor self.old self.new (change.now ∷ [])) }
         ensures room { KeepsAtLeastRoom self.old self.new }
         ensures given { self.new.keeper.given ≡ self.old.keeper.given }
+        ensures rested { self.new.rested ≡ self.old.rested }
         ensures err { OnErr result (IsLeft self.old self.new) }
         ensures fault { IfErr result (IsRefusedAt self.old.keeper.history change.now) }
         ensures memory { IsErrOf result ChangeFault.Memory → IsAccepted self.old.keeper.history change.now }
         ensures wanting { IsErrOf result ChangeFault.Memory → LacksRoomFor self.old (change.now ∷ []) }
+        ensures no_row { IsErrOf result ChangeFault.Memory
+            → adds_no_row change.now ≡ true → self.old.written.room < OPENING_ENTRIES }
     {
         self.runtime.change(&self.arena, &mut self.turn, change)
     }
@@ -156,6 +161,7 @@ impl HostedRuntime {
         ensures held { OnOk result (HoldsRoomFor self.old self.new (L.changes changes.now)) }
         ensures room { KeepsAtLeastRoom self.old self.new }
         ensures given { self.new.keeper.given ≡ self.old.keeper.given }
+        ensures rested { self.new.rested ≡ self.old.rested }
         ensures err { OnErr result (IsLeft self.old self.new) }
         ensures unmade { IfErr result (IsUnmade (L.changes changes.now) self.old.keeper.history most) }
         ensures wanting { IfErr result (WantsRoomIf self.old (L.changes changes.now)) }
@@ -198,11 +204,14 @@ impl HostedRuntime {
     /// A sender, which has seen the whole history. There is none where as many are out as the
     /// runtime has room for, and only there is `NoneFree` answered.
     pub fn sender(&mut self) -> Result<HostedSender, SenderFault>
-        ensures kept { self.new ≡ record self.old { keeper = self.new.keeper; report = self.new.report } }
+        ensures kept { self.new ≡ record self.old
+            { keeper = self.new.keeper; rested = self.new.rested; report = self.new.report } }
         ensures history { self.new.keeper.history ≡ self.old.keeper.history }
         ensures arena { IfOk result (λ s. s.arena ≡ self.old.arena) }
         ensures front { IfOk result (λ s. s.seen.front ≡ self.old.keeper.history) }
         ensures given { IfOk result (λ s. IsNew s.seen self.old.keeper self.new.keeper) }
+        ensures rested { IfOk result (λ s. RestsAs s.seen self.old self.new) }
+        ensures unrested { OnErr result (self.new.rested ≡ self.old.rested) }
         ensures report { OnOk result (self.new.report ≡ self.old.report) }
         ensures left { OnErr result (self.new.keeper ≡ self.old.keeper) }
         ensures none { IsErrOf result SenderFault.NoneFree
@@ -237,6 +246,7 @@ impl HostedRuntime {
         ensures remembered { self.new.remembered ≡ self.old.remembered }
         ensures room { KeepsRoom self.old self.new }
         ensures cached { CachesAnswer class sel result sender.old.seen self.old self.new }
+        ensures rested { self.new.rested ≡ self.old.rested }
         ensures arena { sender.new.arena ≡ sender.old.arena }
         ensures begins { BeginsWith self.old.keeper.history sender.old.seen.front }
         ensures front { sender.new.seen.front ≡ self.old.keeper.history }
@@ -270,11 +280,15 @@ impl HostedRuntime {
         ensures history { self.new.keeper.history ≡ self.old.keeper.history }
         ensures remembered { self.new.remembered ≡ self.old.remembered }
         ensures room { KeepsRoom self.old self.new }
+        ensures rested { self.new.rested ≡ self.old.rested }
         ensures arena { sender.new.arena ≡ sender.old.arena }
         ensures begins { BeginsWith self.old.keeper.history sender.old.seen.front }
         ensures front { sender.new.seen.front ≡ self.old.keeper.history }
         ensures found { AreFoundAt self.old.keeper.history (L.lookups lookups.now) imps.new }
         ensures notes { AreNotesOf self.old.keeper.history notes.new }
+        ensures noted { AreNotedOrAt self.old.keeper.history notes.new
+            sender.old.seen sender.new.seen (L.lookups lookups.now) imps.new }
+        ensures others { KeepOthersOfAll notes.old notes.new (L.lookups lookups.now) }
         ensures stamped { StayStamped (layout self.old.arena) notes.old notes.new }
     {
         let reader = &mut sender.reader;

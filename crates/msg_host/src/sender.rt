@@ -9,7 +9,7 @@ ghost use Rattle.msg_cache.specs.Rule.{IsAccepted};
 ghost use Rattle.msg_cache.specs.Views.{IsFoundAt, classes, layout};
 ghost use Rattle.msg_reader.specs.Kept.{FindsUnprobed, KeepOthers, LoadsStamp, MissesUnlessChanged};
 ghost use Rattle.msg_reader.specs.Notes.{AreNotesOf, StayStamped};
-ghost use Rattle.msg_reader.specs.Several.{AreAsked, AreFoundTogether, LackOne, MissOne};
+ghost use Rattle.msg_reader.specs.Several.{AreAsked, AreFoundTogether, AreNoted, KeepOthersOfAll, LackOne, MissOne};
 ghost use Rattle.msg_host.specs.Named.{HaveNotedLast};
 
 use msg_cache::Arena;
@@ -120,7 +120,11 @@ impl HostedSender {
         ensures arena { self.new.arena ≡ self.old.arena }
         ensures begins { BeginsWith self.new.seen.front self.old.seen.front }
         ensures found { result ≡ true → AreFoundTogether self.old.seen self.new.seen (L.lookups lookups.now) imps.new }
+        ensures looked { self.new.seen.looks ≡ self.old.seen.looks + 1 }
         ensures notes { AreNotesOf self.new.seen.front notes.new }
+        ensures noted { result ≡ true
+            → AreNoted notes.new self.old.seen self.new.seen (L.lookups lookups.now) imps.new }
+        ensures others { KeepOthersOfAll notes.old notes.new (L.lookups lookups.now) }
         ensures stamped { StayStamped (layout self.old.arena) notes.old notes.new }
         ensures recalled { result ≡ false → LackOne notes.old (L.lookups lookups.now) self.old.seen self.new.seen }
         ensures missed { result ≡ false → MissOne self.old.arena (L.lookups lookups.now) self.old.seen self.new.seen }

@@ -90,6 +90,7 @@ impl HostedRuntime {
         ensures remembered { self.new.remembered ≡ self.old.remembered }
         ensures room { KeepsRoom self.old self.new }
         ensures cached { IfOk result (λ i. CachesNumber (ref_of class meta) sel i sender.old.seen self.old self.new) }
+        ensures rested { self.new.rested ≡ self.old.rested }
         ensures unfilled { OnErr result (self.new ≡ self.old) }
         ensures arena { sender.new.arena ≡ sender.old.arena }
         ensures begins { OnOk result (BeginsWith self.old.keeper.history sender.old.seen.front) }

@@ -96,6 +96,7 @@ impl HostedRuntime {
     ) -> u32
         ensures arena { self.new.arena ≡ self.old.arena }
         ensures given { self.new.keeper.given ≡ self.old.keeper.given }
+        ensures rested { self.new.rested ≡ self.old.rested }
         ensures made { result ≡ 0 → MakesRows rows.now self.old self.new }
         ensures undo { result ≡ 0 → UndoesRows rows.now self.old.keeper.history undo.new undone.new }
         ensures within { result ≡ 0 → undone.new ≤ length undo.new }

@@ -1,9 +1,12 @@
 -- Several lookups that are answered as one.
-use Rattle.std.proofs.Common.{◌≡◌, ◌<◌, ◌≤◌, ◌+◌, ℕ, suc, false, List, [], ◌∷◌, ◌++◌, length, map, take, Some, None, inl, inr, sym, ap, ap₂, ◌∙◌, arith, append_assoc}
-use Rattle.std.specs.Prelude.{◌⊎◌, Option, IsSome, is_some, slice_get, slice_set}
+use Rattle.std.proofs.Common.{◌≡◌, ◌<◌, ◌≤◌, ◌+◌, ℕ, suc, false, List, [], ◌∷◌, ◌++◌, length, map, take, Some, None, inl, inr, sym, subst, ap, ap₂, ◌∙◌, arith, append_assoc}
+use Rattle.std.specs.Prelude.{◌⊎◌, ◌≢◌, ◌^◌, if◌then◌else◌, nat_lt, Option, option_and_then, unwrap_or, IsSome, is_some, slice_get, slice_set}
+use Rattle.std.proofs.Math.Nat.{eq-or-lt_of_le}
 use Rattle.std.proofs.Math.Seq.{take-suc}
-use Rattle.std.proofs.lemmas.List.{length-take-le, map-append, take_all, take_more_set}
-use Rattle.std.proofs.lemmas.Option.{get_or_from_slice_get, slice_get_within}
+use Rattle.std.proofs.lemmas.List.{get_or-set_other, get_or-set_same, length-set, length-take-le, map-append, take_all, take_more_set}
+use Rattle.std.proofs.lemmas.Option.{get_or_from_slice_get, slice_get-get_or, slice_get_within}
+use Rattle.msg_names.specs.ClassRef.{slot_of}
+use Rattle.msg_names.specs.Number.{selector_number}
 use Rattle.msg_names.specs.declared.value.ClassRef.{ClassRef}
 use Rattle.msg_names.specs.declared.value.ImpRef.{ImpRef}
 use Rattle.msg_tables.specs.History.{History, BeginsWith}
@@ -12,9 +15,10 @@ use Rattle.msg_core.specs.State.{first}
 use Rattle.msg_cache.proofs.PastLemmas.{begins_first, first_begins}
 use Rattle.msg_cache.specs.declared.view.SenderView.{SenderView}
 use Rattle.msg_reader.specs.Kept.{LoadsMore}
-use Rattle.msg_reader.specs.Notes.{recalled_of}
-use Rattle.msg_reader.specs.Several.{AreFoundAfter, AreFoundAt, AreFoundTogether, IsAmong, LackOne, LacksIt, LoadsAmong, found_of}
+use Rattle.msg_reader.specs.Notes.{found_by, recalled_of}
+use Rattle.msg_reader.specs.Several.{AreFoundAfter, AreFoundAt, AreFoundTogether, IsAmong, IsNotedAmong, IsNotedOrAt, IsOfLast, LackOne, LacksIt, LoadsAmong, found_of, lies_at}
 use Rattle.msg_reader.specs.declared.lookup.Lookup.{Lookup}
+use Rattle.msg_reader.specs.declared.note.Note.{Note}
 use Rattle.msg_reader.specs.declared.notes.Notes.{Notes}
 use Rattle.msg_reader.proofs.ReaderLemmas.{as_long}
 
@@ -94,3 +98,67 @@ module _ (n : Notes) (ks : List Lookup) (k : Lookup) (count : ℕ) (v u w : Send
 -- histories that begin with one another are one
 pub same_both : (p h : History) → BeginsWith p h → BeginsWith h p → p ≡ h
 same_both p h b d = begins_same p h b (omega (arith, as_long p h b, as_long h p d))
+
+-- ---- what is noted
+
+-- what lies at its place is all that notes have of a lookup
+pub recalled_there : (m n : Notes) (since : ℕ) (k : Lookup) → slice_get n.notes (lies_at k) ≡ slice_get m.notes (lies_at k) → recalled_of n since k.class k.sel ≡ recalled_of m since k.class k.sel
+recalled_there m n since k same =
+    ap (λ (o : Option Note). if nat_lt (slot_of k.class) (2 ^ 26) then option_and_then (λ d. found_by d since (slot_of k.class) (selector_number k.sel)) o else None) same
+
+-- one answer is put at its place, and the others stay
+put_there : (imps : List ℕ) (place i j : ℕ) → slice_get (slice_set imps place i) place ≡ Some j → i ≡ j
+put_there imps place i j is =
+    let within : place < length imps = omega (arith, length-set imps place i, slice_get_within (slice_set imps place i) place j is) in
+    sym (get_or-set_same imps place i 0 within) ∙ get_or_from_slice_get (slice_set imps place i) place j 0 is
+
+put_elsewhere : (imps : List ℕ) (place other i j : ℕ) → other ≢ place → slice_get (slice_set imps place i) other ≡ Some j → slice_get imps other ≡ Some j
+put_elsewhere imps place other i j apart is =
+    let within : other < length imps = omega (arith, length-set imps place i, slice_get_within (slice_set imps place i) other j is) in
+    slice_get-get_or imps other 0 within
+    ∙ ap (λ (n : ℕ). Some n) (sym (get_or-set_other imps place other i 0 apart) ∙ get_or_from_slice_get (slice_set imps place i) other j 0 is)
+
+-- one lookup more is noted
+pub noted_next : (was is : Lookup → ℕ → Type 0) (ks : List Lookup) (imps : List ℕ) (place : ℕ) (k : Lookup) (i : ℕ) → slice_get ks place ≡ Some k → is k i
+    → ((j : Lookup) (x : ℕ) → lies_at j ≢ lies_at k → was j x → is j x) → IsOfLast place was ks imps → IsOfLast (place + 1) is ks (slice_set imps place i)
+noted_next was is ks imps place k i at one on all p j x lt here has last = split (eq-or-lt_of_le (omega (arith, lt)))
+  where
+    split : (p ≡ place) ⊎ (p < place) → is j x
+    split (inl same) =
+        let some : Some k ≡ Some j = sym at ∙ sym (ap (slice_get ks) same) ∙ here in
+        let lookup-is : k ≡ j = ap (λ (o : Option Lookup). unwrap_or o k) some in
+        let number : i ≡ x = put_there imps place i x (sym (ap (slice_get (slice_set imps place i)) same) ∙ has) in
+        subst (λ (t : Lookup × ℕ). is t.0 t.1) (λ z. (lookup-is z, number z)) one
+    split (inr less) =
+        let was-so = all p j x less here (put_elsewhere imps place p i x (λ e. omega (arith, e, less)) has) (λ later q above below. last later q above (omega (arith, below))) in
+        on j x (last place k less (omega arith) at) was-so
+
+-- what was noted is, where the note of the next lookup lies elsewhere
+pub noted_on : (m n : Notes) (u v w : SenderView) (k j : Lookup) (x : ℕ) → ((other : ℕ) → other ≢ lies_at k → slice_get n.notes other ≡ slice_get m.notes other) → LoadsMore v w → lies_at j ≢ lies_at k
+    → IsNotedAmong m u v j x → IsNotedAmong n u w j x
+noted_on m n u v w k j x others after apart (since, loaded, kept) =
+    (since, among_before j.class since u v w loaded after, λ low. recalled_there m n since j (others (lies_at j) apart) ∙ kept low)
+
+-- the next one is
+pub noted_one : (n : Notes) (u v w : SenderView) (k : Lookup) (i : ℕ) → LoadsMore u v → IsNotedAmong n v w k i → IsNotedAmong n u w k i
+noted_one n u v w k i before (since, loaded, kept) = (since, among_later k.class since u v w before loaded, kept)
+
+-- so it is behind the lock
+module _ (h : History) (m n : Notes) (u v w : SenderView) where
+  pub noted_or_on : (k j : Lookup) (x : ℕ) → ((other : ℕ) → other ≢ lies_at k → slice_get n.notes other ≡ slice_get m.notes other) → LoadsMore v w → lies_at j ≢ lies_at k
+      → IsNotedOrAt h m u v j x → IsNotedOrAt h n u w j x
+  noted_or_on k j x others after apart (inl noted) = inl (noted_on m n u v w k j x others after apart noted)
+  noted_or_on k j x others after apart (inr noted) = inr (λ low. recalled_there m n (length h.changes) j (others (lies_at j) apart) ∙ noted low)
+
+  pub noted_or_one : (k : Lookup) (i : ℕ) → LoadsMore u v → IsNotedOrAt h n v w k i → IsNotedOrAt h n u w k i
+  noted_or_one k i before (inl noted) = inl (noted_one n u v w k i before noted)
+  noted_or_one k i before (inr noted) = inr noted
+
+  pub noted_or_later : (k : Lookup) (i : ℕ) → LoadsMore v w → IsNotedOrAt h n u v k i → IsNotedOrAt h n u w k i
+  noted_or_later k i after (inl (since, loaded, kept)) = inl (since, among_before k.class since u v w loaded after, kept)
+  noted_or_later k i after (inr noted) = inr noted
+
+-- all are noted
+pub noted_whole : (is : Lookup → ℕ → Type 0) (ks : List Lookup) (imps : List ℕ) (m : ℕ) → length ks ≤ m → IsOfLast m is ks imps → IsOfLast (length ks) is ks imps
+noted_whole is ks imps m all noted place k i lt here has last =
+    noted place k i (omega (arith, lt, all)) here has (λ later j above below at. last later j above (slice_get_within ks later j at) at)

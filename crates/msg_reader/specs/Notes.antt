@@ -129,6 +129,10 @@ recalled_of n since c s = recalled n since (slot_of c) (selector_number s)
 abbrev pub HaveKept : Notes → ℕ → ClassRef → Selector → ImpRef → Type 0
 HaveKept n since c s i = slot_of c < 2 ^ 26 → recalled_of n since c s ≡ Some (imp_number i)
 
+-- it is noted after so many changes: since as many, or fewer
+abbrev pub IsKeptAt : ℕ → Notes → ClassRef → Selector → ImpRef → Type 0
+IsKeptAt count n c s i = (since : ℕ) → since ≤ count → HaveKept n since c s i
+
 -- they have it at a history
 abbrev pub HaveNotedFor : Notes → History → ClassRef → Selector → ImpRef → Type 0
 HaveNotedFor n h c s i = HaveNoted n h c (selector_number s) (imp_number i)

@@ -1,5 +1,6 @@
 -- Several lookups that are answered as one.
-use Rattle.std.specs.Prelude.{◌≡◌, ◌<◌, ◌≤◌, ◌⊎◌, ℕ, List, ◌∷◌, ◌++◌, length, map, Some, None, slice_get, All}
+use Rattle.std.specs.Prelude.{◌≡◌, ◌≢◌, ◌<◌, ◌≤◌, ◌⊎◌, ◌^◌, ℕ, List, ◌∷◌, ◌++◌, length, map, Some, None, slice_get, All}
+use Rattle.msg_names.specs.ClassRef.{slot_of}
 use Rattle.msg_names.specs.Number.{selector_number}
 use Rattle.msg_names.specs.declared.value.ClassRef.{ClassRef}
 use Rattle.msg_names.specs.declared.value.ImpRef.{ImpRef}
@@ -8,8 +9,9 @@ use Rattle.msg_tables.specs.History.{History, BeginsWith, lookup}
 use Rattle.msg_core.specs.State.{first}
 use Rattle.msg_cache.specs.Views.{ArenaView, IsFoundAt, classes}
 use Rattle.msg_cache.specs.declared.view.SenderView.{SenderView}
+use Rattle.msg_reader.specs.Key.{place_of}
 use Rattle.msg_reader.specs.Kept.{MissesUnlessChanged}
-use Rattle.msg_reader.specs.Notes.{recalled_of}
+use Rattle.msg_reader.specs.Notes.{IsNoted, recalled_of}
 use Rattle.msg_reader.specs.declared.lookup.Lookup.{Lookup}
 use Rattle.msg_reader.specs.declared.notes.Notes.{Notes}
 
@@ -63,3 +65,38 @@ LackOne n ks v w = (k : Lookup) × IsAmong ks k × LacksIt n (length v.front.cha
 -- says more changes than the sender had seen
 abbrev pub MissOne : ArenaView → List Lookup → SenderView → SenderView → Type 0
 MissOne a ks v w = (k : Lookup) × IsAmong ks k × MissesUnlessChanged a k.class (selector_number k.sel) v w
+
+-- ---- what is noted
+
+-- where the note of a lookup lies
+abbrev pub lies_at : Lookup → ℕ
+lies_at k = place_of (slot_of k.class) (selector_number k.sel)
+
+-- at each place but those of the lookups, notes have what they had
+abbrev pub KeepOthersOfAll : Notes → Notes → List Lookup → Type 0
+KeepOthersOfAll old new ks = (place : ℕ) → ((k : Lookup) → IsAmong ks k → place ≢ lies_at k) → slice_get new.notes place ≡ slice_get old.notes place
+
+-- between the views v and w a stamp of the lookup's class reference was loaded, since which the
+-- notes have the implementation of this number
+abbrev pub IsNotedAmong : Notes → SenderView → SenderView → Lookup → ℕ → Type 0
+IsNotedAmong n v w k i = (since : ℕ) × LoadsAmong k.class since v w × (slot_of k.class < 2 ^ 26 → recalled_of n since k.class k.sel ≡ Some i)
+
+-- so it is, or they have it at all changes of the history
+abbrev pub IsNotedOrAt : History → Notes → SenderView → SenderView → Lookup → ℕ → Type 0
+IsNotedOrAt h n v w k i = IsNotedAmong n v w k i ⊎ IsNoted h n k.class (selector_number k.sel) i
+
+-- of the first m lookups none that comes later lies where this one does
+abbrev pub IsLastThere : ℕ → List Lookup → ℕ → Lookup → Type 0
+IsLastThere m ks place k = (later : ℕ) (j : Lookup) → place < later → later < m → slice_get ks later ≡ Some j → lies_at k ≢ lies_at j
+
+-- so it is of each of the first m lookups and what it found, unless a later one lies there
+abbrev pub IsOfLast : ℕ → (Lookup → ℕ → Type 0) → List Lookup → List ℕ → Type 0
+IsOfLast m is_so ks imps = (place : ℕ) (k : Lookup) (i : ℕ) → place < m → slice_get ks place ≡ Some k → slice_get imps place ≡ Some i → IsLastThere m ks place k → is_so k i
+
+-- what each lookup found is noted, unless the note of a later one lies there
+abbrev pub AreNoted : Notes → SenderView → SenderView → List Lookup → List ℕ → Type 0
+AreNoted n v w ks imps = IsOfLast (length ks) (IsNotedAmong n v w) ks imps
+
+-- so it is where they were answered at this history
+abbrev pub AreNotedOrAt : History → Notes → SenderView → SenderView → List Lookup → List ℕ → Type 0
+AreNotedOrAt h n v w ks imps = IsOfLast (length ks) (IsNotedOrAt h n v w) ks imps

@@ -6,7 +6,7 @@ ghost use Rattle.msg_names.specs.Number.{imp_number};
 ghost use Rattle.msg_tables.specs.History.{History};
 ghost use Rattle.msg_cache.specs.Views.{classes, layout};
 ghost use Rattle.msg_reader.specs.Kept.{KeepOthers};
-ghost use Rattle.msg_reader.specs.Notes.{AreBlank, AreNotesOf, HaveKept, StayNotes, StayStamped};
+ghost use Rattle.msg_reader.specs.Notes.{AreBlank, AreNotesOf, IsKeptAt, StayNotes, StayStamped};
 ghost use Rattle.msg_reader.specs.Notes.{Tell, TellFound, recalled, recalled_of};
 
 use crate::note::{Note, PLACES, place};
@@ -90,7 +90,7 @@ impl Notes {
     pub fn keep(&mut self, arena: &Arena, count: u64, class: ClassRef, sel: Selector, imp: ImpRef)
         requires { class.class < classes arena.now }
         ensures notes { StayNotes self.old self.new count class sel imp }
-        ensures kept { (since : ℕ) → since ≤ count → HaveKept self.new since class sel imp }
+        ensures kept { IsKeptAt count self.new class sel imp }
         ensures others { KeepOthers self.old self.new class sel }
         ensures stamped { StayStamped (layout arena.now) self.old self.new }
     {

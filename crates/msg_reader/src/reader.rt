@@ -18,7 +18,7 @@ ghost use Rattle.msg_cache.specs.Plays.{given_again, renewed};
 ghost use Rattle.msg_names.specs.Number.{imp_number, selector_number};
 ghost use Rattle.msg_reader.specs.Found.{IsListed};
 ghost use Rattle.msg_reader.specs.Kept.{FindsRecalled, FindsUnprobed, HasLoaded, IsNotedFound, KeepOthers, LoadsMore, LoadsStamp, MissesAfter, MissesUnlessChanged, RecallsSince};
-ghost use Rattle.msg_reader.specs.Notes.{AreNotesOf, StayStamped};
+ghost use Rattle.msg_reader.specs.Notes.{AreNotesOf, IsKeptAt, StayStamped};
 ghost use Rattle.msg_reader.specs.Several.{IsFoundAfter};
 
 use crate::laws::notes_are_of_longer_histories;
@@ -61,6 +61,13 @@ impl Reader {
         ensures { result ≡ self }
     {
         self.prober
+    }
+
+    /// Its sender's number.
+    pub fn number(&self) -> u32
+        ensures { result ≡ self.now.sender.number }
+    {
+        self.prober.number()
     }
 
     /// Has then seen all that the keeper has, as the keeper's `renew`.
@@ -283,7 +290,9 @@ impl Reader {
         ensures notes { AreNotesOf self.new.sender.front notes.new }
         ensures stamped { StayStamped (layout arena.now) notes.old notes.new }
         ensures noted { IfSome result (IsNotedFound notes.new class sel self.new.sender) }
+        ensures kept { IfSome result (IsKeptAt count notes.new class sel) }
         ensures others { KeepOthers notes.old notes.new class sel }
+        ensures looks { self.new.sender.looks ≡ self.old.sender.looks }
         ensures stamps { LoadsMore self.old.sender self.new.sender }
         ensures missed { IfNone result (MissesAfter arena.now class (selector_number sel) count self.new.sender) }
     {

@@ -5,13 +5,13 @@
 //! many has affected it yet, and what the notes or the cache have now is what the lookup found
 //! then. A change of other classes goes by unseen.
 
-ghost use Rattle.std.specs.Prelude.{◌≡◌, ◌≤◌, ◌<◌, ◌⊎◌, length, IfSome, IfNone, IsSome};
+ghost use Rattle.std.specs.Prelude.{◌≡◌, ◌≤◌, ◌<◌, ◌+◌, ◌⊎◌, length, IfSome, IfNone, IsSome};
 ghost use Rattle.msg_tables.specs.History.{BeginsWith};
 ghost use Rattle.msg_cache.specs.Views.{IsSenderOf, classes, layout};
-ghost use Rattle.msg_names.specs.Number.{selector_number};
-ghost use Rattle.msg_reader.specs.Kept.{LoadsMore, MissesAfter};
+ghost use Rattle.msg_names.specs.Number.{imp_number, selector_number};
+ghost use Rattle.msg_reader.specs.Kept.{KeepOthers, LoadsMore, MissesAfter};
 ghost use Rattle.msg_reader.specs.Notes.{AreNotesOf, StayStamped};
-ghost use Rattle.msg_reader.specs.Several.{AreAsked, AreFoundAfter, IsFoundAfter, LackOne, LacksIt, MissOne};
+ghost use Rattle.msg_reader.specs.Several.{AreAsked, AreFoundAfter, AreNoted, IsFoundAfter, IsNotedAmong, KeepOthersOfAll, LackOne, LacksIt, MissOne};
 
 use crate::laws::notes_are_of_longer_histories;
 use crate::lookup::Lookup;
@@ -45,6 +45,10 @@ impl Reader {
         ensures found { IfSome result (AreFoundAfter self.old.sender self.new.sender (L.lookups lookups.now) imps.new) }
         ensures notes { AreNotesOf self.new.sender.front notes.new }
         ensures stamped { StayStamped (layout arena.now) notes.old notes.new }
+        ensures noted { IsSome result
+            → AreNoted notes.new self.old.sender self.new.sender (L.lookups lookups.now) imps.new }
+        ensures others { KeepOthersOfAll notes.old notes.new (L.lookups lookups.now) }
+        ensures looked { self.new.sender.looks ≡ self.old.sender.looks + 1 }
         ensures room { length imps.new ≡ length imps.old }
         ensures recalled { IfNone result (LackOne notes.old (L.lookups lookups.now) self.old.sender self.new.sender) }
         ensures missed { IfNone result (MissOne arena.now (L.lookups lookups.now) self.old.sender self.new.sender) }
@@ -80,6 +84,10 @@ impl Reader {
         ensures counted { IfSome result (IsFoundAfter count self.new.sender.front lookup.class lookup.sel) }
         ensures notes { AreNotesOf self.new.sender.front notes.new }
         ensures stamped { StayStamped (layout arena.now) notes.old notes.new }
+        ensures noted { IfSome result
+            (λ i. IsNotedAmong notes.new self.old.sender self.new.sender lookup (imp_number i)) }
+        ensures others { KeepOthers notes.old notes.new lookup.class lookup.sel }
+        ensures looks { self.new.sender.looks ≡ self.old.sender.looks }
         ensures stamps { LoadsMore self.old.sender self.new.sender }
         ensures recalled { (IsSome result × (notes.new ≡ notes.old))
             ⊎ LacksIt notes.old count lookup self.old.sender self.new.sender }

@@ -1,12 +1,8 @@
 -- Which lists are one change that sets a method's implementation or exchanges two.
-use Rattle.std.proofs.Common.{◌≡◌, ◌≢◌, ◌∙◌, ℕ, suc, ◌+◌, Bool, true, false, List, [], ◌∷◌, Option, None, Some, length, refl, sym, ap, arith}
+use Rattle.std.proofs.Common.{◌≡◌, ◌≢◌, ◌∙◌, ℕ, Bool, true, false, List, [], ◌∷◌, Option, Some, length, refl, sym, ap, arith}
 use Rattle.std.specs.Prelude.{slice_get, ◌||◌, if◌then◌else◌}
 use Rattle.std.specs.Option.{option_map_or}
 use Rattle.msg_names.specs.declared.value.ClassRef.{ClassRef}
-use Rattle.msg_names.specs.declared.value.ImpRef.{ImpRef}
-use Rattle.msg_names.specs.declared.value.Selector.{Selector}
-use Rattle.msg_names.specs.Number.{selector_number, imp_number}
-use Rattle.msg_tables.specs.ChangeList.{change_of}
 use Rattle.msg_tables.specs.Undo.{covering}
 use Rattle.msg_tables.specs.declared.change.Change.{Change}
 use Rattle.msg_tables.specs.declared.change.Change.TheVariants.{Attach}

@@ -1,3 +1,4 @@
 pub mod CrossingLemmas
 pub mod OneLemmas
 pub mod AloneLemmas
+pub mod RestingLemmas

@@ -1,6 +1,7 @@
 -- A change that is made alone, as a list of one.
-use Rattle.std.proofs.Common.{◌≡◌, ◌<◌, ◌+◌, ℕ, [], ◌∷◌, Option, None, Some, length, take, refl, sym, ap, subst, ◌∙◌, arith}
-use Rattle.std.specs.Prelude.{option_map}
+use Rattle.std.proofs.Common.{◌≡◌, ◌<◌, ◌≤◌, ◌+◌, ℕ, true, inl, inr, [], ◌∷◌, Option, None, Some, length, take, refl, sym, ap, subst, ◌∙◌, arith}
+use Rattle.std.specs.Prelude.{◌⊎◌, option_map}
+use Rattle.std.proofs.lemmas.Bool.{cases_lt}
 use Rattle.msg_tables.specs.declared.apply_all.Refused.{Refused}
 use Rattle.msg_tables.specs.declared.change.Change.{Change}
 use Rattle.msg_tables.specs.declared.fault.ChangeFault.{ChangeFault}
@@ -10,7 +11,12 @@ use Rattle.msg_tables.specs.Made.{AreMade, AreRefused}
 use Rattle.msg_tables.specs.Refusal.{refusal}
 use Rattle.msg_tables.specs.Several.{refused_from}
 use Rattle.msg_tables.proofs.SeveralLemmas.{refused-one_at}
+use Rattle.msg_tables.specs.RoomLaws.{adds_no_row}
+use Rattle.msg_tables.proofs.NoRowLemmas.{no-row-wants-none}
+use Rattle.msg_runtime.specs.Calls.{HasRoomForRows, LacksRoomFor, WantsRoom}
 use Rattle.msg_runtime.specs.Changed.{IsAccepted, IsMadeAt, IsRefusedAt}
+use Rattle.msg_runtime.specs.View.{RuntimeView}
+use Rattle.msg_runtime.specs.declared.runtime.TheConstants.{OPENING_ENTRIES}
 
 none-alone : (o : Option ChangeFault) → option_map (λ f. (let p : ℕ × ChangeFault = (0, f) in p)) o ≡ None → o ≡ None
 none-alone None e = refl
@@ -34,3 +40,18 @@ pub wanting_alone : (h : History) (x : Change) (r : Refused) → AreRefused (x �
 wanting_alone h x r refused memory =
     let first : r.place ≡ 0 = omega (arith, refused.place) in
     accepted-alone h x (subst (λ n. refused_from 0 (log h) (take (n + 1) (x ∷ [])) ≡ None) first (refused.memory memory))
+
+-- a change that adds no row wants none, where there is room for two entries
+pub no_row_alone : (v : RuntimeView) (x : Change) (r : Refused) → AreRefused (x ∷ []) v.keeper.history r → HasRoomForRows v → WantsRoom v (x ∷ []) r → r.fault ≡ Memory → adds_no_row x ≡ true
+    → v.written.room < OPENING_ENTRIES
+no_row_alone v x r refused rows wants memory none = split (cases_lt v.written.room 2)
+  where
+    first : r.place ≡ 0
+    first = omega (arith, refused.place)
+
+    lacks : LacksRoomFor v (x ∷ [])
+    lacks = subst (λ n. LacksRoomFor v (take (n + 1) (x ∷ []))) first (wants memory)
+
+    split : (v.written.room < 2) ⊎ (2 ≤ v.written.room) → v.written.room < OPENING_ENTRIES
+    split (inl few) = few
+    split (inr many) = absurd (no-row-wants-none (log v.keeper.history) v.rooms v.written.room x none rows many lacks)

@@ -1,5 +1,5 @@
 -- What the calls of a runtime do.
-use Rattle.std.specs.Prelude.{◌≡◌, ◌≤◌, ◌+◌, ℕ, List, [], Bool, cond, length, take}
+use Rattle.std.specs.Prelude.{◌≡◌, ◌≤◌, ◌+◌, ℕ, List, [], Bool, cond, length, slice_set, take}
 use Rattle.msg_names.specs.Number.{selector_number, imp_number}
 use Rattle.msg_names.specs.declared.value.ClassRef.{ClassRef}
 use Rattle.msg_names.specs.declared.value.ImpRef.{ImpRef}
@@ -53,6 +53,10 @@ pub record KeepsAtLeastRoom (r r' : RuntimeView) : Type 0 where
 abbrev pub beside_room : RuntimeView → RuntimeView
 beside_room r = record r { rooms = []; written = record { entries = []; room = 0 } }
 
+-- each class reference has room for its methods
+abbrev pub HasRoomForRows : RuntimeView → Type 0
+HasRoomForRows r = HaveRoomFor r.rooms (log r.keeper.history) []
+
 -- there is too little room for a list of changes
 abbrev pub LacksRoomFor : RuntimeView → List Change → Type 0
 LacksRoomFor r xs = LackRoomFor r.rooms r.written.room (log r.keeper.history) xs
@@ -83,6 +87,10 @@ LendsTurnIf b r r' = r'.keeper ≡ cond b (lent r.keeper) r.keeper
 -- a sender that is refused is counted, and no other
 abbrev pub CountsRefusalUnless : Bool → RuntimeView → RuntimeView → Type 0
 CountsRefusalUnless b r r' = r'.report ≡ cond b r.report (after_refusal r.report)
+
+-- a sender of this view rests: of its number it is noted how many changes there were
+abbrev pub RestsAs : SenderView → RuntimeView → RuntimeView → Type 0
+RestsAs v r r' = r'.rested ≡ slice_set r.rested v.number (length r.keeper.history.changes)
 
 -- each sender number that there may be is given out
 abbrev pub AllAreOut : RuntimeView → Type 0

@@ -4,4 +4,5 @@ pub mod Flushed
 pub mod Inside
 pub mod Parts
 pub mod Reach
+pub mod Resting
 pub mod View

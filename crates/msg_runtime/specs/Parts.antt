@@ -29,9 +29,9 @@ keeper_history k = (cache.view k).history
 abbrev pub keeper_view : Keeper → KeeperView
 keeper_view k = cache.view k
 
--- which sender numbers it has given out
-abbrev pub keeper_given : Keeper → List Bool
-keeper_given k = (cache.view k).given
+-- which sender numbers it has given out, and since when
+abbrev pub keeper_seats : Keeper → List Bool × List (ℕ × ℕ)
+keeper_seats k = ((cache.view k).given, (cache.view k).since)
 
 -- the capacities that it remembers
 abbrev pub keeper_remembered : Keeper → List ℕ

@@ -19,3 +19,6 @@ pub record RuntimeView : Type 0 where
   pub rooms : List ℕ
   -- what the last list of changes wrote, and the room for what the next one writes
   pub written : WrittenView
+  -- of each sender number, how many changes there were when its sender rested last, or was given
+  -- out
+  pub rested : List ℕ

@@ -2,7 +2,7 @@
 
 ghost use Rattle.std.specs.Prelude.{◌≡◌, ◌<◌};
 ghost use Rattle.msg_cache.specs.Views.{IsFoundAt, classes};
-ghost use Rattle.msg_runtime.specs.Parts.{CachesFound, IsKeeperOf, keeper_given, keeper_history, keeper_remembered};
+ghost use Rattle.msg_runtime.specs.Parts.{CachesFound, IsKeeperOf, keeper_history, keeper_remembered, keeper_seats};
 
 use msg_cache::laws::a_fill_changes_caches_alone;
 use msg_cache::{Arena, Keeper};
@@ -21,7 +21,7 @@ pub(crate) fn cache_found(
     requires found { IsFoundAt (keeper_history keeper.old) class sel imp }
     ensures arena { IsKeeperOf arena.now keeper.new }
     ensures history { keeper_history keeper.new ≡ keeper_history keeper.old }
-    ensures given { keeper_given keeper.new ≡ keeper_given keeper.old }
+    ensures seats { keeper_seats keeper.new ≡ keeper_seats keeper.old }
     ensures remembered { keeper_remembered keeper.new ≡ keeper_remembered keeper.old }
     ensures filled { CachesFound arena.now class sel imp keeper.old keeper.new }
 {

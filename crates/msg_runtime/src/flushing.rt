@@ -6,7 +6,7 @@ ghost use Rattle.msg_tables.specs.Origin.{class_total};
 ghost use Rattle.msg_tables.specs.Below.{covers};
 ghost use Rattle.msg_cache.specs.Ours.{IsCold};
 ghost use Rattle.msg_runtime.specs.Flushed.{AreClasses, ClassIsFlushed, IsFlushedBelow, StayFlushed};
-ghost use Rattle.msg_runtime.specs.Parts.{IsKeeperOf, keeper_given, keeper_history};
+ghost use Rattle.msg_runtime.specs.Parts.{IsKeeperOf, keeper_history, keeper_seats};
 
 use msg_cache::{Arena, Keeper};
 use msg_names::ClassRef;
@@ -19,7 +19,7 @@ pub(crate) fn flush_class(keeper: &mut Keeper, arena: &Arena, class: u32, own: b
     requires class { class < class_total (keeper_history keeper.old).origin }
     ensures arena { IsKeeperOf arena.now keeper.new }
     ensures history { keeper_history keeper.new ≡ keeper_history keeper.old }
-    ensures given { keeper_given keeper.new ≡ keeper_given keeper.old }
+    ensures seats { keeper_seats keeper.new ≡ keeper_seats keeper.old }
     ensures flushed { ClassIsFlushed arena.now keeper.new class own meta }
     ensures others { StayFlushed arena.now keeper.old keeper.new }
 {
@@ -37,7 +37,7 @@ fn flush_each(keeper: &mut Keeper, arena: &Arena, below: &Below)
     requires classes { AreClasses below.now.classes (keeper_history keeper.old).origin }
     ensures arena { IsKeeperOf arena.now keeper.new }
     ensures history { keeper_history keeper.new ≡ keeper_history keeper.old }
-    ensures given { keeper_given keeper.new ≡ keeper_given keeper.old }
+    ensures seats { keeper_seats keeper.new ≡ keeper_seats keeper.old }
     ensures flushed { (c : ClassRef) → covers below.now c ≡ true → IsCold arena.now keeper.new c }
     ensures others { StayFlushed arena.now keeper.old keeper.new }
 {
@@ -66,7 +66,7 @@ pub(crate) fn flush_below(
     requires room { length tables.now.supers ≤ below.old.room }
     ensures arena { IsKeeperOf arena.now keeper.new }
     ensures history { keeper_history keeper.new ≡ keeper_history keeper.old }
-    ensures given { keeper_given keeper.new ≡ keeper_given keeper.old }
+    ensures seats { keeper_seats keeper.new ≡ keeper_seats keeper.old }
     ensures flushed { IsFlushedBelow arena.now tables.now keeper.new class }
     ensures others { StayFlushed arena.now keeper.old keeper.new }
     ensures room { length tables.now.supers ≤ below.new.room }
@@ -81,7 +81,7 @@ pub(crate) fn flush_all(keeper: &mut Keeper, arena: &Arena, classes: u32)
     requires classes { classes ≡ class_total (keeper_history keeper.old).origin }
     ensures arena { IsKeeperOf arena.now keeper.new }
     ensures history { keeper_history keeper.new ≡ keeper_history keeper.old }
-    ensures given { keeper_given keeper.new ≡ keeper_given keeper.old }
+    ensures seats { keeper_seats keeper.new ≡ keeper_seats keeper.old }
     ensures flushed { (c : ClassRef) → c.class < classes → IsCold arena.now keeper.new c }
 {
     for class in 0..classes {

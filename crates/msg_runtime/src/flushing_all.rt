@@ -6,7 +6,7 @@ ghost use Rattle.msg_tables.specs.Journal.{NamesListed};
 ghost use Rattle.msg_tables.specs.Making.{is_told};
 ghost use Rattle.msg_tables.specs.Origin.{class_total};
 ghost use Rattle.msg_runtime.specs.Flushed.{AreFlushed, FirstAreFlushed, IsFlushedBelow, StayFlushed};
-ghost use Rattle.msg_runtime.specs.Parts.{IsKeeperOf, keeper_given, keeper_history};
+ghost use Rattle.msg_runtime.specs.Parts.{IsKeeperOf, keeper_history, keeper_seats};
 ghost use Rattle.msg_runtime.specs.Reach.{flushes_all, is_flushed, is_set, is_set_alone};
 
 use crate::flushing::{flush_all, flush_below, flush_class};
@@ -32,7 +32,7 @@ fn flush_entry(
     requires room { length tables.now.supers ≤ below.old.room }
     ensures arena { IsKeeperOf arena.now keeper.new }
     ensures history { keeper_history keeper.new ≡ keeper_history keeper.old }
-    ensures given { keeper_given keeper.new ≡ keeper_given keeper.old }
+    ensures seats { keeper_seats keeper.new ≡ keeper_seats keeper.old }
     ensures flushed { AreFlushed arena.now tables.now keeper.new (λ h. is_told h (entry ∷ [])) }
     ensures last { IfSome result (IsFlushedBelow arena.now tables.now keeper.new) }
     ensures others { StayFlushed arena.now keeper.old keeper.new }
@@ -68,7 +68,7 @@ fn flush_written(
     requires room { length tables.now.supers ≤ below.old.room }
     ensures arena { IsKeeperOf arena.now keeper.new }
     ensures history { keeper_history keeper.new ≡ keeper_history keeper.old }
-    ensures given { keeper_given keeper.new ≡ keeper_given keeper.old }
+    ensures seats { keeper_seats keeper.new ≡ keeper_seats keeper.old }
     ensures flushed { AreFlushed arena.now tables.now keeper.new (λ h. is_told h written.now.entries) }
     ensures room { length tables.now.supers ≤ below.new.room }
 {
@@ -132,7 +132,7 @@ pub(crate) fn flush_changed<L: ChangeList>(
     requires room { classes ≤ below.old.room }
     ensures arena { IsKeeperOf arena.now keeper.new }
     ensures history { keeper_history keeper.new ≡ keeper_history keeper.old }
-    ensures given { keeper_given keeper.new ≡ keeper_given keeper.old }
+    ensures seats { keeper_seats keeper.new ≡ keeper_seats keeper.old }
     ensures flushed { FirstAreFlushed classes arena.now tables.now keeper.new
         (λ h. is_flushed tables.now.counts (L.changes changes.now) h written.now.entries) }
     ensures room { classes ≤ below.new.room }

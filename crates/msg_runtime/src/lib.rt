@@ -5,6 +5,7 @@
 mod caching;
 mod flushing;
 mod flushing_all;
+mod resting;
 mod runtime;
 mod several;
 mod unmade;

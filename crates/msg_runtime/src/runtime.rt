@@ -1,11 +1,12 @@
 //! The runtime behind a lock.
 
-ghost use Rattle.std.specs.Prelude.{◌≡◌, ◌≢◌, ◌<◌, ◌≤◌, ◌*◌, length, take, not, is_some, true, [], ◌∷◌, IfOk, IfErr, IfSome, IsErrOf, IsNone, OnErr, OnOk, None};
+ghost use Rattle.std.specs.Prelude.{◌≡◌, ◌≢◌, ◌<◌, ◌≤◌, ◌*◌, length, replicate, slice_set, take, not, is_some, true, [], ◌∷◌, IfOk, IfErr, IfSome, IsErrOf, IsNone, OnErr, OnOk, None};
 ghost use Rattle.msg_names.specs.Number.{selector_number, imp_number};
 ghost use Rattle.msg_tables.specs.Origin.{last_imp};
 ghost use Rattle.msg_tables.specs.History.{BeginsWith, empty, holder, log, superclass};
 ghost use Rattle.msg_tables.specs.Made.{AreMade, AreRefused, TellsWayBack};
 ghost use Rattle.msg_tables.specs.Refusal.{IsLog};
+ghost use Rattle.msg_tables.specs.RoomLaws.{adds_no_row};
 ghost use Rattle.msg_tables.specs.Several.{refused_from};
 ghost use Rattle.msg_tables.specs.declared.fault.ChangeFault.{ChangeFault};
 ghost use Rattle.msg_cache.specs.Counts.{AreCounts};
@@ -14,7 +15,7 @@ ghost use Rattle.msg_cache.specs.declared.view.TurnAt.TheVariants.{Away};
 ghost use Rattle.msg_cache.specs.Views.{IsFoundAt, IsSenderOf, classes, layout};
 ghost use Rattle.msg_reader.specs.Kept.{KeepOthers};
 ghost use Rattle.msg_reader.specs.Notes.{AreNotesOf, IsNoted, StayStamped};
-ghost use Rattle.msg_runtime.specs.Calls.{AllAreOut, CachesAnswer, CountsRefusalUnless, HasKeeper, HoldsRoomFor, KeepsAtLeastRoom, KeepsCaches, KeepsRoom, LacksRoomFor, LendsTurnIf, MarksAllReached, WantsRoom, WantsRoomIf};
+ghost use Rattle.msg_runtime.specs.Calls.{AllAreOut, CachesAnswer, CountsRefusalUnless, HasKeeper, HasRoomForRows, HoldsRoomFor, KeepsAtLeastRoom, KeepsCaches, KeepsRoom, LacksRoomFor, LendsTurnIf, MarksAllReached, RestsAs, WantsRoom, WantsRoomIf};
 ghost use Rattle.msg_runtime.specs.Changed.{IsAccepted, IsMadeAt, IsRefusedAt, IsUnmade};
 ghost use Rattle.msg_runtime.specs.Parts.{IsKeeperOf, IsNew, keeper_history};
 ghost use Rattle.msg_runtime.specs.declared.runtime.TheConstants.{OPENING_ENTRIES};
@@ -44,11 +45,16 @@ use std::snapshot::Snapshot;
 /// is set or removed, an exchange and a class that is made take none.
 #[derive(Drop)]
 pub struct Runtime {
-    keeper: Keeper,
+    pub(crate) keeper: Keeper,
     tables: Tables,
     below: Below,
     written: Written,
     classes: u32,
+    // of each sender number, how many changes there were when its sender rested last, or was given
+    // out
+    pub(crate) rested: Vec<u64>,
+    // all sender numbers below it are given out
+    full: u32,
     arena: Snapshot<Arena>,
 }
 
@@ -86,6 +92,7 @@ impl Runtime {
         ensures history { IfOk result (λ r. r.keeper.history ≡ empty (C.given given.now)) }
         ensures keeper { IfOk result (HasKeeper keeper) }
         ensures entries { IfOk result (λ r. OPENING_ENTRIES ≤ r.written.room) }
+        ensures rested { IfOk result (λ r. r.rested ≡ replicate arena.now.key.senders 0) }
     {
         Runtime::of(alloc, arena, keeper, given.origin())
     }
@@ -103,15 +110,19 @@ impl Runtime {
         ensures history { IfOk result (λ r. r.keeper.history ≡ empty origin.now) }
         ensures keeper { IfOk result (HasKeeper keeper) }
         ensures entries { IfOk result (λ r. OPENING_ENTRIES ≤ r.written.room) }
+        ensures rested { IfOk result (λ r. r.rested ≡ replicate arena.now.key.senders 0) }
     {
         let tables = Tables::open(alloc, origin)?;
         let below = tables.room_below(alloc)?;
+        let rested = vec![in alloc; 0; arena.senders() as usize]?;
         Ok(Runtime {
             keeper,
             tables,
             below,
             written: Written::with_room(alloc, OPENING_ENTRIES)?,
             classes: origin.class_count(),
+            rested,
+            full: 0,
             arena: Snapshot::of(arena),
         })
     }
@@ -133,6 +144,7 @@ impl Runtime {
         ensures history { self.new.keeper.history ≡ self.old.keeper.history }
         ensures remembered { self.new.remembered ≡ self.old.remembered }
         ensures room { KeepsRoom self.old self.new }
+        ensures rested { self.new.rested ≡ self.old.rested }
         ensures cached { CachesAnswer class sel result reader.old.sender self.old self.new }
         ensures reader { IsSenderOf self.old.arena reader.new }
         ensures number { reader.new.sender.number ≡ reader.old.sender.number }
@@ -168,6 +180,7 @@ impl Runtime {
         ensures history { self.new.keeper.history ≡ self.old.keeper.history }
         ensures remembered { self.new.remembered ≡ self.old.remembered }
         ensures room { KeepsRoom self.old self.new }
+        ensures rested { self.new.rested ≡ self.old.rested }
         ensures cached { CachesAnswer class sel result reader.old.sender self.old self.new }
         ensures reader { IsSenderOf self.old.arena reader.new }
         ensures number { reader.new.sender.number ≡ reader.old.sender.number }
@@ -240,6 +253,7 @@ impl Runtime {
         ensures same { self.new ≡ record self.old
             { keeper = lent self.old.keeper; rooms = self.new.rooms; written = self.new.written } }
         ensures room { KeepsAtLeastRoom self.old self.new }
+        ensures forgotten { self.new.written.entries ≡ [] }
         ensures wanting { IfErr result (WantsRoom self.old (L.changes changes.now)) }
         ensures ok { OnOk result (refused_from 0 (log self.old.keeper.history) (L.changes changes.now) ≡ None) }
         ensures marks { OnOk result (MarksAllReached self.old (L.changes changes.now) marked.old marked.new) }
@@ -257,7 +271,7 @@ impl Runtime {
 
     /// Makes a change, closes what it reaches and flushes its caches, and answers how many times
     /// changes were made. It is a list of one: see [`change_all`](Runtime::change_all).
-    #[tactic(auto, using(crate::proofs::OneLemmas::made_alone, crate::proofs::OneLemmas::refused_alone, crate::proofs::OneLemmas::wanting_alone))]
+    #[tactic(auto, using(crate::proofs::OneLemmas::made_alone, crate::proofs::OneLemmas::refused_alone, crate::proofs::OneLemmas::wanting_alone, crate::proofs::OneLemmas::no_row_alone))]
     pub fn change(
         &mut self,
         arena: &Arena,
@@ -275,10 +289,14 @@ impl Runtime {
         ensures held { OnOk result (HoldsRoomFor self.old self.new (change.now ∷ [])) }
         ensures room { KeepsAtLeastRoom self.old self.new }
         ensures wanting { IsErrOf result ChangeFault.Memory → LacksRoomFor self.old (change.now ∷ []) }
+        ensures no_row { IsErrOf result ChangeFault.Memory
+            → adds_no_row change.now ≡ true → self.old.written.room < OPENING_ENTRIES }
         ensures err { OnErr result (self.new.keeper.history ≡ self.old.keeper.history) }
+        ensures forgotten { OnErr result (self.new.written.entries ≡ []) }
         ensures caches { OnErr result (KeepsCaches self.old self.new) }
         ensures report { OnErr result (self.new.report ≡ self.old.report) }
         ensures given { self.new.keeper.given ≡ self.old.keeper.given }
+        ensures rested { self.new.rested ≡ self.old.rested }
         ensures away { self.new.keeper.turn ≡ Away }
         ensures fault { IfErr result (IsRefusedAt self.old.keeper.history change.now) }
         ensures memory { IsErrOf result ChangeFault.Memory → IsAccepted self.old.keeper.history change.now }
@@ -316,11 +334,14 @@ impl Runtime {
             (TellsWayBack (L.changes changes.now) self.old.keeper.history self.new.written.entries) }
         ensures held { OnOk result (HoldsRoomFor self.old self.new (L.changes changes.now)) }
         ensures room { KeepsAtLeastRoom self.old self.new }
+        ensures rows { HasRoomForRows self.old }
         ensures wanting { IfErr result (WantsRoom self.old (L.changes changes.now)) }
         ensures err { OnErr result (self.new.keeper.history ≡ self.old.keeper.history) }
+        ensures forgotten { OnErr result (self.new.written.entries ≡ []) }
         ensures caches { OnErr result (KeepsCaches self.old self.new) }
         ensures report { OnErr result (self.new.report ≡ self.old.report) }
         ensures given { self.new.keeper.given ≡ self.old.keeper.given }
+        ensures rested { self.new.rested ≡ self.old.rested }
         ensures away { self.new.keeper.turn ≡ Away }
         ensures refused { IfErr result (AreRefused (L.changes changes.now) self.old.keeper.history) }
     {
@@ -353,11 +374,14 @@ impl Runtime {
         ensures fits { OnOk result (length self.new.written.entries ≤ most) }
         ensures held { OnOk result (HoldsRoomFor self.old self.new (L.changes changes.now)) }
         ensures room { KeepsAtLeastRoom self.old self.new }
+        ensures rows { HasRoomForRows self.old }
         ensures wanting { IfErr result (WantsRoomIf self.old (L.changes changes.now)) }
         ensures err { OnErr result (self.new.keeper.history ≡ self.old.keeper.history) }
+        ensures forgotten { OnErr result (self.new.written.entries ≡ []) }
         ensures caches { OnErr result (KeepsCaches self.old self.new) }
         ensures report { OnErr result (self.new.report ≡ self.old.report) }
         ensures given { self.new.keeper.given ≡ self.old.keeper.given }
+        ensures rested { self.new.rested ≡ self.old.rested }
         ensures away { self.new.keeper.turn ≡ Away }
         ensures unmade { IfErr result (IsUnmade (L.changes changes.now) self.old.keeper.history most) }
     {
@@ -390,7 +414,7 @@ impl Runtime {
     /// A reader of a sender number that isn't given out, where there is one. It has seen the whole
     /// history.
     ///
-    /// It looks at the numbers that are out up to the least that isn't.
+    /// It looks at the numbers from the least on that may be free.
     pub fn sender(&mut self, arena: &Arena) -> Option<Reader>
         requires arena { arena.now ≡ self.old.arena }
         ensures arena { self.new.arena ≡ self.old.arena }
@@ -400,14 +424,19 @@ impl Runtime {
         ensures reader { IfSome result (λ r. IsSenderOf self.old.arena r) }
         ensures some { IfSome result (λ r. IsNew r.sender self.old.keeper self.new.keeper) }
         ensures front { IfSome result (λ r. r.sender.front ≡ self.old.keeper.history) }
+        ensures rested { IfSome result (λ r. RestsAs r.sender self.old self.new) }
+        ensures unrested { IsNone result → self.new.rested ≡ self.old.rested }
         ensures none { IsNone result → AllAreOut self.old × (self.new.keeper ≡ self.old.keeper) }
         ensures origin { self.old.keeper.history.origin ≡ self.old.arena.key.origin }
     {
-        for number in 0..arena.senders() {
+        for number in self.full..arena.senders() {
             if let Some(prober) = self.keeper.give_out(arena, number) {
+                self.full = number + 1;
+                self.rested[number as usize] = self.keeper.count();
                 return Some(Reader::new(prober));
             }
         }
+        self.full = arena.senders();
         self.keeper.refuse(arena);
         None
     }
@@ -419,10 +448,14 @@ impl Runtime {
         ensures arena { self.new.arena ≡ self.old.arena }
         ensures remembered { self.new.remembered ≡ self.old.remembered }
         ensures room { KeepsRoom self.old self.new }
+        ensures rested { self.new.rested ≡ self.old.rested }
         ensures report { self.new.report ≡ self.old.report }
         ensures keeper { self.new.keeper ≡ taken_in reader.sender self.old.keeper }
         ensures begins { BeginsWith self.old.keeper.history reader.sender.front }
     {
+        if reader.number() < self.full {
+            self.full = reader.number();
+        }
         self.keeper.take_in(arena, reader.into_prober());
     }
 
@@ -432,6 +465,7 @@ impl Runtime {
         ensures arena { self.new.arena ≡ self.old.arena }
         ensures remembered { self.new.remembered ≡ self.old.remembered }
         ensures room { KeepsRoom self.old self.new }
+        ensures rested { self.new.rested ≡ self.old.rested }
         ensures report { self.new.report ≡ self.old.report }
         ensures keeper { LendsTurnIf (is_some result) self.old self.new }
         ensures once { is_some result ≡ not (is_lent self.old.keeper.turn) }
@@ -450,6 +484,7 @@ impl Runtime {
         ensures arena { self.new.arena ≡ self.old.arena }
         ensures remembered { self.new.remembered ≡ self.old.remembered }
         ensures room { KeepsRoom self.old self.new }
+        ensures rested { self.new.rested ≡ self.old.rested }
         ensures report { self.new.report ≡ self.old.report }
         ensures keeper { self.new.keeper ≡ given_again reader.old.sender (lent self.old.keeper) }
         ensures turn { turn.new.table ≡ self.old.arena.table }
@@ -459,6 +494,7 @@ impl Runtime {
         ensures is { turn.new.history ≡ self.old.keeper.history }
         ensures begins { BeginsWith self.old.keeper.history reader.old.sender.front }
         ensures front { reader.new.sender.front ≡ self.old.keeper.history }
+        ensures stamps { reader.new.sender.stamps ≡ reader.old.sender.stamps }
     {
         self.keeper.face(arena, turn);
         reader.renew(arena, &mut self.keeper);

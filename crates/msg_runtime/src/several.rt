@@ -1,11 +1,13 @@
 //! Several lookups at one point, behind the lock.
 
 ghost use Rattle.std.specs.Prelude.{◌≡◌, ◌<◌, length};
+ghost use Rattle.msg_names.specs.Number.{imp_number};
 ghost use Rattle.msg_tables.specs.History.{BeginsWith};
 ghost use Rattle.msg_cache.specs.declared.view.TurnAt.TheVariants.{Away};
 ghost use Rattle.msg_cache.specs.Views.{IsFoundAt, IsSenderOf, classes, layout};
+ghost use Rattle.msg_reader.specs.Kept.{KeepOthers, LoadsMore};
 ghost use Rattle.msg_reader.specs.Notes.{AreNotesOf, StayStamped};
-ghost use Rattle.msg_reader.specs.Several.{AreAsked, AreFoundAt};
+ghost use Rattle.msg_reader.specs.Several.{AreAsked, AreFoundAt, AreNotedOrAt, IsNotedOrAt, KeepOthersOfAll};
 ghost use Rattle.msg_runtime.specs.Calls.{KeepsRoom};
 
 use crate::runtime::Runtime;
@@ -38,6 +40,7 @@ impl Runtime {
         ensures history { self.new.keeper.history ≡ self.old.keeper.history }
         ensures remembered { self.new.remembered ≡ self.old.remembered }
         ensures room { KeepsRoom self.old self.new }
+        ensures rested { self.new.rested ≡ self.old.rested }
         ensures away { self.new.keeper.turn ≡ Away }
         ensures turn { turn.new.table ≡ self.old.arena.table }
         ensures was { turn.old.history ≡ self.old.keeper.history }
@@ -48,6 +51,9 @@ impl Runtime {
         ensures front { reader.new.sender.front ≡ self.old.keeper.history }
         ensures found { AreFoundAt self.old.keeper.history (L.lookups lookups.now) imps.new }
         ensures notes { AreNotesOf self.old.keeper.history notes.new }
+        ensures noted { AreNotedOrAt self.old.keeper.history notes.new
+            reader.old.sender reader.new.sender (L.lookups lookups.now) imps.new }
+        ensures others { KeepOthersOfAll notes.old notes.new (L.lookups lookups.now) }
         ensures stamped { StayStamped (layout self.old.arena) notes.old notes.new }
     {
         notes_are_of_longer_histories();
@@ -77,11 +83,16 @@ impl Runtime {
         ensures history { self.new.keeper.history ≡ self.old.keeper.history }
         ensures remembered { self.new.remembered ≡ self.old.remembered }
         ensures room { KeepsRoom self.old self.new }
+        ensures rested { self.new.rested ≡ self.old.rested }
         ensures reader { IsSenderOf self.old.arena reader.new }
         ensures number { reader.new.sender.number ≡ reader.old.sender.number }
         ensures begins { BeginsWith reader.new.sender.front reader.old.sender.front }
         ensures found { IsFoundAt reader.new.sender.front lookup.class lookup.sel result }
         ensures notes { AreNotesOf reader.new.sender.front notes.new }
+        ensures noted { IsNotedOrAt self.old.keeper.history notes.new
+            reader.old.sender reader.new.sender lookup (imp_number result) }
+        ensures others { KeepOthers notes.old notes.new lookup.class lookup.sel }
+        ensures stamps { LoadsMore reader.old.sender reader.new.sender }
         ensures stamped { StayStamped (layout self.old.arena) notes.old notes.new }
     {
         match reader.recall(arena, notes, lookup.class, lookup.sel) {

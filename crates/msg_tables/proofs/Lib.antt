@@ -35,6 +35,7 @@ pub mod StandsLemmas
 pub mod TakeLemmas
 pub mod ToldLemmas
 pub mod DepthLemmas
+pub mod NoRowLemmas
 pub mod NoteLemmas
 pub mod PlaceLemmas
 pub mod PopLemmas

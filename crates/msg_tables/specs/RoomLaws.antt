@@ -1,5 +1,5 @@
 -- What lists of changes need of memory, and their ways back.
-use Rattle.std.specs.Prelude.{◌<◌, ◌≤◌, ◌⊎◌, ℕ, List, length, slice_index_or, take}
+use Rattle.std.specs.Prelude.{◌≡◌, ◌<◌, ◌≤◌, ◌⊎◌, ℕ, Bool, true, false, List, [], ◌∷◌, length, slice_index_or, take}
 use Rattle.msg_names.specs.ClassRef.{slot_of}
 use Rattle.msg_names.specs.declared.value.ClassRef.{ClassRef}
 use Rattle.msg_tables.specs.ListLaws.{HoldsAtMost, IsMadeAt}
@@ -7,6 +7,7 @@ use Rattle.msg_tables.specs.Log.{Log, table}
 use Rattle.msg_tables.specs.Several.{and_all}
 use Rattle.msg_tables.specs.Undo.{undo_all}
 use Rattle.msg_tables.specs.declared.change.Change.{Change}
+use Rattle.msg_tables.specs.declared.change.Change.TheVariants.{SetImp, Exchange, AddClass, Remove}
 
 -- so many rows of a class reference there is room for
 abbrev pub room_in : List ℕ → ClassRef → ℕ
@@ -31,3 +32,18 @@ WayBackWritesNoMore = (h : Log) (xs : List Change) (k : ℕ) → IsMadeAt h xs �
 abbrev pub WayBackWantsNoMemory : Type 0
 WayBackWantsNoMemory = (h : Log) (xs : List Change) (rooms : List ℕ) (room k : ℕ) → IsMadeAt h xs → HaveRoomFor rooms h xs → length (undo_all (table h) xs) ≤ room
     → LackRoomFor rooms room (and_all h xs) (take k (undo_all (table h) xs)) → ⊥
+
+-- ---- changes that add no row
+
+-- a method that is set or removed, an exchange, and a class that is made
+abbrev pub adds_no_row : Change → Bool
+adds_no_row (SetImp c s i) = true
+adds_no_row (Exchange c s d u) = true
+adds_no_row (Remove c s) = true
+adds_no_row (AddClass k d) = true
+adds_no_row _ = false
+
+-- where each class reference has room for its rows, and there is room for two entries, they want no
+-- memory
+abbrev pub NoRowWantsNoMemory : Type 0
+NoRowWantsNoMemory = (h : Log) (rooms : List ℕ) (room : ℕ) (x : Change) → adds_no_row x ≡ true → HaveRoomFor rooms h [] → 2 ≤ room → LackRoomFor rooms room h (x ∷ []) → ⊥

@@ -42,7 +42,8 @@ impl Tables {
         requires { IsOwn self.old row }
         ensures writes { Writes self.old self.new (Edit.Rewrite row) }
         ensures own { (other : MethodRow) → IsOwn self.old other → IsOwn self.new other }
-        ensures value { self.new ≡ record self.old { lists = lists_rewritten row self.old.lists; rooms = self.new.rooms } }
+        ensures value { self.new ≡ record self.old
+            { lists = lists_rewritten row self.old.lists; rooms = self.new.rooms } }
         ensures grown { HaveGrown self.old.rooms self.new.rooms }
         ensures was { IsImpOf self.old row result }
         ensures back { TellsRewritten row self.old self.new }
@@ -117,7 +118,8 @@ impl Tables {
     // more; else all classes are gone over.
     pub(crate) fn unmake(&mut self, class: u32) -> Entry
         requires { IsOfTables self.old (Edit.Dispose class) }
-        ensures value { self.new ≡ record self.old { supers = slice_set self.old.supers class None; order = self.new.order } }
+        ensures value { self.new ≡ record self.old
+            { supers = slice_set self.old.supers class None; order = self.new.order } }
         ensures was { TellsDisposed self.old class result }
         ensures back { IsJournalOf (result ∷ []) self.old self.new }
     {

@@ -40,7 +40,8 @@ impl Tables {
         ensures grown { HaveGrown self.old.rooms self.new.rooms }
         ensures fault { IfErr result (λ f. f ≢ ChangeFault.Memory → Refuses self.old (change_of change.entry) f) }
         ensures memory { IsErrOf result ChangeFault.Memory → Accepts self.old (change_of change.entry) }
-        ensures wanting { IsErrOf result ChangeFault.Memory → WantsMore (change_of change.entry) (length journal.old.items) (vec_capacity journal.old) self.old }
+        ensures wanting { IsErrOf result ChangeFault.Memory
+            → WantsMore (change_of change.entry) (length journal.old.items) (vec_capacity journal.old) self.old }
         ensures within { IsWithinRoom self.new }
         ensures room { vec_capacity journal.old ≤ vec_capacity journal.new }
     {
@@ -99,13 +100,15 @@ impl Tables {
         ensures wanting { IfErr result (WantsMemory (L.changes changes.now) written.old.room self.old) }
         ensures held { OnOk result (AreHeld (L.changes changes.now) self.old self.new) }
         ensures room { written.old.room ≤ written.new.room }
+        ensures forgotten { OnErr result (written.new.entries ≡ []) }
         ensures before { IfErr result (AreMadeBefore (L.changes changes.now) self.old) }
         ensures within { IfErr result (λ r. r.place < length (L.changes changes.now)) }
         ensures places { OnOk result (HasPlaces (L.changes changes.now) self.old written.new.entries) }
         ensures made { OnOk result (classes_of written.new.entries ≡ made_by_all (L.changes changes.now)) }
         ensures undo { OnOk result (IsUndone (L.changes changes.now) self.old written.new.entries) }
         ensures noted { length written.new.entries ≤ written.new.room }
-        ensures back { OnOk result (GoesBack written.new.entries self.old.row_count self.old.change_count self.old self.new) }
+        ensures back { OnOk result
+            (GoesBack written.new.entries self.old.row_count self.old.change_count self.old self.new) }
         ensures affected { OnOk result (TellsAll (L.changes changes.now) self.old written.new.entries) }
         ensures listed { OnOk result (All (NamesListed (length self.new.supers)) written.new.entries) }
         ensures classes { length self.new.supers ≡ length self.old.supers }

@@ -125,51 +125,33 @@ impl Change {
     pub fn by_ref(&self) -> ChangeRef<'_>
         ensures { change_of result ≡ self.now }
     {
-        match self {
-            Change::Add { class, sel, imp } => ChangeRef::Add {
-                class: *class,
-                sel: *sel,
-                imp: *imp,
-            },
-            Change::Replace { class, sel, imp } => ChangeRef::Replace {
-                class: *class,
-                sel: *sel,
-                imp: *imp,
-            },
-            Change::SetImp { class, sel, imp } => ChangeRef::SetImp {
-                class: *class,
-                sel: *sel,
-                imp: *imp,
-            },
+        match *self {
+            Change::Add { class, sel, imp } => ChangeRef::Add { class, sel, imp },
+            Change::Replace { class, sel, imp } => ChangeRef::Replace { class, sel, imp },
+            Change::SetImp { class, sel, imp } => ChangeRef::SetImp { class, sel, imp },
             Change::Exchange {
                 class,
                 sel,
                 other,
                 other_sel,
             } => ChangeRef::Exchange {
-                class: *class,
-                sel: *sel,
-                other: *other,
-                other_sel: *other_sel,
+                class,
+                sel,
+                other,
+                other_sel,
             },
             Change::Attach {
                 class,
-                methods,
-                class_methods,
+                ref methods,
+                ref class_methods,
             } => ChangeRef::Attach {
-                class: *class,
+                class,
                 methods,
                 class_methods,
             },
-            Change::AddClass { class, superclass } => ChangeRef::AddClass {
-                class: *class,
-                superclass: *superclass,
-            },
-            Change::Remove { class, sel } => ChangeRef::Remove {
-                class: *class,
-                sel: *sel,
-            },
-            Change::DisposeClass { class } => ChangeRef::DisposeClass { class: *class },
+            Change::AddClass { class, superclass } => ChangeRef::AddClass { class, superclass },
+            Change::Remove { class, sel } => ChangeRef::Remove { class, sel },
+            Change::DisposeClass { class } => ChangeRef::DisposeClass { class },
         }
     }
 }

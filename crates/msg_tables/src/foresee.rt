@@ -231,7 +231,8 @@ impl Tables {
     // row taken away.
     fn covered(&self, class: ClassRef, sel: Selector) -> Option<ImpRef>
         requires { class.class < length self.now.supers }
-        ensures { option_map imp_number result ≡ own_in (selector_number sel) (without_row (selector_number sel) (kept self.now.lists class)) }
+        ensures { option_map imp_number result
+            ≡ own_in (selector_number sel) (without_row (selector_number sel) (kept self.now.lists class)) }
     {
         self.lists.covered(class.slot(), sel)
     }

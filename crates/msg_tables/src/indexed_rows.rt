@@ -34,8 +34,8 @@ impl Model for IndexedRows {
 }
 
 // The bucket of a selector, of so many. Numbers that follow one another have buckets that do. Those
-// that go by any step, as where a host makes them of addresses, are spread too: to the number a 32nd
-// of it is added, times the golden ratio's 0.618 (Knuth, The Art of Computer Programming, 6.4).
+// that go by any step, as a host's that are made of addresses, are spread too: a 32nd of the number
+// is added to it, times the golden ratio's 0.618 (Knuth, The Art of Computer Programming, 6.4).
 #[inline(always)]
 fn bucket(sel: Selector, count: usize) -> usize
     requires { 0 < count }
@@ -143,7 +143,8 @@ impl IndexedRows {
     // The implementation that would be in a selector's last row, were this one taken away. All rows
     // are gone over.
     pub(crate) fn covered(&self, sel: Selector) -> Option<ImpRef>
-        ensures { option_map imp_number result ≡ own_in (selector_number sel) (without_row (selector_number sel) self.now.rows) }
+        ensures { option_map imp_number result
+            ≡ own_in (selector_number sel) (without_row (selector_number sel) self.now.rows) }
     {
         let mut last = None;
         let mut covered = None;

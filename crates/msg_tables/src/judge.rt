@@ -408,9 +408,11 @@ impl Tables {
     fn judge_cover<'c>(&self, row: MethodRow) -> Result<Edit<'c>, ChangeFault>
         ensures meaning { IsJudged self.now (covering row.class (selector_number row.sel) (imp_number row.imp)) result }
         ensures fits { IfOk result (Fits self.now) }
-        ensures places { IfOk result (WritesAt self.now (covering row.class (selector_number row.sel) (imp_number row.imp))) }
+        ensures places { IfOk result
+            (WritesAt self.now (covering row.class (selector_number row.sel) (imp_number row.imp))) }
         ensures made { IfOk result (MakesTheSame (covering row.class (selector_number row.sel) (imp_number row.imp))) }
-        ensures undo { IfOk result (IsUndoneBy self.now (covering row.class (selector_number row.sel) (imp_number row.imp))) }
+        ensures undo { IfOk result
+            (IsUndoneBy self.now (covering row.class (selector_number row.sel) (imp_number row.imp))) }
     {
         if let Some(fault) = self.unfit(row) {
             return Err(fault);

@@ -1,6 +1,6 @@
 //! Laws of lists of changes, which are made as one or undone.
 
-ghost use Rattle.msg_tables.specs.RoomLaws.{WayBackWantsNoMemory, WayBackWritesNoMore};
+ghost use Rattle.msg_tables.specs.RoomLaws.{NoRowWantsNoMemory, WayBackWantsNoMemory, WayBackWritesNoMore};
 ghost use Rattle.std.specs.Prelude.{◌≡◌, List};
 ghost use Rattle.msg_tables.specs.History.{History, BeginsWith, log};
 ghost use Rattle.msg_tables.specs.ListLaws.{AcceptedWhereNoneIsRefused, AffectedIsAtItsPlaces, ListAffectsNoMore};
@@ -101,4 +101,10 @@ pub fn a_way_back_holds_no_more_rows()
 pub fn a_way_back_wants_no_memory()
     ensures entries { WayBackWritesNoMore }
     ensures memory { WayBackWantsNoMemory }
+{}
+
+/// A method that is set or removed, an exchange, and a class that is made add no row. They want no
+/// memory if each class reference has room for its rows and there is room for two entries.
+pub fn a_change_that_adds_no_row_wants_no_memory()
+    ensures { NoRowWantsNoMemory }
 {}

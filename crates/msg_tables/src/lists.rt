@@ -125,7 +125,9 @@ pub(crate) fn attach_rows(
     requires { at + 1 < length lists.old.items }
     ensures ok { OnOk result (Attaches at methods.now class_methods.now lists.old.items lists.new.items) }
     ensures err { OnErr result (rows_of lists.new.items ≡ rows_of lists.old.items) }
-    ensures refused { OnErr result (LacksRoomAt lists.old.items at (length methods.now) ⊎ LacksRoomAt lists.old.items (at + 1) (length class_methods.now)) }
+    ensures refused { OnErr result
+        (LacksRoomAt lists.old.items at (length methods.now)
+        ⊎ LacksRoomAt lists.old.items (at + 1) (length class_methods.now)) }
     ensures keeps { KeepRoom lists.old.items lists.new.items }
     ensures room { vec_capacity lists.old ≤ vec_capacity lists.new }
 {

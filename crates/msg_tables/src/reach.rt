@@ -72,8 +72,9 @@ impl Tables {
     /// nothing.
     ///
     /// The changes are made and taken back, and what they write is noted in the room that is lent:
-    /// what that costs, [`apply_all`](Tables::apply_all) says. Beside that it looks at the classes that it marks,
-    /// once for each place at which the changes write, where those of a place follow one another.
+    /// [`apply_all`](Tables::apply_all) says what that costs. The classes that are marked are also
+    /// looked at, once for each place at which the changes write, if those of a place follow one
+    /// another.
     pub fn reach_all<L: ChangeList>(
         &mut self,
         changes: &L,
@@ -97,6 +98,7 @@ impl Tables {
         ensures below { below.old.room ≤ below.new.room }
         ensures wanting { IfErr result (WantsMemory (L.changes changes.now) written.old.room self.old) }
         ensures room { written.old.room ≤ written.new.room }
+        ensures forgotten { written.new.entries ≡ [] }
     {
         let start = self.start();
         let entries = &mut written.entries;

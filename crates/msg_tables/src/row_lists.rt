@@ -202,7 +202,9 @@ impl RowLists {
         requires { at + 1 < length self.old }
         ensures ok { OnOk result (Attaches at methods.now class_methods.now self.old self.new) }
         ensures err { OnErr result (rows_of self.new ≡ rows_of self.old) }
-        ensures refused { OnErr result (LacksRoomAt self.old at (length methods.now) ⊎ LacksRoomAt self.old (at + 1) (length class_methods.now)) }
+        ensures refused { OnErr result
+            (LacksRoomAt self.old at (length methods.now)
+            ⊎ LacksRoomAt self.old (at + 1) (length class_methods.now)) }
         ensures keeps { KeepRoom self.old self.new }
     {
         if methods.len() + class_methods.len() == 0 {

@@ -60,7 +60,8 @@ impl MethodRows {
 
     // The implementation that would be in a selector's last row, were this one taken away.
     pub(crate) fn covered(&self, sel: Selector) -> Option<ImpRef>
-        ensures { option_map imp_number result ≡ own_in (selector_number sel) (without_row (selector_number sel) self.now.rows) }
+        ensures { option_map imp_number result
+            ≡ own_in (selector_number sel) (without_row (selector_number sel) self.now.rows) }
     {
         self.indexed.as_ref()?.covered(sel)
     }

@@ -1,6 +1,6 @@
 //! Taking back what a list of changes wrote.
 
-ghost use Rattle.std.specs.Prelude.{◌≡◌, ◌<◌, ◌≤◌, ◌-◌, ◌∷◌, ◌++◌, None, Some, drop, length, slice_set, take, true, false};
+ghost use Rattle.std.specs.Prelude.{◌≡◌, ◌<◌, ◌≤◌, ◌-◌, ◌∷◌, ◌++◌, [], None, Some, drop, length, slice_set, take, true, false};
 ghost use Rattle.std.specs.Vec.{vec_capacity};
 ghost use Rattle.msg_tables.specs.Journal.{lists_before, supers_before, order_before, before_all, makes};
 ghost use Rattle.msg_tables.specs.Journal.{AreTakenBack, CanAllGoBack, CanGoBack, GoesBack, IsSoundView};
@@ -114,6 +114,7 @@ fn unwrite_all(
     ensures room { vec_capacity order.new ≡ vec_capacity order.old }
     ensures keeps { KeepRoom lists.old lists.new }
     ensures journal { vec_capacity journal.old ≤ vec_capacity journal.new }
+    ensures emptied { journal.new.items ≡ [] }
     ensures kept { result ≡ false → supers.new.items ≡ supers.old.items }
 {
     let mut made = false;
@@ -143,6 +144,7 @@ impl Tables {
         ensures back { AreTakenBack journal.old.items start.rows start.changes self.old self.new }
         ensures grown { HaveGrown self.old.rooms self.new.rooms }
         ensures journal { vec_capacity journal.old ≤ vec_capacity journal.new }
+        ensures emptied { journal.new.items ≡ [] }
     {
         let made = unwrite_all(journal, &mut self.supers, &mut self.order, &mut self.lists);
         self.row_count = start.rows;
@@ -160,6 +162,7 @@ impl Tables {
         ensures back { AreTakenBack written.old.entries start.rows start.changes self.old self.new }
         ensures grown { HaveGrown self.old.rooms self.new.rooms }
         ensures room { written.old.room ≤ written.new.room }
+        ensures forgotten { written.new.entries ≡ [] }
     {
         self.take_back(start, &mut written.entries);
     }

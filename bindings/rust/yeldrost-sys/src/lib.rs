@@ -248,6 +248,8 @@ extern "C" {
         place: *mut usize,
     ) -> u32;
     pub fn msg_meet(runtime: *mut msg_runtime, sender: *mut msg_sender) -> u32;
+    pub fn msg_rest(runtime: *mut msg_runtime, sender: *mut msg_sender) -> u32;
+    pub fn msg_seen_by_all(runtime: *mut msg_runtime, count: *mut u64) -> u32;
     pub fn msg_version() -> u32;
     pub fn msg_sender_size() -> usize;
     pub fn msg_recall(sender: *const msg_sender, slot: usize, sel: u32, since: u64) -> usize;

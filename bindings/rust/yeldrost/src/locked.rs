@@ -275,6 +275,21 @@ impl<'r> Locked<'r> {
         Fault::of(unsafe { sys::msg_meet(&mut self.handle.0, raw) })
     }
 
+    /// As [`meet`](Locked::meet). The caller says by it that nothing the sender found before is in
+    /// use: its thread runs no such function, and keeps none to call.
+    pub fn rest(&mut self, sender: &mut Sender) -> Result<(), Fault> {
+        let raw = sender.raw_of(self.shared)?;
+        Fault::of(unsafe { sys::msg_rest(&mut self.handle.0, raw) })
+    }
+
+    /// How many changes every open sender had seen when it rested last, or was opened; all if none
+    /// is open. No sender finds what was before them: a function that they took out may be freed.
+    pub fn seen_by_all(&mut self) -> Result<u64, Fault> {
+        let mut count = 0;
+        Fault::of(unsafe { sys::msg_seen_by_all(&mut self.handle.0, &mut count) })?;
+        Ok(count)
+    }
+
     fn change(
         &mut self,
         made: impl FnOnce(*mut sys::msg_runtime) -> u32,

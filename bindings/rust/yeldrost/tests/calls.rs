@@ -302,6 +302,9 @@ fn senders() {
     assert_eq!(Ok(6), sender.refresh());
     assert_eq!(Ok(Some(i(6))), sender.find_called(CHILDREN, s(VALUE)));
     runtime.lock().meet(&mut sender).unwrap();
+    assert_eq!(Ok(4), runtime.lock().seen_by_all(), "a meeting is no rest");
+    runtime.lock().rest(&mut sender).unwrap();
+    assert_eq!(Ok(6), runtime.lock().seen_by_all());
     assert_eq!(
         Err(Fault::NoClass),
         sender.find(ClassRef::instances_of(u32::MAX), s(VALUE))

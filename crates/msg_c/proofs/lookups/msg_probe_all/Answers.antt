@@ -1,6 +1,9 @@
-use Rattle.std.proofs.Common.{◌≡◌, rules, subst}
-use Rattle.msg_host.specs.Lookups.{RowsLackOne, RowsMissOne}
+use Rattle.std.proofs.Common.{◌≡◌, ◌∙◌, Some, ap, rules, subst, sym}
+use Rattle.std.specs.Prelude.{Option, unwrap_or}
+use Rattle.msg_cache.specs.Views.{ArenaView}
+use Rattle.msg_host.specs.Lookups.{RowsKeepOthers, RowsLackOne, RowsMissOne}
 use Rattle.msg_host.specs.View.{SenderView}
+use Rattle.msg_c.specs.Answers.{sender_arena}
 use Rattle.msg_c.proofs.NoteLemmas.{notes_left}
 use Rattle.msg_c.proofs.lookups.msg_probe_all.Goals as goal
 
@@ -27,3 +30,15 @@ returns-in-Ok-false-clause-missed c missed u w was is =
     subst (λ (v : SenderView). RowsMissOne v.arena c.args.lookups.now v.seen w.seen) before
     (subst (λ (v : SenderView). RowsMissOne c.deref_mut.result.now.arena c.args.lookups.now c.deref_mut.result.now.seen v.seen) after
     (c.probe_all-found.ensures.missed (search rules)))
+
+pub returns-in-Ok-true-clause-others : goal.returns-in-Ok-true-clause-others
+returns-in-Ok-true-clause-others c a arena =
+    let sender : sender_arena c.args.sender.now.held.state ≡ Some c.deref_mut.result.now.arena = ap sender_arena c.take-asker.ensures.taken ∙ ap (λ (v : SenderView). Some v.arena) (sym c.deref_mut.ensures.value) in
+    let same : c.deref_mut.result.now.arena ≡ a = ap (λ (o : Option ArenaView). unwrap_or o a) (sym sender ∙ arena) in
+    subst (λ (b : ArenaView). RowsKeepOthers b c.args.sender.now.notes c.probe_all-found.new.notes c.args.lookups.now) same (search rules)
+
+pub returns-in-Ok-false-clause-others : goal.returns-in-Ok-false-clause-others
+returns-in-Ok-false-clause-others c a arena =
+    let sender : sender_arena c.args.sender.now.held.state ≡ Some c.deref_mut.result.now.arena = ap sender_arena c.take-asker.ensures.taken ∙ ap (λ (v : SenderView). Some v.arena) (sym c.deref_mut.ensures.value) in
+    let same : c.deref_mut.result.now.arena ≡ a = ap (λ (o : Option ArenaView). unwrap_or o a) (sym sender ∙ arena) in
+    subst (λ (b : ArenaView). RowsKeepOthers b c.args.sender.now.notes c.probe_all-found.new.notes c.args.lookups.now) same (search rules)

@@ -1,23 +1,13 @@
-use Rattle.std.proofs.Common.{◌≡◌, ◌≤◌, ◌+◌, ℕ, List, [], ◌∷◌, ◌++◌, None, length, length-append, take, refl, sym, ap, subst, ◌∙◌, append-nil, arith}
-use Rattle.std.proofs.lemmas.Bool.{or_parts}
-use Rattle.msg_names.specs.declared.value.ClassRef.{ClassRef}
-use Rattle.msg_tables.specs.History.{History, and_then, log, lookup}
+use Rattle.std.proofs.Common.{◌≡◌, ◌+◌, None, length, take, sym, ap, subst, ◌∙◌, arith}
+use Rattle.msg_tables.specs.History.{log}
 use Rattle.msg_tables.specs.Log as logs
 use Rattle.msg_tables.specs.Log.{Log, table}
 use Rattle.msg_tables.specs.ListLaws.{IsMadeAt}
-use Rattle.msg_tables.specs.Made.{AreMade, and_as_one}
 use Rattle.msg_tables.specs.Origin.{IsSound, OriginView}
 use Rattle.msg_tables.specs.RoomLaws.{LackRoomFor}
 use Rattle.msg_tables.specs.Several.{and_all, refused_from}
 use Rattle.msg_tables.specs.Undo.{AreFit, undo_all}
-use Rattle.msg_tables.specs.declared.change.Change.{Change}
-use Rattle.msg_tables.proofs.HistoryLemmas.{log-all}
-use Rattle.msg_runtime.specs.View.{RuntimeView}
-use Rattle.msg_host.specs.Config.{host_origin}
-use Rattle.msg_host.specs.Listing.{AreMeant, LackMemoryAt, MakesRows, UndoesRows}
-use Rattle.msg_host.specs.WayBack.{IsHosts, TakesBack}
-use Rattle.msg_host.specs.declared.config.HostConfig.{HostConfig}
-use Rattle.msg_host.specs.declared.listing.ChangeRow.{ChangeRow}
+use Rattle.msg_host.specs.Listing.{AreMeant}
 use Rattle.msg_host.proofs.ConfigLemmas.{host_origin_sound, few-classes}
 use Rattle.msg_host.proofs.ListingLemmas.{meant-same}
 use Rattle.msg_host.proofs.WayBackLemmas.{host-fit, log-as_one, length-all, rows-numbered}

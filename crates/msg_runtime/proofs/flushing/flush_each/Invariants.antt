@@ -2,7 +2,7 @@ use Rattle.std.proofs.Common.{◌≡◌, take, true}
 use Rattle.msg_names.specs.declared.value.ClassRef.{ClassRef}
 use Rattle.msg_tables.specs.Below.{covers}
 use Rattle.msg_cache.specs.Ours.{IsCold}
-use Rattle.msg_runtime.specs.Parts.{IsKeeperOf, keeper_given, keeper_history}
+use Rattle.msg_runtime.specs.Parts.{IsKeeperOf, keeper_history, keeper_seats}
 use Rattle.msg_runtime.proofs.flushing.flush_each.Given as goal
 
 -- the caches of the first classes are flushed
@@ -10,7 +10,7 @@ abbrev pub invariant-loop-class : goal.invariant-loop-class
 invariant-loop-class l = record {
   arena : IsKeeperOf l.arena l.keeper;
   history : keeper_history l.keeper ≡ keeper_history l.fn.keeper;
-  given : keeper_given l.keeper ≡ keeper_given l.fn.keeper;
+  seats : keeper_seats l.keeper ≡ keeper_seats l.fn.keeper;
   flushed : (c : ClassRef) → covers (record l.below { classes = take l.class-index l.class-items }) c ≡ true → IsCold l.arena l.keeper c;
   others : (c : ClassRef) → IsCold l.arena l.fn.keeper c → IsCold l.arena l.keeper c;
 }

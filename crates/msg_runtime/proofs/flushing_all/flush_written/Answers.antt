@@ -8,7 +8,7 @@ pub loop-entry-preserved : goal.loop-entry-preserved
 loop-entry-preserved c = record {
   arena = c.flush_entry-last.ensures.arena;
   history = c.flush_entry-last.ensures.history ∙ c.loop-entry.invariant.history;
-  given = c.flush_entry-last.ensures.given ∙ c.loop-entry.invariant.given;
+  seats = c.flush_entry-last.ensures.seats ∙ c.loop-entry.invariant.seats;
   room = c.flush_entry-last.ensures.room;
   last = c.flush_entry-last.ensures.last;
   flushed = λ h stands d told.

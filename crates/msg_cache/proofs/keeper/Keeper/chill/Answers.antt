@@ -2,7 +2,7 @@ use Rattle.std.proofs.Common.{ap, sym, subst, ◌∙◌, cond}
 use Rattle.msg_cache.specs.declared.view.KeeperView.{KeeperView}
 use Rattle.msg_cache.specs.Layout.{layout_of}
 use Rattle.msg_cache.specs.Plays.{flushed, keeper_of}
-use Rattle.msg_cache.proofs.ColdLemmas.{Cold, chilled_given, chilled_history, close_stays, flush_stays, flush_chills}
+use Rattle.msg_cache.proofs.ColdLemmas.{Cold, chilled_given, chilled_history, chilled_since, close_stays, flush_stays, flush_chills}
 use Rattle.msg_cache.proofs.keeper.Keeper.chill.Goals as goal
 
 pub returns-clause-view : goal.returns-clause-view
@@ -22,6 +22,13 @@ returns-clause-given c =
     let was = keeper_of c.args.self.now.seat.me.0 in
     ap (λ (k : KeeperView). k.given) (c.flush.ensures.flushed ∙ ap (λ (k : KeeperView). cond c.flush.result (flushed c.args.class k) k) c.close.ensures.view)
     ∙ chilled_given c.flush.result c.args.class z was
+
+pub returns-clause-since : goal.returns-clause-since
+returns-clause-since c =
+    let z = layout_of c.args.arena.now.key in
+    let was = keeper_of c.args.self.now.seat.me.0 in
+    ap (λ (k : KeeperView). k.since) (c.flush.ensures.flushed ∙ ap (λ (k : KeeperView). cond c.flush.result (flushed c.args.class k) k) c.close.ensures.view)
+    ∙ chilled_since c.flush.result c.args.class z was
 
 pub returns-clause-cold : goal.returns-clause-cold
 returns-clause-cold c =

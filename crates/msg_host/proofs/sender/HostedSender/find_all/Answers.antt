@@ -1,7 +1,7 @@
 use Rattle.std.proofs.Common.{◌≡◌, ap, subst, sym, ◌∙◌}
 use Rattle.msg_cache.specs.Views.{ArenaView, layout}
 use Rattle.msg_reader.specs.Notes.{StayStamped}
-use Rattle.msg_reader.specs.Several.{LackOne, MissOne}
+use Rattle.msg_reader.specs.Several.{AreNoted, LackOne, MissOne}
 use Rattle.msg_host.specs.View.{SenderView}
 use Rattle.msg_host.proofs.LookupLemmas.{if_found, if_lacking}
 use Rattle.msg_host.proofs.sender.HostedSender.find_all.Goals as goal
@@ -24,3 +24,8 @@ returns-clause-missed g c = λ none.
 pub returns-clause-stamped : goal.returns-clause-stamped
 returns-clause-stamped g c =
     subst (λ (a : ArenaView). StayStamped (layout a) c.args.notes.now c.find_all.new.notes) (c.deref.ensures ∙ ap (λ (v : SenderView). v.arena) c.self.view_is) c.find_all.ensures.stamped
+
+pub returns-clause-noted : goal.returns-clause-noted
+returns-clause-noted g c = λ is.
+    let noted = c.find_all.ensures.noted (sym c.is_some.ensures ∙ is) in
+    subst (λ (v : SenderView). AreNoted c.find_all.new.notes v.seen c.find_all.new.self.sender (g.L.LookupList.lookups c.args.lookups.now) c.find_all.new.imps) c.self.view_is noted

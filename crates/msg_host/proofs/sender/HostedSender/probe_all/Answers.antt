@@ -1,6 +1,6 @@
 use Rattle.std.proofs.Common.{◌≡◌, ◌<◌, ◌∙◌, ℕ, List, All, true, false, subst}
 use Rattle.msg_cache.specs.Views.{classes}
-use Rattle.msg_reader.specs.Several.{LackOne, MissOne}
+use Rattle.msg_reader.specs.Several.{AreNoted, KeepOthersOfAll, LackOne, MissOne}
 use Rattle.msg_reader.specs.declared.lookup.Lookup.{Lookup}
 use Rattle.msg_host.specs.Lookups.{AreRowsFoundAt, lookups_in}
 use Rattle.msg_host.specs.declared.lookups.LookupRow.{LookupRow}
@@ -36,3 +36,20 @@ returns-clause-missed c = λ is.
     let many : list.classes ≡ classes a = c.in_ok-lookups.ensures.rows.1 ∙ c.class_count.ensures in
     let of-arena = subst (λ (n : ℕ). MissOne a (lookups_in n list.rows.now) c.args.self.now.seen c.find_all.new.self.seen) many (c.find_all.ensures.missed no) in
     subst (λ (rows : List LookupRow). MissOne a (lookups_in (classes a) rows) c.args.self.now.seen c.find_all.new.self.seen) c.in_ok-lookups.ensures.rows.0 of-arena
+
+pub returns-clause-noted : goal.returns-clause-noted
+returns-clause-noted c = λ is.
+    let list = c.in_ok-lookups.lookups in
+    let a = c.args.self.now.arena in
+    let yes : c.find_all.result ≡ true = cc in
+    let many : list.classes ≡ classes a = c.in_ok-lookups.ensures.rows.1 ∙ c.class_count.ensures in
+    let of-arena = subst (λ (n : ℕ). AreNoted c.find_all.new.notes c.args.self.now.seen c.find_all.new.self.seen (lookups_in n list.rows.now) c.find_all.new.imps) many (c.find_all.ensures.noted yes) in
+    subst (λ (rows : List LookupRow). AreNoted c.find_all.new.notes c.args.self.now.seen c.find_all.new.self.seen (lookups_in (classes a) rows) c.find_all.new.imps) c.in_ok-lookups.ensures.rows.0 of-arena
+
+pub returns-clause-others : goal.returns-clause-others
+returns-clause-others c =
+    let list = c.in_ok-lookups.lookups in
+    let a = c.args.self.now.arena in
+    let many : list.classes ≡ classes a = c.in_ok-lookups.ensures.rows.1 ∙ c.class_count.ensures in
+    let of-arena = subst (λ (n : ℕ). KeepOthersOfAll c.args.notes.now c.find_all.new.notes (lookups_in n list.rows.now)) many c.find_all.ensures.others in
+    subst (λ (rows : List LookupRow). KeepOthersOfAll c.args.notes.now c.find_all.new.notes (lookups_in (classes a) rows)) c.in_ok-lookups.ensures.rows.0 of-arena

@@ -1,9 +1,12 @@
 use Rattle.std.proofs.Common.{◌≤◌, ◌++◌, ◌∷◌, ◌∙◌, ℕ, List, [], length, refl, sym, ap, inl, inr, arith, append_assoc}
-use Rattle.msg_names.specs.Number.{selector_number}
+use Rattle.msg_names.specs.Number.{imp_number, selector_number}
 use Rattle.msg_names.specs.declared.value.ClassRef.{ClassRef}
 use Rattle.msg_core.specs.Stamps.{last_affected}
 use Rattle.msg_core.proofs.StampLemmas.{since as stays-since}
-use Rattle.msg_reader.proofs.ReaderLemmas.{as_long, has_loaded, stamps_are}
+use Rattle.msg_cache.specs.declared.view.SenderView.{SenderView}
+use Rattle.msg_reader.specs.Notes.{IsKeptAt}
+use Rattle.msg_reader.specs.Several.{IsNotedAmong, LoadsAmong}
+use Rattle.msg_reader.proofs.ReaderLemmas.{as_long, has_loaded, if_some, stamps_are}
 use Rattle.msg_reader.proofs.reader.Reader.find_after.Goals as goal
 
 pub find_at-requires-clause-notes : goal.find_at-requires-clause-notes
@@ -68,3 +71,25 @@ returns-in-None-clause-recalled c =
     let (more, is) = c.find_at.ensures.stamps in
     let stamped = stamps_are c.args.lookup.class c.stamp-since.result c.args.self.now.sender c.stamp-since.new.self.sender c.stamp-since.ensures.loaded in
     inr (c.stamp-since.result, (more, [], is ∙ ap (λ (l : List (ClassRef × ℕ)). more ++ l) stamped), inr (sym c.in-None.ensures.noted))
+
+pub returns-then-count-since-clause-looks : goal.returns-then-count-since-clause-looks
+returns-then-count-since-clause-looks c = ap (λ (u : SenderView). u.looks) c.stamp-since.ensures.loaded
+
+pub returns-in-Some-clause-looks : goal.returns-in-Some-clause-looks
+returns-in-Some-clause-looks c = ap (λ (u : SenderView). u.looks) c.stamp-since.ensures.loaded
+
+pub returns-in-None-clause-looks : goal.returns-in-None-clause-looks
+returns-in-None-clause-looks c = c.find_at.ensures.looks ∙ ap (λ (u : SenderView). u.looks) c.stamp-since.ensures.loaded
+
+pub returns-in-Some-clause-noted : goal.returns-in-Some-clause-noted
+returns-in-Some-clause-noted c =
+    (c.stamp-since.result, ([], [], stamps_are c.args.lookup.class c.stamp-since.result c.args.self.now.sender c.stamp-since.new.self.sender c.stamp-since.ensures.loaded), λ low. sym c.in-Some.ensures.noted)
+
+pub returns-in-None-clause-noted : goal.returns-in-None-clause-noted
+returns-in-None-clause-noted c =
+    let since = c.stamp-since.result in
+    let (more, is) = c.find_at.ensures.stamps in
+    let stamped = stamps_are c.args.lookup.class since c.args.self.now.sender c.stamp-since.new.self.sender c.stamp-since.ensures.loaded in
+    let loaded : LoadsAmong c.args.lookup.class since c.args.self.now.sender c.find_at.new.self.sender = (more, [], is ∙ ap (λ (l : List (ClassRef × ℕ)). more ++ l) stamped) in
+    if_some (IsKeptAt c.args.count c.find_at.new.notes c.args.lookup.class c.args.lookup.sel) (λ i. IsNotedAmong c.find_at.new.notes c.args.self.now.sender c.find_at.new.self.sender c.args.lookup (imp_number i))
+    c.find_at.result (λ i kept. (since, loaded, kept since (omega (arith, c.if-count-since.false)))) c.find_at.ensures.kept

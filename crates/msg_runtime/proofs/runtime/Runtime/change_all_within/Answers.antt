@@ -1,21 +1,16 @@
 -- the tables stand at the longer history, and what the list affects is flushed
-use Rattle.std.proofs.Common.{rules, ◌≡◌, ◌≤◌, ◌||◌, length, true, false, Bool, ap, sym, subst, refl, ◌∙◌, arith}
-use Rattle.std.specs.Prelude.{is_some}
-use Rattle.msg_names.specs.declared.value.ClassRef.{ClassRef}
+use Rattle.std.proofs.Common.{rules, ◌≡◌, ◌≤◌, ◌||◌, [], ◌∷◌, length, length-append, true, false, Bool, ap, sym, subst, refl, ◌∙◌, arith}
 use Rattle.msg_tables.specs.History.{History, and_then, log}
-use Rattle.msg_tables.specs.Log as logs
-use Rattle.msg_tables.specs.Making.{is_told}
 use Rattle.msg_tables.specs.Origin.{class_total}
-use Rattle.msg_tables.specs.Several.{and_all, is_affected_by_all, refusal_of_all}
+use Rattle.msg_tables.specs.Several.{refusal_of_all}
 use Rattle.msg_tables.specs.Stands.{StandsAt}
 use Rattle.msg_tables.proofs.HistoryLemmas.{log-all}
 use Rattle.msg_tables.proofs.SeveralLemmas.{none-refused}
+use Rattle.msg_tables.proofs.WantLemmas.{count-within}
 use Rattle.msg_tables.proofs.WayLemmas.{length-undo}
-use Rattle.msg_cache.specs.Views.{ArenaView}
 use Rattle.msg_cache.specs.declared.view.KeeperView.{KeeperView}
-use Rattle.msg_runtime.specs.Parts.{IsKeeperOf, keeper_history}
-use Rattle.msg_runtime.specs.Reach.{is_flushed, is_set_alone}
-use Rattle.msg_runtime.specs.View.{RuntimeView}
+use Rattle.msg_runtime.specs.Parts.{IsKeeperOf, keeper_history, keeper_view}
+use Rattle.msg_runtime.proofs.RestingLemmas.{full_on, rests_on}
 use Rattle.msg_runtime.proofs.runtime.Runtime.change_all_within.Goals as goal
 
 either : (a b : Bool) → b ≡ true → (a || b) ≡ true
@@ -35,6 +30,7 @@ invariant_of-self-2 g c =
     let h = keeper_history c.self.inside.keeper in
     let same : keeper_history c.flush_changed.new.keeper ≡ h = c.flush_changed.ensures.history ∙ ap (λ (k : KeeperView). k.history) c.face.ensures.same in
     let longer : keeper_history c.commit_all.new.self ≡ and_then h xs = ap (λ (k : KeeperView). k.history) c.commit_all.ensures.committed ∙ ap (λ (k : History). and_then k xs) same in
+    let given = ap (λ (k : KeeperView). k.given) c.commit_all.ensures.committed ∙ ap (λ q. q.0) c.flush_changed.ensures.seats ∙ ap (λ (k : KeeperView). k.given) c.face.ensures.same in
     let keeper : IsKeeperOf c.self.inside.arena.value c.commit_all.new.self = search rules in
     let room : c.self.inside.classes ≤ c.flush_changed.new.below.room = search rules in
     record {
@@ -43,6 +39,12 @@ invariant_of-self-2 g c =
       origin = ap (λ (k : History). k.origin) longer ∙ was.origin;
       classes = was.classes ∙ ap (λ (k : History). class_total k.origin) (sym longer);
       room = room;
+      rests = rests_on (keeper_view c.self.inside.keeper) (keeper_view c.commit_all.new.self) c.self.inside.rested.items
+          given
+          (ap (λ (k : KeeperView). k.since) c.commit_all.ensures.committed ∙ ap (λ q. q.1) c.flush_changed.ensures.seats ∙ ap (λ (k : KeeperView). k.since) c.face.ensures.same)
+          (omega (arith, ap (λ (k : History). length k.changes) longer, length-append h.changes (xs ∷ [])))
+          was.rests;
+      full = full_on (keeper_view c.self.inside.keeper) (keeper_view c.commit_all.new.self) c.self.inside.full given was.full;
     }
 
 pub returns-then-most-count-clause-unmade : goal.returns-then-most-count-clause-unmade
@@ -59,3 +61,16 @@ returns-clause-held g c =
     let many = length-undo c.apply_all.new.written.entries in
     let all = ap length (c.in_default.ensures.undo h c.self.invariant.tables) in
     rw (← c.self.view_is) record { rows = c.in_default.ensures.held h c.self.invariant.tables; entries = omega (arith, many, all, c.in_default.ensures.noted) }
+
+-- each class reference had room for its methods
+pub returns-in-Err-clause-rows : goal.returns-in-Err-clause-rows
+returns-in-Err-clause-rows g c = rw (← c.self.view_is) (λ d. count-within c.self.inside.tables (log (keeper_history c.self.inside.keeper)) d c.self.invariant.tables c.start-start.ensures.within)
+
+pub returns-then-most-count-clause-rows : goal.returns-then-most-count-clause-rows
+returns-then-most-count-clause-rows g c = rw (← c.self.view_is) (λ d. count-within c.self.inside.tables (log (keeper_history c.self.inside.keeper)) d c.self.invariant.tables c.start-start.ensures.within)
+
+pub returns-then-len-eq0-clause-rows : goal.returns-then-len-eq0-clause-rows
+returns-then-len-eq0-clause-rows g c = rw (← c.self.view_is) (λ d. count-within c.self.inside.tables (log (keeper_history c.self.inside.keeper)) d c.self.invariant.tables c.start-start.ensures.within)
+
+pub returns-clause-rows : goal.returns-clause-rows
+returns-clause-rows g c = rw (← c.self.view_is) (λ d. count-within c.self.inside.tables (log (keeper_history c.self.inside.keeper)) d c.self.invariant.tables c.start-start.ensures.within)

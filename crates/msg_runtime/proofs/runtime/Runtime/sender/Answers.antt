@@ -5,6 +5,8 @@ use Rattle.msg_tables.specs.Stands.{StandsAt}
 use Rattle.msg_core.specs.State.{awaits}
 use Rattle.msg_cache.specs.declared.view.KeeperView.{KeeperView}
 use Rattle.msg_runtime.specs.Parts.{AreOut, IsKeeperOf, keeper_view}
+use Rattle.msg_runtime.specs.Resting.{AreRested}
+use Rattle.msg_runtime.specs.View.{RuntimeView}
 use Rattle.msg_runtime.proofs.runtime.Runtime.sender.Goals as goal
 
 -- a number that is one of those, and isn't given, is out
@@ -23,7 +25,8 @@ loop-number-init c = record {
   report = ap (λ v. v.report) c.self.view_is;
   rooms = ap (λ v. v.rooms) c.self.view_is;
   written = ap (λ v. v.written) c.self.view_is;
-  out = λ n below. absurd (omega arith);
+  rested = ap (λ v. v.rested) c.self.view_is;
+  out = subst (λ (v : RuntimeView). AreOut c.self.inside.full v.keeper) c.self.view_is c.self.invariant.full;
 }
 
 pub loop-number-preserved : goal.loop-number-preserved
@@ -38,6 +41,8 @@ loop-number-preserved c =
         origin = ap (λ (h : History). h.origin) history ∙ inv.together.origin;
         classes = inv.together.classes ∙ ap (λ (h : History). class_total h.origin) (sym history);
         room = inv.together.room;
+        rests = subst (λ k. AreRested k c.loop-number.self-inside.rested.items) (sym e.view) inv.together.rests;
+        full = subst (λ k. AreOut c.loop-number.self-inside.full k) (sym e.view) inv.together.full;
       };
       arena = inv.arena;
       keeper = e.view ∙ inv.keeper;
@@ -45,5 +50,6 @@ loop-number-preserved c =
       report = e.report ∙ inv.report;
       rooms = inv.rooms;
       written = inv.written;
+      rested = inv.rested;
       out = out_on c.args.self.now.keeper c.loop-number.number inv.out (subst (λ (k : KeeperView). awaits k.given c.loop-number.number ≡ true) inv.keeper here);
     }

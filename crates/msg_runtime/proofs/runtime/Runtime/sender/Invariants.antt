@@ -12,5 +12,6 @@ invariant-loop-number l = record {
   report : keeper_report l.self-inside.keeper ≡ l.fn.self.report;
   rooms : l.self-inside.tables.rooms ≡ l.fn.self.rooms;
   written : l.self-inside.written ≡ l.fn.self.written;
+  rested : l.self-inside.rested.items ≡ l.fn.self.rested;
   out : AreOut l.number l.fn.self.keeper;
 }

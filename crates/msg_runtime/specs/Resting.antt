@@ -1,0 +1,33 @@
+-- Since how many changes each sender that is out has rested.
+use Rattle.std.specs.Prelude.{◌≡◌, ◌≤◌, ◌⊎◌, ℕ, Bool, List, length, slice_index, true}
+use mathlib.Core.Option.{some}
+use lib.ListN.{get_elem?}
+use Rattle.atomic_table.specs.Table.{State as Table}
+use Rattle.msg_tables.specs.History.{lookup}
+use Rattle.msg_core.specs.State.{awaits, size}
+use Rattle.msg_cache.specs.Layout.{SettingView}
+use Rattle.msg_cache.specs.Rule.{holds, since_of}
+use Rattle.msg_cache.specs.declared.view.KeeperView.{KeeperView}
+use Rattle.msg_cache.specs.declared.view.SenderView.{SenderView}
+use Rattle.msg_cache.specs.declared.view.View.{View}
+use Rattle.msg_cache.specs.declared.view.View.TheVariants.{Keeper, Sender}
+
+-- n is the least of count and of the numbers of those that are out
+pub record IsLeastOut (given : List Bool) (ns : List ℕ) (count n : ℕ) : Type 0 where
+  pub most : n ≤ count
+  pub all : (k : ℕ) → awaits given k ≡ true → n ≤ slice_index ns k
+  pub some : (n ≡ count) ⊎ ((k : ℕ) × (awaits given k ≡ true) × (slice_index ns k ≡ n))
+
+-- Of each sender number it is noted how many changes there were when its sender rested last, or was
+-- given out.
+pub record AreRested (k : KeeperView) (rested : List ℕ) : Type 0 where
+  pub count : length rested ≡ length k.given
+  -- whoever has the number has seen no fewer
+  pub since : (n : ℕ) → awaits k.given n ≡ true → slice_index rested n ≤ since_of k.since n
+  pub within : (n : ℕ) → slice_index rested n ≤ size k.history
+
+-- Each sender has seen n changes or more, whatever the table is whose keeper knows this. So none is
+-- answered from before them any more.
+abbrev pub HaveAllSeen : SettingView → KeeperView → ℕ → Type 0
+HaveAllSeen key k n = (s : Table ℕ View) → holds lookup key s → (chair : ℕ) → get_elem? s.views chair ≡ some (Keeper k)
+    → (id : ℕ) (v : SenderView) → get_elem? s.views id ≡ some (Sender v) → n ≤ size v.front
