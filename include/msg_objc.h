@@ -1,5 +1,6 @@
 /* What the shim of Objective-C's runtime has and GCC's libobjc hasn't: methods of several
- * classes that are changed at once, or looked up at once. Include <objc/runtime.h> first. TRUSTED, as all of objc/.
+ * classes that are changed at once, or looked up at once. Include <objc/runtime.h> first.
+ * TRUSTED, as all of objc/.
  * No message of any thread is answered by one of them as it was, once one has been answered by
  * another as it becomes. (A thread that sends two messages may have the change come between
  * them.) A handler of a signal that interrupts a send or change of its own thread may see them
