@@ -162,7 +162,7 @@ struct msg_report_row {
     uint64_t flushes;     /* classes or metaclasses whose array a change took */
     uint64_t retired;     /* arrays that were taken by a change or a growth */
     uint64_t given_again; /* installs of an array that was installed before */
-    uint64_t collections; /* looks at all senders, for arrays nobody holds */
+    uint64_t collections; /* searches for arrays nobody holds any more */
     uint64_t freed;       /* arrays freed by them; other retired ones wait */
     uint64_t no_array[9]; /* entries not cached: no array of 4, 8, .. is free */
     uint64_t refused_senders; /* senders asked for while all were out */
@@ -234,6 +234,22 @@ uint32_t msg_superclass(msg_runtime *runtime, uint32_t number, bool meta,
  * class itself, or one above it. MSG_NONE if it finds no method. */
 uint32_t msg_holder(msg_runtime *runtime, uint32_t number, bool meta,
                     uint32_t sel, msg_class *at);
+/* The methods that a class or a metaclass has itself (class_copyMethodList),
+ * the newest first: of several of one selector a lookup finds the first. They
+ * are written to `methods`, which has `room` entries, and `count` is how many
+ * there are. If that is more than `room`, MSG_NO_ROOM is returned and no method
+ * is written: so a call without room counts them. A class that isn't made has
+ * none. Cost: a walk over these methods, and no memory. */
+uint32_t msg_methods(msg_runtime *runtime, uint32_t number, bool meta,
+                     msg_method *methods, size_t room, size_t *count);
+/* The classes that are made (objc_getClassList), each after its superclass, in
+ * the same way. Cost: a walk over these classes. */
+uint32_t msg_classes(msg_runtime *runtime, uint32_t *classes, size_t room,
+                     size_t *count);
+/* The classes below a class, in the same way: its subclasses, theirs, and so
+ * on, each once. Cost: a walk over these classes. */
+uint32_t msg_classes_below(msg_runtime *runtime, uint32_t number,
+                           uint32_t *classes, size_t room, size_t *count);
 
 /* ---- changing, under the lock ----
  *

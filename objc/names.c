@@ -12,16 +12,10 @@ enum { FEWEST = 64, CHUNK = 4096, KEPT = 512, MOST_OF_A_PAGE = 1 << 16, STEP = M
 struct typed { struct objc_selector sel; struct typed *next; };
 struct name { const char *text; struct typed *typed; };
 
-static const char *const own_names[FIRST_FREE] = {
-    [INITIALIZE] = "initialize", [RESOLVE_INSTANCE] = "resolveInstanceMethod:",
-    [RESOLVE_CLASS] = "resolveClassMethod:", [FORWARD] = "forward::",
-    [NOT_RECOGNIZED] = "doesNotRecognize:", [RETAIN] = "retain", [RELEASE] = "release",
-    [AUTORELEASE] = "autorelease", [COPY] = "copyWithZone:",
-    [MUTABLE_COPY] = "mutableCopyWithZone:"};
-#define OWN(number) [number] = {.name.key = MSG_KEY_OF_SLOT + 32 * (number)}
-const struct objc_selector shim_own[FIRST_FREE] = {
-    OWN(INITIALIZE), OWN(RESOLVE_INSTANCE), OWN(RESOLVE_CLASS), OWN(FORWARD), OWN(NOT_RECOGNIZED),
-    OWN(RETAIN), OWN(RELEASE), OWN(AUTORELEASE), OWN(COPY), OWN(MUTABLE_COPY)};
+#define NAME(number, text) [number] = text,
+static const char *const own_names[FIRST_FREE] = {OWN_SELECTORS(NAME)};
+#define KEY(number, text) [number] = {.name.key = MSG_KEY_OF_SLOT + 32 * (number)},
+const struct objc_selector shim_own[FIRST_FREE] = {OWN_SELECTORS(KEY)};
 
 static struct name *names[MOST_SELECTORS / CHUNK + 1]; /* by their numbers, where they stay */
 static uint32_t name_count;

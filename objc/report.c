@@ -16,7 +16,7 @@ static const struct field fields[] = {
     FIELD(flushes, "classes whose array a change took away"),
     FIELD(retired, "arrays that were taken away, by a change or by a larger one"),
     FIELD(given_again, "arrays that were installed again"),
-    FIELD(collections, "looks at all senders, for arrays that nobody holds any more"),
+    FIELD(collections, "searches for arrays that nobody holds any more"),
     FIELD(freed, "arrays that became free by them"),
     FIELD(refused_senders, "senders that were asked for while all were out: more by MSG_SENDERS")};
 

@@ -86,8 +86,10 @@ struct index { _Atomic(struct places *) places; uint32_t count; };
 uint32_t shim_number_in(const struct index *index, uint32_t mixed,
                         bool (*is)(uint32_t number, const void *it), const void *it);
 void *shim_index(struct index *index, uint32_t mixed, uint32_t number);
-/* The same rows, with room for one more. */
+/* The same rows, with room for one more; and that one, which then counts. */
 void *shim_more(void *rows, uint32_t count, uint32_t *room, size_t size);
+#define ADDED(rows, count, room) \
+    (*(rows = shim_more(rows, count, &(room), sizeof *rows), &rows[count++]))
 /* For a caller's own: room for so many rows and an empty one, or NULL for none; and they are
  * counted where that is asked. */
 void *shim_list(size_t many, size_t size, unsigned int *count);
@@ -110,9 +112,14 @@ static inline void shim_give(char *unused) { msg_process_unlock(); }
 #define LOAD(place) __atomic_load_n(&(place), __ATOMIC_ACQUIRE)
 #define STORE(place, value) __atomic_store_n(&(place), value, __ATOMIC_RELEASE)
 
-/* Selectors that the shim sends itself, by fixed numbers. */
-enum { INITIALIZE = 1, RESOLVE_INSTANCE, RESOLVE_CLASS, FORWARD, NOT_RECOGNIZED };
-enum { RETAIN = NOT_RECOGNIZED + 1, RELEASE, AUTORELEASE, COPY, MUTABLE_COPY, FIRST_FREE };
+/* Selectors that the shim sends itself, by fixed numbers from 1. */
+#define OWN_SELECTORS(S) \
+    S(INITIALIZE, "initialize") S(RESOLVE_INSTANCE, "resolveInstanceMethod:") \
+    S(RESOLVE_CLASS, "resolveClassMethod:") S(FORWARD, "forward::") \
+    S(NOT_RECOGNIZED, "doesNotRecognize:") S(RETAIN, "retain") S(RELEASE, "release") \
+    S(AUTORELEASE, "autorelease") S(COPY, "copyWithZone:") S(MUTABLE_COPY, "mutableCopyWithZone:")
+#define OWN_NUMBER(number, text) number,
+enum { NO_SELECTOR, OWN_SELECTORS(OWN_NUMBER) FIRST_FREE };
 extern const struct objc_selector shim_own[FIRST_FREE];
 
 static inline uint32_t shim_sel(SEL sel) { return MSG_SEL_OF(sel->name.key); }

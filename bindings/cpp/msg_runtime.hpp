@@ -146,6 +146,28 @@ public:
         msg_class where{};
         return there(msg_holder(&at->handle, of.number, of.meta, selector, &where), where);
     }
+    // The methods that the class or metaclass has itself, the newest first: of those of one selector a lookup finds
+    // the first.
+    std::vector<msg_method> methods(class_ref of)
+    {
+        return shown<msg_method>([&](msg_method *room, std::size_t places, std::size_t *count) {
+            return msg_methods(&at->handle, of.number, of.meta, room, places, count);
+        });
+    }
+    // The classes that are made, each after its superclass.
+    std::vector<std::uint32_t> classes()
+    {
+        return shown<std::uint32_t>([&](std::uint32_t *room, std::size_t places, std::size_t *count) {
+            return msg_classes(&at->handle, room, places, count);
+        });
+    }
+    // The subclasses, theirs, and so on.
+    std::vector<std::uint32_t> classes_below(std::uint32_t number)
+    {
+        return shown<std::uint32_t>([&](std::uint32_t *room, std::size_t places, std::size_t *count) {
+            return msg_classes_below(&at->handle, number, room, places, count);
+        });
+    }
 
     void make_root_class(std::uint32_t number)
     {
@@ -273,6 +295,21 @@ private:
         Number number = 0;
         must(call(&at->handle, &number));
         return number;
+    }
+    // All that a call writes, into room for as many as it counts.
+    template <class Row, class Call> static std::vector<Row> shown(Call call)
+    {
+        std::vector<Row> rows;
+        std::size_t count = 0;
+        while (true) {
+            std::uint32_t answer = call(rows.data(), rows.size(), &count);
+            if (answer == MSG_NO_ROOM) {
+                rows.resize(count); // nothing was written
+                continue;
+            }
+            must(answer);
+            return rows;
+        }
     }
     // By reference: the call that answers writes what is found.
     static std::optional<class_ref> there(std::uint32_t answer, const msg_class &found)

@@ -57,6 +57,10 @@ static void questions()
     CHECK(now.holder(child, VALUE) == root && now.holder(child_itself, NEW) == msg::class_itself(ROOT));
     CHECK(!now.holder(child, TAKE) && !now.superclass(msg::instances_of(OTHER)));
     CHECK(now.lookup(msg::instances_of(OTHER), VALUE) == 0);
+    CHECK(now.methods(child).size() == 1 && now.methods(child)[0].imp == 3 && now.methods(child_itself).empty());
+    CHECK(now.classes() == (std::vector<std::uint32_t>{ROOT, CHILD}));
+    CHECK(now.classes_below(ROOT) == std::vector<std::uint32_t>{CHILD} && now.classes_below(OTHER).empty());
+    FAULT(MSG_NO_CLASS, now.methods(msg::instances_of(16384)));
     FAULT(MSG_NO_CLASS, now.lookup(msg::instances_of(16384), VALUE));
     FAULT(MSG_NO_SELECTOR, now.lookup(child, 0));
     msg_report_row report = now.report();

@@ -18,7 +18,7 @@ static long wrong, handled;
 static id nobody(id self, SEL sel, ...) { (void)self; (void)sel; return (id)NOBODY; }
 static IMP forward(id to, SEL sel) { (void)to; (void)sel; return nobody; }
 
-#if defined(__x86_64__) && !defined(SANITIZED)
+#if defined(__x86_64__) && (!defined(SANITIZED) || defined(STEPS))
 enum { TRAP = 1 << 8, LEAST = FEW };
 
 static volatile long step, at;

@@ -34,13 +34,16 @@ enum {
     GROWTH = 16384
 };
 
-/* The address sanitizer's allocator isn't held over a fork: of a program that only allocates, one
- * child in ten waits for a lock that no thread of it has. Under the thread sanitizer a child of one
- * run in fourteen waited for ever, for what isn't known; process/tests/stress.c forks there. */
-#if defined SANITIZED_address || defined SANITIZED_thread
-enum { FORKS = 0 };
+/* A sanitizer's allocator isn't held over a fork. Where another thread had one of its locks, a
+ * child that takes memory waits for ever: under the thread sanitizer that of one run in thirty, in
+ * a change. So a child takes none there. Under the address sanitizer, by which one child in ten
+ * waits, nobody forks. */
+#ifdef SANITIZED_address
+enum { FORKS = 0, CHILD_CHANGES = 0 };
+#elif defined SANITIZED_thread
+enum { FORKS = 1, CHILD_CHANGES = 0 };
 #else
-enum { FORKS = 1 };
+enum { FORKS = 1, CHILD_CHANGES = 1 };
 #endif
 
 /* The layer's calls, as the shim has them. */
@@ -283,6 +286,7 @@ static void *fork_on(void *at)
         if (!child) {
             for (unsigned i = 0; i < CLASSES * OWN; i++) look(i);
             rest_alone();
+            if (!CHILD_CHANGES) _exit(get(&wrong) != 0);
             set(&poisoned[0], 0);
             class_replaceMethod(classes[0], sels[0], functions[0], "i16@0:8");
             _exit(((int (*)(id, SEL))objc_msg_lookup(objects[0], sels[0]))(objects[0], sels[0]) ||

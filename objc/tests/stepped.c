@@ -9,7 +9,7 @@ static SEL first, second;
 static id object;
 static long wrong, handled;
 
-#if defined(__x86_64__) && !defined(SANITIZED)
+#if defined(__x86_64__) && (!defined(SANITIZED) || defined(STEPS))
 #include "../../process/tests/stepping.h"
 
 static volatile long at;

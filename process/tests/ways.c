@@ -1,6 +1,7 @@
 /* Random lists of changes beside a plain model: each is made, taken back by what it wrote, and made
  * again; each time every lookup and every superclass has to be the model's. With -DREFUSES, which
- * is for the library, every request for memory is refused while a list is taken back. */
+ * is for the library, so have the methods and the classes that it shows, and every request for
+ * memory is refused while a list is taken back. */
 #include "msg_runtime.h"
 #include <stdio.h>
 #include <string.h>
@@ -230,8 +231,59 @@ static uint32_t sent(uint32_t number, bool meta, uint32_t sel)
     return imp;
 }
 
+#ifdef REFUSES
+/* Of each selector the newest comes first. */
+static void compare_methods(const struct model *model, int ref)
+{
+    msg_method shown[ROWS];
+    size_t count = 99;
+    uint32_t number = (uint32_t)ref / 2;
+    want("methods", msg_methods(&runtime, number, ref % 2, shown, ROWS, &count), MSG_DONE);
+    want("as many", count, model->of[ref].count);
+    for (uint32_t sel = 1; sel <= SELS && !wrong; sel++) {
+        size_t at = 0;
+        for (int row = (int)count - 1; row >= 0; row--) {
+            if (model->of[ref].sel[row] != sel) continue;
+            while (at < count && shown[at].sel != sel) at++;
+            want("a method", at < count ? shown[at++].imp : 0, model->of[ref].imp[row]);
+        }
+    }
+}
+
+/* Whether a class stands below another. */
+static bool is_below(const struct model *model, int number, int other)
+{
+    do number = model->made[number] ? model->above[number] : NOBODY;
+    while (number != NOBODY && number != other);
+    return number == other;
+}
+
+/* Those that are shown are those of the model, each once. */
+static void compare_classes(const struct model *model, int other)
+{
+    uint32_t shown[CLASSES];
+    size_t count = 99, wanted = 0;
+    bool all = other == NOBODY;
+    uint32_t said = all ? msg_classes(&runtime, shown, CLASSES, &count)
+                        : msg_classes_below(&runtime, (uint32_t)other, shown, CLASSES, &count);
+    want("classes", said, MSG_DONE);
+    for (int it = 0; it < CLASSES; it++) {
+        size_t times = 0;
+        for (size_t at = 0; at < count; at++) times += shown[at] == (uint32_t)it;
+        bool there = all ? model->made[it] : is_below(model, it, other);
+        want("a class", times, there);
+        wanted += there;
+    }
+    want("as many classes", count, wanted);
+}
+#endif
+
 static void compare(struct model *model)
 {
+#ifdef REFUSES
+    for (int other = NOBODY; other < CLASSES; other++) compare_classes(model, other);
+    for (int ref = 0; ref < REFS; ref++) compare_methods(model, ref);
+#endif
     for (int ref = 0; ref < REFS; ref++) {
         uint32_t number = (uint32_t)ref / 2;
         bool meta = ref % 2;

@@ -181,6 +181,16 @@ class Runtime:
         _must(answer)
         return told
 
+    def _shown(self, kind, name, *words):
+        """What the call writes into room for as many as there are."""
+        shared, count, answer = self._shared, ctypes.c_size_t(), _NO_ROOM
+        with shared.lock:
+            while answer == _NO_ROOM:  # nothing was written: `count` places are wanted
+                room = (kind * max(count.value, 1))()
+                answer = getattr(shared.library, name)(shared.handle, *words, room, count.value, ctypes.byref(count))
+        _must(answer)
+        return room[: count.value]
+
     def _answer(self, name, *words):
         shared = self._shared
         with shared.lock:
@@ -222,6 +232,21 @@ class Runtime:
         _checked(of[0], selector)
         at = self._told(_header.msg_class, "msg_holder", *of, selector)
         return at and ClassRef(at.number, at.meta)
+
+    def methods(self, of):
+        """The methods that the class or metaclass has itself, the newest first: pairs of a selector
+        and an implementation. Of those of one selector a lookup finds the first."""
+        _checked(of[0])
+        return [(it.sel, it.imp) for it in self._shown(_header.msg_method, "msg_methods", *of)]
+
+    def classes(self):
+        """The classes that are made, each after its superclass."""
+        return list(self._shown(ctypes.c_uint32, "msg_classes"))
+
+    def classes_below(self, number):
+        """The subclasses, theirs, and so on."""
+        _checked(number)
+        return list(self._shown(ctypes.c_uint32, "msg_classes_below", number))
 
     def make_root_class(self, number):
         _checked(number)

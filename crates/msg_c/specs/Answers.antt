@@ -1,9 +1,9 @@
 -- What calls answer.
-use Rattle.std.specs.Prelude.{◌≡◌, ◌==◌, ◌||◌, if◌then◌else◌, ℕ, Bool, List, Option, Some, None, not, option_map}
+use Rattle.std.specs.Prelude.{◌≡◌, ◌==◌, ◌||◌, if◌then◌else◌, nat_lt, ℕ, Bool, List, Option, Some, None, not, option_map}
 use Rattle.msg_names.specs.declared.value.ClassRef.{ClassRef}
 use Rattle.msg_tables.specs.History.{History, BeginsWith, holder, superclass}
 use Rattle.msg_cache.specs.Views.{ArenaView, classes}
-use Rattle.msg_host.specs.Asking.{ask_fault, ask_fault_number}
+use Rattle.msg_host.specs.Asking.{ask_fault, ask_fault_number, want_of_room}
 use Rattle.msg_host.specs.Config.{are_known, config_of, is_beyond}
 use Rattle.msg_host.specs.Named.{ref_of}
 use Rattle.msg_host.specs.View.{SenderView}
@@ -17,6 +17,11 @@ use Rattle.msg_c.specs.declared.asking.MsgClass.{MsgClass}
 abbrev pub number_of_fault : Option AskFault → ℕ
 number_of_fault None = 0
 number_of_fault (Some f) = ask_fault_number f
+
+-- the answer where there are so many, of which each wants a place of a room: 0, or the number that
+-- says that the room has too few
+abbrev pub number_for_room : ℕ → ℕ → ℕ
+number_for_room room count = if nat_lt room count then want_of_room else 0
 
 -- what a sender noted of a lookup, as one number: 0 for nothing, and 2^32, which is no
 -- implementation's number, where no method was found

@@ -104,7 +104,7 @@ abbrev pub RestsAtOpening : RuntimeHandle → RuntimeHandle → SenderHandle →
 RestsAtOpening was is s = GoesWith was is s (λ v w u. RestsAs u.seen v w)
 
 -- this is the least of the numbers of changes after which those that are out have rested, and all
--- where none is out; each has seen as many, and none is answered from before them any more
+-- where none is out; each has seen as many, so no later find of theirs is older
 abbrev pub IsSeenByAll : RuntimeHandle → ℕ → Type 0
 IsSeenByAll r n = IfOpen r (λ v. IsLeastOut v.keeper.given v.rested (length v.keeper.history.changes) n × HaveAllSeen v.arena.key v.keeper n)
 

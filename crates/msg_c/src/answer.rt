@@ -28,6 +28,9 @@ pub const MISSED: u32 = 71;
 /// A field of the config is beyond its most, or isn't known.
 pub const BAD_CONFIG: u32 = 73;
 
+/// An array has too few places.
+pub const NO_ROOM: u32 = 76;
+
 /// Of `msg_recall`: the sender has nothing noted.
 pub const NOT_NOTED: usize = 0;
 

@@ -10,6 +10,9 @@ mod asking;
 mod changing;
 #[cfg(test)]
 mod config_tests;
+mod contents;
+#[cfg(test)]
+mod contents_tests;
 mod crossing;
 mod encodings;
 #[cfg(test)]

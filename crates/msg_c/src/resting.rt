@@ -49,8 +49,8 @@ pub extern "C" fn msg_rest(
 }
 
 /// How many changes each open sender had seen when it rested last, or was opened: the least of
-/// these, and all if none is open. None is answered from before them any more. It goes over all
-/// sender numbers.
+/// these, and all if none is open. Each has seen as many, so no later find of theirs is older. It
+/// goes over all sender numbers.
 #[unsafe(no_mangle)]
 pub extern "C" fn msg_seen_by_all(
     alloc: Global,

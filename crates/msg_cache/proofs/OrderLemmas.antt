@@ -35,7 +35,7 @@ use Rattle.msg_cache.specs.Plays.{stored, retire, flushed, installed, committed,
 use Rattle.msg_cache.proofs.LayoutLemmas.{one_place, stamp_no_bucket}
 use Rattle.msg_cache.proofs.OpeningLemmas.{first_tidy}
 use Rattle.msg_cache.proofs.ShownLemmas.{live_is}
-use Rattle.msg_cache.specs.Keeping.{IsGroup, standing_of, array_words, header, lowest_free, looks, CollectsBy, Collects, or_least, remember, way_in, way_by_header, way_of, filled, grown, FillsBy, Fills, InOrder}
+use Rattle.msg_cache.specs.Keeping.{IsGroup, standing_of, array_words, header, lowest_free, looks, look_count, CollectsBy, Collects, or_least, remember, way_in, way_by_header, way_of, filled, grown, FillsBy, Fills, InOrder}
 use Rattle.msg_cache.specs.declared.answer.Filled.{Filled}
 use Rattle.msg_cache.specs.declared.answer.Filled.TheVariants.{Grown, NoArray}
 use Rattle.msg_cache.specs.declared.answer.Way.TheVariants.{Take}
@@ -262,10 +262,10 @@ module _ (look : History → ClassRef → ℕ → ℕ) (key : SettingView) (k : 
 
 -- ---- a collection
 
-pub collects_by_rest : {z : Layout} {outs : List Bool} {k k' : KeeperView} → CollectsBy z outs k k' → k' ≡ record k { words = k'.words; standings = (looks z.senders outs k).standings; stores = k'.stores; looked_at = (looks z.senders outs k).looked_at }
+pub collects_by_rest : {z : Layout} {outs : List Bool} {k k' : KeeperView} → CollectsBy z outs k k' → k' ≡ record k { words = k'.words; standings = (looks (look_count z k) outs k).standings; stores = k'.stores; looked_at = (looks (look_count z k) outs k).looked_at }
 collects_by_rest {z} {outs} {k} {k'} t =
-    let j = looks z.senders outs k in
-    t.view ∙ all_emptied_rest z t.order j ∙ (λ i. record j { words = (sym t.view i).words; stores = (sym t.view i).stores }) ∙ ap (λ (x : KeeperView). record x { words = k'.words; stores = k'.stores }) (looks_rest z.senders outs k)
+    let j = looks (look_count z k) outs k in
+    t.view ∙ all_emptied_rest z t.order j ∙ (λ i. record j { words = (sym t.view i).words; stores = (sym t.view i).stores }) ∙ ap (λ (x : KeeperView). record x { words = k'.words; stores = k'.stores }) (looks_rest (look_count z k) outs k)
 
 pub collects_rest : {z : Layout} {k k' : KeeperView} {n : ℕ} → Collects z k k' n → k' ≡ record k { words = k'.words; standings = k'.standings; stores = k'.stores; looked_at = k'.looked_at }
 collects_rest {z} {k} {k'} t =
@@ -273,7 +273,7 @@ collects_rest {z} {k} {k'} t =
     is ∙ (λ i. record k { words = k'.words; standings = (sym is i).standings; stores = k'.stores; looked_at = (sym is i).looked_at })
 
 -- the lowest free array doesn't depend on the clears
-pub lowest_free-collects : (z : Layout) (n : ℕ) (outs : List Bool) (k k' : KeeperView) → CollectsBy z outs k k' → lowest_free z n k' ≡ lowest_free z n (looks z.senders outs k)
+pub lowest_free-collects : (z : Layout) (n : ℕ) (outs : List Bool) (k k' : KeeperView) → CollectsBy z outs k k' → lowest_free z n k' ≡ lowest_free z n (looks (look_count z k) outs k)
 lowest_free-collects z n outs k k' t = ap (λ (x : KeeperView). find (λ a. is_free (standing_of x a) && (capacity z a == n)) (range_with_len 0 (length z.capacities))) (collects_by_rest t)
 
 -- ---- what a header word names
@@ -367,9 +367,9 @@ module _ (look : History → ClassRef → ℕ → ℕ) (key : SettingView) (k : 
 
 module _ (z : Layout) (rem : List ℕ) (c : ClassRef) (s i n m : ℕ) (k j k' : KeeperView) (way : way_of z rem k c s ≡ Take n) (none : lowest_free z n k ≡ None) (t : Collects z k j m) where
   -- where none was free at entry
-  after : (answer : Filled) → MatchOption (lowest_free z n (looks z.senders t.outs k)) ((answer ≡ NoArray) × (k' ≡ j)) (λ a. (answer ≡ Grown) × (k' ≡ grown z c s i a j)) → Fills z rem c s i k k' answer
+  after : (answer : Filled) → MatchOption (lowest_free z n (looks (look_count z k) t.outs k)) ((answer ≡ NoArray) × (k' ≡ j)) (λ a. (answer ≡ Grown) × (k' ≡ grown z c s i a j)) → Fills z rem c s i k k' answer
   after answer ends = subst (FillsBy z c s i k k' answer) (sym way)
-      (subst (λ (o : Option ℕ). MatchOption o ((outs : List Bool) × (j : KeeperView) × CollectsBy z outs k j × MatchOption (lowest_free z n (looks z.senders outs k)) ((answer ≡ NoArray) × (k' ≡ j)) (λ a. (answer ≡ Grown) × (k' ≡ grown z c s i a j))) (λ a. (answer ≡ Grown) × (k' ≡ grown z c s i a k))) (sym none)
+      (subst (λ (o : Option ℕ). MatchOption o ((outs : List Bool) × (j : KeeperView) × CollectsBy z outs k j × MatchOption (lowest_free z n (looks (look_count z k) outs k)) ((answer ≡ NoArray) × (k' ≡ j)) (λ a. (answer ≡ Grown) × (k' ≡ grown z c s i a j))) (λ a. (answer ≡ Grown) × (k' ≡ grown z c s i a k))) (sym none)
       (t.outs, j, t.collects, ends))
 
   pub fills_grown : (a : ℕ) → lowest_free z n j ≡ Some a → k' ≡ grown z c s i a j → Fills z rem c s i k k' Grown

@@ -17,6 +17,8 @@ use Rattle.msg_tables.proofs.LogLemmas.{log-empty}
 use Rattle.msg_tables.proofs.HistoryLemmas.{is-longer, is-before, few-lists, log-all}
 use Rattle.msg_core.specs.State.{size, first}
 use Rattle.msg_cache.specs.Rule.{IsAccepted}
+use Rattle.msg_core.specs.Stamps.{last_affected}
+use Rattle.msg_core.proofs.StampLemmas.{last-reached}
 
 pub first_begins : (r : ℕ) (h : History) → BeginsWith h (first r h)
 first_begins r h = record { same = refl; rest = (drop r h.changes, sym (take-append-drop r h.changes)) }
@@ -70,3 +72,7 @@ lookup-kept_by_all h xs c s accepted none e =
 
 pub accepted_before : (h g : History) → BeginsWith h g → IsAccepted h → IsAccepted g
 accepted_before h g begins later = record { origin = subst IsSound begins.same later.origin; changes = is-before h g begins later.changes; some = some-before g.changes begins.rest.0 (subst (All (λ ys. 0 < length ys)) begins.rest.1 later.some) }
+
+-- no change that affects a class reference comes after the last one
+pub reached_by : (h : History) (c : ClassRef) (n : ℕ) → n ≡ size h → last_affected h c ≤ n
+reached_by h c n is = let t = last-reached h c in omega arith

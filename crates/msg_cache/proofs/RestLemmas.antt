@@ -4,7 +4,7 @@ use Rattle.std.specs.Prelude.{MatchOption}
 use Rattle.msg_names.specs.declared.value.ClassRef.{ClassRef}
 use Rattle.msg_tables.specs.History.{History}
 use Rattle.msg_core.specs.State.{Layout, capacity}
-use Rattle.msg_cache.specs.Keeping.{looks, clears, emptied, all_emptied, CollectsBy, lowest_free, grown, FillsBy, Fills, way_of}
+use Rattle.msg_cache.specs.Keeping.{looks, look_count, clears, emptied, all_emptied, CollectsBy, lowest_free, grown, FillsBy, Fills, way_of}
 use Rattle.msg_cache.specs.Layout.{base}
 use Rattle.msg_cache.specs.declared.answer.Filled.{Filled}
 use Rattle.msg_cache.specs.declared.answer.Filled.TheVariants.{Grown, NoArray}
@@ -39,7 +39,7 @@ all_emptied-rest z [] k = refl
 all_emptied-rest z (a ∷ arrays) k = all_emptied-rest z arrays (emptied z a k) ∙ clears-rest (base z a) (capacity z a) k
 
 pub collects-rest : (z : Layout) (outs : List Bool) (k j : KeeperView) → CollectsBy z outs k j → rest j ≡ rest k
-collects-rest z outs k j t = ap rest t.view ∙ all_emptied-rest z t.order (looks z.senders outs k) ∙ looks-rest z.senders outs k
+collects-rest z outs k j t = ap rest t.view ∙ all_emptied-rest z t.order (looks (look_count z k) outs k) ∙ looks-rest (look_count z k) outs k
 
 -- ---- a fill
 
@@ -50,10 +50,10 @@ module _ (z : Layout) (c : ClassRef) (s i : ℕ) (k k' : KeeperView) (answer : F
 
   grows-rest : (n : ℕ) (o : Option ℕ)
       → MatchOption o
-      ((outs : List Bool) × (j : KeeperView) × CollectsBy z outs k j × MatchOption (lowest_free z n (looks z.senders outs k)) ((answer ≡ NoArray) × (k' ≡ j)) (λ a. (answer ≡ Grown) × (k' ≡ grown z c s i a j)))
+      ((outs : List Bool) × (j : KeeperView) × CollectsBy z outs k j × MatchOption (lowest_free z n (looks (look_count z k) outs k)) ((answer ≡ NoArray) × (k' ≡ j)) (λ a. (answer ≡ Grown) × (k' ≡ grown z c s i a j)))
       (λ a. (answer ≡ Grown) × (k' ≡ grown z c s i a k))
       → rest k' ≡ rest k
-  grows-rest n None (outs, j, collects, ends) = after-rest j (collects-rest z outs k j collects) (lowest_free z n (looks z.senders outs k)) ends
+  grows-rest n None (outs, j, collects, ends) = after-rest j (collects-rest z outs k j collects) (lowest_free z n (looks (look_count z k) outs k)) ends
   grows-rest n (Some a) (is, same) = ap rest same
 
   fills_by-rest : (w : Way) → FillsBy z c s i k k' answer w → rest k' ≡ rest k

@@ -1,11 +1,12 @@
 -- Notes that say what the keeper's view says.
-use Rattle.std.proofs.Common.{◌≡◌, ℕ, zero, suc, List, [], ◌∷◌, map, length, replicate, Bool, not, ◌&&◌, refl, sym, ap, ◌∙◌, subst}
-use Rattle.std.specs.Prelude.{slice_index, slice_set}
-use Rattle.std.specs.List.{range_with_len, filter}
+use Rattle.std.proofs.Common.{◌≡◌, ℕ, zero, suc, List, [], ◌∷◌, map, length, replicate, Bool, true, false, cond, not, ◌&&◌, ◌||◌, refl, sym, ap, ◌∙◌, subst}
+use Rattle.std.specs.Prelude.{slice_index, slice_set, if◌then◌else◌}
+use Rattle.std.specs.List.{range_with_len, filter, list_any}
 use Rattle.std.specs.List.Sorted.{IsPermutation}
 use Rattle.std.proofs.lemmas.List.{length-map, map-set, get_or-set_other}
 use Rattle.std.proofs.Math.ListN.{length-set}
 use Rattle.std.proofs.lemmas.List.Elements.{filter_agree}
+use Rattle.std.proofs.lemmas.List.Sorted.{IsPermutation-refl}
 use Rattle.msg_names.specs.declared.value.ClassRef.{ClassRef}
 use Rattle.msg_core.specs.declared.state.Standing.{Standing}
 use Rattle.msg_core.specs.declared.state.Standing.TheVariants.{Free, Live, Retired}
@@ -13,9 +14,9 @@ use Rattle.msg_core.specs.State.{Layout, size}
 use Rattle.msg_core.specs.Steps.{is_free, everyone}
 use Rattle.msg_core.specs.View.{standing_at}
 use Rattle.msg_cache.specs.declared.view.KeeperView.{KeeperView}
-use Rattle.msg_cache.specs.Keeping.{looks, looked_by, newly_free}
+use Rattle.msg_cache.specs.Keeping.{looks, looked_by, is_retired, look_count, newly_free, freed, Collects}
 use Rattle.msg_cache.specs.Layout.{header_at}
-use Rattle.msg_cache.specs.Uses.{StandingsView, ArrayUse, settled, free, live, waiting, use_of, use_at, is_free_use, newly_freed, retired_in}
+use Rattle.msg_cache.specs.Uses.{StandingsView, ArrayUse, settled, free, live, waiting, use_of, use_at, is_free_use, is_waiting, newly_freed, retired_in}
 use Rattle.msg_cache.specs.Plays.{retire, flushed, installed}
 use Rattle.msg_cache.specs.Rule.{named}
 use Rattle.msg_cache.proofs.SweepingLemmas.{looks_standings}
@@ -44,6 +45,16 @@ waiting_used (Retired c r old) aw e = let same : old ≡ aw = cc in (c, r, ap (R
 pub all_used : (n : ℕ) → replicate n free ≡ map use_of (replicate n Free)
 all_used zero = refl
 all_used (suc n) = ap (λ l. free ∷ l) (all_used n)
+
+-- whether an array is retired
+pub waits_used : (l : List Standing) → list_any is_waiting (map use_of l) ≡ list_any is_retired l
+waits_used [] = refl
+waits_used (s ∷ l) = λ i. one s i || waits_used l i
+  where
+    one : (s : Standing) → is_waiting (use_of s) ≡ is_retired s
+    one Free = refl
+    one (Live c) = refl
+    one (Retired c r aw) = refl
 
 -- the arrays that became free
 pub newly_used : (z : Layout) (k j : KeeperView) → length k.standings ≡ length z.capacities → newly_freed (map use_of k.standings) (map use_of j.standings) ≡ newly_free z k j
@@ -106,3 +117,30 @@ module _ (v : StandingsView) (k : KeeperView) (c : ClassRef) (are : v ≡ settle
       let senders = ap (λ (y : StandingsView). y.senders) first in
       let uses = ap (λ l. slice_set l a live) (retired_are header) ∙ sym (map-set use_of (retire c (named header) k) a (Live c)) ∙ ap (λ (n : ℕ). map use_of (slice_set (retire c (named n) k) a (Live c))) read in
       first ∙ (λ i. record { senders = sym senders i; uses = uses i; ready = none i })
+
+-- ---- where no array is retired
+
+nothing_new : (f : ℕ → Bool) (l : List ℕ) → filter (λ a. f a && not (f a)) l ≡ []
+nothing_new f [] = refl
+nothing_new f (a ∷ l) = ap (λ t. cond t (a ∷ filter (λ b. f b && not (f b)) l) (filter (λ b. f b && not (f b)) l)) (never (f a)) ∙ nothing_new f l
+  where
+    never : (b : Bool) → (b && not b) ≡ false
+    never true = refl
+    never false = refl
+
+-- a collection does nothing
+pub collects_nothing : (z : Layout) (n : ℕ) (k : KeeperView) (v : StandingsView) → v ≡ settled n k.standings → list_any is_waiting v.uses ≡ false → Collects z k k 0
+collects_nothing z n k v are none =
+    let left : list_any is_retired k.standings ≡ false = sym (waits_used k.standings) ∙ ap (λ (x : StandingsView). list_any is_waiting x.uses) (sym are) ∙ none in
+    let count : look_count z k ≡ 0 = ap (λ b. if b then z.senders else 0) left in
+    let same : freed z [] k ≡ [] = ap (λ (m : ℕ). newly_free z k (looks m [] k)) count ∙ nothing_new (λ a. is_free (standing_at k.standings a)) (range_with_len 0 (length z.capacities)) in record {
+      outs = [];
+      collects = record { order = []; are_freed = subst (IsPermutation []) (sym same) (IsPermutation-refl []); view = ap (λ (m : ℕ). looks m [] k) (sym count) };
+      count = ap (λ (l : List ℕ). length l) (sym same);
+    }
+
+-- else it looks at each sender number
+pub looks_at_all : (z : Layout) (n : ℕ) (k : KeeperView) (v : StandingsView) → v ≡ settled n k.standings → list_any is_waiting v.uses ≡ true → look_count z k ≡ z.senders
+looks_at_all z n k v are some =
+    let left : list_any is_retired k.standings ≡ true = sym (waits_used k.standings) ∙ ap (λ (x : StandingsView). list_any is_waiting x.uses) (sym are) ∙ some in
+    ap (λ b. if b then z.senders else 0) left

@@ -1,5 +1,5 @@
 -- Notes of what arrays are for, as the marks of free arrays, the queue and the cursors say them.
-use Rattle.std.proofs.Common.{◌≡◌, ◌≢◌, ℕ, zero, suc, ◌+◌, ◌-◌, ◌<◌, ◌≤◌, List, [], ◌∷◌, ◌++◌, map, length, take, replicate, Bool, true, false, not, ◌&&◌, ◌==◌, true≢false, refl, sym, ap, ◌∙◌, subst, inl, inr, ⊎_elim, arith, eq-eqb, length-append}
+use Rattle.std.proofs.Common.{◌≡◌, ◌≢◌, ℕ, zero, suc, ◌+◌, ◌-◌, ◌<◌, ◌≤◌, List, [], ◌∷◌, ◌++◌, map, length, take, replicate, Bool, true, false, not, ◌&&◌, ◌==◌, true≢false, refl, sym, ap, ◌∙◌, subst, inl, inr, ⊎_elim, arith, eq-eqb, ne_eqb, length-append}
 use Rattle.std.specs.Prelude.{slice_index, slice_index_or, slice_set, nat_lt, if◌then◌else◌}
 use Rattle.std.specs.List.{range_with_len, list_any, filter}
 use Rattle.std.proofs.lemmas.Bool.{cases_lt, cases_eq, lt-ltb, le-ltb, le-leb, lt-leb}
@@ -17,7 +17,7 @@ use Rattle.msg_core.specs.declared.state.Standing.{Standing}
 use Rattle.msg_core.specs.declared.state.Standing.TheVariants.{Free, Live, Retired}
 use Rattle.msg_tables.specs.declared.limits.TheConstants.{MOST_SENDERS}
 use Rattle.msg_cache.specs.Keeping.{looked_by}
-use Rattle.msg_cache.specs.Uses.{ArrayUse, free, live, waiting, use_of, use_at, is_free_use, newly_freed}
+use Rattle.msg_cache.specs.Uses.{ArrayUse, free, live, waiting, use_of, use_at, is_free_use, is_waiting, newly_freed}
 use Rattle.msg_cache.specs.Standings.{awaited_at, place_of, use_by, use_for, uses}
 use Rattle.msg_cache.proofs.AwaitedLemmas.{awaited_is, nobody_left, rest_left}
 use Rattle.msg_cache.proofs.ClearingLemmas.{minus, free_if, looked_by_is, looked_by_free, looked_by_live, some_awaited}
@@ -331,3 +331,18 @@ unmarked_busy marks queue senders cursors a e = ap is_free_use (unmarked marks q
     (λ (here : place_of queue a < length queue). ap is_free_use (by_waiting (length queue) 0 senders cursors (place_of queue a) here (omega arith)))
     (λ (past : length queue ≤ place_of queue a). ap is_free_use (by_live (length queue) 0 senders cursors (place_of queue a) past))
     (cases_lt (place_of queue a) (length queue))
+
+-- an array waits where the queue has one, while none is ready
+pub some_waits : (marks : List Bool) (queue : List ℕ) (senders : ℕ) (cursors : List ℕ) → Unmarked marks queue → Differ queue → list_any is_waiting (uses marks queue 0 senders cursors) ≡ not (length queue == 0)
+some_waits marks [] senders cursors apart differ =
+    list_any_none is_waiting (uses marks [] 0 senders cursors) (All-from_get_or (λ u. is_waiting u ≡ false) (uses marks [] 0 senders cursors) free (λ a lt. ap is_waiting (uses_at marks [] 0 senders cursors a) ∙ none a (slice_index_or marks a true) refl))
+  where
+    none : (a : ℕ) (b : Bool) → slice_index_or marks a true ≡ b → is_waiting (use_for marks [] 0 senders cursors a) ≡ false
+    none a true e = ap is_waiting (marked marks [] 0 senders cursors a e)
+    none a false e = ap is_waiting (unmarked marks [] 0 senders cursors a e ∙ by_live 0 0 senders cursors (place_of [] a) (omega arith))
+some_waits marks (q ∷ queue) senders cursors apart differ =
+    let all : List ℕ = q ∷ queue in
+    let here = place_here all 0 differ (omega arith) in
+    let waits : use_at (uses marks all 0 senders cursors) q ≡ waiting (awaited_at senders cursors (place_of all q - 0)) =
+    uses_at marks all 0 senders cursors q ∙ unmarked marks all 0 senders cursors q (apart 0 (omega arith)) ∙ by_waiting (length all) 0 senders cursors (place_of all q) (omega (arith, here)) (omega arith) in
+    list_any_at is_waiting (uses marks all 0 senders cursors) q free (omega (arith, uses_length marks all 0 senders cursors, unmarked_inside marks all apart 0 (omega arith))) (ap is_waiting waits) ∙ ap not (sym (ne_eqb (suc (length queue)) 0 (λ e. absurd (omega arith))))

@@ -1,7 +1,7 @@
 -- What the keeper's calls do, as changes of its view.
-use Rattle.std.specs.Prelude.{◌≡◌, ◌↔◌, ℕ, zero, suc, ◌+◌, ◌*◌, ◌<◌, ◌≤◌, ◌==◌, ◌&&◌, not, List, [], ◌∷◌, length, take, drop, find, Bool, slice_index, slice_set, if◌then◌else◌, Option, None, MatchOption}
+use Rattle.std.specs.Prelude.{◌≡◌, ◌↔◌, ℕ, zero, suc, ◌+◌, ◌*◌, ◌<◌, ◌≤◌, ◌==◌, ◌&&◌, not, List, [], ◌∷◌, length, take, drop, find, Bool, true, false, slice_index, slice_set, if◌then◌else◌, Option, None, MatchOption}
 use Rattle.msg_tables.specs.Origin.{class_total}
-use Rattle.std.specs.List.{range_with_len, filter}
+use Rattle.std.specs.List.{range_with_len, filter, list_any}
 use Rattle.std.specs.List.Sorted.{IsPermutation}
 use Rattle.msg_names.specs.declared.value.ClassRef.{ClassRef}
 use Rattle.msg_buckets.specs.declared.capacity.Plan.{Plan}
@@ -13,7 +13,7 @@ use Rattle.msg_buckets.specs.Array.{find_in, occupied_in}
 use Rattle.msg_tables.specs.History.{History}
 use Rattle.msg_names.specs.ClassRef.{slot_of}
 use Rattle.msg_core.specs.declared.state.Standing.{Standing}
-use Rattle.msg_core.specs.declared.state.Standing.TheVariants.{Free, Live}
+use Rattle.msg_core.specs.declared.state.Standing.TheVariants.{Free, Live, Retired}
 use Rattle.msg_core.specs.State.{Layout, capacity, awaits}
 use Rattle.msg_core.specs.Steps.{is_free, seen_out}
 use Rattle.msg_core.specs.View.{standing_at}
@@ -73,6 +73,16 @@ abbrev pub looked_by : ℕ → List Bool → Standing → Standing
 looked_by zero outs s = s
 looked_by (suc n) outs s = if awaits outs n then seen_out n (looked_by n outs s) else looked_by n outs s
 
+-- an array of this standing is retired
+abbrev pub is_retired : Standing → Bool
+is_retired Free = false
+is_retired (Live c) = false
+is_retired (Retired c r awaited) = true
+
+-- how many sender numbers a collection looks at: each, where an array is retired, else none
+abbrev pub look_count : Layout → KeeperView → ℕ
+look_count z k = if list_any is_retired k.standings then z.senders else 0
+
 -- a Clear of a word that isn't 0, and no store where it is
 abbrev pub cleared : ℕ → KeeperView → KeeperView
 cleared i k = if slice_index k.words i == 0 then k else stored i 0 k
@@ -95,17 +105,17 @@ all_emptied z (a ∷ more) k = all_emptied z more (emptied z a k)
 abbrev pub newly_free : Layout → KeeperView → KeeperView → List ℕ
 newly_free z k j = filter (λ a. is_free (standing_of j a) && not (is_free (standing_of k a))) (arrays z)
 
--- the arrays that become free where one Look at each sender number sees these out
+-- the arrays that become free where the looks of a collection see these senders out
 abbrev pub freed : Layout → List Bool → KeeperView → List ℕ
-freed z outs k = newly_free z k (looks z.senders outs k)
+freed z outs k = newly_free z k (looks (look_count z k) outs k)
 
 -- A collection whose looks see these senders out took the view k to k': one Look at each sender
--- number, then a Clear of each word that isn't 0 of each array that became free, of one array after
--- another. The order of the arrays is any.
+-- number, where an array is retired, then a Clear of each word that isn't 0 of each array that
+-- became free, of one array after another. The order of the arrays is any.
 pub record CollectsBy (z : Layout) (outs : List Bool) (k k' : KeeperView) : Type 0 where
   pub order : List ℕ
   pub are_freed : IsPermutation order (freed z outs k)
-  pub view : k' ≡ all_emptied z order (looks z.senders outs k)
+  pub view : k' ≡ all_emptied z order (looks (look_count z k) outs k)
 
 -- a collection took the view k to k', and n arrays became free
 pub record Collects (z : Layout) (k k' : KeeperView) (n : ℕ) : Type 0 where
@@ -191,7 +201,7 @@ grown z c s i a k = filled z a (probe_place s (capacity z a) 0) (word_of s i) (i
 -- collection. Which one that is depends on what the looks saw, and not on the order of the clears.
 abbrev pub Grows : Layout → ClassRef → ℕ → ℕ → ℕ → KeeperView → KeeperView → Filled → Type 0
 Grows z c s i n k k' answer = MatchOption (lowest_free z n k)
-    ((outs : List Bool) × (j : KeeperView) × CollectsBy z outs k j × MatchOption (lowest_free z n (looks z.senders outs k))
+    ((outs : List Bool) × (j : KeeperView) × CollectsBy z outs k j × MatchOption (lowest_free z n (looks (look_count z k) outs k))
     ((answer ≡ NoArray) × (k' ≡ j))
     (λ a. (answer ≡ Grown) × (k' ≡ grown z c s i a j)))
     (λ a. (answer ≡ Grown) × (k' ≡ grown z c s i a k))

@@ -35,6 +35,12 @@ is_free_use free = true
 is_free_use live = false
 is_free_use (waiting awaited) = false
 
+-- it is retired
+abbrev pub is_waiting : ArrayUse → Bool
+is_waiting free = false
+is_waiting live = false
+is_waiting (waiting awaited) = true
+
 -- so many arrays, which are free, and so many senders
 abbrev pub all_free : ℕ → ℕ → StandingsView
 all_free arrays senders = record { senders = senders; uses = replicate arrays free; ready = [] }

@@ -138,7 +138,7 @@ fn clear_array(arena: &Arena, seat: &mut Seat, words: &mut Vec<u64>, array: usiz
 }
 
 // A collection, with the keeper's copies of words and standings and its count of each array's
-// entries.
+// entries. It looks at no sender where no array is retired.
 pub(crate) fn collect_into(
     arena: &Arena,
     seat: &mut Seat,
@@ -164,6 +164,9 @@ pub(crate) fn collect_into(
     ensures outs { length outs.new.were.items ≡ length outs.old.were.items }
     ensures known { outs.new.known ≡ outs.old.known }
 {
+    if !standings.has_retired() {
+        return 0;
+    }
     look_at_senders(arena, seat, outs);
     let freed = standings.see_out(&outs.were, outs.known as usize);
     for _turn in 0..freed {

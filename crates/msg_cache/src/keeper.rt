@@ -313,7 +313,8 @@ impl Keeper {
     }
 
     /// Looks at each sender, and makes the arrays free that nobody holds any more. Answers how
-    /// many. It loads as many words as there are numbers up to the highest that was ever given out.
+    /// many. It loads as many words as there are numbers up to the highest that was ever given out,
+    /// and none where no array is retired.
     pub fn collect(&mut self, arena: &Arena) -> u32
         requires arena { IsOf arena.now self.old }
         ensures arena { IsOf arena.now self.new }
@@ -484,6 +485,7 @@ impl Keeper {
 
     /// Opens a class reference, so that what is noted of it from now on holds until it is closed,
     /// and says whether it was closed.
+    #[tactic(auto, using(crate::proofs::PastLemmas::reached_by))]
     pub fn open(&mut self, arena: &Arena, class: ClassRef) -> bool
         requires arena { IsOf arena.now self.old }
         requires class { class.class < classes arena.now }

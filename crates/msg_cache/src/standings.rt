@@ -1,9 +1,10 @@
 //! The keeper's copy of what arrays are for.
 
 ghost use Rattle.std.specs.Prelude.{◌≡◌, ◌^◌, ◌<◌, ◌≤◌, [], ◌∷◌, length, slice_set, IfOk, IfSome, IfNone};
+ghost use Rattle.std.specs.List.{list_any};
 ghost use Rattle.std.specs.List.Sorted.{IsPermutation};
 ghost use Rattle.msg_cache.specs.Cursors.{AreSeenOut};
-ghost use Rattle.msg_cache.specs.Uses.{AreLookedAt, EachAwaitsSome, HasNoFree, IsFirstFree, all_free, array_retired, free, live, use_at, newly_freed};
+ghost use Rattle.msg_cache.specs.Uses.{AreLookedAt, EachAwaitsSome, HasNoFree, IsFirstFree, all_free, array_retired, free, is_waiting, live, use_at, newly_freed};
 
 use crate::cursors::Cursors;
 use crate::layered_set::LayeredSet;
@@ -114,6 +115,14 @@ impl Standings {
         self.ready -= 1;
         self.free.insert(array);
         array
+    }
+
+    // Whether an array is retired.
+    pub(crate) fn has_retired(&self) -> bool
+        requires ready { self.now.ready ≡ [] }
+        ensures { result ≡ list_any is_waiting self.now.uses }
+    {
+        !self.queue.is_empty()
     }
 
     // The lowest free array from one number up to another.

@@ -1,5 +1,6 @@
 pub mod ChangingLemmas
 pub mod ConfigLemmas
+pub mod ContentsLemmas
 pub mod CrossingLemmas
 pub mod ListingLemmas
 pub mod LookupLemmas

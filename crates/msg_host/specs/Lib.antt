@@ -1,5 +1,6 @@
 pub mod Asking
 pub mod Config
+pub mod Contents
 pub mod Inside
 pub mod Listing
 pub mod Lookups

@@ -8,6 +8,7 @@
 mod asking;
 mod changing;
 mod config;
+mod contents;
 mod crossing;
 mod fault;
 pub mod laws;

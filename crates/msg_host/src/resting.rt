@@ -28,8 +28,8 @@ impl HostedRuntime {
     }
 
     /// How many changes each sender that is out had seen when it rested last, or was given out: the
-    /// least of these, and all if none is out. None is answered from before them any more. It goes
-    /// over all sender numbers.
+    /// least of these, and all if none is out. Each has seen as many, so no later find of theirs is
+    /// older. It goes over all sender numbers.
     pub fn seen_by_all(&self) -> u64
         ensures least { IsLeastOut self.now.keeper.given self.now.rested
             (length self.now.keeper.history.changes) result }

@@ -22,7 +22,8 @@ use Rattle.msg_eval.specs.Finder.{Sizes, sizes_of, table_sizes}
 use Rattle.msg_answers.specs.Serial.{history_after}
 use Rattle.msg_answers.specs.Text.{line_of, reply_text}
 use Rattle.msg_reasons.specs.Changing.{KeepsSizes}
-use Rattle.msg_reasons.specs.Explained.{IsExplained, all_looked}
+use Rattle.msg_reasons.specs.Explained.{IsExplained}
+use Rattle.msg_reasons.specs.Looked.{all_looked}
 use Rattle.msg_reasons.specs.Lookups.{Looked, lookups_of}
 use Rattle.msg_reasons.specs.declared.notes.Lookup.{Lookup}
 use Rattle.msg_reasons.specs.Explanation.{reason_at, reasons_from}

@@ -2,4 +2,5 @@ pub mod ChangingLemmas
 pub mod DispatchLemmas
 pub mod ExplanationLemmas
 pub mod ItemLemmas
+pub mod KeptLemmas
 pub mod NotedLemmas

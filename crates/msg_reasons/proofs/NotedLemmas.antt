@@ -6,7 +6,8 @@ use Rattle.msg_eval.specs.declared.reply.Reply.{Reply}
 use Rattle.msg_eval.specs.declared.reply.SendFault.TheVariants.{Budget}
 use Rattle.msg_eval.specs.Meaning.{Meaning, Ends, Asks, ask, fault}
 use Rattle.msg_eval.specs.Points.{plain_reply}
-use Rattle.msg_reasons.specs.Explained.{all_looked, explained}
+use Rattle.msg_reasons.specs.Explained.{explained}
+use Rattle.msg_reasons.specs.Looked.{all_looked}
 use Rattle.msg_reasons.specs.Lookups.{Looked, looked_at, lookups_of}
 use Rattle.msg_reasons.specs.declared.notes.Lookup.{Lookup}
 

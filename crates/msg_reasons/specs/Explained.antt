@@ -1,7 +1,6 @@
 -- What the evaluator's functions note, and find.
-use Rattle.std.specs.Prelude.{◌≡◌, ◌≤◌, ◌+◌, ℕ, List, [], ◌∷◌, ◌++◌, length, map, Result}
+use Rattle.std.specs.Prelude.{◌≡◌, ◌≤◌, ◌+◌, ℕ, List, [], ◌∷◌, ◌++◌, length, Result}
 use Rattle.std.specs.Vec.{vec_capacity}
-use Rattle.msg_names.specs.Number.{selector_number, imp_number}
 use Rattle.msg_tables.specs.History.{History, lookup, log}
 use Rattle.msg_tables.specs.Stands.{StandsAt}
 use Rattle.msg_tables.specs.View.{TablesView}
@@ -10,28 +9,24 @@ use Rattle.msg_eval.specs.declared.reply.Reply.{Reply}
 use Rattle.msg_eval.specs.declared.reply.SendFault.{SendFault}
 use Rattle.msg_eval.specs.Meaning.{Meaning, Ends, Asks, go_on}
 use Rattle.msg_eval.specs.Points.{plain_reply}
+use Rattle.msg_reasons.specs.Known.{AreFound}
+use Rattle.msg_reasons.specs.Looked.{all_looked}
 use Rattle.msg_reasons.specs.Lookups.{Looked, looked_at, lookups_of}
-use Rattle.msg_reasons.specs.declared.notes.Lookup.{Lookup}
 use Rattle.msg_reasons.specs.declared.notes.Notes.{Notes}
-
--- a lookup that was noted, by its numbers
-abbrev pub looked : Lookup → Looked
-looked l = record { class = l.class; sel = selector_number l.sel; imp = imp_number l.imp; holder = l.holder }
-
-abbrev pub all_looked : List Lookup → List Looked
-all_looked ls = map looked ls
 
 abbrev pub noted : Notes → List Looked
 noted n = all_looked n.lookups.items
 
--- there is room for as many lookups as a send may make
-abbrev pub IsRoomy : Notes → Type 0
-IsRoomy n = MAX_LOOKUPS ≤ vec_capacity n.lookups
+-- there is room for as many lookups as a send may make, and what is known is as the tables stand
+pub record IsReady (tables : TablesView) (n : Notes) : Type 0 where
+  pub roomy : MAX_LOOKUPS ≤ vec_capacity n.lookups
+  pub known : AreFound tables n.known
 
--- and for as many as are left
-pub record HasRoom (n : Notes) : Type 0 where
+-- and there is room for as many as are left
+pub record HasRoom (tables : TablesView) (n : Notes) : Type 0 where
   pub roomy : MAX_LOOKUPS ≤ vec_capacity n.lookups
   pub few : length n.lookups.items + n.left ≤ MAX_LOOKUPS
+  pub known : AreFound tables n.known
 
 -- a send's lookups at a history, after others, and its reply
 abbrev pub explained : History → List Looked → Meaning → List Looked × Reply

@@ -3,5 +3,9 @@ pub mod Changing
 pub mod Explanation
 pub mod Explained
 pub mod Items
+pub mod Known
+pub mod Lines
+pub mod Looked
 pub mod Lookups
+pub mod Slots
 pub mod Text

@@ -17,7 +17,7 @@ ghost use Rattle.msg_eval.specs.Expressions.{plain_two, plain_if, plain_send, pl
 ghost use Rattle.msg_eval.specs.Facts.{AreOf};
 ghost use Rattle.msg_eval.specs.Finder.{sizes_of, table_sizes};
 ghost use Rattle.msg_eval.specs.Step.{with_ok};
-ghost use Rattle.msg_reasons.specs.Explained.{Explains, HasRoom, IsExplained, IsRoomy, noted};
+ghost use Rattle.msg_reasons.specs.Explained.{Explains, HasRoom, IsExplained, IsReady, noted};
 
 use crate::lookups::ask;
 use crate::notes::Notes;
@@ -40,10 +40,10 @@ pub(crate) fn send(
     notes: &mut Notes,
 ) -> Reply
     requires sizes { table_sizes tables.now ≡ sizes_of image.now }
-    requires room { IsRoomy notes.old }
+    requires ready { IsReady tables.now notes.old }
     requires receiver_of { IsOf image.now receiver }
     requires args_of { AreOf image.now args.now.items }
-    ensures room { IsRoomy notes.new }
+    ensures ready { IsReady tables.now notes.new }
     ensures meaning { IsExplained tables.now
         (send_of image.now receiver sel args.now.items) (noted notes.new) result }
 {
@@ -70,9 +70,9 @@ fn eval_expr(
     notes: &mut Notes,
 ) -> Result<Value, SendFault>
     requires sizes { table_sizes tables.now ≡ sizes_of frame.now.image.now }
-    requires room { HasRoom notes.old }
+    requires room { HasRoom tables.now notes.old }
     requires expr_of { IsExpressionOf frame.now.image.now (plain expr.now) }
-    ensures room { HasRoom notes.new }
+    ensures room { HasRoom tables.now notes.new }
     ensures no_more { notes.new.left ≤ notes.old.left }
     ensures value_of { IfOk result (IsOf frame.now.image.now) }
     ensures meaning { Explains tables.now notes.old notes.new
@@ -104,10 +104,10 @@ fn eval_two(
     notes: &mut Notes,
 ) -> Result<Value, SendFault>
     requires sizes { table_sizes tables.now ≡ sizes_of frame.now.image.now }
-    requires room { HasRoom notes.old }
+    requires room { HasRoom tables.now notes.old }
     requires a_of { IsExpressionOf frame.now.image.now (plain a.now) }
     requires b_of { IsExpressionOf frame.now.image.now (plain b.now) }
-    ensures room { HasRoom notes.new }
+    ensures room { HasRoom tables.now notes.new }
     ensures no_more { notes.new.left ≤ notes.old.left }
     ensures value_of { IfOk result (IsOf frame.now.image.now) }
     ensures meaning { Explains tables.now notes.old notes.new
@@ -129,11 +129,11 @@ fn eval_if(
     notes: &mut Notes,
 ) -> Result<Value, SendFault>
     requires sizes { table_sizes tables.now ≡ sizes_of frame.now.image.now }
-    requires room { HasRoom notes.old }
+    requires room { HasRoom tables.now notes.old }
     requires test_of { IsExpressionOf frame.now.image.now (plain test.now) }
     requires yes_of { IsExpressionOf frame.now.image.now (plain yes.now) }
     requires no_of { IsExpressionOf frame.now.image.now (plain no.now) }
-    ensures room { HasRoom notes.new }
+    ensures room { HasRoom tables.now notes.new }
     ensures no_more { notes.new.left ≤ notes.old.left }
     ensures value_of { IfOk result (IsOf frame.now.image.now) }
     ensures meaning { Explains tables.now notes.old notes.new
@@ -158,11 +158,11 @@ fn eval_send(
     notes: &mut Notes,
 ) -> Result<Value, SendFault>
     requires sizes { table_sizes tables.now ≡ sizes_of frame.now.image.now }
-    requires room { HasRoom notes.old }
+    requires room { HasRoom tables.now notes.old }
     requires receiver_of { IsExpressionOf frame.now.image.now (plain receiver.now) }
     requires args_of { AreExpressionsOf frame.now.image.now (plain_all args.now) }
     requires few { length args.now ≤ 4 }
-    ensures room { HasRoom notes.new }
+    ensures room { HasRoom tables.now notes.new }
     ensures no_more { notes.new.left ≤ notes.old.left }
     ensures value_of { IfOk result (IsOf frame.now.image.now) }
     ensures meaning { Explains tables.now notes.old notes.new
@@ -190,10 +190,10 @@ fn eval_super(
     notes: &mut Notes,
 ) -> Result<Value, SendFault>
     requires sizes { table_sizes tables.now ≡ sizes_of frame.now.image.now }
-    requires room { HasRoom notes.old }
+    requires room { HasRoom tables.now notes.old }
     requires args_of { AreExpressionsOf frame.now.image.now (plain_all args.now) }
     requires few { length args.now ≤ 4 }
-    ensures room { HasRoom notes.new }
+    ensures room { HasRoom tables.now notes.new }
     ensures no_more { notes.new.left ≤ notes.old.left }
     ensures value_of { IfOk result (IsOf frame.now.image.now) }
     ensures meaning { Explains tables.now notes.old notes.new
@@ -220,11 +220,11 @@ fn eval_args(
     notes: &mut Notes,
 ) -> Result<(), SendFault>
     requires sizes { table_sizes tables.now ≡ sizes_of frame.now.image.now }
-    requires room { HasRoom notes.old }
+    requires room { HasRoom tables.now notes.old }
     requires exprs_of { AreExpressionsOf frame.now.image.now (plain_all exprs.now) }
     requires few { length exprs.now ≤ 4 }
     requires none { values.old.items ≡ [] }
-    ensures room { HasRoom notes.new }
+    ensures room { HasRoom tables.now notes.new }
     ensures no_more { notes.new.left ≤ notes.old.left }
     ensures values_of { AreOf frame.now.image.now values.new.items }
     ensures meaning { Explains tables.now notes.old notes.new
@@ -246,9 +246,9 @@ fn send_to(
     notes: &mut Notes,
 ) -> Result<Value, SendFault>
     requires sizes { table_sizes tables.now ≡ sizes_of message.now.image.now }
-    requires room { HasRoom notes.old }
+    requires room { HasRoom tables.now notes.old }
     requires receiver_of { IsOf message.now.image.now receiver }
-    ensures room { HasRoom notes.new }
+    ensures room { HasRoom tables.now notes.new }
     ensures no_more { notes.new.left ≤ notes.old.left }
     ensures value_of { IfOk result (IsOf message.now.image.now) }
     ensures meaning { Explains tables.now notes.old notes.new
@@ -273,10 +273,10 @@ fn send_super(
     notes: &mut Notes,
 ) -> Result<Value, SendFault>
     requires sizes { table_sizes tables.now ≡ sizes_of message.now.image.now }
-    requires room { HasRoom notes.old }
+    requires room { HasRoom tables.now notes.old }
     requires me_of { IsOf message.now.image.now me }
     requires home_of { home.class < length message.now.image.now.classes }
-    ensures room { HasRoom notes.new }
+    ensures room { HasRoom tables.now notes.new }
     ensures no_more { notes.new.left ≤ notes.old.left }
     ensures value_of { IfOk result (IsOf message.now.image.now) }
     ensures meaning { Explains tables.now notes.old notes.new
@@ -302,11 +302,11 @@ fn dispatch(
     notes: &mut Notes,
 ) -> Result<Value, SendFault>
     requires sizes { table_sizes tables.now ≡ sizes_of message.now.image.now }
-    requires room { HasRoom notes.old }
+    requires room { HasRoom tables.now notes.old }
     requires me_of { IsOf message.now.image.now me }
     requires class_listed { class.class < class_total message.now.image.now }
     requires from_listed { from.class < class_total message.now.image.now }
-    ensures room { HasRoom notes.new }
+    ensures room { HasRoom tables.now notes.new }
     ensures no_more { notes.new.left ≤ notes.old.left }
     ensures value_of { IfOk result (IsOf message.now.image.now) }
     ensures meaning { Explains tables.now notes.old notes.new
@@ -337,10 +337,10 @@ fn forward(
     notes: &mut Notes,
 ) -> Result<(Value, ClassRef), SendFault>
     requires sizes { table_sizes tables.now ≡ sizes_of message.now.image.now }
-    requires room { HasRoom notes.old }
+    requires room { HasRoom tables.now notes.old }
     requires me_of { IsOf message.now.image.now me }
     requires class_listed { class.class < class_total message.now.image.now }
-    ensures room { HasRoom notes.new }
+    ensures room { HasRoom tables.now notes.new }
     ensures no_more { notes.new.left ≤ notes.old.left }
     ensures target_of { IfOk result (λ r. IsOf message.now.image.now r.0
         × (r.1.class < class_total message.now.image.now)) }
@@ -378,11 +378,11 @@ fn enter(
     notes: &mut Notes,
 ) -> Result<Value, SendFault>
     requires sizes { table_sizes tables.now ≡ sizes_of message.now.image.now }
-    requires room { HasRoom notes.old }
+    requires room { HasRoom tables.now notes.old }
     requires real { 0 < imp_number imp }
     requires listed { imp_number imp ≤ length message.now.image.now.imps }
     requires me_of { IsOf message.now.image.now me }
-    ensures room { HasRoom notes.new }
+    ensures room { HasRoom tables.now notes.new }
     ensures no_more { notes.new.left ≤ notes.old.left }
     ensures value_of { IfOk result (IsOf message.now.image.now) }
     ensures meaning { Explains tables.now notes.old notes.new

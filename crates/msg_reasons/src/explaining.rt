@@ -9,13 +9,16 @@ ghost use Rattle.msg_devices.specs.Reading.{IsSoundDocument};
 ghost use Rattle.msg_eval.specs.Facts.{AreOf};
 ghost use Rattle.msg_eval.specs.Finder.{sizes_of, table_sizes};
 ghost use Rattle.msg_reasons.specs.Changing.{KeepsSizes};
-ghost use Rattle.msg_reasons.specs.Explained.{IsRoomy};
+ghost use Rattle.msg_reasons.specs.Explained.{IsReady};
 ghost use Rattle.msg_reasons.specs.Items.{ExplainsItem, IsOpened};
+ghost use Rattle.msg_reasons.specs.Lines.{AreLines};
 ghost use Rattle.msg_reasons.specs.Text.{explanation_text};
 
 use crate::changing::{change_as_one, change_one};
 use crate::eval::send;
+use crate::lines::Line;
 use crate::notes::Notes;
+use crate::slots::Slots;
 use crate::text::push_lookups;
 use msg_answers::{push_outcome, push_reply};
 use msg_eval::{Args, MAX_LOOKUPS};
@@ -30,6 +33,7 @@ struct Explainer {
     tables: Tables,
     written: Written,
     notes: Notes,
+    lines: Slots<Line>,
 }
 
 impl Explainer {
@@ -43,7 +47,9 @@ impl Explainer {
             notes: Notes {
                 lookups: Vec::with_capacity(alloc, MAX_LOOKUPS as usize)?,
                 left: 0,
+                known: Slots::none(alloc)?,
             },
+            lines: Slots::none(alloc)?,
         })
     }
 
@@ -57,18 +63,20 @@ impl Explainer {
         text: &mut Vec<u8>,
     ) -> Result<(), AllocError>
         requires sizes { table_sizes self.old.tables ≡ sizes_of image.now }
-        requires room { IsRoomy self.old.notes }
+        requires ready { IsReady self.old.tables self.old.notes }
+        requires lines { AreLines image.now self.old.lines }
         requires receiver_of { IsOf image.now receiver }
         requires args_of { AreOf image.now args.now.items }
         ensures same { self.new.tables ≡ self.old.tables }
-        ensures room { IsRoomy self.new.notes }
+        ensures ready { IsReady self.new.tables self.new.notes }
+        ensures lines { AreLines image.now self.new.lines }
         ensures item { OnOk result (ExplainsItem image.now (SendItem receiver sel args.now.items)
             self.old.tables self.new.tables text.old.items text.new.items) }
     {
         let reply = send(&self.tables, image, receiver, sel, args, &mut self.notes);
         push_reply(text, image, reply)?;
         let changes = self.tables.start().changes as usize;
-        push_lookups(text, image, &self.notes.lookups, changes)?;
+        push_lookups(text, image, &self.notes.lookups, changes, &mut self.lines)?;
         Ok(())
     }
 
@@ -80,10 +88,12 @@ impl Explainer {
         text: &mut Vec<u8>,
     ) -> Result<(), AllocError>
         requires sizes { table_sizes self.old.tables ≡ sizes_of image.now }
-        requires room { IsRoomy self.old.notes }
+        requires ready { IsReady self.old.tables self.old.notes }
+        requires lines { AreLines image.now self.old.lines }
         requires sound { IsSoundItem image.now (item_parts item.now) }
         ensures sizes { KeepsSizes self.old.tables self.new.tables }
-        ensures room { IsRoomy self.new.notes }
+        ensures ready { IsReady self.new.tables self.new.notes }
+        ensures lines { AreLines image.now self.new.lines }
         ensures item { OnOk result (ExplainsItem image.now (item_parts item.now)
             self.old.tables self.new.tables text.old.items text.new.items) }
     {
@@ -94,10 +104,12 @@ impl Explainer {
                 args,
             } => self.explain_send(image, *receiver, *sel, args, text),
             Item::Change(change) => {
+                self.notes.known.forget();
                 let outcome = change_one(&mut self.tables, change, &mut self.written)?;
                 push_outcome(text, outcome)
             }
             Item::ChangeAll(changes) => {
+                self.notes.known.forget();
                 let outcome = change_as_one(&mut self.tables, changes, &mut self.written)?;
                 push_outcome(text, outcome)
             }

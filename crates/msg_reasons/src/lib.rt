@@ -2,14 +2,18 @@
 //!
 //! [`explain_document`] answers the items as one thread does that searches the method lists, and
 //! notes each lookup of each send, with the class where the method stands that it found.
+//!
+//! While the tables stay, most lookups are searched for once; and most lines are written once.
 #![tactic(auto)]
 
 mod changing;
 mod eval;
 mod explaining;
 pub mod laws;
+mod lines;
 mod lookups;
 mod notes;
+mod slots;
 mod text;
 
 pub use explaining::explain_document;

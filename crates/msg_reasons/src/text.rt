@@ -6,10 +6,13 @@ ghost use Rattle.msg_devices.specs.Writing.{Gains};
 ghost use Rattle.msg_names.specs.Number.{selector_number, imp_number};
 ghost use Rattle.msg_tables.specs.Methods.{method_numbers};
 ghost use Rattle.msg_reasons.specs.Categories as chosen;
-ghost use Rattle.msg_reasons.specs.Explained.{all_looked, looked};
+ghost use Rattle.msg_reasons.specs.Lines.{AreLines};
+ghost use Rattle.msg_reasons.specs.Looked.{all_looked, looked};
 ghost use Rattle.msg_reasons.specs.Text as spec;
 
+use crate::lines::{Line, push_line};
 use crate::notes::Lookup;
+use crate::slots::Slots;
 use msg_answers::{class_name, push_method};
 use msg_devices::push_digits;
 use msg_image::{Category, Image};
@@ -154,12 +157,19 @@ pub fn push_lookup(text: &mut Vec<u8>, image: &Image, lookup: &Lookup) -> Result
 }
 
 // Appends a line for each lookup.
-fn push_lines(text: &mut Vec<u8>, image: &Image, lookups: &[Lookup]) -> Result<(), AllocError>
-    ensures { OnOk result
+fn push_lines(
+    text: &mut Vec<u8>,
+    image: &Image,
+    lookups: &[Lookup],
+    lines: &mut Slots<Line>,
+) -> Result<(), AllocError>
+    requires { AreLines image.now lines.old }
+    ensures kept { AreLines image.now lines.new }
+    ensures lines { OnOk result
         (Gains text.old text.new (flat_map (spec.lookup_line image.now) (all_looked lookups.now))) }
 {
     for lookup in lookups {
-        push_lookup(text, image, lookup)?;
+        push_line(text, image, lookup, lines)?;
     }
     Ok(())
 }
@@ -188,11 +198,14 @@ pub(crate) fn push_lookups(
     image: &Image,
     lookups: &[Lookup],
     changes: usize,
+    lines: &mut Slots<Line>,
 ) -> Result<(), AllocError>
-    ensures { OnOk result
+    requires { AreLines image.now lines.old }
+    ensures kept { AreLines image.now lines.new }
+    ensures lookups { OnOk result
         (Gains text.old text.new (spec.lookups_text image.now (all_looked lookups.now) changes)) }
 {
-    push_lines(text, image, lookups)?;
+    push_lines(text, image, lookups, lines)?;
     push_count(text, lookups.len(), changes)?;
     Ok(())
 }

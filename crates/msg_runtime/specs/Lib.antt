@@ -1,5 +1,6 @@
 pub mod Calls
 pub mod Changed
+pub mod Contents
 pub mod Flushed
 pub mod Inside
 pub mod Parts

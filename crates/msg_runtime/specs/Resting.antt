@@ -3,7 +3,7 @@ use Rattle.std.specs.Prelude.{◌≡◌, ◌≤◌, ◌⊎◌, ℕ, Bool, List, 
 use mathlib.Core.Option.{some}
 use lib.ListN.{get_elem?}
 use Rattle.atomic_table.specs.Table.{State as Table}
-use Rattle.msg_tables.specs.History.{lookup}
+use Rattle.msg_tables.specs.History.{lookup, BeginsWith, History}
 use Rattle.msg_core.specs.State.{awaits, size}
 use Rattle.msg_cache.specs.Layout.{SettingView}
 use Rattle.msg_cache.specs.Rule.{holds, since_of}
@@ -26,8 +26,20 @@ pub record AreRested (k : KeeperView) (rested : List ℕ) : Type 0 where
   pub since : (n : ℕ) → awaits k.given n ≡ true → slice_index rested n ≤ since_of k.since n
   pub within : (n : ℕ) → slice_index rested n ≤ size k.history
 
--- Each sender has seen n changes or more, whatever the table is whose keeper knows this. So none is
--- answered from before them any more.
+-- this is so of each sender, whatever the table is whose keeper knows this
+abbrev pub OfEachSender : SettingView → KeeperView → (SenderView → Type 0) → Type 0
+OfEachSender key k P = (s : Table ℕ View) → holds lookup key s → (chair : ℕ) → get_elem? s.views chair ≡ some (Keeper k)
+    → (id : ℕ) (v : SenderView) → get_elem? s.views id ≡ some (Sender v) → P v
+
+-- each sender has seen n changes or more
 abbrev pub HaveAllSeen : SettingView → KeeperView → ℕ → Type 0
-HaveAllSeen key k n = (s : Table ℕ View) → holds lookup key s → (chair : ℕ) → get_elem? s.views chair ≡ some (Keeper k)
-    → (id : ℕ) (v : SenderView) → get_elem? s.views id ≡ some (Sender v) → n ≤ size v.front
+HaveAllSeen key k n = OfEachSender key k (λ v. n ≤ size v.front)
+
+-- each history that begins with what the sender has seen has n changes or more
+abbrev pub SeesNoOlder : ℕ → SenderView → Type 0
+SeesNoOlder n v = (later : History) → BeginsWith later v.front → n ≤ size later
+
+-- once each sender has seen n changes, none goes by an older history, since what it sees later
+-- begins with what it has seen
+abbrev pub NoLaterIsOlder : Type 0
+NoLaterIsOlder = (key : SettingView) (k : KeeperView) (n : ℕ) → HaveAllSeen key k n → OfEachSender key k (SeesNoOlder n)

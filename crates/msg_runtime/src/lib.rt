@@ -3,8 +3,10 @@
 #![tactic(auto)]
 
 mod caching;
+mod contents;
 mod flushing;
 mod flushing_all;
+pub mod laws;
 mod resting;
 mod runtime;
 mod several;

@@ -46,8 +46,8 @@ use std::snapshot::Snapshot;
 #[derive(Drop)]
 pub struct Runtime {
     pub(crate) keeper: Keeper,
-    tables: Tables,
-    below: Below,
+    pub(crate) tables: Tables,
+    pub(crate) below: Below,
     written: Written,
     classes: u32,
     // of each sender number, how many changes there were when its sender rested last, or was given

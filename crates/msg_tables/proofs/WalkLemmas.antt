@@ -3,12 +3,14 @@ use Rattle.std.proofs.Common.{◌≡◌, ◌<◌, ◌≤◌, ◌+◌, ◌++◌, 
 use Rattle.std.specs.Prelude.{◌==◌, ◌||◌, nat_lt}
 use Rattle.std.proofs.lemmas.Bool.{true≢false, or_cases, or_from, false_from_ne_true, cases_Bool}
 use Rattle.std.proofs.lemmas.Bool.Decides.{nat_tests}
+use Rattle.std.proofs.lemmas.List.{append_assoc}
+use Rattle.std.proofs.lemmas.List.Folds.{list_any-append}
 use Rattle.std.proofs.lemmas.Option.{same_Some}
 use Rattle.msg_names.proofs.TestLemmas.{same_number}
 use Rattle.msg_tables.specs.declared.presence.Presence.{Presence}
 use Rattle.msg_tables.specs.After.{of_class}
 use Rattle.msg_tables.specs.Chain.{is_present, descends}
-use Rattle.msg_tables.specs.Preorder.{is_in, deeper, first_depth, IsFollowed, AreFollowed, next_in, AreLinked, depth_at, next_at, HavePreorder}
+use Rattle.msg_tables.specs.Preorder.{is_in, deeper, first_depth, AreFirstAndOnce, AreOnce, IsFollowed, AreFollowed, next_in, AreLinked, depth_at, next_at, HavePreorder}
 use Rattle.msg_tables.proofs.DescentLemmas.{absent-below}
 use Rattle.msg_tables.proofs.OrderLemmas.{count-le}
 use Rattle.msg_tables.proofs.PreorderLemmas.{first-in, later-in, out-deeper, deeper-none}
@@ -21,7 +23,13 @@ record Tail (supers : List (Option Presence)) (depth : ℕ → ℕ) (next : ℕ 
   pub linked : AreLinked depth next rest
   pub followed : IsFollowed supers depth all k rest
   pub sub : (j : ℕ) → is_in j rest ≡ true → is_in j ks ≡ true
+  pub once : AreOnce (k ∷ rest)
   pub shorter : length rest < length ks
+
+-- each class of such an order stands there once
+followed-once : (supers : List (Option Presence)) (depth : ℕ → ℕ) (all ks : List ℕ) → AreFollowed supers depth all ks → AreOnce ks
+followed-once supers depth all [] order = tt
+followed-once supers depth all (k ∷ ks) order = (order.0.once, followed-once supers depth all ks order.1)
 
 tail-of : (supers : List (Option Presence)) (depth : ℕ → ℕ) (next : ℕ → Option ℕ) (all : List ℕ) (k : ℕ) (ks : List ℕ) → AreFollowed supers depth all ks → AreLinked depth next ks → is_in k ks ≡ true → Tail supers depth next all k ks
 tail-of supers depth next all k [] order links e = cc
@@ -36,6 +44,7 @@ tail-of supers depth next all k (x ∷ ks) order links e = at (or_cases (x == k)
           linked = links.1;
           followed = subst (λ z. IsFollowed supers depth all z ks) same order.0;
           sub = λ j h. later-in j x ks h;
+          once = subst (λ z. AreOnce (z ∷ ks)) same (order.0.once, followed-once supers depth all ks order.1);
           shorter = omega arith;
         }
     at (inr later) rest =
@@ -46,6 +55,7 @@ tail-of supers depth next all k (x ∷ ks) order links e = at (or_cases (x == k)
           linked = tail.linked;
           followed = tail.followed;
           sub = λ j h. later-in j x ks (tail.sub j h);
+          once = tail.once;
           shorter = omega (arith, tail.shorter);
         }
 
@@ -59,6 +69,8 @@ pub record Walks (supers : List (Option Presence)) (depths : List ℕ) (nexts : 
   pub all : (j : ℕ) → (is_in j classes || is_in j (deeper (depth_at depths) (depth_at depths k) rest)) ≡ descends supers (of_class k) (of_class j)
   pub present : (j : ℕ) → is_in j rest ≡ true → is_present supers j ≡ true
   pub few : length classes + length rest ≤ length supers
+  pub once : AreOnce (classes ++ rest)
+  pub first : (more : List ℕ) × (classes ≡ k ∷ more)
 
 or-false : (b : Bool) → (b || false) ≡ b
 or-false true = refl
@@ -79,6 +91,8 @@ walk-begins supers depths nexts k are there =
       all = λ j. ap (λ b. b || is_in j (deeper (depth_at depths) (depth_at depths k) tail.rest)) (or-false (k == j)) ∙ at tail j (cases_Bool (is_present supers j));
       present = λ j e. sym (are.present j) ∙ tail.sub j e;
       few = omega (arith, tail.shorter, are.count, count-le supers);
+      once = tail.once;
+      first = ([], refl);
     }
   where
     at : (tail : Tail supers (depth_at depths) (next_at nexts) are.classes k are.classes) (j : ℕ) → (is_present supers j ≡ true) ⊎ (is_present supers j ≡ false) → is_in j (k ∷ deeper (depth_at depths) (depth_at depths k) tail.rest) ≡ descends supers (of_class k) (of_class j)
@@ -96,6 +110,15 @@ in-push j k (x ∷ ks) = ap (λ b. (x == j) || b) (in-push j k ks) ∙ assoc (x 
     assoc : (a b c : Bool) → (a || (b || c)) ≡ ((a || b) || c)
     assoc true b c = refl
     assoc false b c = refl
+
+-- what stands in a list once stands once in what it begins with
+once-left : (xs ys : List ℕ) → AreOnce (xs ++ ys) → AreOnce xs
+once-left [] ys e = tt
+once-left (x ∷ xs) ys e = ((or_false_left (is_in x xs) (is_in x ys) (sym (list_any-append (λ z. z == x) xs ys) ∙ e.0)), once-left xs ys e.1)
+  where
+    or_false_left : (a b : Bool) → (a || b) ≡ false → a ≡ false
+    or_false_left true b e = e
+    or_false_left false b e = refl
 
 -- what a list begins with that has such a next one
 record Begins (depth : ℕ → ℕ) (c : ℕ) (ks : List ℕ) : Type 0 where
@@ -144,6 +167,8 @@ module _ (supers : List (Option Presence)) (depths : List ℕ) (nexts : List (Op
         all = λ j. all j first.rest (sym (ap (λ ks. is_in j classes || is_in j (deeper (depth_at depths) (depth_at depths k) ks)) first.is) ∙ walks.all j);
         present = λ j e. walks.present j (ap (is_in j) first.is ∙ later-in j c first.rest e);
         few = omega (arith, length-append classes (c ∷ []), walks.few, count);
+        once = subst AreOnce (ap (λ ks. classes ++ ks) first.is ∙ sym (append_assoc classes (c ∷ []) first.rest)) walks.once;
+        first = (walks.first.0 ++ c ∷ [], ap (λ ks. ks ++ c ∷ []) walks.first.1);
       }
     where
       test : nat_lt (depth_at depths k) (depth_at depths c) ≡ true
@@ -163,6 +188,10 @@ module _ (supers : List (Option Presence)) (depths : List ℕ) (nexts : List (Op
       sym (or-false (is_in j classes))
       ∙ sym (ap (λ ks. is_in j classes || is_in j ks) (deeper-none (depth_at depths) (depth_at depths k) walks.rest low))
       ∙ walks.all j
+
+  -- the classes so far are each there once, and the first is the one that was asked for
+  pub walk-once : (at : Option ℕ) → Walks supers depths nexts k classes at → AreFirstAndOnce k classes
+  walk-once at walks = (once-left classes walks.rest walks.once, walks.first.0, walks.first.1)
 
   pub walk-stops : (c : ℕ) → Walks supers depths nexts k classes (Some c) → depth_at depths c ≤ depth_at depths k → (j : ℕ) → is_in j classes ≡ descends supers (of_class k) (of_class j)
   walk-stops c walks low =

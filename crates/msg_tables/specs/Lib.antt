@@ -6,6 +6,7 @@ pub mod Below
 pub mod Buckets
 pub mod Chain
 pub mod ChangeList
+pub mod Contents
 pub mod Edits
 pub mod FaultNumber
 pub mod Given

@@ -12,6 +12,11 @@ use Rattle.msg_tables.specs.Order.{present_count}
 abbrev pub is_in : ℕ → List ℕ → Bool
 is_in k ks = list_any (λ x. x == k) ks
 
+-- each stands in the list once
+abbrev pub AreOnce : List ℕ → Type 0
+AreOnce [] = Unit {0}
+AreOnce (k ∷ ks) = (is_in k ks ≡ false) × AreOnce ks
+
 -- the classes that a list begins with, as long as they are deeper
 abbrev pub deeper : (ℕ → ℕ) → ℕ → List ℕ → List ℕ
 deeper depth d [] = []
@@ -98,6 +103,10 @@ CanBeGathered p class room =
 abbrev pub AreAllBelow : Preorder → ℕ → List ℕ → Type 0
 AreAllBelow p class found = (supers : List (Option Presence)) → HavePreorder supers p.depths.items p.nexts.items → is_present supers class ≡ true
     → (k : ℕ) → is_in k found ≡ descends supers (of_class class) (of_class k)
+
+-- a class is the first of these, each of which stands among them once
+abbrev pub AreFirstAndOnce : ℕ → List ℕ → Type 0
+AreFirstAndOnce class found = AreOnce found × (rest : List ℕ) × (found ≡ class ∷ rest)
 
 -- this is the order of classes of which one, below which none is, has left, with its superclass
 pub record CanBeForgotten (p : Preorder) (k : ℕ) (superclass : Option ℕ) (supers : List (Option Presence)) : Type 0 where

@@ -1,7 +1,8 @@
 //! The class references at and below one.
 
-ghost use Rattle.std.specs.Prelude.{◌≡◌, ◌<◌, ◌≤◌, [], ℕ, IfOk, length, true};
+ghost use Rattle.std.specs.Prelude.{◌≡◌, ◌<◌, ◌≤◌, [], ℕ, IfOk, drop, length, true};
 ghost use Rattle.msg_tables.specs.Below.{AreBelow};
+ghost use Rattle.msg_tables.specs.Contents.{AreBelowClass};
 ghost use Rattle.msg_tables.specs.Preorder.{is_in};
 ghost use Rattle.msg_tables.specs.Stands.{AtLog};
 
@@ -66,7 +67,7 @@ impl Tables {
         })
     }
 
-    /// Finds a class reference and all below it.
+    /// Finds a class reference and all below it. Its own class comes first.
     ///
     /// Below a root class stand its metaclass and all metaclasses of its subclasses too. It looks
     /// at the classes that it finds and at one more, and takes no memory.
@@ -74,6 +75,7 @@ impl Tables {
         requires class { class.class < length self.now.supers }
         requires room { length self.now.supers ≤ below.old.room }
         ensures below { AtLog self.now (λ h. AreBelow h class below.new) }
+        ensures under { AtLog self.now (λ h. AreBelowClass h class.class (drop 1 below.new.classes)) }
         ensures classes { (k : ℕ) → is_in k below.new.classes ≡ true → k < length self.now.supers }
         ensures room { below.old.room ≤ below.new.room }
     {

@@ -223,6 +223,13 @@ impl IndexedRows {
         self.rows.as_slice().len()
     }
 
+    // The rows, oldest first.
+    pub(crate) fn rows(&self) -> &[(Selector, ImpRef)]
+        ensures { method_numbers result.now ≡ self.now.rows }
+    {
+        &self.rows
+    }
+
     // The row of a place.
     pub(crate) fn row(&self, place: usize) -> (Selector, ImpRef)
         requires { place < length self.now.rows }

@@ -6,6 +6,7 @@ mod apply_all;
 mod below;
 mod change;
 mod change_list;
+mod contents;
 mod counts;
 mod edit;
 mod entry;

@@ -6,7 +6,7 @@ ghost use Rattle.std.specs.Vec.{vec_capacity};
 ghost use Rattle.msg_tables.specs.declared.limits.TheConstants.{MAX_CLASSES};
 ghost use Rattle.msg_tables.specs.Chain.{is_present, presence_of};
 ghost use Rattle.msg_tables.specs.Order.{IsOrder};
-ghost use Rattle.msg_tables.specs.Preorder.{AreAllBelow, CanBeForgotten, CanBeGathered, CanBeSuperclass, HavePreorder, LeavesAfter};
+ghost use Rattle.msg_tables.specs.Preorder.{AreAllBelow, AreFirstAndOnce, CanBeForgotten, CanBeGathered, CanBeSuperclass, HavePreorder, LeavesAfter};
 ghost use Rattle.msg_tables.specs.Preorder.{depths_with, nexts_with};
 
 use crate::presence::Presence;
@@ -111,6 +111,7 @@ impl Preorder {
         requires none { classes.old.items ≡ [] }
         ensures room { vec_capacity classes.old ≤ vec_capacity classes.new }
         ensures below { AreAllBelow self.now class classes.new.items }
+        ensures once { AreFirstAndOnce class classes.new.items }
     {
         push_one(classes, class);
         let depth = self.depths[class as usize];

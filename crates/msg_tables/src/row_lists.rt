@@ -5,7 +5,7 @@ ghost use Rattle.msg_tables.specs.RowList.{Attaches, ChangesAt, GainsEmpty, IsCo
 ghost use Rattle.msg_tables.specs.RowList.{rows_of, with_imp, with_methods, with_row, with_row_at, without_last, without_row};
 ghost use Rattle.msg_tables.specs.Kept.{no_rows};
 ghost use Rattle.std.specs.Vec.{vec_capacity};
-ghost use Rattle.msg_tables.specs.Methods.{method_number};
+ghost use Rattle.msg_tables.specs.Methods.{method_number, method_numbers};
 ghost use Rattle.msg_names.specs.Number.{selector_number};
 
 use crate::lists::{
@@ -156,6 +156,16 @@ impl RowLists {
         match self.written.get(at) {
             Some(rows) => rows.len(),
             None => 0,
+        }
+    }
+
+    // The rows of one of the lists, oldest first.
+    pub(crate) fn rows(&self, at: usize) -> &[(Selector, ImpRef)]
+        ensures { method_numbers result.now ≡ slice_index_or (rows_of self.now) at [] }
+    {
+        match self.written.get(at) {
+            Some(rows) => rows.rows(),
+            None => &[],
         }
     }
 

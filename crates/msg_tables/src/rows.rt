@@ -141,6 +141,16 @@ impl MethodRows {
         }
     }
 
+    // The rows, oldest first.
+    pub(crate) fn rows(&self) -> &[(Selector, ImpRef)]
+        ensures { method_numbers result.now ≡ self.now.rows }
+    {
+        match &self.indexed {
+            Some(rows) => rows.rows(),
+            None => &[],
+        }
+    }
+
     // The last row, where there is one.
     pub(crate) fn last(&self) -> Option<(Selector, ImpRef)>
         ensures { option_map method_number result ≡ last_row self.now.rows }

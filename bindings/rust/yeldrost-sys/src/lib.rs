@@ -48,7 +48,7 @@ pub struct msg_class {
 }
 
 #[repr(C)]
-#[derive(Clone, Copy, Debug, PartialEq, Eq)]
+#[derive(Clone, Copy, Debug, Default, PartialEq, Eq)]
 pub struct msg_method {
     pub sel: u32,
     pub imp: u32,
@@ -167,6 +167,27 @@ extern "C" {
         meta: bool,
         sel: u32,
         at: *mut msg_class,
+    ) -> u32;
+    pub fn msg_methods(
+        runtime: *mut msg_runtime,
+        number: u32,
+        meta: bool,
+        methods: *mut msg_method,
+        room: usize,
+        count: *mut usize,
+    ) -> u32;
+    pub fn msg_classes(
+        runtime: *mut msg_runtime,
+        classes: *mut u32,
+        room: usize,
+        count: *mut usize,
+    ) -> u32;
+    pub fn msg_classes_below(
+        runtime: *mut msg_runtime,
+        number: u32,
+        classes: *mut u32,
+        room: usize,
+        count: *mut usize,
     ) -> u32;
     pub fn msg_add(runtime: *mut msg_runtime, number: u32, meta: bool, sel: u32, imp: u32) -> u32;
     pub fn msg_replace(

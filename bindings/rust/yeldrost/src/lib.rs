@@ -83,11 +83,21 @@ impl From<sys::msg_class> for ClassRef {
     }
 }
 
-/// A method of a list that is attached to a class.
+/// A method of a list that is attached to a class, or one that a class has.
 #[derive(Clone, Copy, Debug, PartialEq, Eq)]
 pub struct Method {
     pub selector: Selector,
     pub imp: Imp,
+}
+
+impl Method {
+    /// No method has a selector or an implementation of the number 0.
+    fn of_row(row: &sys::msg_method) -> Option<Method> {
+        Some(Method {
+            selector: Selector::new(row.sel)?,
+            imp: Imp::new(row.imp)?,
+        })
+    }
 }
 
 /// What a runtime and its senders share. It is freed with the last of them.

@@ -79,6 +79,29 @@ impl<'r> Locked<'r> {
         Fault::or_none(answer, at.into())
     }
 
+    /// The methods that the class or metaclass has itself, the newest first: of those of one
+    /// selector a lookup finds the first.
+    pub fn methods(&mut self, of: ClassRef) -> Result<Vec<Method>, Fault> {
+        let rows: Vec<sys::msg_method> = self.shown(|runtime, rows, room, count| unsafe {
+            sys::msg_methods(runtime, of.number, of.meta, rows, room, count)
+        })?;
+        Ok(rows.iter().filter_map(Method::of_row).collect())
+    }
+
+    /// The classes that are made, each after its superclass.
+    pub fn classes(&mut self) -> Result<Vec<u32>, Fault> {
+        self.shown(|runtime, classes, room, count| unsafe {
+            sys::msg_classes(runtime, classes, room, count)
+        })
+    }
+
+    /// The subclasses, theirs, and so on.
+    pub fn classes_below(&mut self, number: u32) -> Result<Vec<u32>, Fault> {
+        self.shown(|runtime, classes, room, count| unsafe {
+            sys::msg_classes_below(runtime, number, classes, room, count)
+        })
+    }
+
     pub fn make_root_class(&mut self, number: u32) -> Result<&mut Self, Fault> {
         self.change(|runtime| unsafe { sys::msg_make_root_class(runtime, number) })
     }
@@ -288,6 +311,28 @@ impl<'r> Locked<'r> {
         let mut count = 0;
         Fault::of(unsafe { sys::msg_seen_by_all(&mut self.handle.0, &mut count) })?;
         Ok(count)
+    }
+
+    /// All that a call writes, into room for as many as it counts.
+    fn shown<T: Clone + Default>(
+        &mut self,
+        call: impl Fn(*mut sys::msg_runtime, *mut T, usize, *mut usize) -> u32,
+    ) -> Result<Vec<T>, Fault> {
+        let mut rows = Vec::new();
+        let mut count = 0;
+        loop {
+            let answer = call(
+                &mut self.handle.0,
+                rows.as_mut_ptr(),
+                rows.len(),
+                &mut count,
+            );
+            if answer != sys::MSG_NO_ROOM {
+                return Fault::of(answer).map(|()| rows);
+            }
+            // nothing was written
+            rows.resize(count, T::default());
+        }
     }
 
     fn change(

@@ -78,6 +78,14 @@ fn questions() {
         Err(Fault::NoClass),
         now.lookup(ClassRef::instances_of(16384), s(VALUE))
     );
+    assert_eq!(Ok(vec![method(NAME, 3)]), now.methods(CHILDREN));
+    assert_eq!(Ok(vec![]), now.methods(CHILD_ITSELF));
+    assert_eq!(Ok(vec![ROOT, CHILD]), now.classes());
+    assert_eq!(Ok(vec![CHILD]), now.classes_below(ROOT));
+    assert_eq!(
+        Err(Fault::NoClass),
+        now.methods(ClassRef::instances_of(16384))
+    );
     let report = now.report().unwrap();
     assert_eq!(
         (0, [0; 9], 0),

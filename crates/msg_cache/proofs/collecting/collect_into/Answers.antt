@@ -1,15 +1,16 @@
 use Rattle.std.proofs.Common.{◌≡◌, ℕ, ◌+◌, ◌<◌, List, ◌∷◌, ◌++◌, [], map, length, take, drop, set, get_or, refl, sym, ap, ◌∙◌, subst, arith}
 use Rattle.std.proofs.lemmas.List.{drop_more, take_more, take_all, drop_all}
+use Rattle.std.specs.List.Sorted.{IsPermutation}
 use Rattle.std.proofs.lemmas.List.Sorted.{length_permutation}
 use Rattle.msg_core.specs.View.{standing_at}
 use Rattle.msg_cache.specs.declared.view.KeeperView.{KeeperView}
 use Rattle.msg_cache.specs.Layout.{layout_of}
-use Rattle.msg_cache.specs.Keeping.{standing_of, looks, emptied, all_emptied, freed}
+use Rattle.msg_cache.specs.Keeping.{standing_of, looks, look_count, emptied, all_emptied, newly_free, freed}
 use Rattle.msg_cache.specs.Uses.{StandingsView, ArrayUse, use_of, use_at}
 use Rattle.msg_tables.specs.History.{lookup}
 use Rattle.msg_cache.specs.Plays.{Sat, keeper_of}
 use Rattle.msg_cache.proofs.AllowedKeeper.{kept_is}
-use Rattle.msg_cache.proofs.SettledLemmas.{used_at, free_used, waiting_used, newly_ready, seen_uses, looks_length}
+use Rattle.msg_cache.proofs.SettledLemmas.{collects_nothing, looks_at_all, used_at, free_used, waiting_used, newly_ready, seen_uses, looks_length}
 use Rattle.msg_cache.proofs.SweepingLemmas.{Swept, swept_none, swept_rest, swept_next, kept_swept, looks_rest}
 use Rattle.msg_cache.proofs.collecting.collect_into.Goals as goal
 
@@ -89,6 +90,12 @@ loop-turn-preserved c =
           (swept_next z k0 j had (take i all) k has a v.swept inside);
     }
 
+-- where no array is retired
+pub returns-then-not-has_retired-clause-collects : goal.returns-then-not-has_retired-clause-collects
+returns-then-not-has_retired-clause-collects c =
+    let key = c.args.arena.now.key in
+    collects_nothing (layout_of key) key.senders (keeper_of c.args.seat.now.me.0) c.args.standings.now c.requires.standings (sym c.has_retired.ensures ∙ c.if-not-has_retired.true)
+
 pub returns-clause-collects : goal.returns-clause-collects
 returns-clause-collects c =
     let n = c.args.arena.now.key.senders in
@@ -99,13 +106,14 @@ returns-clause-collects c =
     let all = c.see_out-freed.new.self.ready in
     let at : keeper_of c.look_at_senders.new.seat.me.0 ≡ looks n outs k0 = ap (λ (x : Sat). keeper_of x.0) c.look_at_senders.ensures.told in
     let uses = seen_uses n c.args.standings.now.senders outs k0 c.see_out-freed.new.self.uses (ap (λ (v : StandingsView). v.senders) c.requires.standings) (c.see_out-freed.ensures.uses k0.standings (ap (λ (v : StandingsView). v.uses) c.requires.standings)) in
-    let freed_are = newly_ready z k0 (looks n outs k0) c.args.standings.now.uses c.see_out-freed.new.self.uses all c.requires.in_order.tidy.kept.standings (ap (λ (v : StandingsView). v.uses) c.requires.standings) uses c.see_out-freed.ensures.ready in
+    let each : look_count z k0 ≡ n = looks_at_all z n k0 c.args.standings.now c.requires.standings (sym c.has_retired.ensures ∙ c.if-not-has_retired.false) in
+    let freed_are : IsPermutation all (freed z outs k0) = subst (λ (m : ℕ). IsPermutation all (newly_free z k0 (looks m outs k0))) (sym each) (newly_ready z k0 (looks n outs k0) c.args.standings.now.uses c.see_out-freed.new.self.uses all c.requires.in_order.tidy.kept.standings (ap (λ (v : StandingsView). v.uses) c.requires.standings) uses c.see_out-freed.ensures.ready) in
     let done : take c.loop-turn._turn all ≡ all = take_all c.loop-turn._turn all (omega (arith, c.loop-turn-test.false, c.see_out-freed.ensures.count)) in record {
       outs = outs;
       collects = record {
         order = all;
         are_freed = freed_are;
-        view = c.loop-turn.invariant.swept.told ∙ (λ i. all_emptied z (done i) (at i));
+        view = c.loop-turn.invariant.swept.told ∙ (λ i. all_emptied z (done i) (at i)) ∙ ap (λ (m : ℕ). all_emptied z all (looks m outs k0)) (sym each);
       };
       count = c.see_out-freed.ensures.count ∙ sym (length_permutation all (freed z outs k0) freed_are);
     }

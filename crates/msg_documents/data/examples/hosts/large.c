@@ -245,6 +245,8 @@ int main(void)
     done("a sender goes", msg_sender_close(&runtime, &senders[SENDERS / 2]));
     done("and another comes", msg_sender_open(&runtime, one_more));
     look(one_more);
+    done("it goes, too", msg_sender_close(&runtime, one_more));
+    free(one_more);
     printf("%d classes, %d changes, %d senders: as the model says\n", CLASSES, CHANGES, SENDERS);
     return 0;
 }

@@ -47,7 +47,7 @@ invariant-dispatch-loop-imp l = record {
   me_of : IsOf l.message.image.now l.me;
   class_listed : l.class.class < class_total l.message.image.now;
   from_listed : l.from.class < class_total l.message.image.now;
-  room : HasRoom l.notes;
+  room : HasRoom l.tables l.notes;
   no_more : l.notes.left ≤ l.fn.notes.left;
   rest : (t : ℕ) × (l.notes.left ≤ t) × ComesTo {A = Value} l.tables l.fn.notes l.notes
       (dispatched l.message l.fn.notes.left l.fn.me l.fn.class l.fn.from l.fn.notes.left)
@@ -60,7 +60,7 @@ decreases-dispatch-loop-imp l = l.notes.left
 -- the arguments come to those that are left, after the values of the others
 abbrev pub invariant-eval_args-loop-expr : goal.invariant-eval_args-loop-expr
 invariant-eval_args-loop-expr l = record {
-  room : HasRoom l.notes;
+  room : HasRoom l.tables l.notes;
   no_more : l.notes.left ≤ l.fn.notes.left;
   values_of : All (IsOf l.frame.image.now) l.values.items;
   as_many : length l.values.items ≡ l.expr-index;

@@ -2,7 +2,8 @@ use Rattle.std.proofs.Common.{List, sym, ap, ◌∙◌}
 use Rattle.msg_eval.specs.Evaluation.{send_of}
 use Rattle.msg_eval.specs.Meaning.{Ends}
 use Rattle.msg_eval.specs.declared.reply.Reply.TheVariants as replies
-use Rattle.msg_reasons.specs.Explained.{all_looked, explained, noted}
+use Rattle.msg_reasons.specs.Explained.{explained, noted}
+use Rattle.msg_reasons.specs.Looked.{all_looked}
 use Rattle.msg_reasons.specs.declared.notes.Lookup.{Lookup}
 use Rattle.msg_reasons.proofs.NotedLemmas.{explained-whole}
 use Rattle.msg_reasons.proofs.eval.send.Goals as goal

@@ -7,7 +7,8 @@ use Rattle.msg_reasons.proofs.explaining.explain_document.Goals as goal
 pub loop-item-init : goal.loop-item-init
 loop-item-init c = record {
   sizes = c.in_ok-explainer.ensures.sizes;
-  room = c.in_ok-explainer.ensures.roomy;
+  ready = c.in_ok-explainer.ensures.ready;
+  lines = c.in_ok-explainer.ensures.lines;
   sound = c.requires;
   so_far = at_start (document_parts c.args.document.now) c.in_ok-explainer.explainer.tables c.new-text.result.items c.new-text.ensures.items c.in_ok-explainer.ensures.stands;
 }
@@ -24,7 +25,8 @@ loop-item-preserved c =
     let is = subst (λ (xs : List Item). c.item-item.result ≡ get_or xs c.loop-item.item-index c.item-item.result) c.deref-item-items.ensures.value c.item-item.is in
     record {
       sizes = sizes-kept c.args.document.now.image c.loop-item.explainer.tables c.explain_item.new.self.tables c.explain_item.ensures.sizes c.loop-item.invariant.sizes;
-      room = c.explain_item.ensures.room;
+      ready = c.explain_item.ensures.ready;
+      lines = c.explain_item.ensures.lines;
       sound = sound-next c.args.document.now.image c.args.document.now.items.items c.loop-item.item-index c.item-item.result lt is c.loop-item.invariant.sound;
       so_far = next (document_parts c.args.document.now) c.loop-item.explainer.tables c.explain_item.new.self.tables c.loop-item.text.items c.explain_item.new.text.items
           c.args.document.now.items.items c.loop-item.item-index c.item-item.result lt is c.loop-item.invariant.so_far c.in_ok-explain_item.ensures.item;

@@ -5,7 +5,7 @@ use Rattle.msg_tables.specs.Chain.{is_present}
 use Rattle.msg_tables.specs.Preorder.{HavePreorder, depth_at, next_at}
 use Rattle.msg_tables.specs.declared.presence.Presence.{Presence}
 use Rattle.msg_tables.proofs.OrderLemmas.{present-inside}
-use Rattle.msg_tables.proofs.WalkLemmas.{Walks, walk-begins, walk-next, walk-room, walk-more, walk-stops, walk-ends}
+use Rattle.msg_tables.proofs.WalkLemmas.{Walks, walk-begins, walk-next, walk-room, walk-more, walk-stops, walk-ends, walk-once}
 use Rattle.msg_tables.proofs.preorder.Preorder.gather.Goals as goal
 
 pub loop-at-init : goal.loop-at-init
@@ -53,6 +53,11 @@ returns-then-index-depth-clause-below c = λ s t e j.
     let read : c.index.result.now ≡ depth_at depths c.in-Some.next = get_or_read depths c.in-Some.next c.index.result.now inside.0 c.index.ensures 0 in
     walk-stops s depths nexts c.args.class c.loop-at.classes.items c.in-Some.next on (omega (arith, read, c.if-index-depth.true, c.loop-at.invariant.depth)) j
 
+pub returns-then-index-depth-clause-once : goal.returns-then-index-depth-clause-once
+returns-then-index-depth-clause-once c =
+    let (supers, are, there, room) = c.requires.preorder in
+    walk-once supers c.args.self.now.depths.items c.args.self.now.nexts.items c.args.class c.loop-at.classes.items c.loop-at.at (c.loop-at.invariant.walks supers are there)
+
 pub push_one-requires-in-Some : goal.push_one-requires-in-Some
 push_one-requires-in-Some c =
     let (supers, are, there, room) = c.requires.preorder in
@@ -95,3 +100,8 @@ returns-clause-below c = λ s t e j.
     let nexts = c.args.self.now.nexts.items in
     let ended : Walks s depths nexts c.args.class c.loop-at.classes.items None = subst (λ o. Walks s depths nexts c.args.class c.loop-at.classes.items o) c.in_default.is (c.loop-at.invariant.walks s t e) in
     walk-ends s depths nexts c.args.class c.loop-at.classes.items ended j
+
+pub returns-clause-once : goal.returns-clause-once
+returns-clause-once c =
+    let (supers, are, there, room) = c.requires.preorder in
+    walk-once supers c.args.self.now.depths.items c.args.self.now.nexts.items c.args.class c.loop-at.classes.items c.loop-at.at (c.loop-at.invariant.walks supers are there)

@@ -1,5 +1,5 @@
-use Rattle.std.proofs.Common.{◌≡◌, ℕ, List, Option, Some, None, Bool, true, false, cond, refl, sym, ap, ◌∙◌}
-use Rattle.std.specs.Prelude.{◌&&◌, ◌||◌, not, is_some, is_none}
+use Rattle.std.proofs.Common.{◌≡◌, ℕ, List, Option, Some, None, Bool, true, false, cond, refl, sym, ap, ◌∙◌, subst}
+use Rattle.std.specs.Prelude.{◌==◌, ◌&&◌, ◌||◌, drop, not, is_some, is_none}
 use Rattle.std.specs.Option.{option_map_or}
 use Rattle.msg_names.specs.declared.value.ClassRef.{ClassRef}
 use Rattle.msg_tables.specs.declared.presence.Presence.{Presence}
@@ -7,10 +7,16 @@ use Rattle.msg_tables.specs.After.{of_class}
 use Rattle.msg_tables.specs.Chain.{presence_of, is_present, descends, is_root}
 use Rattle.msg_tables.specs.Order.{IsOrder}
 use Rattle.msg_tables.specs.Preorder.{is_in}
+use Rattle.msg_names.proofs.TestLemmas.{same_number}
+use Rattle.msg_tables.specs.Preorder.{AreOnce}
 use Rattle.msg_tables.specs.View.{TablesView}
 use Rattle.msg_tables.proofs.DescentLemmas.{kinds, descends-at, present-below, nothing-below}
 use Rattle.msg_tables.proofs.OrderLemmas.{present-inside, read-presence}
 use Rattle.msg_tables.proofs.tables.Tables.below.Goals as goal
+
+and-all : (b : Bool) → (b && true) ≡ b
+and-all true = refl
+and-all false = refl
 
 none-of : (o : Option ℕ) (b : Bool) → is_some o ≡ not b → b ≡ is_none o
 none-of None true e = refl
@@ -29,6 +35,32 @@ below-of supers order before origin root classes is all c =
     ap (λ b. cond c.meta (origin.meta || root) (not origin.meta) && b) (all c.class)
     ∙ sym (ap (λ r. cond c.meta (origin.meta || r) (not origin.meta) && descends supers (of_class origin.class) (of_class c.class)) is)
     ∙ sym (kinds supers order before origin c)
+
+-- those below a class are those at and below it, without itself
+without-itself : (k j : ℕ) (rest : List ℕ) (d : Bool) → is_in k rest ≡ false → ((k == j) || is_in j rest) ≡ d → is_in j rest ≡ (d && not (k == j))
+without-itself k j rest d out e = at (k == j) refl e
+  where
+    at : (b : Bool) → (k == j) ≡ b → (b || is_in j rest) ≡ d → is_in j rest ≡ (d && not (k == j))
+    at true same e = sym (ap (λ z. is_in z rest) (same_number k j same)) ∙ out ∙ sym (and-none d) ∙ sym (ap (λ b. d && not b) same)
+    at false other e = e ∙ sym (and-all d) ∙ sym (ap (λ b. d && not b) other)
+
+pub returns-in-Some-clause-under : goal.returns-in-Some-clause-under
+returns-in-Some-clause-under c = λ h stands.
+    let supers = c.self.inside.supers.items in
+    let inside = rw (← c.self.view_is) at c.requires.class in
+    let here : presence_of supers c.args.class.class ≡ Some c.in-Some.presence = sym (read-presence supers c.args.class.class c.index.result.now inside c.index.ensures) ∙ c.in-Some.is in
+    let same = ap (λ (t : TablesView). t.supers) c.self.view_is ∙ stands.supers in
+    let (once, rest, first) = c.gather.ensures.once in
+    let dropped : drop 1 c.gather.new.classes.items ≡ rest = ap (drop 1) first in
+    let alone = subst AreOnce first once in
+    record {
+      below = λ j.
+          ap (is_in j) dropped
+          ∙ without-itself c.args.class.class j rest (descends supers (of_class c.args.class.class) (of_class j)) alone.0
+          (sym (ap (is_in j) first) ∙ c.gather.ensures.below supers c.self.invariant.preorder (ap is_some here) j)
+          ∙ ap (λ s. descends s (of_class c.args.class.class) (of_class j) && not (c.args.class.class == j)) same;
+      once = subst AreOnce (sym dropped) alone.1;
+    }
 
 pub returns-in-Some-clause-below : goal.returns-in-Some-clause-below
 returns-in-Some-clause-below c = λ h stands d.
@@ -56,3 +88,18 @@ returns-in_default-clause-below c = λ h stands d.
     let same = ap (λ (t : TablesView). t.supers) c.self.view_is ∙ stands.supers in
     ap (λ ks. cond d.meta c.args.class.meta (not c.args.class.meta) && is_in d.class ks) c.clear.ensures.items ∙ and-none (cond d.meta c.args.class.meta (not c.args.class.meta))
     ∙ sym (nothing-below supers c.self.inside.order.items c.self.invariant.order c.args.class gone d) ∙ descends-at h supers c.args.class d same
+
+pub returns-in_default-clause-under : goal.returns-in_default-clause-under
+returns-in_default-clause-under c = λ h stands.
+    let supers = c.self.inside.supers.items in
+    let inside = rw (← c.self.view_is) at c.requires.class in
+    let gone : is_present supers c.args.class.class ≡ false = ap is_some (sym (read-presence supers c.args.class.class c.index.result.now inside c.index.ensures) ∙ c.in_default.is) in
+    let same = ap (λ (t : TablesView). t.supers) c.self.view_is ∙ stands.supers in
+    record {
+      below = λ j.
+          ap (λ ks. is_in j (drop 1 ks)) c.clear.ensures.items
+          ∙ sym (ap (λ b. b && not (c.args.class.class == j))
+          (sym (ap (λ s. descends s (of_class c.args.class.class) (of_class j)) same)
+          ∙ nothing-below supers c.self.inside.order.items c.self.invariant.order (of_class c.args.class.class) gone (of_class j)));
+      once = subst (λ ks. AreOnce (drop 1 ks)) (sym c.clear.ensures.items) tt;
+    }
