@@ -178,7 +178,11 @@ impl Noting {
     {
         self.begin();
         let reply = send(self, image, receiver, sel, args);
-        if self.is_whole { Ok(reply) } else { Err(AllocError) }
+        if self.is_whole {
+            Ok(reply)
+        } else {
+            Err(AllocError)
+        }
     }
 
     // Makes a change, and says what became of it.
