@@ -86,10 +86,8 @@ struct index { _Atomic(struct places *) places; uint32_t count; };
 uint32_t shim_number_in(const struct index *index, uint32_t mixed,
                         bool (*is)(uint32_t number, const void *it), const void *it);
 void *shim_index(struct index *index, uint32_t mixed, uint32_t number);
-/* The same rows, with room for one more; and that one, which then counts. */
+/* The same rows, with room for one more. */
 void *shim_more(void *rows, uint32_t count, uint32_t *room, size_t size);
-#define ADDED(rows, count, room) \
-    (*(rows = shim_more(rows, count, &(room), sizeof *rows), &rows[count++]))
 /* For a caller's own: room for so many rows and an empty one, or NULL for none; and they are
  * counted where that is asked. */
 void *shim_list(size_t many, size_t size, unsigned int *count);
