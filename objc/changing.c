@@ -161,7 +161,7 @@ static inline void settle(const struct part *part)
 
 static inline void cache(const struct part *part)
 {
-    if (is_in_tables(part)) msg_process_cache(shim_key(part->record, shim_sel(part->sel)));
+    if (is_in_tables(part)) msg_process_cache(shim_key(part->record, part->sel));
 }
 
 static inline void make_one(const struct part *part)

@@ -142,9 +142,9 @@ static inline uint64_t shim_class_key(const struct record *record)
 {
     return (2 * record->number + record->meta) * MSG_KEY_OF_SLOT;
 }
-static inline uint64_t shim_key(const struct record *record, uint32_t sel)
+static inline uint64_t shim_key(const struct record *record, SEL sel)
 {
-    return shim_class_key(record) + msg_key(0, sel);
+    return shim_class_key(record) + sel->name.key;
 }
 
 /* roots.c: the module of Object, Protocol and NXConstantString; loading.c takes it. */
@@ -186,9 +186,5 @@ void shim_report(void);
 /* runtime.c */
 extern msg_runtime *shim_runtime;
 void shim_must(uint32_t fault, const char *what); /* or the program ends */
-/* Without the lock: what the calling thread's sender finds, by all changes that returned before;
- * NULL is forwarding. In a handler of a signal whose own thread has the lock, or is on this way
- * itself and would be waited for: what the rows say. */
-IMP shim_find(Class class_, uint32_t sel);
 
 #endif

@@ -12,11 +12,11 @@
  *     recall does: by one sequentially consistent load, in the words that msg_words tells of. They
  *     stay, since the runtime is never closed; and they are stored before `started`, so who has a
  *     sender, and so notes, has them.
- *  3. A sender is in one call at a time. Its thread takes it from `msg_process_own` by one
- *     exchange, so a handler in the middle of a call finds nobody's there, recalls nothing that is
- *     half written, and asks under the lock. `turns` goes up before, so a find that a handler
- *     interrupted between two loads starts again. All of this is one thread's: fences of signals
- *     do.
+ *  3. A sender is in one call at a time. Its thread hides it from `msg_process_own` before, so a
+ *     handler in the middle of a call finds nobody's there, recalls nothing that is half written,
+ *     and asks under the lock. Where it may not be shown, that is one exchange: a handler in a
+ *     first find may show it. `turns` goes up before, so a find that a handler interrupted between
+ *     two loads starts again. All of this is one thread's: fences of signals do.
  *  4. A handler doesn't wait for its own thread: `holds` is set before the lock is taken and
  *     cleared after it is given. In glibc and musl a lock may be taken in a handler that
  *     interrupted no use of it. But who holds it may want memory, and the handler may have
@@ -238,12 +238,23 @@ static struct seat *hide(void)
     return shown ? own : NULL;
 }
 
+/* The same in fewer instructions, of one that was seen to be shown: a handler that came meanwhile
+ * has shown it again. */
+static inline struct seat *hide_shown(const msg_sender *sender)
+{
+    msg_process_own.turns++;
+    atomic_signal_fence(memory_order_seq_cst);
+    __atomic_store_n(&msg_process_own.sender, &nobody, __ATOMIC_RELAXED);
+    atomic_signal_fence(memory_order_seq_cst);
+    return (struct seat *)(uintptr_t)sender; /* its first member */
+}
+
 static void at_thread_end(void *unused)
 {
     (void)unused;
     tried = true;
-    hide();
     take(MSG_WAITS); /* or the thread ends with the lock, which is given below */
+    hide();          /* for good: until now a handler may have come back, and shown it */
     stand_up();
     end_stay();
     is_over = is_over || ++end_count >= MOST_ENDS || pthread_setspecific(key, &stay);
@@ -365,11 +376,12 @@ static inline uint32_t fill_all(struct seat *seat, const struct asked *a)
     return MSG_DONE;
 }
 
-static inline uint32_t find_by(const struct asked *a, unsigned waits)
+/* By a seat that is hidden and whose sender has missed, or by none. */
+static inline uint32_t find_by(struct seat *seat, const struct asked *a, unsigned waits)
 {
+    uint32_t answer = MSG_MISSED;
     if (!atomic_load_explicit(&started, memory_order_acquire)) return MSG_CLOSED;
-    struct seat *seat = seat_by(waits);
-    uint32_t answer = seat ? probe(seat, a) : (uint32_t)MSG_MISSED;
+    if (!seat && (seat = seat_by(waits))) answer = probe(seat, a);
     if (answer == MSG_MISSED && !(answer = take(waits))) {
         answer = a->place ? fill_all(seat, a) : fill(seat, a->key, a->imps);
         give();
@@ -378,15 +390,27 @@ static inline uint32_t find_by(const struct asked *a, unsigned waits)
     return answer;
 }
 
+static __attribute__((noinline)) uint32_t find_by_seat(struct seat *seat, uint64_t key,
+                                                       unsigned waits, uint32_t *imp)
+{
+    return find_by(seat, &(struct asked){.key = key, .imps = imp}, waits);
+}
+
 uint32_t msg_process_find_slowly(uint64_t key, unsigned waits, uint32_t *imp)
 {
-    return find_by(&(struct asked){.key = key, .imps = imp}, waits);
+    const msg_sender *sender = __atomic_load_n(&msg_process_own.sender, __ATOMIC_RELAXED);
+    if (__builtin_expect(sender == &nobody, 0)) return find_by_seat(NULL, key, waits, imp);
+    struct seat *seat = hide_shown(sender);
+    uint32_t answer = probe(seat, &(struct asked){.key = key, .imps = imp});
+    if (__builtin_expect(answer == MSG_MISSED, 0)) return find_by_seat(seat, key, waits, imp);
+    show(seat);
+    return answer;
 }
 
 uint32_t msg_process_find_all(const msg_lookup_row *lookups, size_t count, uint32_t *imps,
                               size_t *place)
 {
-    return find_by(&(struct asked){0, imps, lookups, count, place}, MSG_WAITS);
+    return find_by(NULL, &(struct asked){0, imps, lookups, count, place}, MSG_WAITS);
 }
 
 void msg_process_cache(uint64_t key)

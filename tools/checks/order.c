@@ -502,7 +502,6 @@ static void finds_all(bool in_handler)
     is_right(B, least, before[B], imps[B]);
 }
 /* The way of a send in the shim (objc/seat.h). */
-static bool cv_finds;
 static void shim_sends(void)
 {
     uint32_t imp = 77, key = any_key();
@@ -512,15 +511,10 @@ static void shim_sends(void)
     bool says = shim_note(KEY(key), &imp);
     SAY("a note says it, imp", says, imp);
     if (says) is_right(key, least, before, imp);
-    /* shim_find of objc/runtime.c: a handler that interrupts it doesn't wait, and where the lock
-     * is held it asks the rows, which aren't in this model */
+    /* find_by_key of objc/sending.c: where the lock isn't to be had it asks the rows, which aren't
+     * in this model */
     else {
-        STEP();
-        bool waits = !cv_finds;
-        STEP(); cv_finds = true;
-        unsigned how = waits ? MSG_WAITS_A_WHILE : MSG_WAITS_NOT;
-        uint32_t fault = msg_process_find_slowly(KEY(key), how, &imp);
-        STEP(); cv_finds = !waits;
+        uint32_t fault = msg_process_find_slowly(KEY(key), MSG_WAITS_A_WHILE, &imp);
         if (!fault) is_right(key, least, before, imp);
         else __CPROVER_assert(fault == MSG_LOCK_HELD, "it answers");
     }
