@@ -57,9 +57,16 @@
 enum { SPARES = 2, PATIENCE = 64, MOST_ENDS = PTHREAD_DESTRUCTOR_ITERATIONS - 1 };
 enum { SLICE = 1000000, SLICES = 1000 }; /* of a wait for a while: nanoseconds, and how many */
 
-struct seat { _Alignas(64) msg_sender sender; struct seat *next; atomic_bool asks; };
+/* In one list or none: `at` is where it is named there. What is written of each comes first, with
+ * the first notes, and so takes a page of memory and no more. */
+struct seat {
+    _Alignas(64) struct seat *next, **at;
+    atomic_bool asks;
+    _Alignas(64) msg_sender sender;
+};
+#define SEAT_OF(of) ((struct seat *)(void *)((char *)(of) - offsetof(struct seat, sender)))
 /* A thread that may be in code that a find returned, and the count of changes at its last rest. */
-struct stay { struct stay *next; uint64_t changes, thread; };
+struct stay { struct stay *next, **at; uint64_t changes, thread; };
 
 _Alignas(64) struct msg_process_words msg_process_words = {.at = &msg_process_words.none};
 static _Alignas(64) msg_sender nobody; /* closed, without notes */
@@ -129,7 +136,15 @@ static void give(void)
 static void push(struct seat **list, struct seat *seat)
 {
     seat->next = *list;
+    seat->at = list;
+    if (seat->next) seat->next->at = &seat->next;
     *list = seat;
+}
+
+static void pull(const struct seat *seat)
+{
+    *seat->at = seat->next;
+    if (seat->next) seat->next->at = seat->at;
 }
 
 static void push_spare(struct seat *seat)
@@ -141,7 +156,7 @@ static void push_spare(struct seat *seat)
 static struct seat *pop_spare(void)
 {
     struct seat *seat = spares;
-    if (seat) spares = seat->next, atomic_fetch_sub(&spare_count, 1);
+    if (seat) pull(seat), atomic_fetch_sub(&spare_count, 1);
     return seat;
 }
 
@@ -157,10 +172,10 @@ static struct seat *new_seat(void)
 
 static void free_seat(struct seat *seat) { munmap(seat, sizeof *seat); }
 
-static void close_seat(struct seat *seat)
+static struct seat *closed(struct seat *seat)
 {
     msg_sender_close(&runtime, &seat->sender);
-    free_seat(seat);
+    return seat;
 }
 
 /* In the child of a fork. One that may be in a call stays out: of a fork that didn't wait alone. */
@@ -171,34 +186,35 @@ static void close_others(void)
     for (struct seat *seat = all, *next; seat; seat = next) {
         next = seat->next;
         if (seat == own) push(&seats, seat);
-        else if (!kept || !seat->asks) close_seat(seat);
+        else if (!kept || !seat->asks) free_seat(closed(seat));
     }
-    while (spares && spare_count > spare_most) close_seat(pop_spare());
+    while (spares && spare_count > spare_most) free_seat(closed(pop_spare()));
     stays = stays_on ? &stay : NULL;
     stay.next = NULL;
+    stay.at = &stays;
     stay.thread = own_number();
 }
 
-/* A seat is another thread's next, with what is noted there, which is right for any. */
-static void stand_up(void)
+/* A seat is another thread's next, with what is noted there, which is right for any. One that is
+ * closed is returned, to be freed without the lock. */
+static struct seat *stand_up(void)
 {
-    struct seat **at = &seats, *seat = own;
-    if (!seat) return;
-    while (*at != seat) at = &(*at)->next;
-    *at = seat->next;
+    struct seat *seat = own;
+    if (!seat) return NULL;
+    pull(seat);
     own = NULL;
-    if (spare_count < spare_most) push_spare(seat);
-    else close_seat(seat);
+    if (spare_count >= spare_most) return closed(seat);
+    push_spare(seat);
+    return NULL;
 }
 
 /* ---- threads that may be in old code, under the lock ---- */
 
 static void end_stay(void)
 {
-    struct stay **at = &stays;
     if (!stays_on) return;
-    while (*at != &stay) at = &(*at)->next;
-    *at = stay.next;
+    *stay.at = stay.next;
+    if (stay.next) stay.next->at = stay.at;
     stays_on = false;
 }
 
@@ -208,6 +224,8 @@ static void begin_stay(void)
     stay.thread = own_number();
     msg_change_count(&runtime, &stay.changes);
     stay.next = stays;
+    stay.at = &stays;
+    if (stay.next) stay.next->at = &stay.next;
     stays = &stay;
     stays_on = true;
 }
@@ -246,19 +264,21 @@ static inline struct seat *hide_shown(const msg_sender *sender)
     atomic_signal_fence(memory_order_seq_cst);
     __atomic_store_n(&msg_process_own.sender, &nobody, __ATOMIC_RELAXED);
     atomic_signal_fence(memory_order_seq_cst);
-    return (struct seat *)(uintptr_t)sender; /* its first member */
+    return SEAT_OF(sender);
 }
 
 static void at_thread_end(void *unused)
 {
     (void)unused;
     tried = true;
+    is_over = is_over || ++end_count >= MOST_ENDS || pthread_setspecific(key, &stay);
+    if (!own && !stays_on && !holds) return; /* since the last round */
     take(MSG_WAITS); /* or the thread ends with the lock, which is given below */
     hide();          /* for good: until now a handler may have come back, and shown it */
-    stand_up();
+    struct seat *seat = stand_up();
     end_stay();
-    is_over = is_over || ++end_count >= MOST_ENDS || pthread_setspecific(key, &stay);
     give();
+    if (seat) free_seat(seat);
 }
 
 /* One spare seat more; it takes memory. */
@@ -298,9 +318,10 @@ static struct seat *sit_down(unsigned waits)
     own = pop_spare();
     if (own) push(&seats, own);
     tried = own != NULL; /* or another thread was quicker */
-    if (own && pthread_setspecific(key, &stay)) stand_up();
+    struct seat *left = own && pthread_setspecific(key, &stay) ? stand_up() : NULL;
     if (own) begin_stay();
     give();
+    if (left) free_seat(left);
     return own;
 }
 
