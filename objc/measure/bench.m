@@ -22,9 +22,8 @@ enum {
     OBJECTS = 64,
     CLASSES = 8,
     ORDER = 1024,
-    MANY_CLASSES = 350,
-    MANY_SELS = 40,
-    MANY = MANY_CLASSES * MANY_SELS,
+    MANY_SELS = 96,
+    MANY = 14000,
     NOTES = 2048
 };
 
@@ -192,10 +191,14 @@ static void prepare_neighbours(void)
     }
 }
 
+/* How many messages a class is sent: for the caches of all there are arrays. */
+static int many_of(int class_) { return class_ < 120 ? 48 : class_ < 180 ? 96 : 80; }
+
 /* Each pair once, shuffled. */
 static void prepare_many(void)
 {
     uint64_t drawn = 1;
+    Class class_ = NULL;
     SEL all[MANY_SELS];
     for (int i = 0; i < MANY_SELS; i++) {
         char name[16];
@@ -203,15 +206,19 @@ static void prepare_many(void)
         all[i] = sel_registerName(name);
         class_addMethod(objc_getClass("Level0"), all[i], (IMP)one, "l16@0:8");
     }
-    for (int i = 0; i < MANY; i++) {
-        char name[16];
-        snprintf(name, sizeof name, "Many%d", i / MANY_SELS);
-        if (i % MANY_SELS == 0)
-            objc_registerClassPair(objc_allocateClassPair(objc_getClass("Level0"), name, 0));
+    for (int i = 0, number = -1, sel = 0, end = 0; i < MANY; i++, sel++) {
+        if (sel == end) {
+            char name[16];
+            snprintf(name, sizeof name, "Many%d", ++number);
+            class_ = objc_allocateClassPair(objc_getClass("Level0"), name, 0);
+            objc_registerClassPair(class_);
+            end = many_of(number);
+            sel = 0;
+        }
         drawn = drawn * 6364136223846793005 + 1442695040888963407;
         int at = (int)((drawn >> 33) % (uint64_t)(i + 1));
         many[i] = many[at];
-        many[at] = (struct pair){class_createInstance(objc_getClass(name), 0), all[i % MANY_SELS]};
+        many[at] = (struct pair){class_createInstance(class_, 0), all[sel]};
     }
 }
 
