@@ -220,8 +220,8 @@ BOOL class_respondsToSelector(Class class_, SEL sel)
     if (!class_ || !sel) return false;
     uint64_t said = shim_said_at(class_, sel);
     if (said <= MSG_SAID_LONG) return true;
-    if (said == MSG_SAID_NONE && has_no_resolver(class_->record)) return false;
-    return finds(class_, sel);
+    if (said != MSG_SAID_NONE) return finds(class_, sel);
+    return !has_no_resolver(class_->record) && find_resolved(class_, sel);
 }
 
 /* In no header; programs ask it. */
