@@ -212,16 +212,17 @@ IMP get_imp(Class class_, SEL sel) { return class_getMethodImplementation(class_
 
 static __attribute__((noinline)) bool finds(Class class_, SEL sel)
 {
-    return class_->record && !shim_in_construction(class_) && find_unnoted(class_, sel);
+    if (!class_->record || shim_in_construction(class_)) return false;
+    ensure_initialized(class_);
+    return shim_look(class_, sel);
 }
 
+/* As over libobjc, no resolver is asked. */
 BOOL class_respondsToSelector(Class class_, SEL sel)
 {
     if (!class_ || !sel) return false;
     uint64_t said = shim_said_at(class_, sel);
-    if (said <= MSG_SAID_LONG) return true;
-    if (said != MSG_SAID_NONE) return finds(class_, sel);
-    return !has_no_resolver(class_->record) && find_resolved(class_, sel);
+    return said < MSG_SAID_NONE || (said != MSG_SAID_NONE && finds(class_, sel));
 }
 
 /* In no header; programs ask it. */
