@@ -92,13 +92,16 @@ static uint32_t coming_count, coming_room, change_count, change_room;
 
 static void bring(msg_change change)
 {
-    ADDED(changes, change_count, change_room) = change;
+    changes = shim_more(changes, change_count, &change_room, sizeof *changes);
+    changes[change_count++] = change;
 }
 
 void shim_bring_method(struct record *record, Method method, bool is_new)
 {
     bring(replacing(record, method->name.sel, shim_number(method->imp)));
-    if (is_new) ADDED(coming, coming_count, coming_room) = (struct coming){record, method};
+    if (!is_new) return;
+    coming = shim_more(coming, coming_count, &coming_room, sizeof *coming);
+    coming[coming_count++] = (struct coming){record, method};
 }
 
 void shim_bring_class(Class class_)
@@ -158,7 +161,7 @@ static inline void settle(const struct part *part)
 
 static inline void cache(const struct part *part)
 {
-    if (is_in_tables(part)) msg_process_cache(shim_key(part->record, shim_sel(part->sel)));
+    if (is_in_tables(part)) msg_process_cache(shim_key(part->record, part->sel));
 }
 
 static inline void make_one(const struct part *part)

@@ -21,7 +21,8 @@ static uint32_t load_count, load_room, loaded_count;
 
 static void note_load(Class class_, struct objc_category *category, IMP imp, SEL sel)
 {
-    ADDED(loads, load_count, load_room) = (struct load){class_, category, imp, sel};
+    loads = shim_more(loads, load_count, &load_room, sizeof *loads);
+    loads[load_count++] = (struct load){class_, category, imp, sel};
 }
 
 /* The first method of a name in the newest list counts: a category's stands before the class's. */
@@ -128,7 +129,8 @@ static bool try_all(struct waiting *all, bool (*try_one)(void *))
 
 static void wait_row(struct waiting *all, void *row)
 {
-    ADDED(all->rows, all->count, all->room) = row;
+    all->rows = shim_more(all->rows, all->count, &all->room, sizeof row);
+    all->rows[all->count++] = row;
 }
 
 static void take_symbols(struct symbols *symbols)

@@ -48,23 +48,5 @@ void shim_take(void)
     shim_must(fault, "in a handler of a signal");
 }
 
-IMP shim_find(Class class_, uint32_t sel)
-{
-    static _Thread_local volatile bool finds; /* only a handler of a signal sees it set here */
-    bool waits = !finds;
-    uint32_t imp, fault = MSG_LOCK_HELD;
-    finds = true;
-    uint64_t key = shim_key(class_->record, sel);
-    unsigned how = waits ? MSG_WAITS_A_WHILE : MSG_WAITS_NOT;
-    if (!shim_in_construction(class_)) fault = msg_process_find_slowly(key, how, &imp);
-    finds = !waits;
-    if (fault == MSG_LOCK_HELD) {
-        Method method = shim_standing(class_, sel);
-        return method ? shim_imp(method) : NULL;
-    }
-    shim_must(fault, "find");
-    return shim_function(imp);
-}
-
 /* Here, since this file is linked into every program. */
 static __attribute__((constructor)) void at_start(void) { shim_take_roots(); }

@@ -86,10 +86,8 @@ struct index { _Atomic(struct places *) places; uint32_t count; };
 uint32_t shim_number_in(const struct index *index, uint32_t mixed,
                         bool (*is)(uint32_t number, const void *it), const void *it);
 void *shim_index(struct index *index, uint32_t mixed, uint32_t number);
-/* The same rows, with room for one more; and that one, which then counts. */
+/* The same rows, with room for one more. */
 void *shim_more(void *rows, uint32_t count, uint32_t *room, size_t size);
-#define ADDED(rows, count, room) \
-    (*(rows = shim_more(rows, count, &(room), sizeof *rows), &rows[count++]))
 /* For a caller's own: room for so many rows and an empty one, or NULL for none; and they are
  * counted where that is asked. */
 void *shim_list(size_t many, size_t size, unsigned int *count);
@@ -144,9 +142,9 @@ static inline uint64_t shim_class_key(const struct record *record)
 {
     return (2 * record->number + record->meta) * MSG_KEY_OF_SLOT;
 }
-static inline uint64_t shim_key(const struct record *record, uint32_t sel)
+static inline uint64_t shim_key(const struct record *record, SEL sel)
 {
-    return shim_class_key(record) + msg_key(0, sel);
+    return shim_class_key(record) + sel->name.key;
 }
 
 /* roots.c: the module of Object, Protocol and NXConstantString; loading.c takes it. */
@@ -188,9 +186,5 @@ void shim_report(void);
 /* runtime.c */
 extern msg_runtime *shim_runtime;
 void shim_must(uint32_t fault, const char *what); /* or the program ends */
-/* Without the lock: what the calling thread's sender finds, by all changes that returned before;
- * NULL is forwarding. In a handler of a signal whose own thread has the lock, or is on this way
- * itself and would be waited for: what the rows say. */
-IMP shim_find(Class class_, uint32_t sel);
 
 #endif

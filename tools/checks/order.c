@@ -150,7 +150,7 @@ static void open_stamp(uint32_t key) { if (words[1 + key] == CLOSED) words[1 + k
 enum { SEATS = 4 };
 static struct seat pool[SEATS];
 static bool taken[SEATS];
-#define WHICH(s) ((int)((struct seat *)(s) - pool))
+#define WHICH(s) ((int)(SEAT_OF(s) - pool))
 struct seat *cv_seat(void)
 {
     int i = 0;
@@ -169,7 +169,7 @@ void cv_free(struct seat *seat)
 static void enter(const msg_sender *s)
 {
     other(false);
-    const struct seat *seat = (struct seat *)s;
+    const struct seat *seat = SEAT_OF(s);
     __CPROVER_assert(seat >= pool && seat < pool + SEATS, "a sender of a seat");
     __CPROVER_assert(opened[WHICH(s)], "that is open");
     __CPROVER_assert(!inside[WHICH(s)], "RULE 3: a sender is in one call at a time");
@@ -389,15 +389,17 @@ static void guest_calls_on(void)
 }
 static void guest_is_answered(void)
 {
-    if (!guest_stays) guests.next = stays, stays = &guests;
-    if (!guest_stays) guests.changes = made;
+    if (!guest_stays) {
+        guests = (struct stay){stays, &stays, made, guests.thread};
+        if (stays) stays->at = &guests.next;
+        stays = &guests;
+    }
     guest_stays = true;
 }
 static void guest_goes(void)
 {
-    struct stay **at = &stays;
-    while (*at != &guests) at = &(*at)->next;
-    *at = guests.next;
+    *guests.at = guests.next;
+    if (guests.next) guests.next->at = guests.at;
     guest_stays = false;
 }
 static void guest(void)
@@ -502,7 +504,6 @@ static void finds_all(bool in_handler)
     is_right(B, least, before[B], imps[B]);
 }
 /* The way of a send in the shim (objc/seat.h). */
-static bool cv_finds;
 static void shim_sends(void)
 {
     uint32_t imp = 77, key = any_key();
@@ -512,15 +513,10 @@ static void shim_sends(void)
     bool says = shim_note(KEY(key), &imp);
     SAY("a note says it, imp", says, imp);
     if (says) is_right(key, least, before, imp);
-    /* shim_find of objc/runtime.c: a handler that interrupts it doesn't wait, and where the lock
-     * is held it asks the rows, which aren't in this model */
+    /* find_by_key of objc/sending.c: where the lock isn't to be had it asks the rows, which aren't
+     * in this model */
     else {
-        STEP();
-        bool waits = !cv_finds;
-        STEP(); cv_finds = true;
-        unsigned how = waits ? MSG_WAITS_A_WHILE : MSG_WAITS_NOT;
-        uint32_t fault = msg_process_find_slowly(KEY(key), how, &imp);
-        STEP(); cv_finds = !waits;
+        uint32_t fault = msg_process_find_slowly(KEY(key), MSG_WAITS_A_WHILE, &imp);
         if (!fault) is_right(key, least, before, imp);
         else __CPROVER_assert(fault == MSG_LOCK_HELD, "it answers");
     }
@@ -616,7 +612,7 @@ static void guest_leaves(void)
     struct seat **at = &seats;
     while (*at && *at != &pool[GUESTS]) at = &(*at)->next;
     __CPROVER_assert(!*at == is_alone, "the guest has its seat, but in a child");
-    if (*at) *at = (*at)->next;
+    if (*at) pull(&pool[GUESTS]);
     const struct stay *one = stays;
     while (one && one != &guests) one = one->next;
     __CPROVER_assert(!one == (is_alone || !guest_stays), "and its entry");
