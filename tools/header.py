@@ -89,15 +89,34 @@ def said_of(text):
 
 
 def groups(text):
-    """The header in its order: a title, ('title', words); or ('calls', words, calls) for what one
-    comment says of the calls behind it."""
-    parts = re.split(r"(/\*.*?\*/)", text, flags=re.S)
+    """The header in its order: a title, ('title', words, more), of a group that has calls; or
+    ('calls', words, calls) for what one comment says of the calls behind it."""
+    parts, title = re.split(r"(/\*.*?\*/)", text, flags=re.S), None
     for comment, behind in zip(parts[1::2], parts[2::2]):
-        words = " ".join(line.strip().lstrip("*").strip() for line in comment[2:-2].split("\n")).strip()
+        words = "\n".join(line.strip().lstrip("*").strip() for line in comment[2:-2].split("\n")).strip()
         if words.startswith("----"):
-            title, _, more = words[4:].partition("----")
-            yield "title", title.strip(), more.strip()
-            words = ""
+            head, _, more = words[4:].partition("----")
+            title, words = ("title", head.strip(), more.strip()), ""
         found = [call_of(it) for it in CALL.finditer(behind)]
+        if found and title:
+            yield title
+            title = None
         if found:
             yield "calls", words, found
+
+
+def parted(words):
+    """What a call's comment says: what it does, its faults, and its cost."""
+    found = re.fullmatch(r"(.*?)(?:\bFaults: (.*?))?(?:\bCost: (.*))?", words, re.S)
+    return [(it or "").strip() for it in found.groups()]
+
+
+def faults_of(text):
+    """The names of the faults that the comments give each call, but for MSG_CLOSED; by `those of`
+    a call it has that one's, too."""
+    found = {}
+    for kind, words, more in groups(text):
+        said = parted(words)[1] if kind == "calls" else ""
+        names = set(re.findall(r"\bMSG_[A-Z_]+\b", said)).union(*(found[it] for it in re.findall(r"\bthose\s+of\s+(\w+)", said)))
+        found.update({it.name: names for it in (more if kind == "calls" else ())})
+    return found

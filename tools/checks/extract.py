@@ -53,7 +53,7 @@ process = (root / "include/msg_process.h").read_text()
      "    uint64_t said = note->count >= stamp ? msg_said(note, key) : MSG_SAID_NONE;\n",
      "    msg_note cv_note; uint64_t stamp;\n    cv_loads(note, &cv_note, &stamp);\n"
      "    uint64_t said = CV_IS_NEW(cv_note.count, stamp) ? key - cv_note.seal : MSG_SAID_NONE;\n"),
-    ("said == MSG_SAID_LONG ? note->imp : 0", "said == MSG_SAID_LONG ? cv_note.imp : 0"),
+    ("said == MSG_SAID_LONG ? note->imp", "said == MSG_SAID_LONG ? cv_note.imp"),
     ("extern __thread __attribute__((tls_model(MSG_TLS)))", "extern")))
 
 source = (root / "process/msg_process.c").read_text().replace("__thread ", "")
