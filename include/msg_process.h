@@ -36,7 +36,7 @@
  * no thread is cancelled asynchronously.
  *
  * msg_runtime.h promises nothing of its calls in handlers and in a forked
- * child: that they work there is tested (tools/process), not proved. */
+ * child: that they work there is tested (tools/test/process), not proved. */
 #ifndef MSG_PROCESS_H
 #define MSG_PROCESS_H
 
