@@ -15,6 +15,7 @@ import tarfile
 import zipfile
 
 import gnustep
+import measure
 from words import ROOT
 
 PLUGIN = "/usr/lib/openvpn/openvpn-auth-ldap.so"
@@ -278,8 +279,7 @@ def seconds(words, library, given, copied):
 
 
 def instructions(words, library, copied):
-    words = ["valgrind", "--tool=callgrind", "--callgrind-out-file=/dev/null", *words]
-    _, _, text = gnustep.run(words, library, 600, copied=copied)
+    _, _, text = gnustep.run([*measure.CALLGRIND, *words], library, 600, copied=copied)
     return int(re.search(r"Collected *: (\d+)", text)[1])
 
 
