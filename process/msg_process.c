@@ -3,8 +3,8 @@
  *
  * Trusted with what msg_runtime.h asks of a host: one call on the runtime at a time, one on a
  * sender, each sender for one thread; and with what is said in msg_process.h of threads, forks and
- * handlers. tools/check/trusted_c runs each order of signals and changes over these lines, within bounds.
- * Its rules:
+ * handlers. tools/check/trusted_c runs each order of signals and changes over these lines, within
+ * bounds. Its rules:
  *
  *  1. Calls that take the runtime are made between `take` and `give`. Nothing of the caller's is
  *     called there.
