@@ -4,7 +4,7 @@
  * It answers what the header says, but for three things. It takes no care of speed or of memory
  * that is refused. A class's methods are shown in the order of their selectors. What msg_report
  * tells of arrays is 0. */
-#define msg_sender_close msg_standin_close
+#define msg_sender_close standin_close
 #include "../../objc/tests/standin.c"
 #undef msg_sender_close
 #include <stdio.h>
@@ -38,9 +38,9 @@ uint32_t msg_close(msg_runtime *runtime)
 
 uint32_t msg_sender_close(msg_runtime *runtime, msg_sender *sender)
 {
-    if (runtime->open || !sender->open) return msg_standin_close(runtime, sender);
+    if (runtime->open || !sender->open) return standin_close(runtime, sender);
     msg_runtime was = {((struct asker *)sender->at)->tables, true};
-    uint32_t fault = msg_standin_close(&was, sender);
+    uint32_t fault = standin_close(&was, sender);
     if (!((struct tables *)was.at)->out) msg_close(&was);
     return fault;
 }
