@@ -29,6 +29,7 @@ impl<'r> Locked<'r> {
         Ok(count)
     }
 
+    /// How many changes were made. A list counts as one.
     pub fn change_count(&mut self) -> Result<u64, Fault> {
         let mut count = 0;
         Fault::of(unsafe { sys::msg_change_count(&mut self.handle.0, &mut count) })?;
@@ -57,6 +58,8 @@ impl<'r> Locked<'r> {
         Ok(Imp::new(imp))
     }
 
+    /// What stands above: above a class its superclass, above a metaclass the superclass's metaclass, and above a root's
+    /// metaclass the root itself. None above a root class.
     pub fn superclass(&mut self, of: ClassRef) -> Result<Option<ClassRef>, Fault> {
         let mut above = sys::msg_class::default();
         let answer =
@@ -102,10 +105,12 @@ impl<'r> Locked<'r> {
         })
     }
 
+    /// Makes a root class and its metaclass, without methods.
     pub fn make_root_class(&mut self, number: u32) -> Result<&mut Self, Fault> {
         self.change(|runtime| unsafe { sys::msg_make_root_class(runtime, number) })
     }
 
+    /// Makes a class and its metaclass, without methods, below a superclass that is made.
     pub fn make_class(&mut self, number: u32, superclass: u32) -> Result<&mut Self, Fault> {
         self.change(|runtime| unsafe { sys::msg_make_class(runtime, number, superclass) })
     }
