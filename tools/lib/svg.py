@@ -1,11 +1,17 @@
-"""Draws pictures as SVG: text, boxes, lines and arrows on a ground of their own, so that they are
-readable on dark pages and on white ones."""
+"""Draws pictures as SVG: text, boxes, lines and arrows, in colours for white pages, and in others for
+a reader who wants dark ones."""
 from html import escape
 
 FONT = "Helvetica, Arial, sans-serif"
 INK, SOFT, GROUND = "#1f2328", "#59636e", "#ffffff"
 # what each colour says: how far a part is believed
 PROVED, TESTED, TRUSTED, PLAIN = ("#d4e7fa", "#0a5ca8"), ("#fdf0b8", "#8a6100"), ("#f8dcd6", "#a8321a"), ("#f0f2f4", "#59636e")
+EDGE, GREEN = "#d0d7de", "#1a7f37"
+# what a colour is on a dark page
+DARK = {
+    INK: "#e6edf3", SOFT: "#9aa4ae", GROUND: "#0d1117", EDGE: "#3d444d", GREEN: "#3fb950", PROVED[0]: "#12355a", PROVED[1]: "#6cb6ff",
+    TESTED[0]: "#46390a", TESTED[1]: "#e3b341", TRUSTED[0]: "#552018", TRUSTED[1]: "#ff8f7a", PLAIN[0]: "#21262d",
+}
 WIDTH_OF = 0.54
 
 
@@ -14,13 +20,11 @@ class Picture:
 
     def __init__(self, width, height, title):
         self.size = width, height
-        self.parts = [f"<title>{escape(title)}</title>", f'<rect width="{width}" height="{height}" rx="10" fill="{GROUND}" stroke="#d0d7de"/>']
+        self.parts = [f"<title>{escape(title)}</title>", f'<rect width="{width}" height="{height}" rx="10" fill="{GROUND}" stroke="{EDGE}"/>']
 
-    def text(self, x, y, words, size=15, at="start", colour=INK, bold=False, slanted=False, clear=False):
-        """Words; clear ones push aside what is drawn below them."""
+    def text(self, x, y, words, size=15, at="start", colour=INK, bold=False, slanted=False):
         style = ' font-weight="600"' if bold else ""
         style += ' font-style="italic"' if slanted else ""
-        style += f' stroke="{GROUND}" stroke-width="4" paint-order="stroke"' if clear else ""
         self.parts.append(f'<text x="{x:g}" y="{y:g}" font-size="{size}" text-anchor="{at}" fill="{colour}"{style}>{escape(words)}</text>')
 
     def lines(self, x, y, rows, size=15, at="start", colour=INK, step=1.35):
@@ -75,4 +79,5 @@ class Picture:
     def whole(self):
         width, height = self.size
         head = f'<svg xmlns="http://www.w3.org/2000/svg" viewBox="0 0 {width} {height}" width="{width}" height="{height}" font-family="{FONT}">'
-        return "\n".join([head, *self.parts, "</svg>"]) + "\n"
+        dark = "".join(f'[{what}="{light}"]{{{what}:{it}}}' for light, it in DARK.items() for what in ("fill", "stroke"))
+        return "\n".join([head, f"<style>@media (prefers-color-scheme:dark){{{dark}}}</style>", *self.parts, "</svg>"]) + "\n"
