@@ -57,9 +57,16 @@
 enum { SPARES = 2, PATIENCE = 64, MOST_ENDS = PTHREAD_DESTRUCTOR_ITERATIONS - 1 };
 enum { SLICE = 1000000, SLICES = 1000 }; /* of a wait for a while: nanoseconds, and how many */
 
-struct seat { _Alignas(64) msg_sender sender; struct seat *next; atomic_bool asks; };
+struct seat {
+    _Alignas(64) msg_sender sender;
+    struct seat *next;
+    atomic_bool asks;
+};
 /* A thread that may be in code that a find returned, and the count of changes at its last rest. */
-struct stay { struct stay *next; uint64_t changes, thread; };
+struct stay {
+    struct stay *next;
+    uint64_t changes, thread;
+};
 
 _Alignas(64) struct msg_process_words msg_process_words = {.at = &msg_process_words.none};
 static _Alignas(64) msg_sender nobody; /* closed, without notes */
@@ -103,8 +110,9 @@ static int lock_for_a_while(void)
 
 static inline int lock_by(unsigned waits)
 {
-    return waits == MSG_WAITS ? pthread_mutex_lock(&lock)
-         : waits == MSG_WAITS_A_WHILE ? lock_for_a_while() : pthread_mutex_trylock(&lock);
+    return waits == MSG_WAITS           ? pthread_mutex_lock(&lock)
+           : waits == MSG_WAITS_A_WHILE ? lock_for_a_while()
+                                        : pthread_mutex_trylock(&lock);
 }
 
 static inline uint32_t take(unsigned waits)
@@ -309,7 +317,10 @@ static struct seat *come_back(unsigned waits)
 
 /* A key; or, where there is a place, several lookups as one. */
 struct asked {
-    uint64_t key; uint32_t *imps; const msg_lookup_row *lookups; size_t count, *place;
+    uint64_t key;
+    uint32_t *imps;
+    const msg_lookup_row *lookups;
+    size_t count, *place;
 };
 
 static inline uint32_t probe_by(msg_sender *sender, const struct asked *a)
@@ -407,7 +418,10 @@ uint32_t msg_process_lock(msg_runtime **taken)
     return fault;
 }
 
-void msg_process_unlock(void) { if (holds) give(); }
+void msg_process_unlock(void)
+{
+    if (holds) give();
+}
 
 /* ---- resting ---- */
 
