@@ -1,4 +1,4 @@
-"""Message dispatch in the manner of Objective-C's runtime, whose answers are proved: classes,
+"""Message dispatch as Objective-C's runtime does it, with machine-checked proofs: classes,
 methods, lookups, and changes beside them.
 
     import yeldrost
@@ -383,16 +383,16 @@ class Runtime:
         self._call("msg_dispose_class", number)
 
     def change_all(self, changes: Iterable[Change]) -> None:
-        """Makes several changes as one: each lookup answers from before all of them or after all.
-        It is refused as the first is that would be refused where those before it were made; then
-        nothing has changed, and the fault that is raised has its `place`."""
+        """Makes several changes as one: each lookup finds what was before all of them or what
+        is after all. The list is refused for the first that would be refused after those before it. Then
+        nothing has changed, and the error has its `place`."""
         rows, count = _changes(changes)
         place = ctypes.c_size_t()
         answer = self._answer("msg_change_all", rows, count, ctypes.byref(place))
         _errors.must_at(answer, place.value)
 
     def change_all_with_undo(self, changes: Iterable[Change]) -> List[Change]:
-        """The same, and answers the changes that take these back if `change_all` makes them
+        """The same, and returns the changes that take these back if `change_all` makes them
         directly afterwards."""
         rows, count = _changes(changes)
         undone, place = ctypes.c_size_t(2 * count + 1), ctypes.c_size_t()

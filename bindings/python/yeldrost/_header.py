@@ -1,4 +1,4 @@
-"""`msg_runtime.h` as ctypes see it. What each call answers, and what its caller is trusted with,
+"""`msg_runtime.h` as ctypes see it. What each call returns, and what its caller is trusted with,
 stands in that header."""
 import ctypes as c
 

@@ -1,4 +1,4 @@
-//! `msg_runtime.h` as it is. What each call answers, and what its caller is trusted with, stands in that header:
+//! `msg_runtime.h` as it is. What each call returns, and what its caller is trusted with, stands in that header:
 //! no call here is safe. The crate `yeldrost` has safe ones.
 #![no_std]
 #![warn(missing_docs)]

@@ -1,4 +1,4 @@
-//! Safe calls of Yeldrost, message dispatch in the manner of Objective-C's runtime, whose answers are proved.
+//! Safe calls of Yeldrost, message dispatch as Objective-C's runtime does it, with machine-checked proofs.
 //!
 //! A [`Runtime`] is shared by its clones and its senders. A [`Sender`] is what one thread looks methods up by: it is
 //! `Send` and not `Sync`. [`Runtime::lock`] gives what may be asked and changed under the runtime's lock. Numbers of

@@ -208,8 +208,8 @@ impl<'r> Locked<'r> {
         self.change(|runtime| unsafe { sys::msg_dispose_class(runtime, number) })
     }
 
-    /// Makes several changes as one: each lookup answers from before all of them or after all. It is refused as the
-    /// first is that would be refused where those before it were made.
+    /// Makes several changes as one: each lookup finds what was before all of them or what is after all. The list is
+    /// refused for the first that would be refused after those before it.
     pub fn change_all(&mut self, changes: &[Change]) -> Result<&mut Self, Refused> {
         let rows: Vec<sys::msg_change> = changes.iter().map(|it| it.row()).collect();
         let mut place = 0;
@@ -219,7 +219,7 @@ impl<'r> Locked<'r> {
         self.change(made).map_err(|fault| Refused::of(fault, place))
     }
 
-    /// As [`change_all`](Locked::change_all), and answers what takes the changes back if it is made as one directly
+    /// As [`change_all`](Locked::change_all), and returns the list that takes the changes back if it is made directly
     /// afterwards.
     pub fn change_all_with_undo(&mut self, changes: &[Change]) -> Result<Vec<Change>, Refused> {
         let rows: Vec<sys::msg_change> = changes.iter().map(|it| it.row()).collect();
