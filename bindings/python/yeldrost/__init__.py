@@ -95,7 +95,7 @@ MISSED = Missed.MISSED
 def _checked(*numbers: int) -> None:
     """ctypes would cut them off."""
     for it in numbers:
-        if not 0 <= operator.index(it) <= _MOST:
+        if not (type(it) is int and 0 <= it <= _MOST) and not 0 <= operator.index(it) <= _MOST:
             raise OutOfRangeError(f"not a number of 32 bits: {it}")
 
 
@@ -113,11 +113,12 @@ Class = Union[ClassRef, Tuple[int, bool]]
 def _ref(of: Class) -> Tuple[int, bool]:
     """The two numbers of a class reference."""
     try:
-        number, meta = of
+        number, _ = of
     except (TypeError, ValueError):
         raise TypeError(f"wants a ClassRef, or a pair (number, meta), not {of!r}") from None
-    _checked(number)
-    return number, bool(meta)
+    if type(number) is not int or not 0 <= number <= _MOST:
+        _checked(number)
+    return of
 
 
 def instances_of(number: int) -> ClassRef:
