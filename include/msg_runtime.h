@@ -219,7 +219,7 @@ enum {
     MSG_NONE = 70,         /* there is no superclass, method or text */
     MSG_MISSED = 71,       /* msg_probe: not cached. Ask msg_fill */
     MSG_BAD_CONFIG = 73,   /* a field is beyond its most, or isn't known */
-    MSG_BAD_CHANGE = 75,   /* a part of an unknown kind, or meta above 1 */
+    MSG_BAD_CHANGE = 75,   /* a change of no kind, or meta above 1 */
     MSG_NO_ROOM = 76,      /* the array for the answer has another size */
     MSG_LOCK_HELD = 74     /* msg_process.h: the thread has the lock */
 };

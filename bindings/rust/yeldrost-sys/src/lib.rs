@@ -217,7 +217,7 @@ pub const MSG_NONE: u32 = 70;
 pub const MSG_MISSED: u32 = 71;
 /// A field is beyond its most, or isn't known.
 pub const MSG_BAD_CONFIG: u32 = 73;
-/// A part of an unknown kind, or meta above 1.
+/// A change of no kind, or meta above 1.
 pub const MSG_BAD_CHANGE: u32 = 75;
 /// The array for the answer has another size.
 pub const MSG_NO_ROOM: u32 = 76;
