@@ -10,12 +10,20 @@
 void (*_objc_load_callback)(Class, struct objc_category *);
 
 /* The first `tried` wait for more than there was when `tried_at` was so. */
-struct waiting { void **rows; uint32_t count, room, tried, tried_at; };
+struct waiting {
+    void **rows;
+    uint32_t count, room, tried, tried_at;
+};
 static struct waiting classes, categories, constants;
 
 /* What is to be done without the lock, in order: a +load that is sent, or, without an
  * implementation, the callback of a class or category. */
-struct load { Class class_; struct objc_category *category; IMP imp; SEL sel; };
+struct load {
+    Class class_;
+    struct objc_category *category;
+    IMP imp;
+    SEL sel;
+};
 static struct load *loads;
 static uint32_t load_count, load_room, loaded_count;
 

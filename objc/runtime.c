@@ -7,7 +7,9 @@
  * fifths of the default, of which no program was seen to want more, and of larger ones the
  * default, since half of these were too few for programs with windows. */
 enum { SENDERS = 4096, MOST_SENDERS = 16384, CLASS_NUMBERS = 16384 };
+/* clang-format off */
 #define ARRAYS {1024, 768, 320, 160, 128, 64, 32, 16, 8}
+/* clang-format on */
 
 msg_runtime *shim_runtime;
 

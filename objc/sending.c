@@ -15,7 +15,10 @@ void shim_take_initialize(void)
     depth++;
 }
 
-void shim_give_initialize(void) { if (!--depth) pthread_mutex_unlock(&initializing); }
+void shim_give_initialize(void)
+{
+    if (!--depth) pthread_mutex_unlock(&initializing);
+}
 
 static void give_initialize(char *unused) { shim_give_initialize(); }
 
@@ -118,7 +121,7 @@ static inline bool resolve(Class class_, SEL sel)
     if (!noted(plain->isa, asked, &imp)) imp = find(plain->isa, asked);
     else if (!imp) keep_unresolved(class_->record, plain->isa, asked);
     return __builtin_expect(imp != NULL, 0) &&
-           ((BOOL (*)(id, SEL, SEL))(void (*)(void))imp)((id)plain, asked, sel);
+           ((BOOL(*)(id, SEL, SEL))(void (*)(void))imp)((id)plain, asked, sel);
 }
 
 /* Asks the class to add a method that it lacks: whether it says that it has. */

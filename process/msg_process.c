@@ -3,8 +3,8 @@
  *
  * Trusted with what msg_runtime.h asks of a host: one call on the runtime at a time, one on a
  * sender, each sender for one thread; and with what is said in msg_process.h of threads, forks and
- * handlers. tools/check_c runs each order of signals and changes over these lines, within bounds.
- * Its rules:
+ * handlers. tools/check/trusted_c runs each order of signals and changes over these lines, within
+ * bounds. Its rules:
  *
  *  1. Calls that take the runtime are made between `take` and `give`. Nothing of the caller's is
  *     called there.
@@ -64,9 +64,12 @@ struct seat {
     atomic_bool asks;
     _Alignas(64) msg_sender sender;
 };
-#define SEAT_OF(of) ((struct seat *)(void *)((char *)(of) - offsetof(struct seat, sender)))
+#define SEAT_OF(of) ((struct seat *)(void *)((char *)(of)-offsetof(struct seat, sender)))
 /* A thread that may be in code that a find returned, and the count of changes at its last rest. */
-struct stay { struct stay *next, **at; uint64_t changes, thread; };
+struct stay {
+    struct stay *next, **at;
+    uint64_t changes, thread;
+};
 
 _Alignas(64) struct msg_process_words msg_process_words = {.at = &msg_process_words.none};
 static _Alignas(64) msg_sender nobody; /* closed, without notes */
@@ -110,8 +113,9 @@ static int lock_for_a_while(void)
 
 static inline int lock_by(unsigned waits)
 {
-    return waits == MSG_WAITS ? pthread_mutex_lock(&lock)
-         : waits == MSG_WAITS_A_WHILE ? lock_for_a_while() : pthread_mutex_trylock(&lock);
+    return waits == MSG_WAITS           ? pthread_mutex_lock(&lock)
+           : waits == MSG_WAITS_A_WHILE ? lock_for_a_while()
+                                        : pthread_mutex_trylock(&lock);
 }
 
 static inline uint32_t take(unsigned waits)
@@ -341,7 +345,10 @@ static struct seat *come_back(unsigned waits)
 
 /* A key; or, where there is a place, several lookups as one. */
 struct asked {
-    uint64_t key; uint32_t *imps; const msg_lookup_row *lookups; size_t count, *place;
+    uint64_t key;
+    uint32_t *imps;
+    const msg_lookup_row *lookups;
+    size_t count, *place;
 };
 
 static inline uint32_t probe_by(msg_sender *sender, const struct asked *a)
@@ -452,7 +459,10 @@ uint32_t msg_process_lock(msg_runtime **taken)
     return fault;
 }
 
-void msg_process_unlock(void) { if (holds) give(); }
+void msg_process_unlock(void)
+{
+    if (holds) give();
+}
 
 /* ---- resting ---- */
 
