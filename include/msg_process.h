@@ -1,33 +1,42 @@
-/* One runtime for the whole process, with its lock and a sender for each thread: for hosts whose
- * threads send without more ado. msg_runtime.h is the reference of what a call answers. This header
- * and process/msg_process.c, which is linked with the library, are TRUSTED. What they rest on, and
- * the reason for each order of memory, stands in the latter.
+/* One runtime for the whole process, with its lock and a sender for each
+ * thread: for hosts whose threads send without setup.
+ *
+ * msg_runtime.h is the reference of what a call returns. This header and
+ * process/msg_process.c, which is linked with the library, are TRUSTED. What
+ * they rest on, and the reason for each order of memory, stands in the latter.
  *
  *     msg_runtime *runtime;
  *     uint32_t fault = msg_process_start(NULL);
  *     if (!fault) fault = msg_process_lock(&runtime);
- *     if (!fault) { fault = msg_make_root_class(runtime, SHAPE); msg_process_unlock(); }
+ *     if (!fault) {
+ *         fault = msg_make_root_class(runtime, SHAPE);
+ *         msg_process_unlock();
+ *     }
  *     if (!fault) fault = msg_process_find(SHAPE, false, AREA, &imp);
  *
- * Threads: any. A thread gets its sender at its first find, and gives it back at its end. A thread
- * that finds as many out as the config says, or no memory, finds under the lock as long as it
- * lives; so does a thread that ends, from where its sender is given back. A thread's first find
- * comes before the second round of its destructors (pthread_key_create).
+ * Threads: any. A thread gets its sender at its first find, and gives it back
+ * at its end. A thread that finds as many out as the config says, or no memory,
+ * finds under the lock as long as it lives; so does a thread that ends, from
+ * where its sender is given back. A thread's first find comes before the second
+ * round of its destructors (pthread_key_create).
  *
- * Fork: the child has its thread, that thread's sender and the runtime, as they were; the others'
- * senders are closed in it. It may find, change and start threads. Fork in no handler of a signal.
- * Where the forking thread held the lock, it does in the child, too, and there the sender of
- * another thread that was in a find may stay out.
+ * Fork: the child has its thread, that thread's sender and the runtime, as they
+ * were; the others' senders are closed in it. It may find, change and start
+ * threads. Fork in no handler of a signal. If the forking thread held the lock,
+ * it does in the child, too, and there the sender of another thread that was in
+ * a find may stay out.
  *
- * Handlers of signals find by msg_process_find_at_once, which waits for nothing. Where it answers
- * MSG_LOCK_HELD, let the handler put the work off until after it, or block the signal while the
- * lock is held. msg_process_find and the locks also answer MSG_LOCK_HELD to a handler whose own
- * thread has the lock, and are right in one otherwise; but they may wait for a thread that wants
- * memory, and a thread's first find takes some: so not where malloc may be what the handler
- * interrupted. A handler ends by its return, and no thread is cancelled asynchronously.
+ * Handlers of signals find by msg_process_find_at_once, which waits for
+ * nothing. If it returns MSG_LOCK_HELD, let the handler put the work off until
+ * after it, or block the signal while the lock is held. msg_process_find and
+ * the locks also return MSG_LOCK_HELD to a handler whose own thread has the
+ * lock, and are right in one otherwise. But they may wait for a thread that
+ * wants memory, and a thread's first find takes some: so don't call them if
+ * malloc may be what the handler interrupted. A handler ends by its return, and
+ * no thread is cancelled asynchronously.
  *
- * msg_runtime.h promises nothing of its calls in handlers and in a forked child: that they answer
- * there is tested (tools/process), not proved. */
+ * msg_runtime.h promises nothing of its calls in handlers and in a forked
+ * child: that they work there is tested (tools/test/process), not proved. */
 #ifndef MSG_PROCESS_H
 #define MSG_PROCESS_H
 
@@ -37,115 +46,164 @@
 extern "C" {
 #endif
 
-/* Opens the runtime of the process, once; of a NULL all is by default. MSG_ALREADY_OPEN at a second
- * time, else as msg_open. */
-uint32_t msg_process_start(const msg_config *config);
+/* ---- starting, and the lock ---- */
 
-/* The runtime, under its lock, to ask and to change it. MSG_CLOSED before the start, and
- * MSG_LOCK_HELD where the calling thread holds it; then there is nothing to unlock. */
+/* Opens the runtime of the process, once. With NULL all is the default.
+ *
+ * Faults: MSG_ALREADY_OPEN at a second time, else those of msg_open. */
+uint32_t msg_process_start(const msg_config *config);
+/* Takes the lock, and gives the runtime, to ask and to change it.
+ *
+ * Faults: MSG_CLOSED before the start, and MSG_LOCK_HELD if the calling thread
+ * holds the lock. Then there is nothing to unlock. */
 uint32_t msg_process_lock(msg_runtime **runtime);
 /* Gives the lock back; by the thread that took it. */
 void msg_process_unlock(void);
-
-/* Where the calling thread holds the lock, after a change: what the lookup of a key finds by now is
- * cached, so that no thread waits for the lock to find it, and noted for the calling one. It does
- * nothing where that has no sender. */
+/* Caches what the lookup of a key finds by now, and notes it for the calling
+ * thread, so that no thread waits for the lock to find it. The calling thread
+ * holds the lock, after a change. It does nothing if that has no sender. */
 void msg_process_cache(uint64_t key);
 
-/* The calling thread rests: it is in no method that a find returned, and keeps no number to call
- * later. Call it between two events, not in a handler. It costs two loads if nothing has changed
- * since the thread's last rest, else the lock once. MSG_LOCK_HELD under the lock. */
+/* ---- when old code can go ---- */
+
+/* The calling thread rests: it is in no method that a find returned, and keeps
+ * no number to call later. Call it between two events, not in a handler.
+ *
+ * Faults: MSG_LOCK_HELD under the lock.
+ * Cost: two loads if nothing has changed since the thread's last rest, else the
+ * lock once. */
 uint32_t msg_process_rest(void);
-/* A rest before the thread waits for long. Until its next find, which takes the lock, no host waits
- * for it. */
+/* A rest before the thread waits for long. Until its next find, which takes the
+ * lock, no host waits for it.
+ *
+ * Faults: MSG_LOCK_HELD under the lock. */
 uint32_t msg_process_away(void);
-/* Tells when old code can go. No thread is in a method that one of the first `changes` changes took
- * away, and no find returns it any more. This is the least count of changes at which a thread
- * rested last. A thread that has ended, is away or never found anything doesn't count; if none
- * counts, it is the count of all changes. `thread` is the kernel's number of the thread that rested
- * at the least count, or 0 if all have rested since the last change. MSG_NONE if the end of some
- * thread isn't told: the C library had no memory for that, or the thread found something later than
- * in the second round of its destructors. Cost: a walk over the threads that count, under the lock.
- */
+/* Tells when old code can go. No thread is in a method that one of the first
+ * `changes` changes took away, and no find returns it any more. This is the
+ * least count of changes at which a thread rested last. A thread that has
+ * ended, is away or never found anything doesn't count; if none counts, it is
+ * the count of all changes. `thread` is the kernel's number of the thread that
+ * rested at the least count, or 0 if all have rested since the last change.
+ *
+ * Faults: MSG_NONE if the end of some thread isn't told: the C library had no
+ * memory for that, or the thread found something later than in the second round
+ * of its destructors. MSG_CLOSED before the start, and MSG_LOCK_HELD under the
+ * lock.
+ * Cost: a walk over the threads that count, under the lock. */
 uint32_t msg_process_seen_by_all(uint64_t *changes, uint64_t *thread);
 
-/* By a thread that may take memory, outside the lock: so that a thread's first find has a sender
- * and takes no memory. It costs a load where senders are spare. A program's start, and what it does
- * where it allocates, are places to call it. */
+/* ---- finding, from any thread ---- */
+
+/* Opens senders ahead, so that a thread's first find has one and takes no
+ * memory. By a thread that may take memory, outside the lock: a program's
+ * start, and what it does where it allocates, are places to call it.
+ *
+ * Cost: a load if senders are spare. */
 void msg_process_spare(void);
 
-/* The inline calls below, where the calling thread has noted nothing, or isn't asked. For the lock
- * it waits as is said; where that isn't to be had, it answers MSG_LOCK_HELD. A while is a second at
- * most, and ends where a fork has the lock. */
 enum { MSG_WAITS_NOT, MSG_WAITS, MSG_WAITS_A_WHILE };
+/* The inline calls below, if the calling thread has noted nothing, or isn't
+ * asked. `waits` says whether it waits for the lock. A while is a second at
+ * most, and ends if a fork has the lock.
+ *
+ * Faults: those of msg_process_find, and MSG_LOCK_HELD if the lock isn't to be
+ * had so. */
 uint32_t msg_process_find_slowly(uint64_t key, unsigned waits, uint32_t *imp);
+/* Finds several lookups at one version, as msg_find_all does, by the calling
+ * thread's sender. `imps` has `count` entries.
+ *
+ * Faults: those of msg_find_all, and MSG_LOCK_HELD. After a fault what is in
+ * `imps` means nothing. */
+uint32_t msg_process_find_all(const msg_lookup_row *lookups, size_t count,
+                              uint32_t *imps, size_t *place);
 
-/* Finds several lookups at one version, as msg_find_all does, by the calling thread's sender.
- * `imps` has `count` entries. Faults are those of msg_probe_all, and MSG_LOCK_HELD; after a fault
- * what is in `imps` means nothing. */
-uint32_t msg_process_find_all(const msg_lookup_row *lookups, size_t count, uint32_t *imps,
-                              size_t *place);
-
-/* What the inline call goes by. `turns`: how often the thread was on the slow way. `sender`: its
- * own; or one without notes while that is in use, and where it has none. */
-struct msg_process_thread { const msg_sender *sender; uint64_t turns; };
-/* Where the words are that threads share (msg_words): before the start `none`. On a line of the
- * cache of its own. */
-struct msg_process_words { const uint64_t *at; uint64_t none, spare[6]; };
+/* What the inline call goes by. `turns`: how often the thread was on the slow
+ * way. `sender`: its own; or one without notes while that is in use, and if it
+ * has none. */
+struct msg_process_thread {
+    const msg_sender *sender;
+    uint64_t turns;
+};
+/* Where the words are that threads share (msg_words): before the start `none`.
+ * On a line of the cache of its own. */
+struct msg_process_words {
+    const uint64_t *at;
+    uint64_t none, spare[6];
+};
 #ifndef MSG_TLS
-/* "local-exec" takes an instruction less, in what is linked into a program alone. */
+/* "local-exec" takes an instruction less, in what is linked into a program
+ * alone. */
 #define MSG_TLS "initial-exec"
 #endif
-extern __thread __attribute__((tls_model(MSG_TLS))) struct msg_process_thread msg_process_own;
+/* clang-format off */
+extern __thread __attribute__((tls_model(MSG_TLS)))
+struct msg_process_thread msg_process_own;
+/* clang-format on */
 extern struct msg_process_words msg_process_words;
 
 #ifdef __cplusplus
 }
 #endif
 
-/* The stamp of a note's class. The words are loaded after the sender that has the note: one with
- * notes is shown after they are. */
+/* ---- inline: finding ---- */
+
+/* The stamp of a note's class. The words are loaded after the sender that has
+ * the note: one with notes is shown after they are. */
 static inline uint64_t msg_process_stamp(const msg_note *note)
 {
     __atomic_signal_fence(__ATOMIC_SEQ_CST);
-    return msg_stamp_of(__atomic_load_n(&msg_process_words.at, __ATOMIC_RELAXED), note);
+    return msg_stamp_of(
+        __atomic_load_n(&msg_process_words.at, __ATOMIC_RELAXED), note);
 }
 
-/* msg_process_find of a key, for a host that keeps 2 * number + meta times MSG_KEY_OF_SLOT with
- * each class, and adds msg_key(0, sel) to it. A handler of a signal may come between any two of the
- * loads, and find: then `turns` is another after them. */
+/* msg_process_find of a key, for a host that keeps 2 * number + meta times
+ * MSG_KEY_OF_SLOT with each class, and adds msg_key(0, sel) to it. A handler of
+ * a signal may come between any two of the loads, and find: then `turns` is
+ * another after them.
+ *
+ * Faults: those of msg_process_find. */
 static inline uint32_t msg_process_find_key(uint64_t key, uint32_t *imp)
 {
     uint64_t turns = __atomic_load_n(&msg_process_own.turns, __ATOMIC_RELAXED);
     __atomic_signal_fence(__ATOMIC_SEQ_CST);
-    const msg_sender *sender = __atomic_load_n(&msg_process_own.sender, __ATOMIC_RELAXED);
+    const msg_sender *sender =
+        __atomic_load_n(&msg_process_own.sender, __ATOMIC_RELAXED);
     const msg_note *note = MSG_NOTE_OF(sender, key); /* as msg_recall_key */
     uint64_t stamp = msg_process_stamp(note);
     uint64_t said = note->count >= stamp ? msg_said(note, key) : MSG_SAID_NONE;
-    uint32_t found = said < MSG_SAID_LONG ? (uint32_t)said : said == MSG_SAID_LONG ? note->imp : 0;
+    uint32_t found = said < MSG_SAID_LONG    ? (uint32_t)said
+                     : said == MSG_SAID_LONG ? note->imp
+                                             : 0;
     __atomic_signal_fence(__ATOMIC_SEQ_CST);
-    bool is_same = __atomic_load_n(&msg_process_own.turns, __ATOMIC_RELAXED) == turns;
+    bool is_same =
+        __atomic_load_n(&msg_process_own.turns, __ATOMIC_RELAXED) == turns;
     if (!found || !is_same) return msg_process_find_slowly(key, MSG_WAITS, imp);
-    MSG_TEST(found == msg_recall(sender, MSG_SLOT_OF(key), MSG_SEL_OF(key), stamp) ||
-             __atomic_load_n(&msg_process_own.turns, __ATOMIC_RELAXED) != turns);
+    MSG_TEST(
+        found == msg_recall(sender, MSG_SLOT_OF(key), MSG_SEL_OF(key), stamp) ||
+        __atomic_load_n(&msg_process_own.turns, __ATOMIC_RELAXED) != turns);
     *imp = found;
     return MSG_DONE;
 }
 
-/* objc_msg_lookup, by all changes that had returned: the implementation's number, 0 for forwarding.
- * Faults: MSG_CLOSED before the start, MSG_NO_CLASS, MSG_NO_SELECTOR and, where the calling thread
- * holds the lock, MSG_LOCK_HELD. */
-static inline uint32_t msg_process_find(uint32_t number, bool meta, uint32_t sel, uint32_t *imp)
+/* Finds a message's implementation (objc_msg_lookup) by all changes that had
+ * returned. `imp` is set to its number, or to 0, forwarding.
+ *
+ * Faults: MSG_CLOSED before the start, MSG_NO_CLASS, MSG_NO_SELECTOR, and
+ * MSG_LOCK_HELD if the calling thread holds the lock. */
+static inline uint32_t msg_process_find(uint32_t number, bool meta,
+                                        uint32_t sel, uint32_t *imp)
 {
     uint32_t slot = msg_slot(number, meta);
     if (slot == MSG_SLOTS) return MSG_NO_CLASS;
     return msg_process_find_key(msg_key(slot, sel), imp);
 }
 
-/* msg_process_find that never waits and takes no memory: where it would ask under the lock, and any
- * thread has that, it answers MSG_LOCK_HELD. */
-static inline uint32_t msg_process_find_at_once(uint32_t number, bool meta, uint32_t sel,
-                                                uint32_t *imp)
+/* msg_process_find that never waits and takes no memory.
+ *
+ * Faults: those of msg_process_find, and MSG_LOCK_HELD also if it would ask
+ * under the lock, and any thread has that. */
+static inline uint32_t msg_process_find_at_once(uint32_t number, bool meta,
+                                                uint32_t sel, uint32_t *imp)
 {
     uint32_t slot = msg_slot(number, meta);
     if (slot == MSG_SLOTS) return MSG_NO_CLASS;

@@ -1,9 +1,9 @@
 /* Message dispatch with machine-checked proofs, for hosts in C.
  *
- * docs/EMBEDDING.md takes you to a first send. This header is the reference:
- * it says of each call what it does, its parameters, its faults, whether it
- * wants the lock, and what it costs. What a call answers is proved of the
- * Rattle code in crates/msg_c, clause by clause.
+ * docs/EMBEDDING.md takes you to a first send. This header is the reference.
+ * It says of each call what it does, its parameters, its faults and its cost;
+ * a group's title says whether its calls want the lock. What a call returns is
+ * proved of the Rattle code in crates/msg_c, clause by clause.
  *
  * A runtime opens without classes. All numbers are the host's to give:
  *
@@ -16,10 +16,12 @@
  * selector. msg_texts numbers names for hosts that have them.
  *
  * Faults. Every call returns MSG_DONE or the number of a fault, unless it says
- * otherwise. After a fault nothing has changed and nothing was written through
- * a pointer, unless the call says so. After MSG_MISSED the sender may have seen
- * more changes. A handle that is closed, or opened twice, and numbers that
- * belong to nobody are refused by a fault. No call blocks, panics or aborts.
+ * otherwise. It names all of its faults but MSG_CLOSED, which every call that
+ * takes a handle returns if the handle isn't open. After a fault nothing has
+ * changed and nothing was written through a pointer, unless the call says so.
+ * After MSG_MISSED the sender may have seen more changes. A handle that is
+ * closed, or opened twice, and numbers that belong to nobody are refused by a
+ * fault. No call blocks, panics or aborts.
  *
  * Trust. Nothing checks a C program, so a host is TRUSTED with these rules:
  *
@@ -50,10 +52,11 @@
  * Visibility. Whoever finds a number that a change gave sees what the host
  * wrote before it made that change. So does whoever is told of the change by
  * msg_refresh, msg_probe, msg_fill, msg_meet or msg_rest: the library's shared
- * words are stored and loaded sequentially consistent. So a table of functions may grow
- * while threads send: first the new slot, then the change. What a host writes
- * before a change returns, inside the lock too, another thread may see while it
- * still finds what was before the change; what it writes after that, nobody.
+ * words are stored and loaded sequentially consistent. So a table of functions
+ * may grow while threads send: first the new slot, then the change. What a host
+ * writes before a change returns, inside the lock too, another thread may see
+ * while it still finds what was before the change; what it writes after that,
+ * nobody.
  */
 #ifndef MSG_RUNTIME_H
 #define MSG_RUNTIME_H
@@ -76,6 +79,8 @@
 extern "C" {
 #endif
 
+/* ---- types ---- */
+
 /* What a sender has noted of one lookup. `seal` is the lookup's key (msg_key)
  * less what msg_said says of it; 0 is no note. `stamp`: how many bytes after
  * the first of the shared words (msg_words) the stamp of its class lies; of no
@@ -94,28 +99,46 @@ enum { MSG_NOTES = 2048 };
 /* Handles. A sender is for one thread. Align an array of them to 64 bytes by
  * its type, as in struct { _Alignas(64) msg_sender sender; }, so that no two
  * threads share a line of the cache. */
-typedef struct { void *at; bool open; } msg_runtime;
-typedef struct { void *at; bool open; msg_note notes[MSG_NOTES]; } msg_sender;
-typedef struct { void *at; bool open; } msg_texts;
+typedef struct {
+    void *at;
+    bool open;
+} msg_runtime;
+typedef struct {
+    void *at;
+    bool open;
+    msg_note notes[MSG_NOTES];
+} msg_sender;
+typedef struct {
+    void *at;
+    bool open;
+} msg_texts;
+/* clang-format off */
 #define MSG_RUNTIME_INIT {0, 0}
 #define MSG_SENDER_INIT {0, 0, {{0, 0, 0, 0, 0}}}
 #define MSG_TEXTS_INIT {0, 0}
+/* clang-format on */
 
 /* A class, or its metaclass. */
-typedef struct { uint32_t number; bool meta; } msg_class;
+typedef struct {
+    uint32_t number;
+    bool meta;
+} msg_class;
 
 /* A method of a category. */
-typedef struct { uint32_t sel; uint32_t imp; } msg_method;
+typedef struct {
+    uint32_t sel;
+    uint32_t imp;
+} msg_method;
 
-/* A part of a list of changes. Its kind says which call it stands for, and so
- * which fields are read; the others are 0:
+/* A change of a list. Its kind says which call it stands for, and so which
+ * fields are read; the others are 0:
  *   MSG_ADDS, MSG_REPLACES, MSG_SETS_IMP   number, meta, sel, imp
  *   MSG_EXCHANGES            number, meta, sel, other, other_meta, other_sel
  *   MSG_MAKES_CLASS          number, and other, which is the superclass
  *   MSG_MAKES_ROOT_CLASS     number
  *   MSG_REMOVES              number, meta, sel
  *   MSG_DISPOSES_CLASS       number
- *   MSG_COVERS               number, meta, sel, imp: msg_attach of one method */
+ *   MSG_COVERS               number, meta, sel, imp: attaches one method */
 typedef struct {
     uint32_t kind;
     uint32_t number;
@@ -139,7 +162,11 @@ enum {
 };
 
 /* A lookup, as one of several: by a class, or by its metaclass if meta is 1. */
-typedef struct { uint32_t number; uint32_t meta; uint32_t sel; } msg_lookup_row;
+typedef struct {
+    uint32_t number;
+    uint32_t meta;
+    uint32_t sel;
+} msg_lookup_row;
 
 /* How much a runtime has room for. Fields have 32 bits, and 0 is the default.
  * Later fields come at the end. */
@@ -168,41 +195,43 @@ struct msg_report_row {
     uint64_t refused_senders; /* senders asked for while all were out */
 };
 
+/* ---- numbers of faults ---- */
+
 enum {
     MSG_DONE = 0,
     /* Faults of changes. The first that holds is returned. */
-    MSG_NO_SUCH_CLASS = 1,  /* no class of the number, or it isn't made */
-    MSG_NO_SUCH_IMP = 2,    /* the implementation's number is 0 */
-    MSG_ARGUMENT_COUNT = 3, /* never of a host's runtime */
-    MSG_METHOD_PRESENT = 4, /* the class has the method itself */
-    MSG_NO_METHOD = 5,      /* no such method is found */
-    MSG_LIMIT = 6,          /* 2^48 changes, 2^32 methods or 2^32 - 1 texts */
-    MSG_CHANGE_MEMORY = 7,  /* no memory for the change */
+    MSG_NO_SUCH_CLASS = 1,   /* no class of the number, or it isn't made */
+    MSG_NO_SUCH_IMP = 2,     /* the implementation's number is 0 */
+    MSG_ARGUMENT_COUNT = 3,  /* never of a host's runtime */
+    MSG_METHOD_PRESENT = 4,  /* the class has the method itself */
+    MSG_NO_METHOD = 5,       /* no such method is found */
+    MSG_LIMIT = 6,           /* 2^48 changes, 2^32 methods or 2^32 - 1 texts */
+    MSG_CHANGE_MEMORY = 7,   /* no memory for the change */
     MSG_DUPLICATE_CLASS = 8, /* the class is made already */
-    MSG_CLASS_IN_USE = 9, /* a class is below it */
+    MSG_CLASS_IN_USE = 9,    /* a class is below it */
     /* Faults of any call. */
-    MSG_CLOSED = 64,        /* a handle isn't open */
-    MSG_ALREADY_OPEN = 65,  /* the handle is open already */
-    MSG_NO_CLASS = 66,      /* a class number isn't below the count */
-    MSG_NO_SELECTOR = 67,   /* a selector's number is 0 */
-    MSG_NO_SENDER = 68,     /* as many senders as the config says are open */
-    MSG_NO_MEMORY = 69,     /* no memory */
-    MSG_NONE = 70,          /* there is no superclass, method or text */
-    MSG_MISSED = 71,        /* msg_probe: not cached. Ask msg_fill */
-    MSG_BAD_CONFIG = 73,    /* a field is beyond its most, or isn't known */
-    MSG_BAD_CHANGE = 75,    /* a part of an unknown kind, or meta above 1 */
-    MSG_NO_ROOM = 76,       /* the array for the answer has another size */
-    MSG_LOCK_HELD = 74      /* msg_process.h: the thread has the lock */
+    MSG_CLOSED = 64,       /* a handle isn't open */
+    MSG_ALREADY_OPEN = 65, /* the handle is open already */
+    MSG_NO_CLASS = 66,     /* a class number isn't below the count */
+    MSG_NO_SELECTOR = 67,  /* a selector's number is 0 */
+    MSG_NO_SENDER = 68,    /* as many senders as the config says are open */
+    MSG_NO_MEMORY = 69,    /* no memory */
+    MSG_NONE = 70,         /* there is no superclass, method or text */
+    MSG_MISSED = 71,       /* msg_probe: not cached. Ask msg_fill */
+    MSG_BAD_CONFIG = 73,   /* a field is beyond its most, or isn't known */
+    MSG_BAD_CHANGE = 75,   /* a change of no kind, or meta above 1 */
+    MSG_NO_ROOM = 76,      /* the array for the answer has another size */
+    MSG_LOCK_HELD = 74     /* msg_process.h: the thread has the lock */
 };
 
 /* ---- opening and closing, under the lock ---- */
 
 /* Opens a runtime without classes and without changes. A host in C calls
- * msg_open, which gives the fields of a msg_config as `words`.
- *
+ * msg_open, which gives the fields of a msg_config as `config`, `words` many.
  * Fields that lack are the default. Fields that the library does not know have
- * to be 0. So hosts of older and newer headers are understood, or refused by
- * MSG_BAD_CONFIG. Other faults: MSG_ALREADY_OPEN, MSG_NO_MEMORY.
+ * to be 0. So hosts of older and newer headers are understood, or refused.
+ *
+ * Faults: MSG_ALREADY_OPEN, MSG_NO_MEMORY, MSG_BAD_CONFIG.
  * Cost: all arrays and class numbers are written. */
 uint32_t msg_open_words(msg_runtime *runtime, const uint32_t *config,
                         size_t words);
@@ -217,37 +246,54 @@ uint32_t msg_class_count(msg_runtime *runtime, uint32_t *count);
 /* How many changes were made. A list counts as one. */
 uint32_t msg_change_count(msg_runtime *runtime, uint64_t *count);
 /* What was done to caches: as many fields of a msg_report_row as there is room
- * for. Words beyond the fields that the library knows are set to 0. A host in C
- * calls msg_report. */
+ * for in `words`, which has `count` entries. Those beyond the fields that the
+ * library knows are set to 0. A host in C calls msg_report. */
 uint32_t msg_report_words(msg_runtime *runtime, uint64_t *words, size_t count);
-/* Looks a method up after all changes so far: its implementation, or 0,
- * forwarding, as in a class that isn't made (class_getMethodImplementation). It
- * looks at no cache and fills none. Cost: a walk up the superclasses. */
+/* Looks a method up after all changes so far (class_getMethodImplementation).
+ * `imp` is set to its implementation, or to 0, forwarding; so it is for a class
+ * that isn't made. It looks at no cache and fills none.
+ *
+ * Faults: MSG_NO_CLASS, MSG_NO_SELECTOR.
+ * Cost: a walk up the superclasses. */
 uint32_t msg_lookup(msg_runtime *runtime, uint32_t number, bool meta,
                     uint32_t sel, uint32_t *imp);
 /* What stands above (class_getSuperclass): above a class its superclass, above
  * a metaclass the superclass's metaclass, and above a root's metaclass the root
- * itself. MSG_NONE for a root class, and for a class that isn't made. */
+ * itself.
+ *
+ * Faults: MSG_NO_CLASS, and MSG_NONE for a root class or one that isn't made.
+ */
 uint32_t msg_superclass(msg_runtime *runtime, uint32_t number, bool meta,
                         msg_class *above);
 /* Where the method stands that a lookup finds (class_getInstanceMethod): the
- * class itself, or one above it. MSG_NONE if it finds no method. */
+ * class itself, or one above it.
+ *
+ * Faults: MSG_NO_CLASS, MSG_NO_SELECTOR, and MSG_NONE if a lookup finds none.
+ * Cost: a walk up the superclasses. */
 uint32_t msg_holder(msg_runtime *runtime, uint32_t number, bool meta,
                     uint32_t sel, msg_class *at);
 /* The methods that a class or a metaclass has itself (class_copyMethodList),
  * the newest first: of several of one selector a lookup finds the first. They
- * are written to `methods`, which has `room` entries, and `count` is how many
- * there are. If that is more than `room`, MSG_NO_ROOM is returned and no method
- * is written: so a call without room counts them. A class that isn't made has
- * none. Cost: a walk over these methods, and no memory. */
+ * are written to `methods`, which has `room` entries, and `count` is set to how
+ * many there are. A class that isn't made has none.
+ *
+ * Faults: MSG_NO_CLASS, and MSG_NO_ROOM if there are more than `room`: then no
+ * method is written, but `count` is. So a call without room counts them.
+ * Cost: a walk over these methods, and no memory. */
 uint32_t msg_methods(msg_runtime *runtime, uint32_t number, bool meta,
                      msg_method *methods, size_t room, size_t *count);
 /* The classes that are made (objc_getClassList), each after its superclass, in
- * the same way. Cost: a walk over these classes. */
+ * the same way.
+ *
+ * Faults: MSG_NO_ROOM.
+ * Cost: a walk over these classes. */
 uint32_t msg_classes(msg_runtime *runtime, uint32_t *classes, size_t room,
                      size_t *count);
 /* The classes below a class, in the same way: its subclasses, theirs, and so
- * on, each once. Cost: a walk over these classes. */
+ * on, each once.
+ *
+ * Faults: MSG_NO_CLASS, MSG_NO_ROOM.
+ * Cost: a walk over these classes. */
 uint32_t msg_classes_below(msg_runtime *runtime, uint32_t number,
                            uint32_t *classes, size_t room, size_t *count);
 
@@ -258,81 +304,116 @@ uint32_t msg_classes_below(msg_runtime *runtime, uint32_t number,
  * change, finds what the change says. Cost: a walk over the classes below the
  * one that changes; no walk over all classes. */
 
-/* Gives a class a method of its own (class_addMethod). MSG_METHOD_PRESENT if it
- * has one of the selector itself; an inherited one is hidden. */
+/* Gives a class a method of its own (class_addMethod), which hides an inherited
+ * one.
+ *
+ * Faults: MSG_NO_SUCH_CLASS, MSG_NO_SUCH_IMP, MSG_METHOD_PRESENT if the class
+ * has one of the selector itself, MSG_NO_SELECTOR, MSG_LIMIT,
+ * MSG_CHANGE_MEMORY. */
 uint32_t msg_add(msg_runtime *runtime, uint32_t number, bool meta, uint32_t sel,
                  uint32_t imp);
 /* Gives a class this method in place of its own (class_replaceMethod), or adds
- * it if the class has none of its own. */
+ * it if the class has none of its own.
+ *
+ * Faults: MSG_NO_SUCH_CLASS, MSG_NO_SUCH_IMP, MSG_NO_SELECTOR, MSG_LIMIT,
+ * MSG_CHANGE_MEMORY. */
 uint32_t msg_replace(msg_runtime *runtime, uint32_t number, bool meta,
                      uint32_t sel, uint32_t imp);
 /* Sets the method that a lookup in the class finds (method_setImplementation).
  * It is written where the method stands, perhaps in a class above: then all
- * classes that inherit it change. MSG_NO_METHOD if none is found. */
+ * classes that inherit it change.
+ *
+ * Faults: MSG_NO_SUCH_CLASS, MSG_NO_SUCH_IMP, MSG_NO_METHOD if a lookup finds
+ * none, MSG_NO_SELECTOR, MSG_LIMIT, MSG_CHANGE_MEMORY. */
 uint32_t msg_set_imp(msg_runtime *runtime, uint32_t number, bool meta,
                      uint32_t sel, uint32_t imp);
 /* Exchanges the two methods that lookups find (method_exchangeImplementations),
- * each where it stands. MSG_NO_METHOD if one isn't found. */
+ * each where it stands.
+ *
+ * Faults: MSG_NO_SUCH_CLASS, MSG_NO_METHOD if a lookup finds none,
+ * MSG_NO_SELECTOR, MSG_LIMIT, MSG_CHANGE_MEMORY. */
 uint32_t msg_exchange(msg_runtime *runtime, uint32_t number, bool meta,
                       uint32_t sel, uint32_t other, bool other_meta,
                       uint32_t other_sel);
-/* Attaches a category: methods for a class, and others for its metaclass. They
- * hide the class's own methods of the same selectors, and those of categories
- * that were attached before. Of two methods of one selector in the list the
- * earlier is found. MSG_CHANGE_MEMORY may also say that the lists themselves
- * wanted memory, whatever else speaks against them. */
+/* Attaches a category: `methods` for a class, and `class_methods` for its
+ * metaclass. They hide the class's own methods of the same selectors, and those
+ * of categories that were attached before. Of two methods of one selector in
+ * the list the earlier is found.
+ *
+ * Faults: MSG_NO_SUCH_CLASS, MSG_NO_SUCH_IMP, MSG_NO_SELECTOR, MSG_LIMIT, and
+ * MSG_CHANGE_MEMORY, which may also say that the lists themselves wanted
+ * memory, whatever else speaks against them. */
 uint32_t msg_attach(msg_runtime *runtime, uint32_t number,
                     const msg_method *methods, size_t count,
                     const msg_method *class_methods, size_t class_count);
 /* Makes a class (objc_allocateClassPair with objc_registerClassPair) and its
- * metaclass, without methods, below a superclass that is made. */
+ * metaclass, without methods, below a superclass that is made.
+ *
+ * Faults: MSG_NO_SUCH_CLASS for the superclass or a number that isn't reserved,
+ * MSG_DUPLICATE_CLASS, MSG_LIMIT, MSG_CHANGE_MEMORY. */
 uint32_t msg_make_class(msg_runtime *runtime, uint32_t number,
                         uint32_t superclass);
-/* Makes a root class and its metaclass, without methods. */
+/* Makes a root class and its metaclass, without methods.
+ *
+ * Faults: MSG_NO_SUCH_CLASS for a number that isn't reserved,
+ * MSG_DUPLICATE_CLASS, MSG_LIMIT, MSG_CHANGE_MEMORY. */
 uint32_t msg_make_root_class(msg_runtime *runtime, uint32_t number);
 /* Takes the method away that a class has of its own (class_removeMethod). One
- * that it hid counts again: a category's hides its class's. MSG_NO_METHOD if
- * the class itself has none. */
+ * that it hid counts again: a category's hides its class's.
+ *
+ * Faults: MSG_NO_SUCH_CLASS, MSG_NO_METHOD if the class itself has none,
+ * MSG_NO_SELECTOR, MSG_LIMIT, MSG_CHANGE_MEMORY. */
 uint32_t msg_remove(msg_runtime *runtime, uint32_t number, bool meta,
                     uint32_t sel);
 /* Takes a class away (objc_disposeClassPair), with its metaclass and the
- * methods of both. Its number may be used again. MSG_CLASS_IN_USE if a class
- * is below it. */
+ * methods of both. Its number may be used again.
+ *
+ * Faults: MSG_NO_SUCH_CLASS, MSG_CLASS_IN_USE if a class is below it,
+ * MSG_LIMIT, MSG_CHANGE_MEMORY. */
 uint32_t msg_dispose_class(msg_runtime *runtime, uint32_t number);
 
 /* ---- changing several as one, under the lock ---- */
 
-/* Makes a list of changes as one: every lookup, by whatever sender, is from
- * before all of them or from after all, and the count of changes grows by one.
- * A list of no parts changes nothing and isn't counted.
+/* Makes a list of `count` changes as one: every lookup, by whatever sender, is
+ * from before all of them or from after all, and the count of changes grows by
+ * one. A list of no changes changes nothing and isn't counted.
  *
- * The list is refused as a whole, for the first part that would be refused if
- * those before it were made. Then `place` is the part's index, and the fault is
- * the part's. A part that means no change (MSG_NO_SELECTOR, MSG_BAD_CHANGE) is
- * found before any is made. MSG_CHANGE_MEMORY is returned only if neither the
- * part at `place` nor one before it would be refused. */
+ * The list is refused as a whole, for the first change that would be refused if
+ * those before it were made. Then `place` is set to the change's index, and the
+ * fault is the change's. What means no change (MSG_NO_SELECTOR, MSG_BAD_CHANGE)
+ * is found before any is made. MSG_CHANGE_MEMORY is returned only if neither
+ * the change at `place` nor one before it would be refused.
+ *
+ * Faults: MSG_NO_SUCH_CLASS, MSG_NO_SUCH_IMP, MSG_METHOD_PRESENT,
+ * MSG_NO_METHOD, MSG_DUPLICATE_CLASS, MSG_CLASS_IN_USE, MSG_LIMIT,
+ * MSG_CHANGE_MEMORY, MSG_NO_SELECTOR, MSG_BAD_CHANGE. */
 uint32_t msg_change_all(msg_runtime *runtime, const msg_change *changes,
                         size_t count, size_t *place);
-/* msg_change_all that also writes a way back: `undone` parts in `undo` which,
- * made as one directly afterwards, take the list back.
+/* msg_change_all that also writes a way back: `undone` changes in `undo`,
+ * which has `room` entries. Made as one directly afterwards they take the list
+ * back.
  *
- * Each accepted list has a way back. It has a part for each method that the
+ * Each accepted list has a way back. It has a change for each method that the
  * list adds, writes or takes away, and for each class that it makes or takes
- * away. If that is more than `room`, MSG_NO_ROOM is returned, nothing is made,
- * and `undone` says how much room is wanted. */
+ * away.
+ *
+ * Faults: those of msg_change_all, and MSG_NO_ROOM if the way back has more
+ * than `room` changes. Then nothing is made, and `undone` is set to how much
+ * room is wanted. */
 uint32_t msg_change_all_with_undo(msg_runtime *runtime,
                                   const msg_change *changes, size_t count,
                                   msg_change *undo, size_t room, size_t *undone,
                                   size_t *place);
 /* A dry run of msg_change_all: which lookups would it change? `reached` has
- * twice as many entries as there are class numbers, or MSG_NO_ROOM is returned:
- * [2 * n] is class n, and [2 * n + 1] its metaclass. An entry is set to true if
- * a lookup there may change; the others keep their value.
+ * `room` entries, twice as many as there are class numbers: [2 * n] is class n,
+ * and [2 * n + 1] its metaclass. An entry is set to true if a lookup there may
+ * change; the others keep their value.
  *
- * Faults are those of msg_change_all, with `place`. Then what the parts before
- * it would change is set. But after MSG_NO_SELECTOR and MSG_BAD_CHANGE nothing
- * is set, and after MSG_CHANGE_MEMORY what is set means nothing. Cost: a walk
- * over the classes that it sets. */
+ * Faults: those of msg_change_all, with `place`, and MSG_NO_ROOM if `room` is
+ * another count. What the changes before `place` would change is set. But after
+ * MSG_NO_SELECTOR and MSG_BAD_CHANGE nothing is set, and after
+ * MSG_CHANGE_MEMORY what is set means nothing.
+ * Cost: a walk over the classes that it sets. */
 uint32_t msg_reach(msg_runtime *runtime, const msg_change *changes,
                    size_t count, bool *reached, size_t room, size_t *place);
 
@@ -343,21 +424,29 @@ uint32_t msg_reach(msg_runtime *runtime, const msg_change *changes,
  * and only the library writes them. */
 uint32_t msg_words(msg_runtime *runtime, const uint64_t **words);
 
-/* Opens a sender for one thread. It has seen all changes so far. MSG_NO_SENDER
- * only if as many are open as the config says; a sender that is closed counts
- * no more. */
+/* Opens a sender for one thread. It has seen all changes so far.
+ *
+ * Faults: MSG_ALREADY_OPEN, MSG_NO_MEMORY, and MSG_NO_SENDER, only if as many
+ * are open as the config says. A sender that is closed counts no more. */
 uint32_t msg_sender_open(msg_runtime *runtime, msg_sender *sender);
 /* Closes a sender. It may be closed after its runtime was. */
 uint32_t msg_sender_close(msg_runtime *runtime, msg_sender *sender);
-/* Looks up after all changes so far (lookUpImpOrForward), which the sender has
- * then seen. It is noted by the sender, and cached if there is room. Call it
- * after msg_probe has missed, or let msg_find do both. */
+/* Looks a method up after all changes so far (lookUpImpOrForward), which the
+ * sender has then seen. `imp` is set as by msg_lookup. The sender notes it, and
+ * it is cached if there is room. Call it after msg_probe has missed, or let
+ * msg_find do both.
+ *
+ * Faults: MSG_NO_CLASS, MSG_NO_SELECTOR.
+ * Cost: a walk up the superclasses, and a store into the cache. */
 uint32_t msg_fill(msg_runtime *runtime, msg_sender *sender, uint32_t number,
                   bool meta, uint32_t sel, uint32_t *imp);
 /* Looks up several after all changes so far, which the sender has then seen.
- * What it has not noted is cached, if there is room, and noted. Parameters and
- * faults are those of msg_probe_all. Call it after that has missed, or let
- * msg_find_all do both. */
+ * What it has not noted is cached, if there is room, and noted. Parameters are
+ * those of msg_probe_all. Call it after that has missed, or let msg_find_all do
+ * both.
+ *
+ * Faults: MSG_NO_CLASS, MSG_NO_SELECTOR, MSG_BAD_CHANGE, MSG_NO_ROOM, as of
+ * msg_probe_all. */
 uint32_t msg_fill_all(msg_runtime *runtime, msg_sender *sender,
                       const msg_lookup_row *lookups, size_t count,
                       uint32_t *imps, size_t room, size_t *place);
@@ -372,6 +461,7 @@ uint32_t msg_rest(msg_runtime *runtime, msg_sender *sender);
  * before them, so a function that the first `count` changes took out may be
  * freed. The host sees to it that no later change puts it back, and that
  * nobody calls msg_lookup, or msg_recall with less than `count`, for it.
+ *
  * Cost: it goes over all sender numbers of the config. */
 uint32_t msg_seen_by_all(msg_runtime *runtime, uint64_t *count);
 
@@ -383,47 +473,55 @@ uint32_t msg_version(void);
 /* How many bytes a msg_sender has, for hosts that don't compile this header. */
 size_t msg_sender_size(void);
 /* What the sender has noted of the lookup after `since` changes or more, for
- * slot 2 * number + meta: the implementation's number, MSG_NOTED_NONE if it
- * noted that there is no method, or 0 if it has no such note. Then ask
+ * slot 2 * number + meta. Returns the implementation's number, MSG_NOTED_NONE
+ * if it noted that there is no method, or 0 if it has no such note. Then ask
  * msg_find, which notes what it finds.
  *
- * It loads from the handle alone and writes nothing. Since the stamp of the
- * class (msg_stamp) it is what a lookup finds now: msg_recall_key does both,
- * inline, and is the short way of a send. */
+ * Since the stamp of the class (msg_stamp) it is what a lookup finds now:
+ * msg_recall_key does both, inline, and is the short way of a send.
+ *
+ * Cost: it loads from the handle alone and writes nothing. */
 size_t msg_recall(const msg_sender *sender, size_t slot, uint32_t sel,
                   uint64_t since);
 #define MSG_NOTED_NONE ((size_t)1 << 32) /* as a uint32_t 0, forwarding */
 /* What is cached (cache_getImp): what the sender has noted, else what the
- * shared cache has: the lookup after the changes that the sender has then seen,
- * which are no fewer than before. MSG_MISSED if neither has it.
+ * shared cache has. `imp` is set to the lookup after the changes that the
+ * sender has then seen, which are no fewer than before. What it has noted it
+ * returns until a change affects the class, or another lookup has taken the
+ * place of the note.
  *
- * What it has noted it returns until a change affects the class, or another
- * lookup has taken the place of the note. Cost: a few loads, and no lock. */
+ * Faults: MSG_NO_CLASS, MSG_NO_SELECTOR, and MSG_MISSED if neither has it.
+ * Cost: a few loads, and no lock. */
 uint32_t msg_probe(msg_sender *sender, uint32_t number, bool meta, uint32_t sel,
                    uint32_t *imp);
 /* What several lookups find, all at one version: after the same changes, which
- * the sender has then seen, and which are no fewer than before. `imps` has as
- * many entries as there are lookups, or MSG_NO_ROOM is returned. A change of
- * several parts that was made as one is in all of the answers or in none.
+ * the sender has then seen, and which are no fewer than before. `imps` has
+ * `room` entries, as many as there are lookups. A list of changes that was made
+ * as one is in all of the answers or in none.
  *
- * MSG_MISSED if the sender's notes and the shared cache lack one of them, or if
- * a change of one's class falls among them. A change of other classes does not
- * matter. After MSG_MISSED what is in `imps` means nothing. MSG_NO_CLASS,
- * MSG_NO_SELECTOR and MSG_BAD_CHANGE (meta above 1) come with the `place` of
- * the first lookup that is at fault, and nothing is looked up. Cost: a load of
- * a shared word, and for each lookup another one and a few loads; no lock. */
+ * Faults: MSG_MISSED if the sender's notes and the shared cache lack one of
+ * them, or if a change of one's class falls among them; then what is in `imps`
+ * means nothing. A change of other classes does not matter. MSG_NO_ROOM if
+ * `room` is not `count`. MSG_NO_CLASS, MSG_NO_SELECTOR and MSG_BAD_CHANGE (meta
+ * above 1) come with the `place` of the first lookup that is at fault, and
+ * nothing is looked up.
+ * Cost: a load of a shared word, and for each lookup another one and a few
+ * loads; no lock. */
 uint32_t msg_probe_all(msg_sender *sender, const msg_lookup_row *lookups,
                        size_t count, uint32_t *imps, size_t room,
                        size_t *place);
 /* How many changes there are. The sender has then seen them: nothing older is
- * found by it from then on, and it forgets nothing. Cost: one load of a shared
- * word. */
+ * found by it from then on, and it forgets nothing.
+ *
+ * Cost: one load of a shared word. */
 uint32_t msg_refresh(msg_sender *sender, uint64_t *count);
 /* The stamp of a class, or of its metaclass: no change after so many has
  * affected it, so what msg_recall has since then is what a lookup finds. It is
  * above all counts, UINT64_MAX, from a change of the class on until the next
- * msg_fill of it. The sender has then seen all changes. Cost: one load of a
- * shared word. */
+ * msg_fill of it. The sender has then seen all changes.
+ *
+ * Faults: MSG_NO_CLASS.
+ * Cost: one load of a shared word. */
 uint32_t msg_stamp(msg_sender *sender, uint32_t number, bool meta,
                    uint64_t *stamp);
 
@@ -433,23 +531,33 @@ uint32_t msg_stamp(msg_sender *sender, uint32_t number, bool meta,
  * text is any bytes. Each has a number, from 1 in the order in which they first
  * came, and keeps it until the texts are closed. */
 
-/* Opens texts, of which there are none yet. MSG_ALREADY_OPEN, MSG_NO_MEMORY. */
+/* Opens texts, of which there are none yet.
+ *
+ * Faults: MSG_ALREADY_OPEN, MSG_NO_MEMORY. */
 uint32_t msg_texts_open(msg_texts *texts);
-/* Gives back what the texts take. */
+/* Closes texts and gives their memory back. */
 uint32_t msg_texts_close(msg_texts *texts);
 /* The text's number (sel_registerName). A new text gets the next one; only then
- * is memory wanted, and MSG_LIMIT returned if 2^32 - 1 are there. */
+ * is memory wanted.
+ *
+ * Faults: MSG_LIMIT if 2^32 - 1 texts are there, MSG_NO_MEMORY. */
 uint32_t msg_texts_intern(msg_texts *texts, const uint8_t *text, size_t length,
                           uint32_t *number);
-/* The text's number, or MSG_NONE. It makes none. */
+/* The text's number. It makes none.
+ *
+ * Faults: MSG_NONE if the text has none. */
 uint32_t msg_texts_find(msg_texts *texts, const uint8_t *text, size_t length,
                         uint32_t *number);
-/* The number's text (sel_getName): as much as there is room for, and how long
- * it is; or MSG_NONE. */
+/* The number's text (sel_getName): as much as there is room for in `into`, and
+ * `length` is set to how long it is.
+ *
+ * Faults: MSG_NONE if no text has the number. */
 uint32_t msg_texts_text(msg_texts *texts, uint32_t number, uint8_t *into,
                         size_t room, size_t *length);
 /* How many colons a text has: as many arguments as a selector takes that is
- * named so; or MSG_NONE. */
+ * named so.
+ *
+ * Faults: MSG_NONE if no text has the number. */
 uint32_t msg_texts_colons(msg_texts *texts, uint32_t number, size_t *count);
 
 /* ---- types by their encodings, without a lock ----
@@ -459,13 +567,15 @@ uint32_t msg_texts_colons(msg_texts *texts, uint32_t number, size_t *count);
  * no size or alignment is above 2^28. Cost: a text is read once. */
 
 /* The size and alignment of a text's first type, in bytes. Returns the place
- * behind it (objc_skip_typespec), which is above 0 where there is a text. */
+ * behind it (objc_skip_typespec), which is above 0 if there is a text. */
 size_t msg_type_first(const uint8_t *text, size_t length, uint64_t *size,
                       uint64_t *align);
-/* The member of a structure in front of a text, where those before it end
- * before this bit; of a union, 0. Its type is from `begin`, behind its name, to
- * before `end`; it takes the bits from `first` to before `last`. MSG_NONE where
- * the structure or the text ends. */
+/* The next member of a structure, in front of a text. Those before it end
+ * before the bit `before`; of a union that is 0. Its type is from `begin`,
+ * behind its name, to before `end`; it takes the bits from `first` to before
+ * `last`.
+ *
+ * Faults: MSG_NONE if the structure or the text ends. */
 uint32_t msg_type_member(const uint8_t *text, size_t length, uint64_t before,
                          size_t *begin, size_t *end, uint64_t *first,
                          uint64_t *last, uint64_t *align);
@@ -497,7 +607,9 @@ MSG_IS_SO(__BYTE_ORDER__ == __ORDER_LITTLE_ENDIAN__);
 /* ---- inline: opening, reporting, texts of faults ---- */
 
 /* Opens a runtime; with NULL all is the default. Trusted: this code, which
- * gives the config's words. */
+ * gives the config's words.
+ *
+ * Faults: those of msg_open_words. */
 static inline uint32_t msg_open(msg_runtime *runtime, const msg_config *config)
 {
     const msg_config by_default = {0, 0, {0}};
@@ -654,15 +766,16 @@ static inline uint32_t msg_recall_key(const msg_sender *sender,
     const msg_note *note = MSG_NOTE_OF(sender, key);
     uint64_t stamp = msg_stamp_of(words, note);
     uint64_t said = note->count >= stamp ? msg_said(note, key) : MSG_SAID_NONE;
-    uint32_t imp = said < MSG_SAID_LONG ? (uint32_t)said
-                 : said == MSG_SAID_LONG ? note->imp : 0;
+    uint32_t imp = said < MSG_SAID_LONG    ? (uint32_t)said
+                   : said == MSG_SAID_LONG ? note->imp
+                                           : 0;
     MSG_TEST(imp == (uint32_t)msg_recall(sender, MSG_SLOT_OF(key),
                                          MSG_SEL_OF(key), stamp));
     if (imp) MSG_TEST_STAMP(sender, words, key, stamp);
     return imp;
 }
 
-/* Whether it is noted that there is no method: then msg_recall answers
+/* Whether it is noted that there is no method: then msg_recall returns
  * MSG_NOTED_NONE. */
 static inline bool msg_recall_none_key(const msg_sender *sender,
                                        const uint64_t *words, uint64_t key)
@@ -694,8 +807,11 @@ static inline uint32_t msg_recall_inline(const msg_sender *sender,
 }
 
 /* Finds a message's implementation (objc_msg_lookup): the lookup at a version
- * not before what the sender had seen. It takes the lock after a miss. Trusted:
- * this code, and the lock. */
+ * not before what the sender had seen. `imp` is set to its number, or to 0,
+ * forwarding. It takes the lock after a miss. Trusted: this code, and the lock.
+ *
+ * Faults: MSG_NO_CLASS, MSG_NO_SELECTOR.
+ * Cost: msg_probe, and after a miss the lock and msg_fill. */
 static inline uint32_t msg_find(msg_runtime *runtime, MSG_LOCK_TYPE *lock,
                                 msg_sender *sender, uint32_t number, bool meta,
                                 uint32_t sel, uint32_t *imp)
@@ -714,7 +830,10 @@ static inline uint32_t msg_find(msg_runtime *runtime, MSG_LOCK_TYPE *lock,
 /* Finds several as one: what msg_probe_all says, and after a miss msg_fill_all
  * under the lock, once. Two calls of msg_find may be from before and after a
  * change; these never are. `imps` has `count` entries. Trusted: this code, and
- * the lock. */
+ * the lock.
+ *
+ * Faults: MSG_NO_CLASS, MSG_NO_SELECTOR, MSG_BAD_CHANGE, as of msg_probe_all.
+ */
 static inline uint32_t msg_find_all(msg_runtime *runtime, MSG_LOCK_TYPE *lock,
                                     msg_sender *sender,
                                     const msg_lookup_row *lookups, size_t count,

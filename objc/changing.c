@@ -9,8 +9,12 @@
 /* A method that gets a function, which has that number: of the record's class, or, where there is
  * no record, of none. Where it is NULL it is new. `before`: what was called. */
 struct part {
-    struct record *record; Method method; SEL sel;
-    IMP imp, before; const char *types; uint32_t number;
+    struct record *record;
+    Method method;
+    SEL sel;
+    IMP imp, before;
+    const char *types;
+    uint32_t number;
 };
 
 /* The count is read first: so many rows any array has that is there then. The last of a name
@@ -86,19 +90,25 @@ static msg_change replacing(const struct record *record, SEL sel, uint32_t numbe
 
 /* ---- what a module or a class pair brings, until it is made ---- */
 
-static struct coming { struct record *record; Method method; } *coming; /* to the rows */
+static struct coming {
+    struct record *record;
+    Method method;
+} * coming; /* to the rows */
 static msg_change *changes;
 static uint32_t coming_count, coming_room, change_count, change_room;
 
 static void bring(msg_change change)
 {
-    ADDED(changes, change_count, change_room) = change;
+    changes = shim_more(changes, change_count, &change_room, sizeof *changes);
+    changes[change_count++] = change;
 }
 
 void shim_bring_method(struct record *record, Method method, bool is_new)
 {
     bring(replacing(record, method->name.sel, shim_number(method->imp)));
-    if (is_new) ADDED(coming, coming_count, coming_room) = (struct coming){record, method};
+    if (!is_new) return;
+    coming = shim_more(coming, coming_count, &coming_room, sizeof *coming);
+    coming[coming_count++] = (struct coming){record, method};
 }
 
 void shim_bring_class(Class class_)
@@ -158,7 +168,7 @@ static inline void settle(const struct part *part)
 
 static inline void cache(const struct part *part)
 {
-    if (is_in_tables(part)) msg_process_cache(shim_key(part->record, shim_sel(part->sel)));
+    if (is_in_tables(part)) msg_process_cache(shim_key(part->record, part->sel));
 }
 
 static inline void make_one(const struct part *part)
@@ -213,8 +223,8 @@ static bool plan_exchange(const struct objc_method_pair *pair, msg_change *chang
     struct record *here = home_of(pair->one), *there = here ? home_of(pair->other) : NULL;
     if (!there) return false;
     uint32_t sel = shim_sel(pair->one->name.sel), other_sel = shim_sel(pair->other->name.sel);
-    *change = (msg_change){MSG_EXCHANGES, here->number,  here->meta,  sel, 0,
-                           there->number, there->meta, other_sel};
+    *change = (msg_change){MSG_EXCHANGES, here->number, here->meta, sel, 0,
+                           there->number, there->meta,  other_sel};
     return true;
 }
 

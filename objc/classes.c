@@ -9,8 +9,8 @@ enum { GUESSES = 1024 };
 Class shim_classes[MOST_CLASSES + 1];
 uint32_t shim_class_count, shim_class_room;
 static uint32_t in_construction; /* for which a number is kept */
-static _Atomic(uint32_t) made; /* the tables have the classes of the numbers up to this */
-static struct index by_name; /* what it leaves isn't freed: it is read without the lock */
+static _Atomic(uint32_t) made;   /* the tables have the classes of the numbers up to this */
+static struct index by_name;     /* what it leaves isn't freed: it is read without the lock */
 /* What was found of a name that lay at such an address: its text says whether it is meant. */
 static _Atomic(Class) guesses[GUESSES];
 static _Atomic(finder) unknown_class;
@@ -95,7 +95,10 @@ int objc_getClassList(Class *into, int most)
 const char *class_getName(Class class_) { return class_ ? class_->name : "nil"; }
 BOOL class_isMetaClass(Class class_) { return class_ && class_->info & CLASS_META; }
 int class_getVersion(Class class_) { return class_ ? (int)class_->version : 0; }
-void class_setVersion(Class class_, int version) { if (class_) class_->version = version; }
+void class_setVersion(Class class_, int version)
+{
+    if (class_) class_->version = version;
+}
 size_t class_getInstanceSize(Class class_) { return class_ ? (size_t)class_->instance_size : 0; }
 
 /* Of a class whose superclass isn't there yet only the name is known. */

@@ -8,7 +8,9 @@
 enum { MOST_IN_REGISTERS = 16 };
 
 /* Its result is returned in memory, so the receiver stands where that of such a method does. */
-struct large { char bytes[MOST_IN_REGISTERS + 1]; };
+struct large {
+    char bytes[MOST_IN_REGISTERS + 1];
+};
 
 typedef void *(*forwarder)(id, SEL, SEL, void *);
 

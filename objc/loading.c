@@ -10,18 +10,27 @@
 void (*_objc_load_callback)(Class, struct objc_category *);
 
 /* The first `tried` wait for more than there was when `tried_at` was so. */
-struct waiting { void **rows; uint32_t count, room, tried, tried_at; };
+struct waiting {
+    void **rows;
+    uint32_t count, room, tried, tried_at;
+};
 static struct waiting classes, categories, constants;
 
 /* What is to be done without the lock, in order: a +load that is sent, or, without an
  * implementation, the callback of a class or category. */
-struct load { Class class_; struct objc_category *category; IMP imp; SEL sel; };
+struct load {
+    Class class_;
+    struct objc_category *category;
+    IMP imp;
+    SEL sel;
+};
 static struct load *loads;
 static uint32_t load_count, load_room, loaded_count;
 
 static void note_load(Class class_, struct objc_category *category, IMP imp, SEL sel)
 {
-    ADDED(loads, load_count, load_room) = (struct load){class_, category, imp, sel};
+    loads = shim_more(loads, load_count, &load_room, sizeof *loads);
+    loads[load_count++] = (struct load){class_, category, imp, sel};
 }
 
 /* The first method of a name in the newest list counts: a category's stands before the class's. */
@@ -128,7 +137,8 @@ static bool try_all(struct waiting *all, bool (*try_one)(void *))
 
 static void wait_row(struct waiting *all, void *row)
 {
-    ADDED(all->rows, all->count, all->room) = row;
+    all->rows = shim_more(all->rows, all->count, &all->room, sizeof row);
+    all->rows[all->count++] = row;
 }
 
 static void take_symbols(struct symbols *symbols)

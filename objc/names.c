@@ -9,8 +9,14 @@
 enum { FEWEST = 64, CHUNK = 4096, KEPT = 512, MOST_OF_A_PAGE = 1 << 16, STEP = MOST_OF_A_PAGE };
 
 /* The selectors of one name that differ in their types. */
-struct typed { struct objc_selector sel; struct typed *next; };
-struct name { const char *text; struct typed *typed; };
+struct typed {
+    struct objc_selector sel;
+    struct typed *next;
+};
+struct name {
+    const char *text;
+    struct typed *typed;
+};
 
 #define NAME(number, text) [number] = text,
 static const char *const own_names[FIRST_FREE] = {OWN_SELECTORS(NAME)};
@@ -107,7 +113,8 @@ void *shim_index(struct index *index, uint32_t mixed, uint32_t number)
         places = shim_memory(sizeof *places + more * sizeof *places->at);
         places->before = before;
         places->last = more - 1;
-        for (uint32_t i = 0; i < room; i++) if (before->at[i]) put(places, before->at[i]);
+        for (uint32_t i = 0; i < room; i++)
+            if (before->at[i]) put(places, before->at[i]);
     }
     put(places, (uint64_t)mixed << 32 | number);
     atomic_store_explicit(&index->places, places, memory_order_release);

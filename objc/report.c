@@ -6,9 +6,15 @@
 
 enum { FEWEST = 4 }; /* entries of an array */
 
+/* clang-format off */
 #define FIELD(name, says) {#name, offsetof(struct msg_report_row, name), says}
+/* clang-format on */
 
-struct field { const char *name; size_t at; const char *says; };
+struct field {
+    const char *name;
+    size_t at;
+    const char *says;
+};
 
 static const struct field fields[] = {
     FIELD(fills, "entries that were stored in caches"),

@@ -7,7 +7,9 @@
  * fifths of the default, of which no program was seen to want more, and of larger ones the
  * default, since half of these were too few for programs with windows. */
 enum { SENDERS = 4096, MOST_SENDERS = 16384, CLASS_NUMBERS = 16384 };
+/* clang-format off */
 #define ARRAYS {1024, 768, 320, 160, 128, 64, 32, 16, 8}
+/* clang-format on */
 
 msg_runtime *shim_runtime;
 
@@ -46,24 +48,6 @@ void shim_take(void)
     uint32_t fault;
     while (__builtin_expect((fault = msg_process_lock(&shim_runtime)) == MSG_CLOSED, 0)) start();
     shim_must(fault, "in a handler of a signal");
-}
-
-IMP shim_find(Class class_, uint32_t sel)
-{
-    static _Thread_local volatile bool finds; /* only a handler of a signal sees it set here */
-    bool waits = !finds;
-    uint32_t imp, fault = MSG_LOCK_HELD;
-    finds = true;
-    uint64_t key = shim_key(class_->record, sel);
-    unsigned how = waits ? MSG_WAITS_A_WHILE : MSG_WAITS_NOT;
-    if (!shim_in_construction(class_)) fault = msg_process_find_slowly(key, how, &imp);
-    finds = !waits;
-    if (fault == MSG_LOCK_HELD) {
-        Method method = shim_standing(class_, sel);
-        return method ? shim_imp(method) : NULL;
-    }
-    shim_must(fault, "find");
-    return shim_function(imp);
 }
 
 /* Here, since this file is linked into every program. */

@@ -19,8 +19,10 @@ static inline IMP shim_function(uint32_t imp)
  * jump behind them is kept within a line by prefixes, not by an instruction more. */
 #define AT_NOTE "%P[word](%[sender],%[place])"
 #define LONGER "%{disp32%} "
+/* clang-format off */
 #define NOTE(field) [sender] "r"(sender), [place] "r"((uint64_t)(uint16_t)key), \
                     [word] "i"(offsetof(msg_sender, notes) + offsetof(msg_note, field))
+/* clang-format on */
 
 /* What the note at the one place of a class and a selector says (msg_said), by all changes that had
  * returned. First it is seen that the note isn't older than the stamp of its class; then one load
@@ -38,8 +40,10 @@ static inline uint64_t shim_said_at(Class class_, SEL sel)
     __asm__ volatile(LONGER "movq " AT_NOTE ", %0" : "=r"(stamp) : NOTE(stamp) : "memory");
     stamp += (uintptr_t)msg_process_words.at;
     stamp = __atomic_load_n((const uint64_t *)stamp, __ATOMIC_SEQ_CST);
+    /* clang-format off */
     __asm__ volatile(LONGER "cmpq %1, " AT_NOTE
                      : "=@ccb"(is_old) : "r"(stamp), NOTE(count) : "memory");
+    /* clang-format on */
     if (__builtin_expect(is_old, 0)) return UINT64_MAX;
     __asm__ volatile("subq " AT_NOTE ", %0" : "+r"(said) : NOTE(seal) : "cc", "memory");
 #else

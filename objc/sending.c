@@ -15,7 +15,10 @@ void shim_take_initialize(void)
     depth++;
 }
 
-void shim_give_initialize(void) { if (!--depth) pthread_mutex_unlock(&initializing); }
+void shim_give_initialize(void)
+{
+    if (!--depth) pthread_mutex_unlock(&initializing);
+}
 
 static void give_initialize(char *unused) { shim_give_initialize(); }
 
@@ -66,10 +69,32 @@ static inline bool noted(Class class_, SEL sel, IMP *imp)
     return true;
 }
 
+/* What the rows say: in a handler of a signal that can't have the lock. */
+static __attribute__((noinline, cold)) IMP find_in_rows(Class class_, SEL sel, uint32_t fault)
+{
+    if (fault != MSG_LOCK_HELD) shim_must(fault, "find");
+    Method method = shim_standing(class_, shim_sel(sel));
+    return method ? shim_imp(method) : NULL;
+}
+
+/* What the calling thread's sender finds by their key, by all changes that returned before; NULL is
+ * forwarding. */
+static inline IMP find_by_key(Class class_, SEL sel, uint64_t key)
+{
+    uint32_t imp, fault = msg_process_find_slowly(key, MSG_WAITS_A_WHILE, &imp);
+    return __builtin_expect(!fault, 1) ? shim_function(imp) : find_in_rows(class_, sel, fault);
+}
+
+static __attribute__((noinline)) IMP find(Class class_, SEL sel)
+{
+    if (shim_in_construction(class_)) return find_in_rows(class_, sel, MSG_LOCK_HELD);
+    return find_by_key(class_, sel, shim_key(class_->record, sel));
+}
+
 IMP shim_look(Class class_, SEL sel)
 {
     IMP imp;
-    return noted(class_, sel, &imp) ? imp : shim_find(class_, shim_sel(sel));
+    return noted(class_, sel, &imp) ? imp : find(class_, sel);
 }
 
 /* Whether a thread's note said so that isn't older than the stamp of the metaclass: it is then so
@@ -93,10 +118,10 @@ static inline bool resolve(Class class_, SEL sel)
     IMP imp;
     Class plain = plain_class(class_);
     SEL asked = &shim_own[class_->record->meta ? RESOLVE_CLASS : RESOLVE_INSTANCE];
-    if (!noted(plain->isa, asked, &imp)) imp = shim_find(plain->isa, shim_sel(asked));
+    if (!noted(plain->isa, asked, &imp)) imp = find(plain->isa, asked);
     else if (!imp) keep_unresolved(class_->record, plain->isa, asked);
     return __builtin_expect(imp != NULL, 0) &&
-           ((BOOL (*)(id, SEL, SEL))(void (*)(void))imp)((id)plain, asked, sel);
+           ((BOOL(*)(id, SEL, SEL))(void (*)(void))imp)((id)plain, asked, sel);
 }
 
 /* Asks the class to add a method that it lacks: whether it says that it has. */
@@ -113,7 +138,7 @@ static __attribute__((noinline)) IMP find_resolved(Class class_, SEL sel)
     return resolve(class_, sel) ? shim_look(class_, sel) : NULL;
 }
 
-/* Where nothing is noted, as before a class's first message. */
+/* Before a class's first message has returned. */
 static __attribute__((noinline, cold)) IMP find_first(Class class_, SEL sel)
 {
     if (!class_->record) shim_stop("a class is used before its superclass is there", class_->name);
@@ -123,14 +148,35 @@ static __attribute__((noinline, cold)) IMP find_first(Class class_, SEL sel)
     return imp ? imp : find_resolved(class_, sel);
 }
 
-/* Of a class that may be NULL, as above a root. */
+/* Where nothing is noted. A class that was initialized has its part of keys. */
+static inline IMP find_unnoted(Class class_, SEL sel)
+{
+    uint64_t of_class = LOAD(class_->key);
+    if (__builtin_expect(!of_class, 0)) return find_first(class_, sel);
+    IMP imp = find_by_key(class_, sel, of_class + sel->name.key);
+    return __builtin_expect(imp != NULL, 1) ? imp : find_resolved(class_, sel);
+}
+
 static __attribute__((noinline)) IMP find_from(id receiver, SEL sel, Class class_)
 {
+    IMP imp = find_unnoted(class_, sel);
+    return __builtin_expect(imp != NULL, 1) ? imp : shim_forward(receiver, sel);
+}
+
+/* Where a note says that there is no method, or has a long number. */
+static __attribute__((noinline)) IMP find_long(id receiver, SEL sel, Class class_)
+{
     IMP imp;
-    if (!class_) shim_stop("a root class has no super to be sent", sel_getName(sel));
-    if (!noted(class_, sel, &imp)) imp = find_first(class_, sel);
-    else if (!imp) imp = find_resolved(class_, sel);
+    if (!noted(class_, sel, &imp)) return find_from(receiver, sel, class_);
+    if (!imp) imp = find_resolved(class_, sel);
     return imp ? imp : shim_forward(receiver, sel);
+}
+
+/* Where a note may say more than the function's number. */
+static inline IMP find_noted(id receiver, SEL sel, Class class_, uint64_t said)
+{
+    if (said > MSG_SAID_NONE) return find_from(receiver, sel, class_);
+    return find_long(receiver, sel, class_);
 }
 
 /* At the begin of a line of the cache, as it is wherever the linker puts it. */
@@ -140,36 +186,46 @@ __attribute__((aligned(LINE))) IMP objc_msg_lookup(id receiver, SEL sel)
     Class class_ = shim_class_of(receiver);
     uint64_t said = shim_said_at(class_, sel);
     if (__builtin_expect(said < MSG_SAID_LONG, 1)) return shim_function((uint32_t)said);
-    bool is_none = said == MSG_SAID_NONE && has_no_resolver(class_->record);
-    return is_none ? shim_forward(receiver, sel) : find_from(receiver, sel, class_);
+    if (said == MSG_SAID_NONE && has_no_resolver(class_->record))
+        return shim_forward(receiver, sel);
+    return find_noted(receiver, sel, class_, said);
 }
 
-static inline IMP find(id receiver, Class class_, SEL sel)
+/* Of a class that may be NULL, as above a root. */
+static inline IMP find_for(id receiver, Class class_, SEL sel)
 {
-    IMP imp;
-    return class_ && noted(class_, sel, &imp) && imp ? imp : find_from(receiver, sel, class_);
+    if (!class_) shim_stop("a root class has no super to be sent", sel_getName(sel));
+    uint64_t said = shim_said_at(class_, sel);
+    if (__builtin_expect(said < MSG_SAID_LONG, 1)) return shim_function((uint32_t)said);
+    return find_noted(receiver, sel, class_, said);
 }
 
 IMP objc_msg_lookup_super(struct objc_super *super_, SEL sel)
 {
-    return super_->self ? find(super_->self, super_->class_, sel) : nil_method;
+    return super_->self ? find_for(super_->self, super_->class_, sel) : nil_method;
 }
 
 IMP class_getMethodImplementation(Class class_, SEL sel)
 {
-    return class_ && sel ? find(NULL, class_, sel) : NULL;
+    return class_ && sel ? find_for(NULL, class_, sel) : NULL;
 }
 
 /* An older name. */
 IMP get_imp(Class class_, SEL sel) { return class_getMethodImplementation(class_, sel); }
 
+static __attribute__((noinline)) bool finds(Class class_, SEL sel)
+{
+    if (!class_->record || shim_in_construction(class_)) return false;
+    ensure_initialized(class_);
+    return shim_look(class_, sel);
+}
+
+/* As over libobjc, no resolver is asked. */
 BOOL class_respondsToSelector(Class class_, SEL sel)
 {
     if (!class_ || !sel) return false;
     uint64_t said = shim_said_at(class_, sel);
-    if (said <= MSG_SAID_LONG) return true;
-    if (said == MSG_SAID_NONE && has_no_resolver(class_->record)) return false;
-    return class_->record && !shim_in_construction(class_) && find_first(class_, sel);
+    return said < MSG_SAID_NONE || (said != MSG_SAID_NONE && finds(class_, sel));
 }
 
 /* In no header; programs ask it. */

@@ -32,11 +32,17 @@ enum { MOST_CLASSES = (1 << 20) - 1, LINE = 64 };
 
 /* A method of a class: what the proved tables hold, kept beside them, since they know numbers
  * alone. The last of a name counts. */
-struct row { uint32_t sel; Method method; };
+struct row {
+    uint32_t sel;
+    Method method;
+};
 
 /* Handlers of signals read rows without the lock: what a larger array took the place of stays,
  * behind it. */
-struct rows { struct rows *before; struct row at[]; };
+struct rows {
+    struct rows *before;
+    struct row at[];
+};
 
 enum { NOT_YET, RUNNING, DONE };
 
@@ -81,15 +87,20 @@ uint32_t shim_mixed_word(uintptr_t word);
 /* Numbers by what they are of, which a word is mixed from; also found without the lock. A number is
  * put there once, by which a larger array may take the place of one: what is answered may be freed
  * once nobody reads it. */
-struct places { struct places *before; uint32_t last; _Atomic(uint64_t) at[]; };
-struct index { _Atomic(struct places *) places; uint32_t count; };
+struct places {
+    struct places *before;
+    uint32_t last;
+    _Atomic(uint64_t) at[];
+};
+struct index {
+    _Atomic(struct places *) places;
+    uint32_t count;
+};
 uint32_t shim_number_in(const struct index *index, uint32_t mixed,
                         bool (*is)(uint32_t number, const void *it), const void *it);
 void *shim_index(struct index *index, uint32_t mixed, uint32_t number);
-/* The same rows, with room for one more; and that one, which then counts. */
+/* The same rows, with room for one more. */
 void *shim_more(void *rows, uint32_t count, uint32_t *room, size_t size);
-#define ADDED(rows, count, room) \
-    (*(rows = shim_more(rows, count, &(room), sizeof *rows), &rows[count++]))
 /* For a caller's own: room for so many rows and an empty one, or NULL for none; and they are
  * counted where that is asked. */
 void *shim_list(size_t many, size_t size, unsigned int *count);
@@ -100,24 +111,31 @@ static inline pthread_mutex_t *shim_hold(pthread_mutex_t *lock)
     if (lock) pthread_mutex_lock(lock);
     return lock;
 }
-static inline void shim_unlock(pthread_mutex_t **lock) { if (*lock) pthread_mutex_unlock(*lock); }
+static inline void shim_unlock(pthread_mutex_t **lock)
+{
+    if (*lock) pthread_mutex_unlock(*lock);
+}
 #define AT_END(give) __attribute__((cleanup(give), unused))
 #define HOLDING(lock) pthread_mutex_t *held AT_END(shim_unlock) = shim_hold(lock)
 /* The runtime's, in the same way, to ask and to change the tables. */
 void shim_take(void);
 static inline void shim_give(char *unused) { msg_process_unlock(); }
-#define LOCKED shim_take(); char locked AT_END(shim_give)
+#define LOCKED \
+    shim_take(); \
+    char locked AT_END(shim_give)
 
 /* What threads share without a lock: with what was written before it was stored. */
 #define LOAD(place) __atomic_load_n(&(place), __ATOMIC_ACQUIRE)
 #define STORE(place, value) __atomic_store_n(&(place), value, __ATOMIC_RELEASE)
 
 /* Selectors that the shim sends itself, by fixed numbers from 1. */
+/* clang-format off */
 #define OWN_SELECTORS(S) \
     S(INITIALIZE, "initialize") S(RESOLVE_INSTANCE, "resolveInstanceMethod:") \
     S(RESOLVE_CLASS, "resolveClassMethod:") S(FORWARD, "forward::") \
     S(NOT_RECOGNIZED, "doesNotRecognize:") S(RETAIN, "retain") S(RELEASE, "release") \
     S(AUTORELEASE, "autorelease") S(COPY, "copyWithZone:") S(MUTABLE_COPY, "mutableCopyWithZone:")
+/* clang-format on */
 #define OWN_NUMBER(number, text) number,
 enum { NO_SELECTOR, OWN_SELECTORS(OWN_NUMBER) FIRST_FREE };
 extern const struct objc_selector shim_own[FIRST_FREE];
@@ -131,7 +149,7 @@ void shim_take_selector(struct objc_selector *sel);
 uint32_t shim_number(IMP imp);
 
 /* classes.c */
-Class shim_class_named(const char *name); /* without the lock */
+Class shim_class_named(const char *name);  /* without the lock */
 Class shim_class_coming(const char *name); /* or one that is numbered and not yet found by others */
 void shim_new_record(Class class_);
 bool shim_has_class_number(void);
@@ -144,9 +162,9 @@ static inline uint64_t shim_class_key(const struct record *record)
 {
     return (2 * record->number + record->meta) * MSG_KEY_OF_SLOT;
 }
-static inline uint64_t shim_key(const struct record *record, uint32_t sel)
+static inline uint64_t shim_key(const struct record *record, SEL sel)
 {
-    return shim_class_key(record) + msg_key(0, sel);
+    return shim_class_key(record) + sel->name.key;
 }
 
 /* roots.c: the module of Object, Protocol and NXConstantString; loading.c takes it. */
@@ -188,9 +206,5 @@ void shim_report(void);
 /* runtime.c */
 extern msg_runtime *shim_runtime;
 void shim_must(uint32_t fault, const char *what); /* or the program ends */
-/* Without the lock: what the calling thread's sender finds, by all changes that returned before;
- * NULL is forwarding. In a handler of a signal whose own thread has the lock, or is on this way
- * itself and would be waited for: what the rows say. */
-IMP shim_find(Class class_, uint32_t sel);
 
 #endif

@@ -3,8 +3,8 @@
  *
  * Trusted with what msg_runtime.h asks of a host: one call on the runtime at a time, one on a
  * sender, each sender for one thread; and with what is said in msg_process.h of threads, forks and
- * handlers. tools/check_c runs each order of signals and changes over these lines, within bounds.
- * Its rules:
+ * handlers. tools/check/trusted_c runs each order of signals and changes over these lines, within
+ * bounds. Its rules:
  *
  *  1. Calls that take the runtime are made between `take` and `give`. Nothing of the caller's is
  *     called there.
@@ -12,11 +12,11 @@
  *     recall does: by one sequentially consistent load, in the words that msg_words tells of. They
  *     stay, since the runtime is never closed; and they are stored before `started`, so who has a
  *     sender, and so notes, has them.
- *  3. A sender is in one call at a time. Its thread takes it from `msg_process_own` by one
- *     exchange, so a handler in the middle of a call finds nobody's there, recalls nothing that is
- *     half written, and asks under the lock. `turns` goes up before, so a find that a handler
- *     interrupted between two loads starts again. All of this is one thread's: fences of signals
- *     do.
+ *  3. A sender is in one call at a time. Its thread hides it from `msg_process_own` before, so a
+ *     handler in the middle of a call finds nobody's there, recalls nothing that is half written,
+ *     and asks under the lock. Where it may not be shown, that is one exchange: a handler in a
+ *     first find may show it. `turns` goes up before, so a find that a handler interrupted between
+ *     two loads starts again. All of this is one thread's: fences of signals do.
  *  4. A handler doesn't wait for its own thread: `holds` is set before the lock is taken and
  *     cleared after it is given. In glibc and musl a lock may be taken in a handler that
  *     interrupted no use of it. But who holds it may want memory, and the handler may have
@@ -57,9 +57,19 @@
 enum { SPARES = 2, PATIENCE = 64, MOST_ENDS = PTHREAD_DESTRUCTOR_ITERATIONS - 1 };
 enum { SLICE = 1000000, SLICES = 1000 }; /* of a wait for a while: nanoseconds, and how many */
 
-struct seat { _Alignas(64) msg_sender sender; struct seat *next; atomic_bool asks; };
+/* In one list or none: `at` is where it is named there. What is written of each comes first, with
+ * the first notes, and so takes a page of memory and no more. */
+struct seat {
+    _Alignas(64) struct seat *next, **at;
+    atomic_bool asks;
+    _Alignas(64) msg_sender sender;
+};
+#define SEAT_OF(of) ((struct seat *)(void *)((char *)(of)-offsetof(struct seat, sender)))
 /* A thread that may be in code that a find returned, and the count of changes at its last rest. */
-struct stay { struct stay *next; uint64_t changes, thread; };
+struct stay {
+    struct stay *next, **at;
+    uint64_t changes, thread;
+};
 
 _Alignas(64) struct msg_process_words msg_process_words = {.at = &msg_process_words.none};
 static _Alignas(64) msg_sender nobody; /* closed, without notes */
@@ -103,8 +113,9 @@ static int lock_for_a_while(void)
 
 static inline int lock_by(unsigned waits)
 {
-    return waits == MSG_WAITS ? pthread_mutex_lock(&lock)
-         : waits == MSG_WAITS_A_WHILE ? lock_for_a_while() : pthread_mutex_trylock(&lock);
+    return waits == MSG_WAITS           ? pthread_mutex_lock(&lock)
+           : waits == MSG_WAITS_A_WHILE ? lock_for_a_while()
+                                        : pthread_mutex_trylock(&lock);
 }
 
 static inline uint32_t take(unsigned waits)
@@ -129,7 +140,15 @@ static void give(void)
 static void push(struct seat **list, struct seat *seat)
 {
     seat->next = *list;
+    seat->at = list;
+    if (seat->next) seat->next->at = &seat->next;
     *list = seat;
+}
+
+static void pull(const struct seat *seat)
+{
+    *seat->at = seat->next;
+    if (seat->next) seat->next->at = seat->at;
 }
 
 static void push_spare(struct seat *seat)
@@ -141,7 +160,7 @@ static void push_spare(struct seat *seat)
 static struct seat *pop_spare(void)
 {
     struct seat *seat = spares;
-    if (seat) spares = seat->next, atomic_fetch_sub(&spare_count, 1);
+    if (seat) pull(seat), atomic_fetch_sub(&spare_count, 1);
     return seat;
 }
 
@@ -157,10 +176,10 @@ static struct seat *new_seat(void)
 
 static void free_seat(struct seat *seat) { munmap(seat, sizeof *seat); }
 
-static void close_seat(struct seat *seat)
+static struct seat *closed(struct seat *seat)
 {
     msg_sender_close(&runtime, &seat->sender);
-    free_seat(seat);
+    return seat;
 }
 
 /* In the child of a fork. One that may be in a call stays out: of a fork that didn't wait alone. */
@@ -171,34 +190,35 @@ static void close_others(void)
     for (struct seat *seat = all, *next; seat; seat = next) {
         next = seat->next;
         if (seat == own) push(&seats, seat);
-        else if (!kept || !seat->asks) close_seat(seat);
+        else if (!kept || !seat->asks) free_seat(closed(seat));
     }
-    while (spares && spare_count > spare_most) close_seat(pop_spare());
+    while (spares && spare_count > spare_most) free_seat(closed(pop_spare()));
     stays = stays_on ? &stay : NULL;
     stay.next = NULL;
+    stay.at = &stays;
     stay.thread = own_number();
 }
 
-/* A seat is another thread's next, with what is noted there, which is right for any. */
-static void stand_up(void)
+/* A seat is another thread's next, with what is noted there, which is right for any. One that is
+ * closed is returned, to be freed without the lock. */
+static struct seat *stand_up(void)
 {
-    struct seat **at = &seats, *seat = own;
-    if (!seat) return;
-    while (*at != seat) at = &(*at)->next;
-    *at = seat->next;
+    struct seat *seat = own;
+    if (!seat) return NULL;
+    pull(seat);
     own = NULL;
-    if (spare_count < spare_most) push_spare(seat);
-    else close_seat(seat);
+    if (spare_count >= spare_most) return closed(seat);
+    push_spare(seat);
+    return NULL;
 }
 
 /* ---- threads that may be in old code, under the lock ---- */
 
 static void end_stay(void)
 {
-    struct stay **at = &stays;
     if (!stays_on) return;
-    while (*at != &stay) at = &(*at)->next;
-    *at = stay.next;
+    *stay.at = stay.next;
+    if (stay.next) stay.next->at = stay.at;
     stays_on = false;
 }
 
@@ -208,6 +228,8 @@ static void begin_stay(void)
     stay.thread = own_number();
     msg_change_count(&runtime, &stay.changes);
     stay.next = stays;
+    stay.at = &stays;
+    if (stay.next) stay.next->at = &stay.next;
     stays = &stay;
     stays_on = true;
 }
@@ -238,16 +260,29 @@ static struct seat *hide(void)
     return shown ? own : NULL;
 }
 
+/* The same in fewer instructions, of one that was seen to be shown: a handler that came meanwhile
+ * has shown it again. */
+static inline struct seat *hide_shown(const msg_sender *sender)
+{
+    msg_process_own.turns++;
+    atomic_signal_fence(memory_order_seq_cst);
+    __atomic_store_n(&msg_process_own.sender, &nobody, __ATOMIC_RELAXED);
+    atomic_signal_fence(memory_order_seq_cst);
+    return SEAT_OF(sender);
+}
+
 static void at_thread_end(void *unused)
 {
     (void)unused;
     tried = true;
-    hide();
-    take(MSG_WAITS); /* or the thread ends with the lock, which is given below */
-    stand_up();
-    end_stay();
     is_over = is_over || ++end_count >= MOST_ENDS || pthread_setspecific(key, &stay);
+    if (!own && !stays_on && !holds) return; /* since the last round */
+    take(MSG_WAITS); /* or the thread ends with the lock, which is given below */
+    hide();          /* for good: until now a handler may have come back, and shown it */
+    struct seat *seat = stand_up();
+    end_stay();
     give();
+    if (seat) free_seat(seat);
 }
 
 /* One spare seat more; it takes memory. */
@@ -287,9 +322,10 @@ static struct seat *sit_down(unsigned waits)
     own = pop_spare();
     if (own) push(&seats, own);
     tried = own != NULL; /* or another thread was quicker */
-    if (own && pthread_setspecific(key, &stay)) stand_up();
+    struct seat *left = own && pthread_setspecific(key, &stay) ? stand_up() : NULL;
     if (own) begin_stay();
     give();
+    if (left) free_seat(left);
     return own;
 }
 
@@ -309,7 +345,10 @@ static struct seat *come_back(unsigned waits)
 
 /* A key; or, where there is a place, several lookups as one. */
 struct asked {
-    uint64_t key; uint32_t *imps; const msg_lookup_row *lookups; size_t count, *place;
+    uint64_t key;
+    uint32_t *imps;
+    const msg_lookup_row *lookups;
+    size_t count, *place;
 };
 
 static inline uint32_t probe_by(msg_sender *sender, const struct asked *a)
@@ -365,11 +404,12 @@ static inline uint32_t fill_all(struct seat *seat, const struct asked *a)
     return MSG_DONE;
 }
 
-static inline uint32_t find_by(const struct asked *a, unsigned waits)
+/* By a seat that is hidden and whose sender has missed, or by none. */
+static inline uint32_t find_by(struct seat *seat, const struct asked *a, unsigned waits)
 {
+    uint32_t answer = MSG_MISSED;
     if (!atomic_load_explicit(&started, memory_order_acquire)) return MSG_CLOSED;
-    struct seat *seat = seat_by(waits);
-    uint32_t answer = seat ? probe(seat, a) : (uint32_t)MSG_MISSED;
+    if (!seat && (seat = seat_by(waits))) answer = probe(seat, a);
     if (answer == MSG_MISSED && !(answer = take(waits))) {
         answer = a->place ? fill_all(seat, a) : fill(seat, a->key, a->imps);
         give();
@@ -378,15 +418,27 @@ static inline uint32_t find_by(const struct asked *a, unsigned waits)
     return answer;
 }
 
+static __attribute__((noinline)) uint32_t find_by_seat(struct seat *seat, uint64_t key,
+                                                       unsigned waits, uint32_t *imp)
+{
+    return find_by(seat, &(struct asked){.key = key, .imps = imp}, waits);
+}
+
 uint32_t msg_process_find_slowly(uint64_t key, unsigned waits, uint32_t *imp)
 {
-    return find_by(&(struct asked){.key = key, .imps = imp}, waits);
+    const msg_sender *sender = __atomic_load_n(&msg_process_own.sender, __ATOMIC_RELAXED);
+    if (__builtin_expect(sender == &nobody, 0)) return find_by_seat(NULL, key, waits, imp);
+    struct seat *seat = hide_shown(sender);
+    uint32_t answer = probe(seat, &(struct asked){.key = key, .imps = imp});
+    if (__builtin_expect(answer == MSG_MISSED, 0)) return find_by_seat(seat, key, waits, imp);
+    show(seat);
+    return answer;
 }
 
 uint32_t msg_process_find_all(const msg_lookup_row *lookups, size_t count, uint32_t *imps,
                               size_t *place)
 {
-    return find_by(&(struct asked){0, imps, lookups, count, place}, MSG_WAITS);
+    return find_by(NULL, &(struct asked){0, imps, lookups, count, place}, MSG_WAITS);
 }
 
 void msg_process_cache(uint64_t key)
@@ -407,7 +459,10 @@ uint32_t msg_process_lock(msg_runtime **taken)
     return fault;
 }
 
-void msg_process_unlock(void) { if (holds) give(); }
+void msg_process_unlock(void)
+{
+    if (holds) give();
+}
 
 /* ---- resting ---- */
 

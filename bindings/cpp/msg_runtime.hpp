@@ -19,7 +19,7 @@
 
 namespace msg {
 
-// What a call answered that isn't MSG_DONE. Nothing has changed by it.
+// What a call returned that isn't MSG_DONE. Nothing has changed by it.
 class fault : public std::runtime_error {
 public:
     explicit fault(std::uint32_t number, std::optional<std::size_t> place = {})
@@ -220,7 +220,7 @@ public:
         attach<std::initializer_list<msg_method>, std::initializer_list<msg_method>>(number, methods, class_methods);
     }
 
-    // Several as one: each lookup answers from before all of them or after all. Where one is refused nothing has
+    // Several as one: each lookup finds what was before all of them, or what is after. If one is refused nothing has
     // changed, and the fault that is thrown has its place. The list lies in one piece, as those of attach.
     template <class Changes> void change_all(const Changes &changes)
     {

@@ -1,10 +1,12 @@
 /* bench LOAD THREADS: for each line of standard input a window, and how many nanoseconds one of
  * its steps took on its slowest thread; so two programs take turns. bench LOAD THREADS WINDOWS:
  * so many windows at once, of which nothing is told, for a count of instructions. LOAD: own,
- * inherited, mixed (objc_msg_lookup); class (a send to a class by name); responds, lacks
- * (class_respondsToSelector that answers YES, NO); forwarded (objc_msg_lookup of what no class
- * has, which a hook answers); on one thread, class_replaceMethod with the next send: replace, in
- * a class without subclasses, and replace_above, in one that has two. */
+ * inherited, mixed (objc_msg_lookup); many (14,000 messages in a random order, more than a sender
+ * of the shim has notes); neighbours (two in turns, whose notes share a place); class (a send to a
+ * class by name); responds, lacks (class_respondsToSelector that answers YES, NO); forwarded
+ * (objc_msg_lookup of what no class has, which a hook answers); on one thread, class_replaceMethod
+ * with the next send: replace, in a class without subclasses, and replace_above, in one that has
+ * two. */
 #include "../tests/calls.h"
 #include <pthread.h>
 #include <stdbool.h>
@@ -19,7 +21,10 @@ enum {
     MOST_THREADS = 16,
     OBJECTS = 64,
     CLASSES = 8,
-    ORDER = 1024
+    ORDER = 1024,
+    MANY_SELS = 96,
+    MANY = 14000,
+    NOTES = 2048
 };
 
 __attribute__((objc_root_class)) @interface Level0 { Class isa; }
@@ -51,7 +56,7 @@ LEVEL(Level7, Level2, fourth)
 
 static id objects[OBJECTS];
 static SEL sels[4], nowhere;
-static struct { id object; SEL sel; } order[ORDER];
+static struct pair { id object; SEL sel; } order[ORDER], many[MANY], neighbours[2];
 static double times[MOST_THREADS];
 static bool over;
 static pthread_barrier_t barrier;
@@ -71,11 +76,11 @@ static uintptr_t look(id object, SEL sel)
     return sum;
 }
 
-static uintptr_t look_mixed(void)
+static inline uintptr_t look_in_turns(const struct pair *pairs, int count)
 {
     uintptr_t sum = 0;
     for (int i = 0; i < STEPS; i++)
-        sum += (uintptr_t)objc_msg_lookup(order[i % ORDER].object, order[i % ORDER].sel);
+        sum += (uintptr_t)objc_msg_lookup(pairs[i % count].object, pairs[i % count].sel);
     return sum;
 }
 
@@ -113,7 +118,9 @@ static uintptr_t step(void)
     id object = objects[3];
     if (!strcmp(load, "own")) return look(object, sels[0]);
     if (!strcmp(load, "inherited")) return look(object, sels[1]);
-    if (!strcmp(load, "mixed")) return look_mixed();
+    if (!strcmp(load, "mixed")) return look_in_turns(order, ORDER);
+    if (!strcmp(load, "many")) return look_in_turns(many, MANY);
+    if (!strcmp(load, "neighbours")) return look_in_turns(neighbours, 2);
     if (!strcmp(load, "class")) return send_class();
     if (!strcmp(load, "responds")) return ask(object->isa, sels[0]);
     if (!strcmp(load, "lacks")) return ask(object->isa, nowhere);
@@ -169,6 +176,52 @@ static void prepare(void)
     }
 }
 
+/* Numbers of selectors follow one another as they are registered, and a note's place is theirs
+ * modulo how many notes there are. */
+static void prepare_neighbours(void)
+{
+    SEL sel = NULL;
+    for (int i = 0; i <= NOTES; i++) {
+        char name[16];
+        snprintf(name, sizeof name, "neighbour%d", i);
+        sel = sel_registerName(name);
+        if (i % NOTES) continue;
+        class_addMethod(objects[3]->isa, sel, (IMP)one, "l16@0:8");
+        neighbours[i / NOTES] = (struct pair){objects[3], sel};
+    }
+}
+
+/* How many messages a class is sent: for the caches of all there are arrays. */
+static int many_of(int class_) { return class_ < 120 ? 48 : class_ < 180 ? 96 : 80; }
+
+/* Each pair once, shuffled. */
+static void prepare_many(void)
+{
+    uint64_t drawn = 1;
+    Class class_ = NULL;
+    SEL all[MANY_SELS];
+    for (int i = 0; i < MANY_SELS; i++) {
+        char name[16];
+        snprintf(name, sizeof name, "many%d", i);
+        all[i] = sel_registerName(name);
+        class_addMethod(objc_getClass("Level0"), all[i], (IMP)one, "l16@0:8");
+    }
+    for (int i = 0, number = -1, sel = 0, end = 0; i < MANY; i++, sel++) {
+        if (sel == end) {
+            char name[16];
+            snprintf(name, sizeof name, "Many%d", ++number);
+            class_ = objc_allocateClassPair(objc_getClass("Level0"), name, 0);
+            objc_registerClassPair(class_);
+            end = many_of(number);
+            sel = 0;
+        }
+        drawn = drawn * 6364136223846793005 + 1442695040888963407;
+        int at = (int)((drawn >> 33) % (uint64_t)(i + 1));
+        many[i] = many[at];
+        many[at] = (struct pair){class_createInstance(class_, 0), all[sel]};
+    }
+}
+
 int main(int count, char **words)
 {
     int threads = count > 2 ? atoi(words[2]) : 1;
@@ -176,6 +229,8 @@ int main(int count, char **words)
     pthread_t ids[MOST_THREADS];
     load = words[1];
     prepare();
+    if (!strcmp(load, "many")) prepare_many();
+    if (!strcmp(load, "neighbours")) prepare_neighbours();
     pthread_barrier_init(&barrier, NULL, (unsigned)threads + 1);
     for (intptr_t i = 0; i < threads; i++) pthread_create(&ids[i], NULL, work, (void *)i);
     while (windows > 0) window(threads), windows--;

@@ -77,13 +77,13 @@ int main(void)
     __objc_msg_forward2 = hook;
     printf("hooked %ld\n", [asking hooked]);
     [asking lost];
-    for (int time = 0; time < 3; time++)
-        printf("late %d\n", class_respondsToSelector([asking class], @selector(late)));
+    [asking lost];
+    printf("late %d\n", class_respondsToSelector([asking class], @selector(late)));
     class_addMethod(((id)[asking class])->isa, @selector(resolveInstanceMethod:), (IMP)resolve_late,
                     "c@:@:");
-    for (int time = 0; time < 2; time++)
-        printf("asked a resolver %d\n", class_respondsToSelector([asking class], @selector(late)));
-    printf("resolved later %ld\n", [asking late]);
+    printf("asks no resolver %d\n", class_respondsToSelector([asking class], @selector(late)));
+    for (int time = 0; time < 2; time++) printf("resolved later %ld\n", [asking late]);
+    printf("answers %d\n", class_respondsToSelector([asking class], @selector(late)));
     object_dispose(adding);
     object_dispose(passing);
     object_dispose(asking);

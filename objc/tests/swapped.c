@@ -1,6 +1,7 @@
 /* Lists that replace two methods at once, beside threads that look one up and then the other:
  * never is the first as a list made it and the second as before; and where both are looked up at
- * once, they are always of one list. Then the same one by one, where it isn't so. The methods aren't called: their functions are numbers, behind the begin of memory. */
+ * once, they are always of one list. Then the same one by one, where it isn't so. The methods
+ * aren't called: their functions are numbers, behind the begin of memory. */
 #include "modules.h"
 #include "msg_objc.h"
 #include <pthread.h>

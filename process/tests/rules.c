@@ -1,6 +1,6 @@
 /* What include/msg_process.h says of each call, one after another: before the start, faults, the
- * lock, threads beyond the senders and at their end, handlers, and forks with the lock. FAULTS
- * are the numbers of the header's enumeration as tools/process reads them, each as F(number). */
+ * lock, threads beyond the senders and at their end, handlers, and forks with the lock. FAULTS are
+ * the numbers of the header's enumeration as tools/test/process reads them, each as F(number). */
 #define _DEFAULT_SOURCE
 #include "msg_process.h"
 #include <limits.h>

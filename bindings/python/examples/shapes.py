@@ -6,7 +6,7 @@ import yeldrost
 SHAPE, SQUARE = 0, 1  # my classes, from 0
 AREA, SIDES = 1, 2  # my selectors, from 1
 SQUARES = yeldrost.instances_of(SQUARE)
-# My implementations, from 1; the first is what is called where nobody has the method.
+# My implementations, from 1; the first is what is called if nobody has the method.
 BODIES = [lambda side: None, lambda side: 4, lambda side: side * side, lambda side: 2 * side * side]
 
 
@@ -40,8 +40,8 @@ def main():
             print(f"area {send(sender, AREA, 3)} after the swap, in each thread")
         try:
             runtime.make_root_class(SQUARE)
-        except yeldrost.DuplicateClass as fault:
-            print(f"fault {fault.number}: {fault}")
+        except yeldrost.DuplicateClassError as error:
+            print(f"fault {error.number}: {error}")
 
 
 main()

@@ -5,7 +5,7 @@ import threading
 import unittest
 
 import yeldrost
-from yeldrost import Change, class_itself, instances_of
+from yeldrost import MISSED, Change, class_itself, instances_of
 
 ROOT, CHILD, OTHER, LATER = range(4)
 VALUE, NAME, NEW, TAKE = range(1, 5)
@@ -26,22 +26,41 @@ class Calls(unittest.TestCase):
     def test_questions(self):
         with self.opened() as runtime:
             self.assertEqual((16384, 4), (runtime.class_count, runtime.change_count))
-            found = [(CHILDREN, VALUE, 1), (CHILDREN, NAME, 3), (ROOTS, NAME, 2), (CHILD_ITSELF, NEW, 4)]
-            found += [(CHILD_ITSELF, VALUE, 1), (CHILDREN, TAKE, None), (instances_of(OTHER), VALUE, None)]
+            found = [
+                (CHILDREN, VALUE, 1),
+                (CHILDREN, NAME, 3),
+                (ROOTS, NAME, 2),
+                (CHILD_ITSELF, NEW, 4),
+            ]
+            found += [
+                (CHILD_ITSELF, VALUE, 1),
+                (CHILDREN, TAKE, None),
+                (instances_of(OTHER), VALUE, None),
+            ]
             for of, selector, imp in found:
                 self.assertEqual(imp, runtime.lookup(of, selector))
-            self.assertEqual((ROOTS, None), (runtime.superclass(CHILDREN), runtime.superclass(ROOTS)))
+            self.assertEqual(
+                (ROOTS, None), (runtime.superclass(CHILDREN), runtime.superclass(ROOTS))
+            )
             self.assertEqual(ROOTS, runtime.superclass(class_itself(ROOT)))
-            self.assertEqual((ROOTS, None), (runtime.holder(CHILDREN, VALUE), runtime.holder(CHILDREN, TAKE)))
-            self.assertEqual(([(NAME, 3)], []), (runtime.methods(CHILDREN), runtime.methods(CHILD_ITSELF)))
+            self.assertEqual(
+                (ROOTS, None), (runtime.holder(CHILDREN, VALUE), runtime.holder(CHILDREN, TAKE))
+            )
+            self.assertEqual(
+                ([(NAME, 3)], []), (runtime.methods(CHILDREN), runtime.methods(CHILD_ITSELF))
+            )
             self.assertEqual([ROOT, CHILD], runtime.classes())
-            self.assertEqual(([CHILD], []), (runtime.classes_below(ROOT), runtime.classes_below(OTHER)))
-            self.assertRaises(yeldrost.NoClass, runtime.methods, instances_of(16384))
+            self.assertEqual(
+                ([CHILD], []), (runtime.classes_below(ROOT), runtime.classes_below(OTHER))
+            )
+            self.assertRaises(yeldrost.NoClassError, runtime.methods, instances_of(16384))
             report = runtime.report()
-            self.assertEqual((0, [0] * 9, 0), (report["fills"], report["no_array"], report["refused_senders"]))
-            self.assertRaises(yeldrost.NoClass, runtime.lookup, instances_of(16384), VALUE)
-            self.assertRaises(yeldrost.NoSelector, runtime.lookup, CHILDREN, 0)
-            self.assertRaises(OverflowError, runtime.lookup, CHILDREN, 2**32 + 1)
+            self.assertEqual(
+                (0, [0] * 9, 0), (report["fills"], report["no_array"], report["refused_senders"])
+            )
+            self.assertRaises(yeldrost.NoClassError, runtime.lookup, instances_of(16384), VALUE)
+            self.assertRaises(yeldrost.NoSelectorError, runtime.lookup, CHILDREN, 0)
+            self.assertRaises(yeldrost.OutOfRangeError, runtime.lookup, CHILDREN, 2**32 + 1)
             self.assertRaises(OverflowError, runtime.add, instances_of(-1), VALUE, 1)
 
     def test_changes(self):
@@ -55,27 +74,50 @@ class Calls(unittest.TestCase):
             self.assertEqual(7, runtime.lookup(CHILD_ITSELF, TAKE))
             with runtime.held():
                 count = runtime.change_count
-                self.assertRaises(yeldrost.NoSuchClass, runtime.add, instances_of(OTHER), VALUE, 1)
-                self.assertRaises(yeldrost.NoSuchClass, runtime.make_class, OTHER, LATER)
-                self.assertRaises(yeldrost.NoSuchImp, runtime.replace, CHILDREN, VALUE, 0)
-                self.assertRaises(yeldrost.NoSuchImp, runtime.attach, CHILD, [(VALUE, 0)])
-                self.assertRaises(yeldrost.MethodPresent, runtime.add, CHILDREN, NAME, 1)
-                self.assertRaises(yeldrost.NoMethod, runtime.set_imp, CHILDREN, 99, 1)
-                self.assertRaises(yeldrost.DuplicateClass, runtime.make_root_class, ROOT)
+                self.assertRaises(
+                    yeldrost.NoSuchClassError, runtime.add, instances_of(OTHER), VALUE, 1
+                )
+                self.assertRaises(yeldrost.NoSuchClassError, runtime.make_class, OTHER, LATER)
+                self.assertRaises(yeldrost.NoSuchImpError, runtime.replace, CHILDREN, VALUE, 0)
+                self.assertRaises(yeldrost.NoSuchImpError, runtime.attach, CHILD, [(VALUE, 0)])
+                self.assertRaises(yeldrost.MethodPresentError, runtime.add, CHILDREN, NAME, 1)
+                self.assertRaises(yeldrost.NoMethodError, runtime.set_imp, CHILDREN, 99, 1)
+                self.assertRaises(yeldrost.DuplicateClassError, runtime.make_root_class, ROOT)
                 self.assertEqual(count, runtime.change_count)
 
     def test_lists_of_changes(self):
         others = instances_of(OTHER)
-        changes = [Change.make_class(OTHER, CHILD), Change.add(others, TAKE, 7), Change.replace(CHILDREN, VALUE, 5), Change.set_imp(ROOTS, NAME, 6)]
-        changes += [Change.exchange(CHILDREN, NAME, CHILD_ITSELF, NEW), Change.make_root_class(LATER)]
+        changes = [
+            Change.make_class(OTHER, CHILD),
+            Change.add(others, TAKE, 7),
+            Change.replace(CHILDREN, VALUE, 5),
+            Change.set_imp(ROOTS, NAME, 6),
+        ]
+        changes += [
+            Change.exchange(CHILDREN, NAME, CHILD_ITSELF, NEW),
+            Change.make_root_class(LATER),
+        ]
         with self.opened() as runtime, runtime.sender() as sender:
             self.assertEqual(1, sender.find(CHILDREN, VALUE))
             runtime.change_all(changes)
-            found = [(others, TAKE, 7), (CHILDREN, VALUE, 5), (ROOTS, NAME, 6), (CHILDREN, NAME, 4), (CHILD_ITSELF, NEW, 3)]
+            found = [
+                (others, TAKE, 7),
+                (CHILDREN, VALUE, 5),
+                (ROOTS, NAME, 6),
+                (CHILDREN, NAME, 4),
+                (CHILD_ITSELF, NEW, 3),
+            ]
             for of, selector, imp in found:
                 self.assertEqual(imp, sender.find(of, selector))
             runtime.change_all([])
-            self.assertEqual((5, 5, 5), (runtime.change_count, sender.find(CHILDREN, VALUE), sender.recall(CHILDREN, VALUE, 5)))
+            self.assertEqual(
+                (5, 5, 5),
+                (
+                    runtime.change_count,
+                    sender.find(CHILDREN, VALUE),
+                    sender.recall(CHILDREN, VALUE, 5),
+                ),
+            )
 
     def test_the_way_back(self):
         with self.opened() as runtime, runtime.sender() as sender:
@@ -85,7 +127,10 @@ class Calls(unittest.TestCase):
             self.assertEqual([5, 6], [sender.find(CHILDREN, VALUE), sender.find(CHILDREN, NAME)])
             runtime.change_all(back)
             self.assertEqual(before, [sender.find(CHILDREN, VALUE), sender.find(CHILDREN, NAME)])
-            self.assertEqual([Change.remove(CHILDREN, 99)], runtime.change_all_with_undo([Change.add(CHILDREN, 99, 5)]))
+            self.assertEqual(
+                [Change.remove(CHILDREN, 99)],
+                runtime.change_all_with_undo([Change.add(CHILDREN, 99, 5)]),
+            )
             self.assertEqual([], runtime.change_all_with_undo([]))
 
     def test_a_class_that_comes_and_goes(self):
@@ -93,7 +138,7 @@ class Calls(unittest.TestCase):
         with self.opened() as runtime, runtime.sender() as sender:
             runtime.make_class(OTHER, CHILD)
             runtime.attach(OTHER, [(selector, 7) for selector in range(90, 99)])
-            self.assertRaises(yeldrost.ClassInUse, runtime.dispose_class, CHILD)
+            self.assertRaises(yeldrost.ClassInUseError, runtime.dispose_class, CHILD)
             back = runtime.change_all_with_undo([Change.dispose_class(OTHER)])
             self.assertEqual((10, Change.make_class(OTHER, CHILD)), (len(back), back[0]))
             self.assertIsNone(sender.find(others, 95))
@@ -104,23 +149,26 @@ class Calls(unittest.TestCase):
             runtime.remove(others, 95)
             self.assertEqual(7, sender.find(others, 95))
             runtime.dispose_class(OTHER)
-            self.assertRaises(yeldrost.NoSuchClass, runtime.add, others, 95, 7)
+            self.assertRaises(yeldrost.NoSuchClassError, runtime.add, others, 95, 7)
 
     def test_what_is_reached(self):
         with self.opened() as runtime:
             count = runtime.change_count
             self.assertEqual([CHILDREN], runtime.reach([Change.replace(CHILDREN, VALUE, 5)]))
-            self.assertEqual([CHILDREN, instances_of(OTHER), class_itself(OTHER)], runtime.reach([Change.make_class(OTHER, CHILD), Change.add(CHILDREN, 99, 5)]))
-            with self.assertRaises(yeldrost.NoMethod) as caught:
+            self.assertEqual(
+                [CHILDREN, instances_of(OTHER), class_itself(OTHER)],
+                runtime.reach([Change.make_class(OTHER, CHILD), Change.add(CHILDREN, 99, 5)]),
+            )
+            with self.assertRaises(yeldrost.NoMethodError) as caught:
                 runtime.reach([Change.replace(CHILDREN, VALUE, 5), Change.set_imp(CHILDREN, 99, 5)])
             self.assertEqual((1, count), (caught.exception.place, runtime.change_count))
 
     def test_a_refused_list_changes_nothing(self):
         first = Change.replace(CHILDREN, VALUE, 5)
         refused = [
-            (yeldrost.NoSuchClass, 1, [first, Change.replace(instances_of(LATER), NAME, 5)]),
-            (yeldrost.BadChange, 2, [first, first, Change(10, CHILD)]),
-            (yeldrost.NoSelector, 0, [Change.add(CHILDREN, 0, 5)]),
+            (yeldrost.NoSuchClassError, 1, [first, Change.replace(instances_of(LATER), NAME, 5)]),
+            (yeldrost.BadChangeError, 2, [first, first, Change(10, CHILD)]),
+            (yeldrost.NoSelectorError, 0, [Change.add(CHILDREN, 0, 5)]),
         ]
         with self.opened() as runtime, runtime.sender() as sender:
             sender.find(CHILDREN, VALUE)
@@ -128,38 +176,78 @@ class Calls(unittest.TestCase):
                 with self.assertRaises(kind) as caught:
                     runtime.change_all(changes)
                 self.assertEqual(place, caught.exception.place)
-            self.assertRaises(OverflowError, runtime.change_all, [first, Change.add(CHILDREN, TAKE, 2**32)])
-            self.assertEqual((4, 1, 1), (runtime.change_count, sender.find(CHILDREN, VALUE), sender.recall(CHILDREN, VALUE, 4)))
+            self.assertRaises(
+                OverflowError, runtime.change_all, [first, Change.add(CHILDREN, TAKE, 2**32)]
+            )
+            self.assertEqual(
+                (4, 1, 1),
+                (
+                    runtime.change_count,
+                    sender.find(CHILDREN, VALUE),
+                    sender.recall(CHILDREN, VALUE, 4),
+                ),
+            )
             runtime.close()
             for changes in ([first], []):
-                with self.assertRaises(yeldrost.Closed) as caught:
+                with self.assertRaises(yeldrost.ClosedError) as caught:
                     runtime.change_all(changes)
                 self.assertIsNone(caught.exception.place)
 
     def test_faults(self):
         with self.opened() as runtime:
-            with self.assertRaises(yeldrost.Fault) as caught:
+            with self.assertRaises(yeldrost.Error) as caught:
                 runtime.make_root_class(ROOT)
-        self.assertEqual((8, "the class is made already"), (caught.exception.number, str(caught.exception)))
+        self.assertEqual(
+            (8, "the class is made already"), (caught.exception.number, str(caught.exception))
+        )
+        for number, text in yeldrost._header.FAULTS.values():
+            error = yeldrost._errors.of(number)
+            self.assertEqual((number, text), (error.number, str(error)))
+            self.assertIsInstance(error, yeldrost.Error)
+
+    def test_what_is_no_class(self):
+        with self.opened() as runtime, runtime.sender() as sender:
+            for of in ("Png", (1,), 1, None):
+                self.assertRaisesRegex(TypeError, "a ClassRef, or a pair", sender.find, of, VALUE)
+                self.assertRaisesRegex(TypeError, "a ClassRef, or a pair", runtime.add, of, TAKE, 1)
+            self.assertRaises(TypeError, sender.find, CHILDREN, "area")
+            self.assertEqual(3, sender.find((CHILD, False), NAME))
+
+    def test_what_is_shown(self):
+        with self.opened() as runtime, runtime.sender() as sender:
+            self.assertEqual("<yeldrost.Runtime of 2 classes, after 4 changes>", repr(runtime))
+            self.assertNotIn("closed", repr(sender))
+        self.assertEqual(
+            ("<yeldrost.Runtime, closed>", True), (repr(runtime), "closed" in repr(sender))
+        )
 
     def test_configs(self):
         with self.opened(classes=10, senders=2) as runtime:
             self.assertEqual(10, runtime.class_count)
             with runtime.sender(), runtime.sender():
-                self.assertRaises(yeldrost.NoSender, runtime.sender)
+                self.assertRaises(yeldrost.NoSenderError, runtime.sender)
                 self.assertEqual(1, runtime.report()["refused_senders"])
             with runtime.sender():
                 pass
-        self.assertRaises(yeldrost.BadConfig, yeldrost.Runtime, classes=2_000_000)
+        self.assertRaises(yeldrost.BadConfigError, yeldrost.Runtime, classes=2_000_000)
 
     def test_senders(self):
         with self.opened() as runtime, runtime.sender() as sender:
-            self.assertEqual((None, None), (sender.probe(ROOTS, VALUE), sender.recall(CHILDREN, VALUE, 4)))
+            self.assertEqual(
+                (MISSED, MISSED), (sender.probe(ROOTS, VALUE), sender.recall(CHILDREN, VALUE, 4))
+            )
             self.assertEqual(1, sender.fill(CHILDREN, VALUE))
-            self.assertEqual((1, 1), (sender.probe(CHILDREN, VALUE), sender.recall(CHILDREN, VALUE, 4)))
-            self.assertEqual((4, None), (sender.find(CHILD_ITSELF, NEW), sender.find(CHILDREN, TAKE)))
+            self.assertEqual(
+                (1, 1), (sender.probe(CHILDREN, VALUE), sender.recall(CHILDREN, VALUE, 4))
+            )
+            self.assertEqual(
+                (4, None), (sender.find(CHILD_ITSELF, NEW), sender.find(CHILDREN, TAKE))
+            )
+            self.assertEqual(
+                (None, None), (sender.probe(CHILDREN, TAKE), sender.recall(CHILDREN, TAKE, 4))
+            )
             runtime.replace(CHILDREN, VALUE, 5)
-            self.assertIsNone(sender.recall(CHILDREN, VALUE, sender.stamp(CHILDREN)))
+            self.assertIs(MISSED, sender.recall(CHILDREN, VALUE, sender.stamp(CHILDREN)))
             self.assertEqual(5, sender.find(CHILDREN, VALUE))
             runtime.replace(CHILDREN, VALUE, 6)
             self.assertEqual((6, 6), (sender.refresh(), sender.find(CHILDREN, VALUE)))
@@ -167,18 +255,20 @@ class Calls(unittest.TestCase):
             self.assertEqual(4, runtime.seen_by_all(), "a meeting is no rest")
             sender.rest()
             self.assertEqual(6, runtime.seen_by_all())
-            self.assertRaises(yeldrost.NoClass, sender.find, instances_of(2**32 - 1), VALUE)
-            self.assertRaises(yeldrost.NoSelector, sender.find, CHILDREN, 0)
-            self.assertRaises(yeldrost.DuplicateClass, runtime.make_root_class, ROOT)
+            self.assertRaises(yeldrost.NoClassError, sender.find, instances_of(2**32 - 1), VALUE)
+            self.assertRaises(yeldrost.NoSelectorError, sender.find, CHILDREN, 0)
+            self.assertRaises(yeldrost.DuplicateClassError, runtime.make_root_class, ROOT)
             self.assertEqual(6, sender.recall(CHILDREN, VALUE, 6), "a refused change is no change")
 
     def test_several_as_one(self):
         with self.opened() as runtime, runtime.sender() as sender:
             three = [(CHILDREN, NAME), (CHILD_ITSELF, NEW), (CHILDREN, TAKE)]
-            self.assertEqual(([3, 4, None], [3, 4, None]), (sender.find_all(three), sender.find_all(three)))
+            self.assertEqual(
+                ([3, 4, None], [3, 4, None]), (sender.find_all(three), sender.find_all(three))
+            )
             runtime.replace(CHILDREN, NAME, 8)
             self.assertEqual(([8, 4, None], []), (sender.find_all(three), sender.find_all([])))
-            with self.assertRaises(yeldrost.NoSelector) as refused:
+            with self.assertRaises(yeldrost.NoSelectorError) as refused:
                 sender.find_all([(CHILDREN, NAME), (CHILDREN, 0)])
             self.assertEqual(1, refused.exception.place)
 
@@ -187,14 +277,14 @@ class Calls(unittest.TestCase):
         sender = runtime.sender()
         sender.find(CHILDREN, VALUE)
         runtime.close()
-        self.assertRaises(yeldrost.Closed, runtime.close)
-        self.assertRaises(yeldrost.Closed, runtime.lookup, CHILDREN, VALUE)
-        self.assertRaises(yeldrost.Closed, runtime.sender)
+        self.assertRaises(yeldrost.ClosedError, runtime.close)
+        self.assertRaises(yeldrost.ClosedError, runtime.lookup, CHILDREN, VALUE)
+        self.assertRaises(yeldrost.ClosedError, runtime.sender)
         self.assertEqual(1, sender.find(CHILDREN, VALUE))
-        self.assertRaises(yeldrost.Closed, sender.find, CHILDREN, TAKE)
+        self.assertRaises(yeldrost.ClosedError, sender.find, CHILDREN, TAKE)
         sender.close()
-        self.assertRaises(yeldrost.Closed, sender.close)
-        self.assertRaises(yeldrost.Closed, sender.refresh)
+        self.assertRaises(yeldrost.ClosedError, sender.close)
+        self.assertRaises(yeldrost.ClosedError, sender.refresh)
 
     def test_senders_that_are_dropped_give_their_number_back(self):
         with self.opened(senders=1) as runtime:
@@ -219,7 +309,7 @@ class Calls(unittest.TestCase):
             thread.start()
             thread.join()
             self.assertEqual([1], found)
-            self.assertRaises(RuntimeError, sender.find, CHILDREN, VALUE)
+            self.assertRaises(yeldrost.WrongThreadError, sender.find, CHILDREN, VALUE)
 
     def test_threads_beside_changes(self):
         over, wrong = threading.Event(), []
@@ -246,10 +336,15 @@ class Calls(unittest.TestCase):
     def test_texts(self):
         with yeldrost.Texts(self.holds_gil) as texts:
             for text, number in [(b"value", 1), (b"setValue:forKey:", 2), (b"", 3), (b"value", 1)]:
-                self.assertEqual((number, number, text), (texts.intern(text), texts.find(text), texts.text(number)))
-            self.assertEqual((None, None, None), (texts.find(b"valu"), texts.text(0), texts.text(4)))
+                self.assertEqual(
+                    (number, number, text),
+                    (texts.intern(text), texts.find(text), texts.text(number)),
+                )
+            self.assertEqual(
+                (None, None, None), (texts.find(b"valu"), texts.text(0), texts.text(4))
+            )
             self.assertEqual((0, 2, None), (texts.colons(1), texts.colons(2), texts.colons(4)))
-        self.assertRaises(yeldrost.Closed, texts.intern, b"value")
+        self.assertRaises(yeldrost.ClosedError, texts.intern, b"value")
 
     def test_types(self):
         self.assertEqual((4, 2, 10), yeldrost.first_type(b"{inner=cs}8@0"))

@@ -1,4 +1,4 @@
-"""`msg_runtime.h` as ctypes see it. What each call answers, and what its caller is trusted with,
+"""`msg_runtime.h` as ctypes see it. What each call returns, and what its caller is trusted with,
 stands in that header."""
 import ctypes as c
 
@@ -7,7 +7,13 @@ NOTED_NONE = 1 << 32
 
 
 class msg_note(c.Structure):
-    _fields_ = [("seal", c.c_uint64), ("count", c.c_uint64), ("imp", c.c_uint32), ("spare", c.c_uint32), ("stamp", c.c_uint64)]
+    _fields_ = [
+        ("seal", c.c_uint64),
+        ("count", c.c_uint64),
+        ("imp", c.c_uint32),
+        ("spare", c.c_uint32),
+        ("stamp", c.c_uint64),
+    ]
 
 
 class msg_runtime(c.Structure):
@@ -31,14 +37,27 @@ class msg_method(c.Structure):
 
 
 class msg_change(c.Structure):
-    _fields_ = [(name, c.c_uint32) for name in ("kind", "number", "meta", "sel", "imp", "other", "other_meta", "other_sel")]
+    _fields_ = [
+        (name, c.c_uint32)
+        for name in ("kind", "number", "meta", "sel", "imp", "other", "other_meta", "other_sel")
+    ]
 
 
 class msg_lookup_row(c.Structure):
     _fields_ = [(name, c.c_uint32) for name in ("number", "meta", "sel")]
 
 
-KINDS = {"ADDS": 1, "REPLACES": 2, "SETS_IMP": 3, "EXCHANGES": 4, "MAKES_CLASS": 5, "MAKES_ROOT_CLASS": 6, "REMOVES": 7, "DISPOSES_CLASS": 8, "COVERS": 9}
+KINDS = {
+    "ADDS": 1,
+    "REPLACES": 2,
+    "SETS_IMP": 3,
+    "EXCHANGES": 4,
+    "MAKES_CLASS": 5,
+    "MAKES_ROOT_CLASS": 6,
+    "REMOVES": 7,
+    "DISPOSES_CLASS": 8,
+    "COVERS": 9,
+}
 
 
 class msg_config(c.Structure):
@@ -59,7 +78,18 @@ class msg_report_row(c.Structure):
     ]
 
 
-STRUCTURES = (msg_note, msg_runtime, msg_sender, msg_texts, msg_class, msg_method, msg_change, msg_lookup_row, msg_config, msg_report_row)
+STRUCTURES = (
+    msg_note,
+    msg_runtime,
+    msg_sender,
+    msg_texts,
+    msg_class,
+    msg_method,
+    msg_change,
+    msg_lookup_row,
+    msg_config,
+    msg_report_row,
+)
 
 FAULTS = {
     "NoSuchClass": (1, "no such class, or it isn't made"),
@@ -116,13 +146,22 @@ CALLS = {
     "msg_remove": (_answer, (_runtime, _number, _meta, _selector)),
     "msg_dispose_class": (_answer, (_runtime, _number)),
     "msg_change_all": (_answer, (_runtime, _changes, c.c_size_t, _size)),
-    "msg_change_all_with_undo": (_answer, (_runtime, _changes, c.c_size_t, _changes, c.c_size_t, _size, _size)),
-    "msg_reach": (_answer, (_runtime, _changes, c.c_size_t, c.POINTER(c.c_bool), c.c_size_t, _size)),
+    "msg_change_all_with_undo": (
+        _answer,
+        (_runtime, _changes, c.c_size_t, _changes, c.c_size_t, _size, _size),
+    ),
+    "msg_reach": (
+        _answer,
+        (_runtime, _changes, c.c_size_t, c.POINTER(c.c_bool), c.c_size_t, _size),
+    ),
     "msg_words": (_answer, (_runtime, c.POINTER(_told64))),
     "msg_sender_open": (_answer, (_runtime, _sender)),
     "msg_sender_close": (_answer, (_runtime, _sender)),
     "msg_fill": (_answer, (_runtime, _sender, _number, _meta, _selector, _told32)),
-    "msg_fill_all": (_answer, (_runtime, _sender, _lookups, c.c_size_t, _told32, c.c_size_t, _size)),
+    "msg_fill_all": (
+        _answer,
+        (_runtime, _sender, _lookups, c.c_size_t, _told32, c.c_size_t, _size),
+    ),
     "msg_meet": (_answer, (_runtime, _sender)),
     "msg_rest": (_answer, (_runtime, _sender)),
     "msg_seen_by_all": (_answer, (_runtime, _told64)),
@@ -140,7 +179,10 @@ CALLS = {
     "msg_texts_text": (_answer, (_texts, _number, _bytes, c.c_size_t, _size)),
     "msg_texts_colons": (_answer, (_texts, _number, _size)),
     "msg_type_first": (c.c_size_t, (_bytes, c.c_size_t, _told64, _told64)),
-    "msg_type_member": (_answer, (_bytes, c.c_size_t, c.c_uint64, _size, _size, _told64, _told64, _told64)),
+    "msg_type_member": (
+        _answer,
+        (_bytes, c.c_size_t, c.c_uint64, _size, _size, _told64, _told64, _told64),
+    ),
 }
 
 # What stands for the calls that the header has inline, which a shared library doesn't export.

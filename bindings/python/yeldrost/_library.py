@@ -10,8 +10,8 @@ from . import _header
 SONAME = "libyeldrost.so.0"
 
 
-def _path():
-    """Where $YELDROST_LIBRARY says, else where pkg-config says that it is installed, else where the
+def _path() -> str:
+    """As $YELDROST_LIBRARY says, else where pkg-config says that it is installed, else where the
     linker looks."""
     named = os.environ.get("YELDROST_LIBRARY")
     if named:
@@ -27,16 +27,18 @@ def _path():
 
 
 @functools.lru_cache(maxsize=None)
-def load(holds_gil):
+def load(holds_gil: bool) -> ctypes.CDLL:
     """The calls of the library, in which the interpreter's lock is held, or let go."""
     try:
         library = (ctypes.PyDLL if holds_gil else ctypes.CDLL)(_path())
     except OSError as error:
-        where = "install it (tools/install PREFIX), and set PKG_CONFIG_PATH=PREFIX/lib/pkgconfig or YELDROST_LIBRARY"
-        raise ImportError(f"the library of Yeldrost isn't found ({error}): {where}") from error
+        how = "install it (tools/build/install PREFIX), and set PKG_CONFIG_PATH=PREFIX/lib/pkgconfig or YELDROST_LIBRARY"
+        raise ImportError(f"the library of Yeldrost isn't found ({error}): {how}") from error
     for name, (result, parameters) in _header.CALLS.items():
         call = getattr(library, name)
         call.restype, call.argtypes = result, parameters
-    if library.msg_version() != _header.VERSION or library.msg_sender_size() != ctypes.sizeof(_header.msg_sender):
+    if library.msg_version() != _header.VERSION or library.msg_sender_size() != ctypes.sizeof(
+        _header.msg_sender
+    ):
         raise ImportError("the library of Yeldrost is of another version than this package")
     return library

@@ -10,7 +10,7 @@ fn folder() -> String {
         .output();
     match asked {
         Ok(told) if told.status.success() => String::from_utf8_lossy(&told.stdout).trim().to_owned(),
-        _ => panic!("pkg-config finds no yeldrost: install it (tools/install PREFIX), and set PKG_CONFIG_PATH=PREFIX/lib/pkgconfig or YELDROST_LIB_DIR=PREFIX/lib"),
+        _ => panic!("pkg-config finds no yeldrost: install it (tools/build/install PREFIX), and set PKG_CONFIG_PATH=PREFIX/lib/pkgconfig or YELDROST_LIB_DIR=PREFIX/lib"),
     }
 }
 

@@ -10,20 +10,16 @@ use Rattle.msg_tables.specs.declared.change.Change.{Change}
 use Rattle.msg_tables.specs.Origin.{OriginView}
 use Rattle.msg_eval.specs.declared.reply.Reply.{Reply}
 use Rattle.msg_eval.specs.Meaning.{Meaning, Ends, Asks}
-use Rattle.msg_eval.specs.Points.{Rise, last_of, EndsAfter, RepliesFrom, plain_reply, AllAre, HasOneReply, Ended, Asking, with_answers, HasAnswersAt}
+use Rattle.msg_eval.specs.Finder.{FindsAt}
+use Rattle.msg_eval.specs.Points.{Rise, last_of, EndsAfter, EndsBetween, plain_reply, AllAre, HasOneReply, Ended, Asking, with_answers, HasAnswersAt}
 use Rattle.msg_eval.specs.Step.{Leads}
 
 -- the points at which a send leads to its reply
-pub points_of : (m : Meaning) (h g : History) (r : Reply) → Leads m h g r → (points : List History) × Rise h points × EndsAfter m points r × (g ≡ last_of h points)
-points_of (Ends e) h g r x = ([], tt, x.0, sym x.1)
-points_of (Asks c s go) h g r x =
-    let (points, rise, ends, last) = points_of (go (lookup x.0 c s)) x.0 g r x.2 in
-    (x.0 ∷ points, (x.1, rise), ends, last)
-
-pub replies : (stands : History → Type 0) (m : Meaning) (h g : History) (r : Reply) → Leads m h g r → stands g → RepliesFrom stands h m r
-replies stands m h g r leads there =
-    let (points, rise, ends, last) = points_of m h g r leads in
-    record { points = points; rise = rise; ends = ends; there = subst stands last there }
+pub points_of : (m : Meaning) (h g : History) (r : Reply) → Leads FindsAt m h g r → EndsBetween h g m r
+points_of (Ends e) h g r x = record { points = []; rise = tt; ends = x.0; last = sym x.1 }
+points_of (Asks c s go) h g r (p, i, at, more) =
+    let rest = points_of (go i) p g r more in
+    record { points = p ∷ rest.points; rise = (at.0, rest.rise); ends = subst (λ j. EndsAfter (go j) rest.points r) at.1 rest.ends; last = rest.last }
 
 plain_exists : (h : History) (m : Meaning) → (points : List History) × AllAre h points × EndsAfter m points (plain_reply h m)
 plain_exists h (Ends e) = ([], tt, refl)

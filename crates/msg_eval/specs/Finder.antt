@@ -19,10 +19,17 @@ sizes_of image = record { classes = class_total image; imps = length image.imps 
 abbrev pub table_sizes : TablesView → Sizes
 table_sizes t = record { classes = length t.supers; imps = last_imp t.counts }
 
--- The answer is the lookup at a point of the history that begins with h, and there the finder then
--- stands.
-pub record FindsAfter (stands : History → Type 0) (h : History) (c : ClassRef) (s i : ℕ) : Type 0 where
-  pub point : History
-  pub begins : BeginsWith point h
+-- What lookups do to where a finder stands: from one point a lookup of a selector in a class
+-- answers a number at another.
+abbrev pub Steps : Type 0 → Type 1
+Steps P = P → ClassRef → ℕ → ℕ → P → Type 0
+
+-- the answer is the lookup at a history that begins with h
+abbrev pub FindsAt : Steps History
+FindsAt h c s i now = BeginsWith now h × (i ≡ lookup now c s)
+
+-- a lookup's answer is a step from p, to where the finder then stands
+pub record FindsAfter {P : Type 0} (step : Steps P) (stands : P → Type 0) (p : P) (c : ClassRef) (s i : ℕ) : Type 0 where
+  pub point : P
   pub there : stands point
-  pub found : i ≡ lookup point c s
+  pub found : step p c s i point

@@ -9,7 +9,9 @@ use Rattle.msg_tables.specs.Stands.{StandsAt}
 use Rattle.msg_tables.specs.View.{TablesView}
 use Rattle.msg_eval.specs.declared.reply.Reply.{Reply}
 use Rattle.msg_eval.specs.Evaluation.{send_of}
+use Rattle.msg_eval.specs.Finder.{FindsAt}
 use Rattle.msg_eval.specs.Meaning.{Meaning, Ends, Asks}
+use Rattle.msg_eval.specs.Step.{RepliesFrom}
 
 -- points that rise from h: each begins with the one before
 abbrev pub Rise : History → List History → Type 0
@@ -32,21 +34,16 @@ EndsAfter (Asks c s go) (p ∷ ps) reply = EndsAfter (go (lookup p c s)) ps repl
 abbrev pub SendAt : ImageParts → Value → Selector → List Value → List History → Reply → Type 0
 SendAt image receiver s xs points reply = EndsAfter (send_of image receiver s xs) points reply
 
--- There are points that rise from h at which the send ends with the reply, and the finder stands at
--- the last of them, or at h where there are none.
-pub record RepliesFrom (stands : History → Type 0) (h : History) (send : Meaning) (reply : Reply) : Type 0 where
+-- there are points that rise from one history to another, at which the send ends with the reply
+pub record EndsBetween (h now : History) (send : Meaning) (reply : Reply) : Type 0 where
   pub points : List History
   pub rise : Rise h points
   pub ends : EndsAfter send points reply
-  pub there : stands (last_of h points)
-
--- from each history at which the finder stood
-abbrev pub Replies : {F : Type 0} → (F → History → Type 0) → F → F → Meaning → Reply → Type 0
-Replies stands old new send reply = (h : History) → stands old h → RepliesFrom (stands new) h send reply
+  pub last : now ≡ last_of h points
 
 -- a send by tables that stay where they stand
 abbrev pub TablesReply : TablesView → History → Meaning → Reply → Type 0
-TablesReply tables h send reply = RepliesFrom (λ p. StandsAt tables (log p)) h send reply
+TablesReply tables h send reply = RepliesFrom FindsAt (λ p. StandsAt tables (log p)) h send reply
 
 -- each send of a message that ends at points has no more of them
 abbrev pub EachEndsWithin : ℕ → Type 0

@@ -2,13 +2,12 @@
 
 ghost use Rattle.std.specs.Prelude.{◌≡◌, ◌<◌, ◌≤◌};
 ghost use Rattle.msg_names.specs.Number.{selector_number, imp_number};
-ghost use Rattle.msg_tables.specs.History.{History};
-ghost use Rattle.msg_eval.specs.Finder.{Sizes, FindsAfter};
+ghost use Rattle.msg_eval.specs.Finder.{Sizes, Steps, FindsAfter};
 
 use msg_names::{ClassRef, ImpRef, Selector};
 use msg_tables::Tables;
 
-/// Answers lookups, each at a point of the history that begins with the point before.
+/// Answers lookups, each a step from the point at which the finder stands.
 pub trait Finder {
     /// What no lookup changes.
     ghost Kept: { Type 0 };
@@ -18,17 +17,21 @@ pub trait Finder {
     /// How many classes and implementations there are.
     ghost sizes: { Kept → Sizes };
 
-    /// It has seen this history and no more.
-    ghost stands: { Self → History → Type 0 };
+    /// Where a finder stands: what it has seen, and may have noted.
+    ghost Point: { Type 0 };
 
-    /// The implementation that a lookup finds at some point, which the finder has then seen, or
-    /// forwarding.
+    ghost stands: { Self → Point → Type 0 };
+
+    /// Which answers a lookup may have, and where the finder then stands.
+    ghost step: { Steps Point };
+
+    /// The implementation that a lookup finds, or forwarding.
     fn find(&mut self, class: ClassRef, sel: Selector) -> ImpRef
         requires { class.class < (sizes (kept self.old)).classes }
         ensures kept { kept self.new ≡ kept self.old }
         ensures listed { imp_number result ≤ (sizes (kept self.old)).imps }
-        ensures lawful { (h : History) → stands self.old h
-            → FindsAfter (stands self.new) h class (selector_number sel) (imp_number result) };
+        ensures lawful { (p : Point) → stands self.old p
+            → FindsAfter step (stands self.new) p class (selector_number sel) (imp_number result) };
 }
 
 /// Looks up in tables, and so always at their history.
@@ -38,8 +41,8 @@ pub struct Tabled<'t> {
 }
 
 impl Finder for Tabled<'_> {
-    ghost use Rattle.msg_eval.specs.Finder.{table_sizes};
-    ghost use Rattle.msg_tables.specs.History.{log};
+    ghost use Rattle.msg_eval.specs.Finder.{FindsAt, table_sizes};
+    ghost use Rattle.msg_tables.specs.History.{History, log};
     ghost use Rattle.msg_tables.specs.Stands.{StandsAt};
     ghost use Rattle.msg_tables.specs.View.{TablesView};
 
@@ -49,7 +52,11 @@ impl Finder for Tabled<'_> {
 
     ghost sizes = { table_sizes };
 
+    ghost Point = { History };
+
     ghost stands = { λ s h. StandsAt s.tables.now (log h) };
+
+    ghost step = { FindsAt };
 
     fn find(&mut self, class: ClassRef, sel: Selector) -> ImpRef {
         self.tables.lookup(class, sel)

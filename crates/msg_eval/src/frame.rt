@@ -12,27 +12,27 @@ use msg_names::{ClassRef, Selector, Value};
 /// The arguments of a send.
 pub type Args = ArrayVec<Value, 4>;
 
-/// What a body sees, and how many more bodies may be active in it.
+// What a body sees, and how many more bodies may be active in it.
 #[derive(Drop)]
-pub struct Frame<'a> {
-    pub image: &'a Image,
-    pub me: Value,
-    pub args: &'a Args,
-    pub home: ClassRef,
-    pub depth: u32,
-    pub ghost me_of: { IsOf image.now me } by { of_image image.now me },
-    pub ghost args_of: { AreOf image.now args.now.items } by { all_of_image image.now args.now.items },
-    pub ghost home_of: { home.class < length image.now.classes },
+pub(crate) struct Frame<'a> {
+    pub(crate) image: &'a Image,
+    pub(crate) me: Value,
+    pub(crate) args: &'a Args,
+    pub(crate) home: ClassRef,
+    pub(crate) depth: u32,
+    pub(crate) ghost me_of: { IsOf image.now me } by { of_image image.now me },
+    pub(crate) ghost args_of: { AreOf image.now args.now.items } by { all_of_image image.now args.now.items },
+    pub(crate) ghost home_of: { home.class < length image.now.classes },
 }
 
-/// The selector and the arguments, and how many more bodies may be active.
+// The selector and the arguments, and how many more bodies may be active.
 #[derive(Drop)]
-pub struct Message<'a> {
-    pub image: &'a Image,
-    pub sel: Selector,
-    pub args: &'a Args,
-    pub depth: u32,
-    pub ghost args_of: { AreOf image.now args.now.items } by { all_of_image image.now args.now.items },
+pub(crate) struct Message<'a> {
+    pub(crate) image: &'a Image,
+    pub(crate) sel: Selector,
+    pub(crate) args: &'a Args,
+    pub(crate) depth: u32,
+    pub(crate) ghost args_of: { AreOf image.now args.now.items } by { all_of_image image.now args.now.items },
 }
 
 impl Frame<'_> {
@@ -41,8 +41,8 @@ impl Frame<'_> {
     ghost use Rattle.msg_eval.specs.Argument.{argument};
     ghost use Rattle.msg_eval.specs.Evaluated.{IsValue};
 
-    /// An argument, from 0.
-    pub fn argument(&self, place: u8) -> Value
+    // An argument, from 0.
+    pub(crate) fn argument(&self, place: u8) -> Value
         ensures value { result ≡ argument self.now.args.now.items place }
         ensures listed { IsOf self.now.image.now result }
     {

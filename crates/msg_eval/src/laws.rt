@@ -4,9 +4,11 @@ ghost use Rattle.std.specs.Prelude.{◌≡◌, List};
 ghost use Rattle.msg_tables.specs.History.{History, log};
 ghost use Rattle.msg_tables.specs.Stands.{StandsAt};
 ghost use Rattle.msg_tables.specs.View.{TablesView};
+ghost use Rattle.msg_eval.specs.Finder.{FindsAt};
 ghost use Rattle.msg_eval.specs.Meaning.{Meaning};
-ghost use Rattle.msg_eval.specs.Points.{Rise, last_of, EndsAfter, EndsAsAnswered, EachEndsWithin};
-ghost use Rattle.msg_eval.specs.Points.{HasOneReply, IsPlain, TablesReply};
+ghost use Rattle.msg_eval.specs.Points.{Rise, last_of, EndsAfter, EndsAsAnswered, EndsBetween};
+ghost use Rattle.msg_eval.specs.Points.{EachEndsWithin, HasOneReply, IsPlain, TablesReply};
+ghost use Rattle.msg_eval.specs.Step.{Leads};
 ghost use Rattle.msg_eval.specs.declared.reply.Reply.{Reply};
 
 use crate::eval::{MAX_BODIES, MAX_LOOKUPS};
@@ -24,6 +26,12 @@ pub fn points_are_few()
 /// A send ends at its points where it has a list of answers, each of them the lookup at its point.
 pub fn points_have_answers()
     ensures { (send : Meaning) (points : List History) → EndsAsAnswered send points }
+{}
+
+/// A send that goes by lookups at histories ends with its reply at points that rise.
+pub fn steps_are_points()
+    ensures { (send : Meaning) (h now : History) (reply : Reply)
+        → Leads FindsAt send h now reply → EndsBetween h now send reply }
 {}
 
 /// Tables that stay where they stand give the plain reply at their history.

@@ -12,7 +12,5 @@ mod reply;
 
 pub use eval::{MAX_BODIES, MAX_LOOKUPS, send};
 pub use finder::{Finder, Tabled};
-pub use frame::{Args, Frame, Message};
-pub use operation::{Operation, is_no, operate};
-pub use receiver::{class_of, new_receiver};
+pub use frame::Args;
 pub use reply::{Reply, SendFault};

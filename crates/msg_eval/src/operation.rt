@@ -6,9 +6,9 @@ ghost use Rattle.msg_eval.specs.Operation.{result_of, numeric_value, are_same, t
 use crate::reply::SendFault;
 use msg_names::Value;
 
-/// An operation on two values.
+// An operation on two values.
 #[derive(Clone, Copy)]
-pub enum Operation {
+pub(crate) enum Operation {
     Add,
     Sub,
     Mul,
@@ -65,15 +65,15 @@ pub(crate) fn are_same(x: Value, y: Value) -> bool
     }
 }
 
-/// Whether an `if` takes its last part after this value.
-pub fn is_no(v: Value) -> bool
+// Whether an `if` takes its last part after this value.
+pub(crate) fn is_no(v: Value) -> bool
     ensures { result ≡ is_no v }
 {
     are_same(v, Value::Nil)
 }
 
-/// What an operation makes of two values.
-pub fn operate(op: Operation, x: Value, y: Value) -> Result<Value, SendFault>
+// What an operation makes of two values.
+pub(crate) fn operate(op: Operation, x: Value, y: Value) -> Result<Value, SendFault>
     ensures { result ≡ result_of (op_of op) x y }
 {
     if let Operation::Eq = op {

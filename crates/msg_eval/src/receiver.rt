@@ -10,8 +10,8 @@ use crate::reply::SendFault;
 use msg_image::Image;
 use msg_names::{ClassRef, Value};
 
-/// The class in which a message to a value is looked up.
-pub fn class_of(image: &Image, v: Value) -> Option<ClassRef>
+// The class in which a message to a value is looked up.
+pub(crate) fn class_of(image: &Image, v: Value) -> Option<ClassRef>
     requires { IsOf image.now v }
     ensures value { result ≡ receiver_class image.now v }
     ensures listed { IfSome result (λ c. c.class < class_total image.now) }
@@ -26,8 +26,8 @@ pub fn class_of(image: &Image, v: Value) -> Option<ClassRef>
     }
 }
 
-/// The new receiver and its class, where the receiver was asked for a target and answered this one.
-pub fn new_receiver(
+// The new receiver and its class, where the receiver was asked for a target and answered this one.
+pub(crate) fn new_receiver(
     image: &Image,
     me: Value,
     unrecognized: SendFault,

@@ -22,10 +22,8 @@ use Rattle.msg_eval.specs.Finder.{Sizes, sizes_of, table_sizes}
 use Rattle.msg_answers.specs.Serial.{history_after}
 use Rattle.msg_answers.specs.Text.{line_of, reply_text}
 use Rattle.msg_reasons.specs.Changing.{KeepsSizes}
-use Rattle.msg_reasons.specs.Explained.{IsExplained}
-use Rattle.msg_reasons.specs.Looked.{all_looked}
 use Rattle.msg_reasons.specs.Lookups.{Looked, lookups_of}
-use Rattle.msg_reasons.specs.declared.notes.Lookup.{Lookup}
+use Rattle.msg_reasons.specs.Noted.{IsExplained, NotingView}
 use Rattle.msg_reasons.specs.Explanation.{reason_at, reasons_from}
 use Rattle.msg_reasons.specs.Items.{ExplainsItem}
 use Rattle.msg_reasons.specs.Text.{explanation_text, lookups_text, reason_lines}
@@ -90,14 +88,14 @@ sizes-kept image old new kept sizes =
 
 -- ---- one item
 
-pub sent-explained : (image : ImageParts) (receiver : Value) (s : Selector) (xs : List Value) (tables : TablesView) (text mid more : List ℕ) (ls : List Lookup) (reply : Reply)
-    → IsExplained tables (send_of image receiver s xs) (all_looked ls) reply → mid ≡ text ++ line_of (reply_text image reply) → more ≡ mid ++ lookups_text image (all_looked ls) tables.change_count
-    → ExplainsItem image (SendItem receiver s xs) tables tables text more
-sent-explained image receiver s xs tables text mid more ls reply explained first second = λ h st.
+pub sent-explained : (image : ImageParts) (receiver : Value) (s : Selector) (xs : List Value) (n : NotingView) (text mid more : List ℕ) (reply : Reply)
+    → IsExplained n (send_of image receiver s xs) reply → mid ≡ text ++ line_of (reply_text image reply) → more ≡ mid ++ lookups_text image n.lookups n.tables.change_count
+    → ExplainsItem image (SendItem receiver s xs) n.tables n.tables text more
+sent-explained image receiver s xs n text mid more reply explained first second = λ h st.
     let (lookups, replied) = explained h st in (
-      second ∙ ap (λ t. t ++ lookups_text image (all_looked ls) tables.change_count) first
-          ∙ append_assoc text (line_of (reply_text image reply)) (lookups_text image (all_looked ls) tables.change_count)
-          ∙ ap₂ (λ (r : Reply) (seen : List Looked). text ++ (line_of (reply_text image r) ++ lookups_text image seen tables.change_count)) replied lookups
+      second ∙ ap (λ t. t ++ lookups_text image n.lookups n.tables.change_count) first
+          ∙ append_assoc text (line_of (reply_text image reply)) (lookups_text image n.lookups n.tables.change_count)
+          ∙ ap₂ (λ (r : Reply) (seen : List Looked). text ++ (line_of (reply_text image r) ++ lookups_text image seen n.tables.change_count)) replied lookups
           ∙ ap (λ n. text ++ (line_of (reply_text image (plain_reply h (send_of image receiver s xs))) ++ lookups_text image (lookups_of h (send_of image receiver s xs)) n)) st.changes,
       st,
     )

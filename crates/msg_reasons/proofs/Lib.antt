@@ -1,5 +1,4 @@
 pub mod ChangingLemmas
-pub mod DispatchLemmas
 pub mod ExplanationLemmas
 pub mod ItemLemmas
 pub mod KeptLemmas

@@ -1,33 +1,27 @@
 -- What is noted of a send.
-use Rattle.std.proofs.Common.{◌≡◌, ℕ, zero, suc, List, [], ◌∷◌, ◌++◌, length, refl, sym, ap, ◌∙◌, append_assoc, append-nil, arith}
-use Rattle.msg_names.specs.declared.value.ClassRef.{ClassRef}
+use Rattle.std.proofs.Common.{◌≡◌, ℕ, suc, List, [], ◌∷◌, ◌++◌, length, refl, sym, ap, subst, ◌∙◌, append_assoc, append-nil}
 use Rattle.msg_tables.specs.History.{History, lookup}
 use Rattle.msg_eval.specs.declared.reply.Reply.{Reply}
-use Rattle.msg_eval.specs.declared.reply.SendFault.TheVariants.{Budget}
-use Rattle.msg_eval.specs.Meaning.{Meaning, Ends, Asks, ask, fault}
+use Rattle.msg_eval.specs.Meaning.{Meaning, Ends, Asks}
 use Rattle.msg_eval.specs.Points.{plain_reply}
-use Rattle.msg_reasons.specs.Explained.{explained}
+use Rattle.msg_eval.specs.Step.{Leads}
 use Rattle.msg_reasons.specs.Looked.{all_looked}
 use Rattle.msg_reasons.specs.Lookups.{Looked, looked_at, lookups_of}
+use Rattle.msg_reasons.specs.Noted.{Noted, NotesLookup}
 use Rattle.msg_reasons.specs.declared.notes.Lookup.{Lookup}
 
--- a send's lookups come after those before it
-explained-after : (h : History) (done : List Looked) (send : Meaning) → explained h done send ≡ (done ++ lookups_of h send, plain_reply h send)
-explained-after h done (Ends r) = ap (λ (ls : List Looked). (let p : List Looked × Reply = (ls, r) in p)) (sym (append-nil done))
-explained-after h done (Asks c s go) =
-    explained-after h (done ++ looked_at h c s ∷ []) (go (lookup h c s))
-    ∙ ap (λ (ls : List Looked). (let p : List Looked × Reply = (ls, plain_reply h (go (lookup h c s))) in p)) (append_assoc done (looked_at h c s ∷ []) (lookups_of h (go (lookup h c s))))
+abbrev pub noted_at : History → List Looked → Noted
+noted_at h ls = record { history = h; lookups = ls }
 
--- what a send that has ended noted, and its reply
-pub explained-whole : (h : History) (send : Meaning) (ls : List Looked) (r : Reply) → explained h [] send ≡ (ls, r) → (ls ≡ lookups_of h send) × (r ≡ plain_reply h send)
-explained-whole h send ls r e =
-    let both = sym e ∙ explained-after h [] send in
-    (ap (λ (p : List Looked × Reply). p.0) both, ap (λ (p : List Looked × Reply). p.1) both)
-
--- where no lookup is left
-pub none_left : (c : ClassRef) (s n : ℕ) (k : ℕ → ℕ → Meaning) → n ≡ 0 → ask c s n k ≡ fault Budget
-none_left c s zero k e = refl
-none_left c s (suc n) k e = absurd (omega (arith, e))
+-- A send's lookups were noted after those before it, and it ends with its reply.
+pub noted-after : (h : History) (done : List Looked) (send : Meaning) (q : Noted) (r : Reply) → Leads NotesLookup send (noted_at h done) q r → (q.lookups ≡ done ++ lookups_of h send) × (r ≡ plain_reply h send)
+noted-after h done (Ends e) q r (is, same) = (ap (λ (p : Noted). p.lookups) (sym same) ∙ sym (append-nil done), sym is)
+noted-after h done (Asks c s go) q r (next, i, (found, is), more) =
+    let here : Leads NotesLookup (go (lookup h c s)) (noted_at h (done ++ looked_at h c s ∷ [])) q r =
+    subst (λ (j : ℕ). Leads NotesLookup (go j) (noted_at h (done ++ looked_at h c s ∷ [])) q r) found
+    (subst (λ (p : Noted). Leads NotesLookup (go i) p q r) is more) in
+    let (lookups, reply) = noted-after h (done ++ looked_at h c s ∷ []) (go (lookup h c s)) q r here in
+    (lookups ∙ append_assoc done (looked_at h c s ∷ []) (lookups_of h (go (lookup h c s))), reply)
 
 -- as many were looked up as were noted
 pub count_looked : (ls : List Lookup) → length (all_looked ls) ≡ length ls

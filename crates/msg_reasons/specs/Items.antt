@@ -8,7 +8,6 @@ use Rattle.msg_tables.specs.Stands.{StandsAt}
 use Rattle.msg_tables.specs.View.{TablesView}
 use Rattle.msg_answers.specs.Serial.{history_after}
 use Rattle.msg_eval.specs.Finder.{sizes_of, table_sizes}
-use Rattle.msg_reasons.specs.Explained.{IsReady}
 use Rattle.msg_reasons.specs.Lines.{AreLines}
 use Rattle.msg_reasons.specs.Explanation.{reason_at}
 use Rattle.msg_reasons.specs.Text.{reason_lines}
@@ -16,9 +15,8 @@ use Rattle.msg_reasons.specs.declared.explaining.Explainer.{Explainer}
 
 -- an explainer of an image that has explained nothing
 pub record IsOpened (image : ImageParts) (e : Explainer) : Type 0 where
-  pub stands : StandsAt e.tables (log (empty (origin_of image)))
-  pub sizes : table_sizes e.tables ≡ sizes_of image
-  pub ready : IsReady e.tables e.notes
+  pub stands : StandsAt e.noting.tables (log (empty (origin_of image)))
+  pub sizes : table_sizes e.noting.tables ≡ sizes_of image
   pub lines : AreLines image e.lines
 
 -- wherever the tables stood, the lines of an item were added, and they stand after it

@@ -1,11 +1,11 @@
 pub mod Categories
 pub mod Changing
 pub mod Explanation
-pub mod Explained
 pub mod Items
 pub mod Known
 pub mod Lines
 pub mod Looked
 pub mod Lookups
+pub mod Noted
 pub mod Slots
 pub mod Text

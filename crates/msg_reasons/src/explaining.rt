@@ -9,30 +9,26 @@ ghost use Rattle.msg_devices.specs.Reading.{IsSoundDocument};
 ghost use Rattle.msg_eval.specs.Facts.{AreOf};
 ghost use Rattle.msg_eval.specs.Finder.{sizes_of, table_sizes};
 ghost use Rattle.msg_reasons.specs.Changing.{KeepsSizes};
-ghost use Rattle.msg_reasons.specs.Explained.{IsReady};
 ghost use Rattle.msg_reasons.specs.Items.{ExplainsItem, IsOpened};
 ghost use Rattle.msg_reasons.specs.Lines.{AreLines};
 ghost use Rattle.msg_reasons.specs.Text.{explanation_text};
 
-use crate::changing::{change_as_one, change_one};
-use crate::eval::send;
 use crate::lines::Line;
-use crate::notes::Notes;
+use crate::noting::Noting;
 use crate::slots::Slots;
 use crate::text::push_lookups;
 use msg_answers::{push_outcome, push_reply};
-use msg_eval::{Args, MAX_LOOKUPS};
+use msg_eval::Args;
 use msg_image::{Document, Image, Item};
 use msg_names::{Selector, Value};
-use msg_tables::{Tables, Written};
+use msg_tables::Written;
 use std::alloc::{AllocError, Global};
 
 // The tables that a document's items are answered by, and what is noted on the way.
 #[derive(Drop)]
 struct Explainer {
-    tables: Tables,
+    noting: Noting,
     written: Written,
-    notes: Notes,
     lines: Slots<Line>,
 }
 
@@ -42,13 +38,8 @@ impl Explainer {
         ensures { IfOk result (IsOpened image.now) }
     {
         Ok(Explainer {
-            tables: Tables::open(alloc, image)?,
+            noting: Noting::open(alloc, image)?,
             written: Written::none(alloc),
-            notes: Notes {
-                lookups: Vec::with_capacity(alloc, MAX_LOOKUPS as usize)?,
-                left: 0,
-                known: Slots::none(alloc)?,
-            },
             lines: Slots::none(alloc)?,
         })
     }
@@ -62,21 +53,19 @@ impl Explainer {
         args: &Args,
         text: &mut Vec<u8>,
     ) -> Result<(), AllocError>
-        requires sizes { table_sizes self.old.tables ≡ sizes_of image.now }
-        requires ready { IsReady self.old.tables self.old.notes }
+        requires sizes { table_sizes self.old.noting.tables ≡ sizes_of image.now }
         requires lines { AreLines image.now self.old.lines }
         requires receiver_of { IsOf image.now receiver }
         requires args_of { AreOf image.now args.now.items }
-        ensures same { self.new.tables ≡ self.old.tables }
-        ensures ready { IsReady self.new.tables self.new.notes }
+        ensures same { self.new.noting.tables ≡ self.old.noting.tables }
         ensures lines { AreLines image.now self.new.lines }
         ensures item { OnOk result (ExplainsItem image.now (SendItem receiver sel args.now.items)
-            self.old.tables self.new.tables text.old.items text.new.items) }
+            self.old.noting.tables self.new.noting.tables text.old.items text.new.items) }
     {
-        let reply = send(&self.tables, image, receiver, sel, args, &mut self.notes);
+        let reply = self.noting.send(image, receiver, sel, args)?;
         push_reply(text, image, reply)?;
-        let changes = self.tables.start().changes as usize;
-        push_lookups(text, image, &self.notes.lookups, changes, &mut self.lines)?;
+        let changes = self.noting.tables().start().changes as usize;
+        push_lookups(text, image, self.noting.lookups(), changes, &mut self.lines)?;
         Ok(())
     }
 
@@ -87,15 +76,13 @@ impl Explainer {
         item: &Item,
         text: &mut Vec<u8>,
     ) -> Result<(), AllocError>
-        requires sizes { table_sizes self.old.tables ≡ sizes_of image.now }
-        requires ready { IsReady self.old.tables self.old.notes }
+        requires sizes { table_sizes self.old.noting.tables ≡ sizes_of image.now }
         requires lines { AreLines image.now self.old.lines }
         requires sound { IsSoundItem image.now (item_parts item.now) }
-        ensures sizes { KeepsSizes self.old.tables self.new.tables }
-        ensures ready { IsReady self.new.tables self.new.notes }
+        ensures sizes { KeepsSizes self.old.noting.tables self.new.noting.tables }
         ensures lines { AreLines image.now self.new.lines }
         ensures item { OnOk result (ExplainsItem image.now (item_parts item.now)
-            self.old.tables self.new.tables text.old.items text.new.items) }
+            self.old.noting.tables self.new.noting.tables text.old.items text.new.items) }
     {
         match item {
             Item::Send {
@@ -104,13 +91,11 @@ impl Explainer {
                 args,
             } => self.explain_send(image, *receiver, *sel, args, text),
             Item::Change(change) => {
-                self.notes.known.forget();
-                let outcome = change_one(&mut self.tables, change, &mut self.written)?;
+                let outcome = self.noting.change_one(change, &mut self.written)?;
                 push_outcome(text, outcome)
             }
             Item::ChangeAll(changes) => {
-                self.notes.known.forget();
-                let outcome = change_as_one(&mut self.tables, changes, &mut self.written)?;
+                let outcome = self.noting.change_as_one(changes, &mut self.written)?;
                 push_outcome(text, outcome)
             }
         }

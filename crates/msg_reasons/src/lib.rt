@@ -7,12 +7,11 @@
 #![tactic(auto)]
 
 mod changing;
-mod eval;
 mod explaining;
 pub mod laws;
 mod lines;
-mod lookups;
 mod notes;
+mod noting;
 mod slots;
 mod text;
 

@@ -27,6 +27,8 @@ impl<'r, 'd, N: ArenaName, G: Gate, R: Wait> Finder for Asking<'r, 'd, N, G, R> 
     ghost use Rattle.std.specs.Prelude.{◌≡◌};
     ghost use Rattle.msg_runner.specs.Asked.{sizes_at};
     ghost use Rattle.msg_tables.specs.Origin.{OriginView};
+    ghost use Rattle.msg_tables.specs.History.{History};
+    ghost use Rattle.msg_eval.specs.Finder.{FindsAt};
 
     ghost Kept = { OriginView };
 
@@ -34,7 +36,11 @@ impl<'r, 'd, N: ArenaName, G: Gate, R: Wait> Finder for Asking<'r, 'd, N, G, R> 
 
     ghost sizes = { sizes_at };
 
+    ghost Point = { History };
+
     ghost stands = { λ s h. s.sender.sender.seen.front ≡ h };
+
+    ghost step = { FindsAt };
 
     fn find(&mut self, class: ClassRef, sel: Selector) -> ImpRef {
         self.sender.find(self.rt, class, sel)

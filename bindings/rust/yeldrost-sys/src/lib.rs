@@ -1,109 +1,169 @@
-//! `msg_runtime.h` as it is. What each call answers, and what its caller is trusted with, stands in that header:
+//! `msg_runtime.h` as it is. What each call returns, and what its caller is trusted with, stands in that header:
 //! no call here is safe. The crate `yeldrost` has safe ones.
 #![no_std]
+#![warn(missing_docs)]
 #![allow(non_camel_case_types)]
 use core::ffi::c_void;
 use core::sync::atomic::{AtomicU64, Ordering};
 
+/// How many notes a sender has.
 pub const MSG_NOTES: usize = 2048;
 /// Of slots below this keys are one to one.
 pub const SLOTS: u32 = 67_108_864;
 /// Of `msg_recall`: it is noted that there is no method.
 pub const NOTED_NONE: usize = 1 << 32;
 
+/// What a sender has noted of one lookup.
 #[repr(C)]
 #[derive(Clone, Copy)]
 pub struct msg_note {
+    /// The lookup's key less what is said of it; 0 is no note.
     pub seal: u64,
+    /// After how many changes it was looked up.
     pub count: u64,
+    /// An implementation's number.
     pub imp: u32,
+    /// Nothing.
     pub spare: u32,
+    /// Where the stamp of its class lies: bytes after the first of the shared words.
     pub stamp: u64,
 }
 
+/// A runtime's handle.
 #[repr(C)]
 pub struct msg_runtime {
+    /// The library's.
     pub at: *mut c_void,
+    /// Whether it is open.
     pub open: bool,
 }
 
+/// A sender's handle, for one thread.
 #[repr(C)]
 pub struct msg_sender {
+    /// The library's.
     pub at: *mut c_void,
+    /// Whether it is open.
     pub open: bool,
+    /// What the sender has noted.
     pub notes: [msg_note; MSG_NOTES],
 }
 
+/// The handle of texts.
 #[repr(C)]
 pub struct msg_texts {
+    /// The library's.
     pub at: *mut c_void,
+    /// Whether it is open.
     pub open: bool,
 }
 
+/// A class, or its metaclass.
 #[repr(C)]
 #[derive(Clone, Copy, Default)]
 pub struct msg_class {
+    /// A class's number.
     pub number: u32,
+    /// Whether its metaclass is meant.
     pub meta: bool,
 }
 
+/// A method of a category.
 #[repr(C)]
 #[derive(Clone, Copy, Debug, Default, PartialEq, Eq)]
 pub struct msg_method {
+    /// A selector's number.
     pub sel: u32,
+    /// An implementation's number.
     pub imp: u32,
 }
 
+/// A change of a list. Its kind says which fields are read; the others are 0.
 #[repr(C)]
 #[derive(Clone, Copy, Debug, Default, PartialEq, Eq)]
 pub struct msg_change {
+    /// `MSG_ADDS` and so on.
     pub kind: u32,
+    /// A class's number.
     pub number: u32,
+    /// Whether its metaclass is meant.
     pub meta: u32,
+    /// A selector's number.
     pub sel: u32,
+    /// An implementation's number.
     pub imp: u32,
+    /// The other class's number, or the superclass's.
     pub other: u32,
+    /// Whether the other class's metaclass is meant.
     pub other_meta: u32,
+    /// The other selector's number.
     pub other_sel: u32,
 }
 
+/// A lookup, as one of several.
 #[repr(C)]
 #[derive(Clone, Copy, Debug, Default, PartialEq, Eq)]
 pub struct msg_lookup_row {
+    /// A class's number.
     pub number: u32,
+    /// Whether its metaclass is meant.
     pub meta: u32,
+    /// A selector's number.
     pub sel: u32,
 }
 
+/// The kind of a change that stands for `msg_add`.
 pub const MSG_ADDS: u32 = 1;
+/// The kind of a change that stands for `msg_replace`.
 pub const MSG_REPLACES: u32 = 2;
+/// The kind of a change that stands for `msg_set_imp`.
 pub const MSG_SETS_IMP: u32 = 3;
+/// The kind of a change that stands for `msg_exchange`.
 pub const MSG_EXCHANGES: u32 = 4;
+/// The kind of a change that stands for `msg_make_class`.
 pub const MSG_MAKES_CLASS: u32 = 5;
+/// The kind of a change that stands for `msg_make_root_class`.
 pub const MSG_MAKES_ROOT_CLASS: u32 = 6;
+/// The kind of a change that stands for `msg_remove`.
 pub const MSG_REMOVES: u32 = 7;
+/// The kind of a change that stands for `msg_dispose_class`.
 pub const MSG_DISPOSES_CLASS: u32 = 8;
+/// The kind of a change that stands for `msg_attach` of one method.
 pub const MSG_COVERS: u32 = 9;
 
+/// How much a runtime has room for; 0 is the default.
 #[repr(C)]
 #[derive(Clone, Copy, Debug, Default, PartialEq, Eq)]
 pub struct msg_config {
+    /// Class numbers are below this: 16,384 by default, at most 1,048,576.
     pub classes: u32,
+    /// How many may be open at once: 1,024 by default, at most 16,384.
     pub senders: u32,
+    /// How many arrays of 4, 8, .., 1,024 entries there are for caches, at most 65,535 of each.
     pub arrays: [u32; 9],
 }
 
+/// What was done to caches since the runtime was opened.
 #[repr(C)]
 #[derive(Clone, Copy, Debug, Default, PartialEq, Eq)]
 pub struct msg_report_row {
+    /// Entries that were stored in caches.
     pub fills: u64,
+    /// Arrays that were installed for an entry.
     pub growths: u64,
+    /// Classes or metaclasses whose array a change took.
     pub flushes: u64,
+    /// Arrays that were taken by a change or a growth.
     pub retired: u64,
+    /// Installs of an array that was installed before.
     pub given_again: u64,
+    /// Searches for arrays nobody holds any more.
     pub collections: u64,
+    /// Arrays freed by them; other retired ones wait.
     pub freed: u64,
+    /// Entries not cached: no array of 4, 8, .. is free.
     pub no_array: [u64; 9],
+    /// Senders asked for while all were out.
     pub refused_senders: u64,
 }
 
@@ -119,35 +179,64 @@ pub const MSG_TEXTS_INIT: msg_texts = msg_texts {
     open: false,
 };
 
+/// Success.
 pub const MSG_DONE: u32 = 0;
+/// No class of the number, or it isn't made.
 pub const MSG_NO_SUCH_CLASS: u32 = 1;
+/// The implementation's number is 0.
 pub const MSG_NO_SUCH_IMP: u32 = 2;
+/// Never of a host's runtime.
 pub const MSG_ARGUMENT_COUNT: u32 = 3;
+/// The class has the method itself.
 pub const MSG_METHOD_PRESENT: u32 = 4;
+/// No such method is found.
 pub const MSG_NO_METHOD: u32 = 5;
+/// 2^48 changes, 2^32 methods or 2^32 - 1 texts.
 pub const MSG_LIMIT: u32 = 6;
+/// No memory for the change.
 pub const MSG_CHANGE_MEMORY: u32 = 7;
+/// The class is made already.
 pub const MSG_DUPLICATE_CLASS: u32 = 8;
+/// A class is below it.
 pub const MSG_CLASS_IN_USE: u32 = 9;
+/// A handle isn't open.
 pub const MSG_CLOSED: u32 = 64;
+/// The handle is open already.
 pub const MSG_ALREADY_OPEN: u32 = 65;
+/// A class number isn't below the count.
 pub const MSG_NO_CLASS: u32 = 66;
+/// A selector's number is 0.
 pub const MSG_NO_SELECTOR: u32 = 67;
+/// As many senders as the config says are open.
 pub const MSG_NO_SENDER: u32 = 68;
+/// No memory.
 pub const MSG_NO_MEMORY: u32 = 69;
+/// There is no superclass, method or text.
 pub const MSG_NONE: u32 = 70;
+/// Msg_probe: not cached. Ask msg_fill.
 pub const MSG_MISSED: u32 = 71;
+/// A field is beyond its most, or isn't known.
 pub const MSG_BAD_CONFIG: u32 = 73;
+/// A change of no kind, or meta above 1.
 pub const MSG_BAD_CHANGE: u32 = 75;
+/// The array for the answer has another size.
 pub const MSG_NO_ROOM: u32 = 76;
+/// Msg_process.h: the thread has the lock.
 pub const MSG_LOCK_HELD: u32 = 74;
 
 extern "C" {
+    /// Opens a runtime without classes and without changes.
     pub fn msg_open_words(runtime: *mut msg_runtime, config: *const u32, words: usize) -> u32;
+    /// Closes a runtime and gives its memory back.
     pub fn msg_close(runtime: *mut msg_runtime) -> u32;
+    /// How many class numbers the config reserved.
     pub fn msg_class_count(runtime: *mut msg_runtime, count: *mut u32) -> u32;
+    /// How many changes were made.
     pub fn msg_change_count(runtime: *mut msg_runtime, count: *mut u64) -> u32;
+    /// What was done to caches: as many fields of a msg_report_row as there is room for in `words`,
+    /// which has `count` entries.
     pub fn msg_report_words(runtime: *mut msg_runtime, words: *mut u64, count: usize) -> u32;
+    /// Looks a method up after all changes so far (class_getMethodImplementation).
     pub fn msg_lookup(
         runtime: *mut msg_runtime,
         number: u32,
@@ -155,12 +244,16 @@ extern "C" {
         sel: u32,
         imp: *mut u32,
     ) -> u32;
+    /// What stands above (class_getSuperclass): above a class its superclass, above a metaclass the
+    /// superclass's metaclass, and above a root's metaclass the root itself.
     pub fn msg_superclass(
         runtime: *mut msg_runtime,
         number: u32,
         meta: bool,
         above: *mut msg_class,
     ) -> u32;
+    /// Where the method stands that a lookup finds (class_getInstanceMethod): the class itself, or
+    /// one above it.
     pub fn msg_holder(
         runtime: *mut msg_runtime,
         number: u32,
@@ -168,6 +261,8 @@ extern "C" {
         sel: u32,
         at: *mut msg_class,
     ) -> u32;
+    /// The methods that a class or a metaclass has itself (class_copyMethodList), the newest first:
+    /// of several of one selector a lookup finds the first.
     pub fn msg_methods(
         runtime: *mut msg_runtime,
         number: u32,
@@ -176,12 +271,14 @@ extern "C" {
         room: usize,
         count: *mut usize,
     ) -> u32;
+    /// The classes that are made (objc_getClassList), each after its superclass, in the same way.
     pub fn msg_classes(
         runtime: *mut msg_runtime,
         classes: *mut u32,
         room: usize,
         count: *mut usize,
     ) -> u32;
+    /// The classes below a class, in the same way: its subclasses, theirs, and so on, each once.
     pub fn msg_classes_below(
         runtime: *mut msg_runtime,
         number: u32,
@@ -189,7 +286,10 @@ extern "C" {
         room: usize,
         count: *mut usize,
     ) -> u32;
+    /// Gives a class a method of its own (class_addMethod), which hides an inherited one.
     pub fn msg_add(runtime: *mut msg_runtime, number: u32, meta: bool, sel: u32, imp: u32) -> u32;
+    /// Gives a class this method in place of its own (class_replaceMethod), or adds it if the class
+    /// has none of its own.
     pub fn msg_replace(
         runtime: *mut msg_runtime,
         number: u32,
@@ -197,6 +297,7 @@ extern "C" {
         sel: u32,
         imp: u32,
     ) -> u32;
+    /// Sets the method that a lookup in the class finds (method_setImplementation).
     pub fn msg_set_imp(
         runtime: *mut msg_runtime,
         number: u32,
@@ -204,6 +305,8 @@ extern "C" {
         sel: u32,
         imp: u32,
     ) -> u32;
+    /// Exchanges the two methods that lookups find (method_exchangeImplementations), each where it
+    /// stands.
     pub fn msg_exchange(
         runtime: *mut msg_runtime,
         number: u32,
@@ -213,6 +316,7 @@ extern "C" {
         other_meta: bool,
         other_sel: u32,
     ) -> u32;
+    /// Attaches a category: `methods` for a class, and `class_methods` for its metaclass.
     pub fn msg_attach(
         runtime: *mut msg_runtime,
         number: u32,
@@ -221,16 +325,25 @@ extern "C" {
         class_methods: *const msg_method,
         class_count: usize,
     ) -> u32;
+    /// Makes a class (objc_allocateClassPair with objc_registerClassPair) and its metaclass,
+    /// without methods, below a superclass that is made.
     pub fn msg_make_class(runtime: *mut msg_runtime, number: u32, superclass: u32) -> u32;
+    /// Makes a root class and its metaclass, without methods.
     pub fn msg_make_root_class(runtime: *mut msg_runtime, number: u32) -> u32;
+    /// Takes the method away that a class has of its own (class_removeMethod).
     pub fn msg_remove(runtime: *mut msg_runtime, number: u32, meta: bool, sel: u32) -> u32;
+    /// Takes a class away (objc_disposeClassPair), with its metaclass and the methods of both.
     pub fn msg_dispose_class(runtime: *mut msg_runtime, number: u32) -> u32;
+    /// Makes a list of `count` changes as one: every lookup, by whatever sender, is from before all
+    /// of them or from after all, and the count of changes grows by one.
     pub fn msg_change_all(
         runtime: *mut msg_runtime,
         changes: *const msg_change,
         count: usize,
         place: *mut usize,
     ) -> u32;
+    /// msg_change_all that also writes a way back: `undone` changes in `undo`, which has `room`
+    /// entries.
     pub fn msg_change_all_with_undo(
         runtime: *mut msg_runtime,
         changes: *const msg_change,
@@ -240,6 +353,8 @@ extern "C" {
         undone: *mut usize,
         place: *mut usize,
     ) -> u32;
+    /// A dry run of msg_change_all: which lookups would it change? `reached` has `room` entries,
+    /// twice as many as there are class numbers: [2 * n] is class n, and [2 * n + 1] its metaclass.
     pub fn msg_reach(
         runtime: *mut msg_runtime,
         changes: *const msg_change,
@@ -248,9 +363,14 @@ extern "C" {
         room: usize,
         place: *mut usize,
     ) -> u32;
+    /// Where the words lie that all threads share, which the inline recall loads a stamp from.
     pub fn msg_words(runtime: *mut msg_runtime, words: *mut *const u64) -> u32;
+    /// Opens a sender for one thread.
     pub fn msg_sender_open(runtime: *mut msg_runtime, sender: *mut msg_sender) -> u32;
+    /// Closes a sender.
     pub fn msg_sender_close(runtime: *mut msg_runtime, sender: *mut msg_sender) -> u32;
+    /// Looks a method up after all changes so far (lookUpImpOrForward), which the sender has then
+    /// seen.
     pub fn msg_fill(
         runtime: *mut msg_runtime,
         sender: *mut msg_sender,
@@ -259,6 +379,7 @@ extern "C" {
         sel: u32,
         imp: *mut u32,
     ) -> u32;
+    /// Looks up several after all changes so far, which the sender has then seen.
     pub fn msg_fill_all(
         runtime: *mut msg_runtime,
         sender: *mut msg_sender,
@@ -268,12 +389,22 @@ extern "C" {
         room: usize,
         place: *mut usize,
     ) -> u32;
+    /// Shows the sender all changes so far.
     pub fn msg_meet(runtime: *mut msg_runtime, sender: *mut msg_sender) -> u32;
+    /// msg_meet, and notes that the sender rests: the host says by it that nothing the sender found
+    /// before is in use.
     pub fn msg_rest(runtime: *mut msg_runtime, sender: *mut msg_sender) -> u32;
+    /// When old code can go: how many changes every open sender had seen when it rested last.
     pub fn msg_seen_by_all(runtime: *mut msg_runtime, count: *mut u64) -> u32;
+    /// The library's MSG_VERSION_NUMBER: a host that may meet another library compares it with its
+    /// own.
     pub fn msg_version() -> u32;
+    /// How many bytes a msg_sender has, for hosts that don't compile this header.
     pub fn msg_sender_size() -> usize;
+    /// What the sender has noted of the lookup after `since` changes or more, for slot 2 * number +
+    /// meta.
     pub fn msg_recall(sender: *const msg_sender, slot: usize, sel: u32, since: u64) -> usize;
+    /// What is cached (cache_getImp): what the sender has noted, else what the shared cache has.
     pub fn msg_probe(
         sender: *mut msg_sender,
         number: u32,
@@ -281,6 +412,8 @@ extern "C" {
         sel: u32,
         imp: *mut u32,
     ) -> u32;
+    /// What several lookups find, all at one version: after the same changes, which the sender has
+    /// then seen, and which are no fewer than before.
     pub fn msg_probe_all(
         sender: *mut msg_sender,
         lookups: *const msg_lookup_row,
@@ -289,22 +422,31 @@ extern "C" {
         room: usize,
         place: *mut usize,
     ) -> u32;
+    /// How many changes there are.
     pub fn msg_refresh(sender: *mut msg_sender, count: *mut u64) -> u32;
+    /// The stamp of a class, or of its metaclass: no change after so many has affected it, so what
+    /// msg_recall has since then is what a lookup finds.
     pub fn msg_stamp(sender: *mut msg_sender, number: u32, meta: bool, stamp: *mut u64) -> u32;
+    /// Opens texts, of which there are none yet.
     pub fn msg_texts_open(texts: *mut msg_texts) -> u32;
+    /// Closes texts and gives their memory back.
     pub fn msg_texts_close(texts: *mut msg_texts) -> u32;
+    /// The text's number (sel_registerName).
     pub fn msg_texts_intern(
         texts: *mut msg_texts,
         text: *const u8,
         length: usize,
         number: *mut u32,
     ) -> u32;
+    /// The text's number.
     pub fn msg_texts_find(
         texts: *mut msg_texts,
         text: *const u8,
         length: usize,
         number: *mut u32,
     ) -> u32;
+    /// The number's text (sel_getName): as much as there is room for in `into`, and `length` is set
+    /// to how long it is.
     pub fn msg_texts_text(
         texts: *mut msg_texts,
         number: u32,
@@ -312,13 +454,12 @@ extern "C" {
         room: usize,
         length: *mut usize,
     ) -> u32;
+    /// How many colons a text has: as many arguments as a selector takes that is named so.
     pub fn msg_texts_colons(texts: *mut msg_texts, number: u32, count: *mut usize) -> u32;
-    pub fn msg_type_first(
-        text: *const u8,
-        length: usize,
-        size: *mut u64,
-        align: *mut u64,
-    ) -> usize;
+    /// The size and alignment of a text's first type, in bytes.
+    pub fn msg_type_first(text: *const u8, length: usize, size: *mut u64, align: *mut u64)
+        -> usize;
+    /// The next member of a structure, in front of a text.
     pub fn msg_type_member(
         text: *const u8,
         length: usize,

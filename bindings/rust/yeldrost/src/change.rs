@@ -6,45 +6,75 @@ use yeldrost_sys as sys;
 /// makes alone.
 #[derive(Clone, Copy, Debug, PartialEq, Eq, Hash)]
 pub enum Change {
+    /// As [`add`](crate::Locked::add).
     Add {
-        to: ClassRef,
+        /// The class that gets it.
+        of: ClassRef,
+        /// The message's name.
         selector: Selector,
+        /// What it is answered by.
         imp: Imp,
     },
+    /// As [`replace`](crate::Locked::replace).
     Replace {
+        /// The class that it is of.
         of: ClassRef,
+        /// The message's name.
         selector: Selector,
+        /// What it is answered by.
         imp: Imp,
     },
+    /// As [`set_imp`](crate::Locked::set_imp).
     SetImp {
+        /// The class that it is of.
         of: ClassRef,
+        /// The message's name.
         selector: Selector,
+        /// What it is answered by.
         imp: Imp,
     },
+    /// As [`exchange`](crate::Locked::exchange).
     Exchange {
+        /// The class that it is of.
         of: ClassRef,
+        /// The message's name.
         selector: Selector,
+        /// The class of the other method.
         other: ClassRef,
+        /// The other message's name.
         other_selector: Selector,
     },
+    /// As [`make_class`](crate::Locked::make_class).
     MakeClass {
+        /// The class's number.
         number: u32,
+        /// The number of the class above it.
         superclass: u32,
     },
+    /// As [`make_root_class`](crate::Locked::make_root_class).
     MakeRootClass {
+        /// The class's number.
         number: u32,
     },
+    /// As [`remove`](crate::Locked::remove).
     Remove {
+        /// The class that it is of.
         of: ClassRef,
+        /// The message's name.
         selector: Selector,
     },
+    /// As [`dispose_class`](crate::Locked::dispose_class).
     DisposeClass {
+        /// The class's number.
         number: u32,
     },
     /// As [`attach`](crate::Locked::attach) of one method: it stands before the one that is there.
     Cover {
+        /// The class that it is of.
         of: ClassRef,
+        /// The message's name.
         selector: Selector,
+        /// What it is answered by.
         imp: Imp,
     },
 }
@@ -110,7 +140,7 @@ impl Change {
 
     pub(crate) fn row(self) -> sys::msg_change {
         match self {
-            Change::Add { to, selector, imp } => with_imp(sys::MSG_ADDS, to, selector, imp),
+            Change::Add { of, selector, imp } => with_imp(sys::MSG_ADDS, of, selector, imp),
             Change::Replace { of, selector, imp } => with_imp(sys::MSG_REPLACES, of, selector, imp),
             Change::SetImp { of, selector, imp } => with_imp(sys::MSG_SETS_IMP, of, selector, imp),
             Change::Exchange {
@@ -138,6 +168,7 @@ impl Change {
 /// Why a list of changes was refused. Nothing has changed by it.
 #[derive(Clone, Copy, Debug, PartialEq, Eq, Hash)]
 pub struct Refused {
+    /// Why.
     pub fault: Fault,
     /// Which change of the list is refused, from 0; or none, where the runtime isn't open.
     pub place: Option<usize>,
@@ -167,4 +198,8 @@ impl fmt::Display for Refused {
     }
 }
 
-impl std::error::Error for Refused {}
+impl std::error::Error for Refused {
+    fn source(&self) -> Option<&(dyn std::error::Error + 'static)> {
+        Some(&self.fault)
+    }
+}

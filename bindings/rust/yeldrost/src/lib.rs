@@ -1,4 +1,4 @@
-//! Safe calls of Yeldrost, message dispatch in the manner of Objective-C's runtime, whose answers are proved.
+//! Safe calls of Yeldrost, message dispatch as Objective-C's runtime does it, with machine-checked proofs.
 //!
 //! A [`Runtime`] is shared by its clones and its senders. A [`Sender`] is what one thread looks methods up by: it is
 //! `Send` and not `Sync`. [`Runtime::lock`] gives what may be asked and changed under the runtime's lock. Numbers of
@@ -19,9 +19,11 @@
 //! # Ok(())
 //! # }
 //! ```
+#![warn(missing_docs)]
 mod change;
 mod fault;
 mod locked;
+mod number;
 mod sender;
 mod texts;
 mod types;
@@ -29,28 +31,25 @@ mod types;
 pub use change::{Change, Refused};
 pub use fault::Fault;
 pub use locked::Locked;
-pub use sender::Sender;
-use std::num::NonZeroU32;
+pub use number::{Imp, Selector};
+pub use sender::{Probed, Sender};
 use std::sync::{Arc, Mutex, MutexGuard, PoisonError};
 pub use sys::{msg_config as Config, msg_report_row as Report};
 pub use texts::Texts;
-pub use types::{EncodedMember, EncodedType, first_type, next_member};
+pub use types::{first_type, next_member, EncodedMember, EncodedType};
 use yeldrost_sys as sys;
-
-/// A selector's number, from 1, which the caller gives.
-pub type Selector = NonZeroU32;
-
-/// An implementation's number, from 1, which the caller gives. That there is none is forwarding.
-pub type Imp = NonZeroU32;
 
 /// A class, as its instances find methods; or its metaclass, as the class itself finds them.
 #[derive(Clone, Copy, Debug, PartialEq, Eq, Hash)]
 pub struct ClassRef {
+    /// The class's number, from 0, which the caller gives.
     pub number: u32,
+    /// Whether it is the metaclass.
     pub meta: bool,
 }
 
 impl ClassRef {
+    /// The class, as its instances find methods.
     pub const fn instances_of(number: u32) -> ClassRef {
         ClassRef {
             number,
@@ -58,6 +57,7 @@ impl ClassRef {
         }
     }
 
+    /// The metaclass, as the class itself finds methods.
     pub const fn class_itself(number: u32) -> ClassRef {
         ClassRef { number, meta: true }
     }
@@ -86,7 +86,9 @@ impl From<sys::msg_class> for ClassRef {
 /// A method of a list that is attached to a class, or one that a class has.
 #[derive(Clone, Copy, Debug, PartialEq, Eq)]
 pub struct Method {
+    /// The message's name.
     pub selector: Selector,
+    /// What it is answered by.
     pub imp: Imp,
 }
 
@@ -183,7 +185,17 @@ impl Runtime {
         self.lock().lookup(of, selector)
     }
 
-    /// Closes it for all its clones. Its senders find what they have noted or cached, and else answer
+    /// As [`Locked::superclass`].
+    pub fn superclass(&self, of: ClassRef) -> Result<Option<ClassRef>, Fault> {
+        self.lock().superclass(of)
+    }
+
+    /// As [`Locked::holder`].
+    pub fn holder(&self, of: ClassRef, selector: Selector) -> Result<Option<ClassRef>, Fault> {
+        self.lock().holder(of, selector)
+    }
+
+    /// Closes it for all its clones. Its senders find what they have noted or cached, and else return
     /// [`Fault::Closed`].
     pub fn close(&self) -> Result<(), Fault> {
         // SAFETY: a handle of msg_open, under its lock.

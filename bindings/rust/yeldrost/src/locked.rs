@@ -29,6 +29,7 @@ impl<'r> Locked<'r> {
         Ok(count)
     }
 
+    /// How many changes were made. A list counts as one.
     pub fn change_count(&mut self) -> Result<u64, Fault> {
         let mut count = 0;
         Fault::of(unsafe { sys::msg_change_count(&mut self.handle.0, &mut count) })?;
@@ -57,6 +58,8 @@ impl<'r> Locked<'r> {
         Ok(Imp::new(imp))
     }
 
+    /// What stands above: above a class its superclass, above a metaclass the superclass's metaclass, and above a root's
+    /// metaclass the root itself. None above a root class.
     pub fn superclass(&mut self, of: ClassRef) -> Result<Option<ClassRef>, Fault> {
         let mut above = sys::msg_class::default();
         let answer =
@@ -102,10 +105,12 @@ impl<'r> Locked<'r> {
         })
     }
 
+    /// Makes a root class and its metaclass, without methods.
     pub fn make_root_class(&mut self, number: u32) -> Result<&mut Self, Fault> {
         self.change(|runtime| unsafe { sys::msg_make_root_class(runtime, number) })
     }
 
+    /// Makes a class and its metaclass, without methods, below a superclass that is made.
     pub fn make_class(&mut self, number: u32, superclass: u32) -> Result<&mut Self, Fault> {
         self.change(|runtime| unsafe { sys::msg_make_class(runtime, number, superclass) })
     }
@@ -203,8 +208,8 @@ impl<'r> Locked<'r> {
         self.change(|runtime| unsafe { sys::msg_dispose_class(runtime, number) })
     }
 
-    /// Makes several changes as one: each lookup answers from before all of them or after all. It is refused as the
-    /// first is that would be refused where those before it were made.
+    /// Makes several changes as one: each lookup finds what was before all of them or what is after all. The list is
+    /// refused for the first that would be refused after those before it.
     pub fn change_all(&mut self, changes: &[Change]) -> Result<&mut Self, Refused> {
         let rows: Vec<sys::msg_change> = changes.iter().map(|it| it.row()).collect();
         let mut place = 0;
@@ -214,7 +219,7 @@ impl<'r> Locked<'r> {
         self.change(made).map_err(|fault| Refused::of(fault, place))
     }
 
-    /// As [`change_all`](Locked::change_all), and answers what takes the changes back if it is made as one directly
+    /// As [`change_all`](Locked::change_all), and returns the list that takes the changes back if it is made directly
     /// afterwards.
     pub fn change_all_with_undo(&mut self, changes: &[Change]) -> Result<Vec<Change>, Refused> {
         let rows: Vec<sys::msg_change> = changes.iter().map(|it| it.row()).collect();

@@ -3,6 +3,17 @@ use std::alloc::{alloc_zeroed, handle_alloc_error, Layout};
 use std::sync::Arc;
 use yeldrost_sys as sys;
 
+/// What [`Sender::probe`] finds.
+#[derive(Clone, Copy, Debug, PartialEq, Eq)]
+pub enum Probed {
+    /// The implementation.
+    Found(Imp),
+    /// There is no method, which is forwarding.
+    NoMethod,
+    /// It is neither noted nor cached: [`Locked::fill`](crate::Locked::fill) looks it up.
+    Missed,
+}
+
 /// What one thread looks methods up by. It may go to another thread (`Send`), and isn't shared by two (not `Sync`):
 ///
 /// ```compile_fail
@@ -71,24 +82,31 @@ impl Sender {
         if answer == sys::MSG_MISSED {
             let mut held = self.shared.held();
             answer = unsafe {
-                sys::msg_fill_all(&mut held.0, raw, rows.as_ptr(), count, into, count, &mut place)
+                sys::msg_fill_all(
+                    &mut held.0,
+                    raw,
+                    rows.as_ptr(),
+                    count,
+                    into,
+                    count,
+                    &mut place,
+                )
             };
         }
         Fault::of(answer).map_err(|fault| Refused::of(fault, place))?;
         Ok(imps.into_iter().map(Imp::new).collect())
     }
 
-    /// Noted or cached, at what the sender has then seen: an implementation, or inside there is none. Nothing where
-    /// it isn't; then ask [`crate::Locked::fill`].
-    pub fn probe(
-        &mut self,
-        of: ClassRef,
-        selector: Selector,
-    ) -> Result<Option<Option<Imp>>, Fault> {
+    /// What is noted, or else cached: the lookup after the changes that the sender has then seen. It takes no lock.
+    pub fn probe(&mut self, of: ClassRef, selector: Selector) -> Result<Probed, Fault> {
         let mut imp = 0;
         let answer =
             unsafe { sys::msg_probe(&mut *self.raw, of.number, of.meta, selector.get(), &mut imp) };
-        Ok(Fault::or_none(answer, ())?.map(|()| Imp::new(imp)))
+        Ok(match Fault::or_none(answer, Imp::new(imp))? {
+            Some(Some(imp)) => Probed::Found(imp),
+            Some(None) => Probed::NoMethod,
+            None => Probed::Missed,
+        })
     }
 
     /// What is noted since the stamp of the class reference, without a call. Nothing where none is, or where no method

@@ -32,18 +32,18 @@ impl Texts {
         Fault::of(unsafe {
             sys::msg_texts_intern(&mut self.0, text.as_ptr(), text.len(), &mut number)
         })?;
-        NonZeroU32::new(number).ok_or(Fault::None)
+        NonZeroU32::new(number).ok_or(Fault::Unknown(sys::MSG_NONE))
     }
 
-    /// The text's number, where it has one.
+    /// The text's number, if it has one.
     pub fn find(&mut self, text: &[u8]) -> Result<Option<NonZeroU32>, Fault> {
         let mut number = 0;
         let answer =
             unsafe { sys::msg_texts_find(&mut self.0, text.as_ptr(), text.len(), &mut number) };
-        Ok(there(answer, number)?.and_then(NonZeroU32::new))
+        Ok(Fault::or_none(answer, number)?.and_then(NonZeroU32::new))
     }
 
-    /// The text of a number, where there is one.
+    /// The text of a number, if there is one.
     pub fn text(&mut self, number: u32) -> Result<Option<Vec<u8>>, Fault> {
         let (mut text, mut length) = (Vec::new(), 0);
         loop {
@@ -56,7 +56,7 @@ impl Texts {
                     &mut length,
                 )
             };
-            match there(answer, length)? {
+            match Fault::or_none(answer, length)? {
                 Some(length) if length != text.len() => text.resize(length, 0),
                 found => return Ok(found.map(|_| text)),
             }
@@ -67,15 +67,7 @@ impl Texts {
     pub fn colons(&mut self, number: u32) -> Result<Option<usize>, Fault> {
         let mut count = 0;
         let answer = unsafe { sys::msg_texts_colons(&mut self.0, number, &mut count) };
-        there(answer, count)
-    }
-}
-
-fn there<T>(answer: u32, found: T) -> Result<Option<T>, Fault> {
-    match Fault::of(answer) {
-        Ok(()) => Ok(Some(found)),
-        Err(Fault::None) => Ok(None),
-        Err(fault) => Err(fault),
+        Fault::or_none(answer, count)
     }
 }
 

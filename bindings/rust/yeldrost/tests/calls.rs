@@ -1,7 +1,7 @@
 //! Each call of the header through the safe crate, each kind of fault, and threads beside changes.
 use std::sync::atomic::{AtomicBool, Ordering};
 use yeldrost::{
-    Change, ClassRef, Config, Fault, Imp, Method, Refused, Runtime, Selector, Sender, Texts,
+    Change, ClassRef, Config, Fault, Imp, Method, Probed, Refused, Runtime, Selector, Sender, Texts,
 };
 
 const ROOT: u32 = 0;
@@ -125,6 +125,7 @@ fn changes() {
         Fault::DuplicateClass,
     ];
     assert_eq!(faults.map(Some), refused);
+    assert_eq!([1, 1, 4, 5, 8], faults.map(Fault::number));
     assert_eq!(Ok(count), now.change_count());
 }
 
@@ -147,7 +148,7 @@ fn lists_of_changes() {
             superclass: CHILD,
         },
         Change::Add {
-            to: others,
+            of: others,
             selector: s(TAKE),
             imp: i(7),
         },
@@ -248,6 +249,8 @@ fn a_refused_list_changes_nothing() {
     );
     assert_eq!(Ok(4), runtime.lock().change_count());
     assert_eq!(Ok(Some(i(1))), runtime.lookup(CHILDREN, s(VALUE)));
+    assert_eq!(Ok(Some(ROOTS)), runtime.superclass(CHILDREN));
+    assert_eq!(Ok(Some(ROOTS)), runtime.holder(CHILDREN, s(VALUE)));
     runtime.close().unwrap();
     for list in [&changes[..1], &[]] {
         let answer = runtime.lock().change_all(list).err();
@@ -288,7 +291,7 @@ fn senders() {
     });
     assert_eq!(1_000, unsafe { yeldrost_sys::msg_version() });
     assert_eq!(
-        (Ok(None), None),
+        (Ok(Probed::Missed), None),
         (
             sender.probe(ROOTS, s(VALUE)),
             sender.recall(CHILDREN, s(VALUE))
@@ -298,11 +301,12 @@ fn senders() {
         Ok(Some(i(1))),
         runtime.lock().fill(&mut sender, CHILDREN, s(VALUE))
     );
-    assert_eq!(Ok(Some(Some(i(1)))), sender.probe(CHILDREN, s(VALUE)));
+    assert_eq!(Ok(Probed::Found(i(1))), sender.probe(CHILDREN, s(VALUE)));
     assert_eq!(Some(i(1)), sender.recall(CHILDREN, s(VALUE)));
     assert_eq!(Some(i(1)), sender.recall_since(CHILDREN, s(VALUE), 4));
     assert_eq!(Ok(Some(i(4))), sender.find(CHILD_ITSELF, s(NEW)));
     assert_eq!(Ok(None), sender.find(CHILDREN, s(TAKE)));
+    assert_eq!(Ok(Probed::NoMethod), sender.probe(CHILDREN, s(TAKE)));
     runtime.lock().replace(CHILDREN, s(VALUE), i(5)).unwrap();
     assert_eq!(None, sender.recall(CHILDREN, s(VALUE)));
     assert_eq!(Ok(Some(i(5))), sender.find(CHILDREN, s(VALUE)));
@@ -343,7 +347,10 @@ fn several_as_one() {
     runtime.lock().replace(CHILDREN, s(NAME), i(8)).unwrap();
     assert_eq!(found(8), sender.find_all(&three));
     assert_eq!(Ok(vec![]), sender.find_all(&[]));
-    let beyond = [(CHILDREN, s(NAME)), (ClassRef::instances_of(u32::MAX), s(NAME))];
+    let beyond = [
+        (CHILDREN, s(NAME)),
+        (ClassRef::instances_of(u32::MAX), s(NAME)),
+    ];
     let refused = Refused {
         fault: Fault::NoClass,
         place: Some(1),
@@ -406,8 +413,12 @@ fn threads_beside_changes() {
 fn texts() {
     let mut texts = Texts::open().unwrap();
     for (text, number) in [("value", 1), ("setValue:forKey:", 2), ("", 3), ("value", 1)] {
-        assert_eq!(Ok(s(number)), texts.intern(text.as_bytes()));
-        assert_eq!(Ok(Some(s(number))), texts.find(text.as_bytes()));
+        assert_eq!(
+            Ok(s(number)),
+            texts.intern(text.as_bytes()).map(Selector::from)
+        );
+        let found = texts.find(text.as_bytes()).unwrap();
+        assert_eq!(Some(s(number)), found.map(Selector::from));
         assert_eq!(Ok(Some(text.as_bytes().to_vec())), texts.text(number));
     }
     assert_eq!(Ok(None), texts.find(b"valu"));

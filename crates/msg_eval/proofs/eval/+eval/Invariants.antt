@@ -4,7 +4,6 @@ use Rattle.msg_names.specs.declared.value.Value.{Value}
 use Rattle.msg_image.specs.Plain.{plain, plain_all}
 use Rattle.msg_image.specs.Sizes.{count, count_all}
 use Rattle.msg_image.specs.Sound.{IsOf, AreExpressionsOf}
-use Rattle.msg_tables.specs.History.{History}
 use Rattle.msg_eval.specs.Evaluated.{dispatched, all_evaluated}
 use Rattle.msg_eval.specs.Step.{ComesTo}
 use Rattle.msg_eval.proofs.eval.+eval.Given as goal
@@ -50,7 +49,7 @@ invariant-dispatch-loop-imp g l = record {
   class_listed : l.class.class < class_total l.message.image.now;
   from_listed : l.from.class < class_total l.message.image.now;
   no_more : l.left ≤ l.fn.left;
-  rest : (h : History) → g.F.Finder.stands l.fn.finder h → (t : ℕ) × (l.left ≤ t) × ComesTo {A = Value} (g.F.Finder.stands l.finder) h
+  rest : (h : g.F.Finder.Point) → g.F.Finder.stands l.fn.finder h → (t : ℕ) × (l.left ≤ t) × ComesTo {A = Value} g.F.Finder.step (g.F.Finder.stands l.finder) h
       (dispatched l.message l.fn.left l.fn.me l.fn.class l.fn.from l.fn.left)
       (dispatched l.message t l.me l.class l.from l.left);
 }
@@ -67,7 +66,7 @@ invariant-eval_args-loop-expr g l = record {
   as_many : length l.values.items ≡ l.expr-index;
   rest_of : AreExpressionsOf l.frame.image.now (plain_all (drop l.expr-index l.exprs));
   smaller : count_all (plain_all (drop l.expr-index l.exprs)) ≤ count_all (plain_all l.exprs);
-  rest : (h : History) → g.F.Finder.stands l.fn.finder h → ComesTo {A = List Value} (g.F.Finder.stands l.finder) h
+  rest : (h : g.F.Finder.Point) → g.F.Finder.stands l.fn.finder h → ComesTo {A = List Value} g.F.Finder.step (g.F.Finder.stands l.finder) h
       (all_evaluated l.frame (plain_all l.exprs) [] l.fn.left)
       (all_evaluated l.frame (plain_all (drop l.expr-index l.exprs)) l.values.items l.left);
 }

@@ -3,16 +3,14 @@ use Rattle.msg_image.specs.DocumentParts.{document_parts}
 use Rattle.msg_image.specs.Plain.{item_parts}
 use Rattle.msg_image.specs.Sound.{IsSoundItem}
 use Rattle.msg_eval.specs.Finder.{sizes_of, table_sizes}
-use Rattle.msg_reasons.specs.Explained.{IsReady}
 use Rattle.msg_reasons.specs.Lines.{AreLines}
 use Rattle.msg_reasons.proofs.ItemLemmas.{IsSoFar}
 use Rattle.msg_reasons.proofs.explaining.explain_document.Given as goal
 
 abbrev pub invariant-loop-item : goal.invariant-loop-item
 invariant-loop-item l = record {
-  sizes : table_sizes l.explainer.tables ≡ sizes_of l.document.image;
-  ready : IsReady l.explainer.tables l.explainer.notes;
+  sizes : table_sizes l.explainer.noting.tables ≡ sizes_of l.document.image;
   lines : AreLines l.document.image l.explainer.lines;
   sound : All (IsSoundItem l.document.image) (map item_parts (drop l.item-index l.document.items.items));
-  so_far : IsSoFar (document_parts l.document) l.explainer.tables l.text.items (map item_parts (drop l.item-index l.document.items.items));
+  so_far : IsSoFar (document_parts l.document) l.explainer.noting.tables l.text.items (map item_parts (drop l.item-index l.document.items.items));
 }

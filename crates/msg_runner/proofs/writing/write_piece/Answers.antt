@@ -4,6 +4,8 @@ use Rattle.msg_image.specs.Items.{SendItem}
 use Rattle.msg_image.specs.Plain.{item_parts}
 use Rattle.msg_image.specs.Sound.{IsSoundItem}
 use Rattle.msg_answers.specs.Serving.{sends_of}
+use Rattle.msg_eval.specs.Evaluation.{send_of}
+use Rattle.msg_eval.proofs.PointLemmas.{points_of}
 use Rattle.msg_answers.proofs.ServingLemmas.{all_head, not_a_send}
 use Rattle.msg_answers.proofs.WrittenLemmas.{writing_start, writing_here, writing_send, writing_changes, writing_end}
 use Rattle.msg_runner.proofs.writing.write_piece.Goals as goal
@@ -30,7 +32,8 @@ loop-item-preserved-in_ok-push_reply g c =
     let all = sends_of image (map item_parts c.args.items.now) in
     let here = writing_here image front all c.args.text.now.items c.loop-item.asking.sender.sender.seen.front c.loop-item.rest.now c.loop-item.text.items c.in-Some.item.now (SendItem c.in-Send.receiver c.in-Send.sel c.in-Send.args.items) c.in-Some.later.now c.loop-item.invariant c.in-Some.ensures.cases.0 (ap item_parts c.in-Send.is) in
     let x = c.send-reply.ensures.meaning c.loop-item.asking.sender.sender.seen.front refl in
-    writing_send image front all c.args.text.now.items c.loop-item.asking.sender.sender.seen.front c.send-reply.new.finder.sender.sender.seen.front c.loop-item.text.items c.push_reply.new.text.items c.in-Send.receiver c.in-Send.sel c.in-Send.args.items (map item_parts c.in-Some.later.now) x.points c.send-reply.result here (c.send-reply.ensures.kept ∙ here.same) x.rise x.ends x.there c.in_ok-push_reply.ensures
+    let e = points_of (send_of image c.in-Send.receiver c.in-Send.sel c.in-Send.args.items) c.loop-item.asking.sender.sender.seen.front x.point c.send-reply.result x.leads in
+    writing_send image front all c.args.text.now.items c.loop-item.asking.sender.sender.seen.front c.send-reply.new.finder.sender.sender.seen.front c.loop-item.text.items c.push_reply.new.text.items c.in-Send.receiver c.in-Send.sel c.in-Send.args.items (map item_parts c.in-Some.later.now) e.points c.send-reply.result here (c.send-reply.ensures.kept ∙ here.same) e.rise e.ends (x.there ∙ e.last) c.in_ok-push_reply.ensures
 
 pub loop-item-preserved : goal.loop-item-preserved
 loop-item-preserved g c =

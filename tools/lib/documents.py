@@ -1,0 +1,149 @@
+"""The documents of tools/measure/program, each heavy in one thing. A part of 1 is the whole size; the same
+part gives the same bytes each time."""
+import json
+import os
+import random
+
+from words import ROOT
+
+# the worked image of the tests: Root, Child, Grand, Side and Proxy
+IMAGE = os.path.join(ROOT, "crates", "msg_documents", "data", "answers", "messages_are_forwarded.json")
+MOST_BYTES = 16_777_216
+
+
+def document(classes, objects, imps, items):
+    return {"version": 1, "classes": classes, "categories": [], "objects": objects, "imps": imps, "items": items}
+
+
+def class_(name, above, methods=()):
+    return {"name": name, "super": above, "methods": list(methods), "class_methods": []}
+
+
+def object_(name, of):
+    return {"name": name, "class": of}
+
+
+def imp(name, args, body):
+    return {"name": name, "class": "Root", "meta": False, "args": args, "body": body}
+
+
+def send(name, selector, *values):
+    return {"send": [["obj", name], selector, *values]}
+
+
+def worked(items):
+    with open(IMAGE, encoding="utf-8") as it:
+        return dict(json.load(it), items=items)
+
+
+def worked_imps(names):
+    return [it for it in worked([])["imps"] if it["name"] in names]
+
+
+def sum_of(count, leaf):
+    """A body of so many expressions, all of them sums but the leaves."""
+    if count == 1:
+        return leaf()
+    left = (count - 1) // 2
+    return ["add", sum_of(left, leaf), sum_of(count - 1 - left, leaf)]
+
+
+def sum_over(parts):
+    return parts[0] if len(parts) == 1 else ["add", sum_over(parts[: len(parts) // 2]), sum_over(parts[len(parts) // 2:])]
+
+
+def parse_heavy(many, dice):
+    """13 MB: 4,096 bodies of 255 expressions, of which one is used."""
+    leaf = lambda: dice.choice([["arg", 0], ["arg", 1]] + [dice.randrange(10**17, 9 * 10**17) for _ in range(6)])
+    imps = [imp(f"i{at:04d}", 2, sum_of(255, leaf) if at else 1) for at in range(many(4096))]
+    return document([class_("Root", None, [["m::", "i0000"]])], [object_("r", "Root")], imps, [send("r", "m::", 1, 2)] * many(2000))
+
+
+def send_heavy(many, _dice):
+    """60,000 sends to a body that adds numbers."""
+    body = ["add", ["add", ["arg", 0], ["mul", ["arg", 1], 3]], ["sub", 100, ["arg", 0]]]
+    classes = [class_("Root", None, [["sum:with:", "i_sum"]]), class_("Child", "Root")]
+    return document(classes, [object_("c", "Child")], [imp("i_sum", 2, body)], [send("c", "sum:with:", at, at * 7) for at in range(many(60_000))])
+
+
+def eval_heavy(many, dice):
+    """20,000 sends of one body of 255 expressions."""
+    body = sum_of(255, lambda: dice.choice([["arg", 0], 3]))
+    return document([class_("Root", None, [["big:", "i_big"]])], [object_("c", "Root")], [imp("i_big", 1, body)], [send("c", "big:", at) for at in range(many(20_000))])
+
+
+def lookup_heavy(many, _dice):
+    """1,000 sends of 10,000 lookups, in a chain of three classes."""
+    return worked([send("g", "top")] * many(1000))
+
+
+def lookup_deep(many, _dice):
+    """The same below 40 classes of 24 methods."""
+    classes = [class_("Root", None, [["spread:", "r_spread"], ["top", "r_top"]])]
+    for at in range(40):
+        classes.append(class_(f"D{at}", classes[-1]["name"], [[f"d{at}_{one}", "one"] for one in range(24)]))
+    return document(classes, [object_("g", "D39")], worked_imps(("r_spread", "r_top")) + [imp("one", 0, 1)], [send("g", "top")] * many(1000))
+
+
+def lookup_poly(many, dice):
+    """Bodies that send 64 selectors to objects of 32 classes: some 4,100 lookups a send."""
+    groups = range(16)
+    methods = [[f"s{at}", f"b{at}"] for at in range(64)] + [[f"g{at}", f"ig{at}"] for at in groups] + [["all:", "i_all"]]
+    classes = [class_("Root", None, methods)]
+    for at in range(32):
+        own = [[f"s{one}", f"b{(one * 7 + at) % 64}"] for one in dice.sample(range(64), 12)]
+        classes.append(class_(f"P{at}", classes[dice.randrange(len(classes))]["name"], own))
+    imps = [imp(f"b{at}", 0, at) for at in range(64)]
+    for at in groups:
+        imps.append(imp(f"ig{at}", 0, sum_over([["send", ["obj", f"o{dice.randrange(32)}"], f"s{dice.randrange(64)}"] for _ in range(63)])))
+    again = ["send", ["self"], "all:", ["sub", ["arg", 0], 1]]
+    imps.append(imp("i_all", 1, ["if", ["arg", 0], sum_over([["send", ["self"], f"g{at}"] for at in groups] + [again]), 0]))
+    objects = [object_(f"o{at}", f"P{at}") for at in range(32)]
+    return document(classes, objects, imps, [send(f"o{at % 32}", "all:", 4) for at in range(many(1000))])
+
+
+def change_heavy(many, _dice):
+    """30,000 changes, a send after each."""
+    items = []
+    for at in range(many(15_000)):
+        items += [{"change": ["replace", "Child", False, "name", "r_name" if at % 2 else "r_value"]}, send("g", "name")]
+        items += [{"change": ["exchange", "Root", False, "value", "Root", False, "name"]}, send("s", "value")]
+    return worked(items)
+
+
+def forward_heavy(many, _dice):
+    """60,000 sends that are forwarded."""
+    return worked([send("p", "value")] * many(60_000))
+
+
+def workers(many, _dice):
+    """2,048 sends of some 5,000 lookups, for several threads."""
+    return worked([send("g", "spread:", 11)] * many(2048))
+
+
+def beside(many, dice):
+    """54,000 sends of 127 lookups to 32 classes, and a change after each sixth."""
+    classes = [class_("Root", None, [["spread:", "r_spread"], ["value", "r_value"], ["name", "r_name"]])]
+    for at in range(32):
+        classes.append(class_(f"B{at}", classes[dice.randrange(len(classes))]["name"], [] if at % 3 else [["name", "r_name"]]))
+    items = []
+    for _ in range(many(9000)):
+        items += [send(f"b{dice.randrange(32)}", "spread:", 6) for _ in range(6)]
+        items.append({"change": ["replace", f"B{dice.randrange(32)}", False, "name", dice.choice(("r_name", "r_value"))]})
+    return document(classes, [object_(f"b{at}", f"B{at}") for at in range(32)], worked_imps(("r_value", "r_name", "r_spread")), items)
+
+
+BESIDE_THE_PEER = (parse_heavy, send_heavy, eval_heavy, lookup_heavy, lookup_deep, lookup_poly, change_heavy, forward_heavy)
+ON_THREADS = (workers, beside)
+
+
+def write(folder, made=BESIDE_THE_PEER, part=1.0):
+    """Writes documents into a folder, and tells their paths by their names."""
+    paths = {}
+    for make in made:
+        text = json.dumps(make(lambda count: max(1, int(count * part)), random.Random(1)), separators=(",", ":"))
+        assert len(text) <= MOST_BYTES, make.__name__
+        paths[make.__name__] = os.path.join(folder, make.__name__ + ".json")
+        with open(paths[make.__name__], "w", encoding="utf-8") as it:
+            it.write(text)
+    return paths

@@ -1,0 +1,318 @@
+"""Debian's programs for GNUstep over libobjc and over the shim, with inputs that are made here;
+their times; and bundles loaded beside threads that send: what tools/test/gnustep asks."""
+import bz2
+import difflib
+import glob
+import gzip
+import lzma
+import os
+import plistlib
+import re
+import shutil
+import statistics
+import subprocess
+import tarfile
+import zipfile
+
+import gnustep
+import measure
+from words import ROOT
+
+PLUGIN = "/usr/lib/openvpn/openvpn-auth-ldap.so"
+HEADERS = "/usr/include/GNUstep/Foundation"
+BUNDLES = 12
+# The aims are 1.0 of the time, of which a twentieth is noise, and 1.1 of the instructions.
+MOST_TIME, MOST_INSTRUCTIONS = 1.05, 1.1
+LONG = (("NSRegularExpression", "basic"), ("PropertyLists", "test01"), ("NSJSONSerialization", "tests00"), ("NSLock", "tryLock"), ("GSMime", "general"), ("NSURLConnection", "test03"))
+TIMED = 'TIMEFORMAT="processors %U %S"; time "$@" > /dev/null 2>&1'
+AUTOGSDOC = f"autogsdoc -Project Foundation -HeaderDirectory {HEADERS} -DocumentationDirectory doc -GenerateHtml YES NSArray.h NSDictionary.h NSString.h NSObject.h NSDate.h NSBundle.h"
+MEANT = {"name": "plain", "count": 17, "half": 0.5, "on": True, "bytes": b"\0\1\2", "list": ["one", {"two": 2}, ["three"]]}
+
+LDAP = """<LDAP>
+    URL ldap://127.0.0.1:3389
+    Timeout 5
+    TLSEnable no
+    FollowReferrals no
+</LDAP>
+<Authorization>
+    BaseDN "ou=People,dc=example,dc=com"
+    SearchFilter "(uid=%u)"
+    RequireGroup GROUP
+    <Group>
+        BaseDN "ou=Groups,dc=example,dc=com"
+        SearchFilter "(cn=developers)"
+        MemberAttribute uniqueMember
+    </Group>
+</Authorization>
+"""
+
+SOURCE = """/** A class that says what it is. <p>In two paragraphs.</p> */
+#import <Foundation/NSObject.h>
+@protocol Telling
+/** Tells a <em>word</em>. */
+- (id) tell: (id)word;
+@end
+@interface Small : NSObject <Telling>
+{ int count; }
+/** Answers aNumber, twice. See [NSObject-copy]. */
+- (int) twice: (int)aNumber;
++ (Small*) small;
+@end
+/** A function. */
+extern int smallFunction(int a, const char *b);
+#define SMALL_MACRO 1
+"""
+
+BODY = """#import "Small.h"
+/** Chapter of the file. */
+@implementation Small
+- (id) tell: (id)word { return word; }
+- (int) twice: (int)aNumber { return 2 * aNumber; }
++ (Small*) small { return NSLocalizedString(@"A word", @"a comment"); }
+@end
+"""
+
+SERVED = "python3 ldap_server.py 3389 & sleep 1; ./ldap " + PLUGIN
+
+# By their names, the commands that are run in a copy of the folder of inputs. (cvtenc -EscapeOut
+# writes bytes that it never set, which differ from run to run.)
+CASES = {
+    "gspath": "for what in defaults libpath path user; do gspath $what; done; gspath none",
+    "plparse": "plparse plain.plist xml.plist large.plist binary.plist broken.plist none",
+    "plmerge": "plmerge merged.plist plain.plist another.plist; plmerge new.plist plain.plist large.plist",
+    "plser": "for f in NSPropertyListOpenStepFormat NSPropertyListXMLFormat_v1_0 NSPropertyListBinaryFormat_v1_0 NSPropertyListGNUstepFormat NSPropertyListGNUstepBinaryFormat; do plser -Format $f plain.plist large.plist > out.$f; done",
+    "pldes": "plser -Format NSPropertyListGNUstepBinaryFormat plain.plist > serialized; pldes serialized; pldes binary.plist; pldes broken.plist",
+    "plget": "plget name < plain.plist; plget list < plain.plist; plget none < plain.plist",
+    "pl": "pl < plain.plist; pl -output serialized < plain.plist; pl -input serialized; pl < broken.plist",
+    "pl2link": "pl2link desktop.plist out.desktop",
+    "plutil": "for f in xml1 binary1 json openstep; do plutil -convert $f -o - plain.plist > out.$f; done; plutil -convert xml1 plain.plist; plutil -lint xml.plist; plutil -p xml.plist",
+    "the page's twenty lines": "./untold",
+    "plutil, wrong": "plutil; plutil -lint none; plutil -lint broken.plist; plutil -nothing plain.plist",
+    "defaults": "defaults write Domain key value; defaults write Domain list '(1, 2)'; defaults read Domain; defaults read Domain key; defaults delete Domain key; defaults read Domain; defaults domains; defaults find list; defaults read None",
+    "sfparse": "sfparse words.strings; sfparse --utf8 words.strings; sfparse --unicode words.strings; sfparse broken.plist",
+    "cvtenc": "cvtenc -Encoding NSISOLatin1StringEncoding latin.txt > wide; cvtenc -Encoding NSUTF8StringEncoding wide > utf8; cvtenc -Encoding none latin.txt; cvtenc -Encoding NSUTF8StringEncoding latin.txt",
+    "xmlparse": "xmlparse page.xml; xmlparse broken.xml; xmlparse xml.plist",
+    "HTMLLinker": "mkdir linked; HTMLLinker -FixupAllLinks YES page.html -l other.html -d linked; HTMLLinker -LinksMarker dynamical page.html -d linked",
+    "make_strings": "mkdir English.lproj German.lproj; make_strings -L English Small.m; make_strings --verbose --aggressive-match -L 'English German' Small.m Small.h",
+    "autogsdoc": "autogsdoc -Project Small -DocumentationDirectory doc -Standards YES -GenerateHtml YES Small.h Small.m",
+    "autogsdoc, broken": "autogsdoc -Project Broken -DocumentationDirectory doc broken.xml broken.plist none.h",
+    "autogsdoc, Foundation": AUTOGSDOC,
+    "gdomap": "gdomap -p -f & sleep 1; gdomap -N; gdomap -L none; gdomap -P 1234 -T tcp_gdo -R there; gdomap -N",
+    "lsar": "for a in one.*; do lsar $a; lsar -l $a; lsar -j $a; done; lsar broken.zip; lsar none.zip",
+    "lsar -t": "for a in one.*; do lsar -t $a; done",
+    "unar": "for a in one.*; do unar -o ${a#one.} $a; done",
+    "unar, wrong": "unar broken.zip; unar plain.plist; unar none.zip; unar -o in one.zip; unar -s -o in one.zip; unar -f -o in one.zip",
+    "openvpn-auth-ldap": f"{SERVED} any.conf alice right alice wrong bob right alice ''",
+    "openvpn-auth-ldap, a group": f"{SERVED} group.conf alice right bob right",
+    "openvpn-auth-ldap, no server": f"./ldap {PLUGIN} any.conf alice right",
+    "openvpn-auth-ldap, wrong": f"./ldap {PLUGIN} broken.plist; ./ldap {PLUGIN} none; ./ldap {PLUGIN} half.conf",
+}
+# Where libobjc is wrong: what ours must tell.
+UNTOLD = "libobjc never initializes the class that reads property lists, since a +load replaces a method of it before its first message: plutil reads none"
+BETTER = {"plutil": UNTOLD, "plutil, wrong": UNTOLD, "the page's twenty lines": "as plutil's: the class is initialized once"}
+TELLS = {"the page's twenty lines": "read 2, initialized 1 times"}
+TELLING = """{ %s; } 2>&1
+echo "ended with $?"
+find . -type f -newer .begun | sort | while read -r file; do echo "wrote $file"; cat "$file"; echo; done
+cp -r . "$KEPT" 2> /dev/null
+"""
+
+
+def make_plists(place):
+    for name, kind in (("xml", plistlib.FMT_XML), ("binary", plistlib.FMT_BINARY)):
+        with open(f"{place}/{name}.plist", "wb") as file:
+            plistlib.dump(MEANT, file, fmt=kind)
+    rows = " ".join(f'key{i} = ({i}, "text {i}", {{ inner = <{i:08x}>; other = "a\\"b"; }});' for i in range(2000))
+    texts = {
+        "plain.plist": '{ name = plain; count = 17; half = 0.5; on = YES; bytes = <000102>; list = (one, { two = 2; }, ("three \\U00e9", "tab\\t")); }\n',
+        "another.plist": "{ name = another; list = (four); new = { deep = { deeper = 1; }; }; }\n",
+        "large.plist": "{ " + rows + " }\n",
+        "broken.plist": '{ name = "never closed; list = (1, 2\n',
+        "desktop.plist": '{ NSExecutable = Small; NSIcon = "small.png"; NSTypes = ({ NSUnixExtensions = (small, sml); }); FreeDesktopCategories = (Utility, X-GNUstep); }\n',
+        "words.strings": '/* A comment */\n"A word" = "Ein Wort";\n"Another \\"word\\"" = "Un autre\\nmot";\nplain = word;\n',
+    }
+    for name, text in texts.items():
+        with open(f"{place}/{name}", "w", encoding="utf-8") as file:
+            file.write(text)
+
+
+def make_texts(place):
+    texts = {
+        "Small.h": SOURCE, "Small.m": BODY, "any.conf": LDAP.replace("GROUP", "false"), "group.conf": LDAP.replace("GROUP", "true"), "half.conf": LDAP[:120],
+        "page.xml": '<?xml version="1.0"?>\n<page kind="small"><title>A &amp; B</title><p>one<br/>two</p><!-- no --></page>\n', "broken.xml": "<page><title>never closed</page>\n",
+        "page.html": '<html><body><a rel="dynamical" href="other.html#there">there</a> <a href="#none">none</a> <a name="here">here</a></body></html>\n',
+        "other.html": '<html><body><a name="there">there</a></body></html>\n', "utf8.txt": "h\u00e9 \u4e16\u754c \u20ac\n",
+    }
+    for name, text in texts.items():
+        with open(f"{place}/{name}", "w", encoding="utf-8") as file:
+            file.write(text)
+    with open(f"{place}/latin.txt", "wb") as file:
+        file.write("caf\u00e9 na\u00efve \u00fcber\n".encode("latin1") * 50)
+
+
+def make_archives(place):
+    packed = f"{place}/packed"
+    os.makedirs(f"{packed}/inner/deeper")
+    for name, text in (("first.txt", "first\n" * 2000), ("inner/second", "\0\1\2" * 5000), ("inner/deeper/n\u00e4me.txt", "third"), ("inner/empty", "")):
+        with open(f"{packed}/{name}", "w", encoding="utf-8") as file:
+            file.write(text)
+    for folder, folders, names in os.walk(packed):
+        for name in folders + names:
+            os.utime(os.path.join(folder, name), (1_600_000_000, 1_600_000_000))
+    os.utime(packed, (1_600_000_000, 1_600_000_000))
+    for end, how in (("zip", zipfile.ZIP_DEFLATED), ("stored.zip", zipfile.ZIP_STORED), ("bz.zip", zipfile.ZIP_BZIP2), ("lzma.zip", zipfile.ZIP_LZMA)):
+        with zipfile.ZipFile(f"{place}/one.{end}", "w", how) as archive:
+            for path in sorted(glob.glob(f"{packed}/**", recursive=True)):
+                archive.write(path, os.path.relpath(path, place))
+    for end, mode in (("tar", "w"), ("tgz", "w:gz"), ("tbz2", "w:bz2"), ("txz", "w:xz")):
+        with tarfile.open(f"{place}/one.{end}", mode) as archive:
+            archive.add(packed, "packed")
+    text = b"a line of a file\n" * 3000
+    for end, pack in (("txt.gz", lambda data: gzip.compress(data, mtime=0)), ("txt.bz2", bz2.compress), ("txt.xz", lzma.compress), ("txt.lzma", lambda data: lzma.compress(data, lzma.FORMAT_ALONE))):
+        with open(f"{place}/one.{end}", "wb") as file:
+            file.write(pack(text))
+    with open(f"{place}/one.zip", "rb") as whole, open(f"{place}/broken.zip", "wb") as half:
+        half.write(whole.read()[:900])
+
+
+def make_inputs(folder):
+    place = os.path.join(folder, "inputs")
+    shutil.rmtree(place, ignore_errors=True)
+    os.makedirs(place)
+    make_plists(place)
+    make_texts(place)
+    make_archives(place)
+    shutil.copy(os.path.join(gnustep.OWN, "ldap_server.py"), place)
+    subprocess.run(["gcc-12", "-w", os.path.join(gnustep.OWN, "ldap.c"), "-ldl", "-o", os.path.join(place, "ldap")], check=True)
+    with open(os.path.join(ROOT, "docs", "OBJECTIVE-C.md"), encoding="utf-8") as page:
+        source = re.search(r"```objc\n(.*?)```", page.read(), re.S)[1]
+    subprocess.run(["gcc-12", "-x", "objective-c", "-w", "-", "-x", "none", "-lobjc", "-o", os.path.join(place, "untold")], input=source, text=True, check=True)
+    open(os.path.join(place, ".begun"), "w", encoding="utf-8").close()
+    return place
+
+
+def told(text):
+    for pattern, put in (*gnustep.CHANGING, (r'(XADFirstSolidEntry": ").*', r"\1ADDRESS")):
+        text = re.sub(pattern, put, text)
+    return text
+
+
+def plutil_is_right(kept):
+    """Whether what it converted is what was meant."""
+    with open(os.path.join(kept, "plain.plist"), "rb") as file:
+        read = plistlib.load(file)
+    return read["name"] == "plain" and read["bytes"] == b"\0\1\2" and read["list"][1] == {"two": "2"}
+
+
+def run_case(place, name, command, library, given):
+    kept = os.path.join(given.folder, "kept", library.title)
+    shutil.rmtree(kept, ignore_errors=True)
+    os.makedirs(kept)
+    _, _, text = gnustep.run(["sh", "-c", TELLING % command], library, given.seconds, copied=place, env={"KEPT": kept})
+    text = told(text)
+    with open(os.path.join(given.folder, "kept", f"{name}.{library.title}"), "w", encoding="utf-8") as file:
+        file.write(text)
+    return text, kept
+
+
+def run_programs(ours, given):
+    libraries = [gnustep.Library("libobjc"), gnustep.Library("the shim", ours)]
+    place, same, right = make_inputs(given.folder), 0, True
+    cases = {name: command for name, command in CASES.items() if not given.names or name in given.names}
+    for name, command in cases.items():
+        (theirs, _), (here, kept) = (run_case(place, name, command, library, given) for library in libraries)
+        if theirs == here:
+            same += 1
+            continue
+        better = name in BETTER and TELLS.get(name, "") in here and (name != "plutil" or plutil_is_right(kept))
+        right = right and better
+        print(f"{name}: differs" + (f", in our favour: {BETTER[name]}" if better else ""))
+        lines = list(difflib.unified_diff(theirs.splitlines(), here.splitlines(), "libobjc", "the shim", lineterm="", n=0))
+        print("".join(f"    {line[:160]}\n" for line in lines[:12]), end="", flush=True)
+    print(f"{len(cases)} sets of runs of Debian's programs: {same} with the same output, endings and files over both")
+    return right
+
+
+def make_bundles(folder):
+    place = os.path.join(folder, "loaded")
+    os.makedirs(place, exist_ok=True)
+    for number in range(BUNDLES):
+        resources = os.path.join(place, f"B{number}.bundle", "Resources")
+        os.makedirs(resources, exist_ok=True)
+        with open(os.path.join(resources, "Info-gnustep.plist"), "w", encoding="utf-8") as file:
+            file.write(f"{{ NSExecutable = B{number}; NSPrincipalClass = Loaded{number}_00; }}\n")
+        gnustep.build(folder, "bundle.m", "-shared", "-fPIC", f"-DN={number}", built=os.path.join(os.path.dirname(resources), f"B{number}"))
+    return place
+
+
+def load_bundles(program, place, library, given):
+    """The times of loading, the count of wrong answers, and how runs ended that ended otherwise
+    than they must."""
+    took, wrong, ended = [], 0, []
+    for _ in range(given.runs):
+        status, _, text = gnustep.run([program, place, str(BUNDLES)], library, given.seconds, place=place)
+        found = re.search(r"^(\d+) (\d+) ([\d.]+)$", text, re.M)
+        if status or not found:
+            ended.append(status)
+        else:
+            wrong += int(found[2])
+            took.append(float(found[3]))
+    return took, wrong, ended
+
+
+def run_bundles(ours, given):
+    """Whether no send was lost over ours, and loading took no longer."""
+    place = make_bundles(given.folder)
+    program = gnustep.build(given.folder, "bundles.m", "-lgnustep-base", "-lobjc", "-pthread")
+    medians = []
+    for library in (gnustep.Library("libobjc"), gnustep.Library("the shim", ours)):
+        took, wrong, ended = load_bundles(program, place, library, given)
+        medians.append(statistics.median(took or [0]))
+        print(f"{library.title}: {BUNDLES} bundles loaded beside three senders in {medians[-1]:.1f} ms, the median of {len(took)} runs with {wrong} wrong answers; {len(ended)} runs ended otherwise{f': with {ended}' if ended else ''}")
+    return bool(took) and not wrong and not ended and medians[1] <= medians[0]
+
+
+def seconds(words, library, given, copied):
+    """Of processors, without what the namespaces take."""
+    _, _, text = gnustep.run(["bash", "-c", TIMED, "bash", *words], library, given.seconds, copied=copied)
+    return sum(map(float, re.search(r"^processors ([\d.]+) ([\d.]+)$", text, re.M).groups()))
+
+
+def instructions(words, library, copied):
+    _, _, text = gnustep.run([*measure.CALLGRIND, *words], library, 600, copied=copied)
+    return int(re.search(r"Collected *: (\d+)", text)[1])
+
+
+def long_runs(suite, given):
+    start = gnustep.build(given.folder, "start.m", "-lgnustep-base", "-lobjc")
+    inputs = make_inputs(given.folder)
+    runs = {f"{folder}/{name}": (["./obj/" + name], os.path.join(suite.base, folder)) for folder, name in LONG}
+    runs["autogsdoc of 6 headers"] = (AUTOGSDOC.split(), inputs)
+    runs["a small program"] = ([start], inputs)
+    return {title: run for title, run in runs.items() if not given.names or title in given.names}
+
+
+def run_times(suite, ours, given):
+    """Processors' time and instructions of whole programs, in turns over both: whether no median
+    ratio is above the aims."""
+    libraries, right = [gnustep.Library("libobjc"), gnustep.Library("the shim", ours)], True
+    print(f"| | seconds of processors, medians of {given.runs} runs: libobjc | the shim | ratio | millions of instructions: libobjc | the shim | ratio |\n|---|---|---|---|---|---|---|")
+    for title, (words, copied) in long_runs(suite, given).items():
+        pairs = [[seconds(words, library, given, copied) for library in libraries] for _ in range(given.runs)]
+        theirs, here = (statistics.median(times) for times in zip(*pairs))
+        ratio = statistics.median(mine / max(other, 0.001) for other, mine in pairs)
+        counts = [instructions(words, library, copied) for library in libraries]
+        print(f"| {title} | {theirs:.3f} | {here:.3f} | {ratio:.2f} | {counts[0] / 1e6:.1f} | {counts[1] / 1e6:.1f} | {counts[1] / counts[0]:.3f} |", flush=True)
+        right = right and counts[1] <= MOST_INSTRUCTIONS * counts[0] and ratio <= MOST_TIME
+    return right
+
+
+def main(suite, ours, given):
+    right = True
+    if given.programs:
+        right = run_programs(ours, given) and right
+    if given.bundles:
+        right = run_bundles(ours, given) and right
+    if given.times:
+        right = run_times(suite, ours, given) and right
+    return right
