@@ -1,6 +1,6 @@
 /* What the shim of Objective-C's runtime has and GCC's libobjc hasn't: methods
  * of several classes that are changed at once, or looked up at once. Include
- * <objc/runtime.h> first. TRUSTED, as all of objc/.
+ * <objc/runtime.h> first. TRUSTED, as all of trusted/objc/.
  *
  * Once any message has been answered by one of the methods as it becomes, no
  * message of any thread is answered by another of them as it was. (A thread

@@ -2,8 +2,9 @@
  * thread: for hosts whose threads send without setup.
  *
  * msg_runtime.h is the reference of what a call returns. This header and
- * process/msg_process.c, which is linked with the library, are TRUSTED. What
- * they rest on, and the reason for each order of memory, stands in the latter.
+ * trusted/process/msg_process.c, which is linked with the library, are
+ * TRUSTED. What they rest on, and the reason for each order of memory, stands
+ * in the latter.
  *
  *     msg_runtime *runtime;
  *     uint32_t fault = msg_process_start(NULL);

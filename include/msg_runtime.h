@@ -93,8 +93,8 @@ typedef struct {
     uint64_t stamp;
 } msg_note;
 
-/* How many notes a sender has, in its handle: 64 KiB. */
-enum { MSG_NOTES = 2048 };
+/* How many notes a sender has, in its handle: 128 KiB. */
+enum { MSG_NOTES = 4096 };
 
 /* Handles. A sender is for one thread. Align an array of them to 64 bytes by
  * its type, as in struct { _Alignas(64) msg_sender sender; }, so that no two
@@ -707,22 +707,23 @@ static inline const char *msg_fault_text(uint32_t fault)
 /* Of slots below this keys are one to one, as they are of any class. And of a
  * key its slot, its selector, and where its note lies. */
 #define MSG_SLOTS 67108864 /* 2^26 */
-/* 2^37 + 2^10: more than all selectors take, and 32 notes on */
-#define MSG_KEY_OF_SLOT UINT64_C(137438954496)
+/* 2^36 + 2^4 * 1,449: more than all selectors take, and 1,449 notes on */
+#define MSG_KEY_OF_SLOT UINT64_C(68719499920)
+#define MSG_KEY_OF_SEL UINT64_C(16)
 #define MSG_SLOT_OF(key) ((uint32_t)((key) / MSG_KEY_OF_SLOT - 1))
-#define MSG_SEL_OF(key) ((uint32_t)((key) % MSG_KEY_OF_SLOT / 32))
+#define MSG_SEL_OF(key) ((uint32_t)((key) % MSG_KEY_OF_SLOT / MSG_KEY_OF_SEL))
 #define MSG_NOTE_OF(sender, key) \
     ((const msg_note *)(const void *)((const char *)(sender)->notes + \
-                                      (uint16_t)(key)))
+                                      2 * (uint16_t)(key)))
 
 /* The key of a lookup as one word, of a slot below MSG_SLOTS: its low 16 bits
- * are where its note lies. It adds up: a host may keep slot * MSG_KEY_OF_SLOT
- * with each class and msg_key(0, sel) with each selector, and add the two. No
- * other sum is a key. */
+ * are half of where its note lies. It adds up: a host may keep slot *
+ * MSG_KEY_OF_SLOT with each class and msg_key(0, sel) with each selector, and
+ * add the two. No other sum is a key. */
 static inline uint64_t msg_key(uint32_t slot, uint32_t sel)
 {
     MSG_TEST(slot < MSG_SLOTS);
-    return (slot + UINT64_C(1)) * MSG_KEY_OF_SLOT + sel * UINT64_C(32);
+    return (slot + UINT64_C(1)) * MSG_KEY_OF_SLOT + sel * MSG_KEY_OF_SEL;
 }
 
 #define MSG_SAID_LONG 65534

@@ -296,7 +296,7 @@ private:
         must(call(&at->handle, &number));
         return number;
     }
-    // All that a call writes, into room for as many as it counts.
+    // All that a call writes, in an array as long as the call asks for.
     template <class Row, class Call> static std::vector<Row> shown(Call call)
     {
         std::vector<Row> rows;
@@ -311,7 +311,7 @@ private:
             return rows;
         }
     }
-    // By reference: the call that answers writes what is found.
+    // By reference: the call whose answer this is writes what it finds.
     static std::optional<class_ref> there(std::uint32_t answer, const msg_class &found)
     {
         if (answer == MSG_NONE) return std::nullopt;
@@ -436,7 +436,7 @@ public:
         must(answer);
         return imp;
     }
-    // What is noted after so many changes or more; 0 where nothing is, or forwarding.
+    // Returns what was noted after `since` changes or more: 0 if nothing was, or for forwarding.
     std::uint32_t recall(class_ref of, std::uint32_t selector, std::uint64_t since) const
     {
         return own ? static_cast<std::uint32_t>(msg_recall(own.get(), of.slot(), selector, since)) : 0;
@@ -581,10 +581,11 @@ inline encoded_type first_type(std::string_view text) noexcept
     return it;
 }
 
-// Of a member of a structure: where its type is in the text, and its bits from the first to before the last.
+// A member of a structure: where its type is in the text, and its bits from the first to before the last.
 struct encoded_member { std::size_t begin, end; std::uint64_t first, last, align; };
 
-// The one in front of a text, where those before it end before this bit; of a union, 0.
+// Returns the first member of a text. `before` is the bit at which the members before it end, and 0
+// for a union.
 inline std::optional<encoded_member> next_member(std::string_view text, std::uint64_t before) noexcept
 {
     encoded_member it{};

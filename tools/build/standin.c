@@ -1,11 +1,12 @@
-/* The plain tables of objc/tests/standin.c, with the calls that they lack: for writing a host where
- * the proved library isn't built (tools/build/install --stand-in). Nothing of it is proved.
+/* The plain tables of trusted/objc/tests/standin.c, with the calls that they lack: for writing a
+ * host where the proved library isn't built (tools/build/install --stand-in). Nothing of it is
+ * proved.
  *
  * It answers what the header says, but for three things. It takes no care of speed or of memory
  * that is refused. A class's methods are shown in the order of their selectors. What msg_report
  * tells of arrays is 0. */
 #define msg_sender_close standin_close
-#include "../../objc/tests/standin.c"
+#include "../../trusted/objc/tests/standin.c"
 #undef msg_sender_close
 #include <stdio.h>
 uint32_t msg_sender_close(msg_runtime *runtime, msg_sender *sender);
@@ -59,8 +60,8 @@ uint32_t msg_set_imp(msg_runtime *runtime, uint32_t number, bool meta, uint32_t 
 
 static int by_selector(const void *one, const void *other)
 {
-    uint32_t a = (*(struct cell *const *)one)->key / 32,
-             b = (*(struct cell *const *)other)->key / 32;
+    uint32_t a = MSG_SEL_OF((*(struct cell *const *)one)->key),
+             b = MSG_SEL_OF((*(struct cell *const *)other)->key);
     return a < b ? -1 : a > b;
 }
 

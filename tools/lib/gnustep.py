@@ -14,7 +14,7 @@ from words import ROOT
 FOLDER = "/var/tmp/yeldrost-gnustep"
 DEBIAN = "http://deb.debian.org/debian"
 PACKAGES = ("gobjc-12", "gobjc", "libobjc-12-dev", "gnustep-make", "libgnustep-base-dev", "gnustep-base-runtime", "dpkg-dev", "make", "unar", "openvpn-auth-ldap", "iproute2", "valgrind")
-OWN = os.path.join(ROOT, "objc", "gnustep")
+OWN = os.path.join(ROOT, "trusted", "objc", "gnustep")
 ENDED_BY_TIME = 124  # of timeout(1)
 NOT_APART = 121
 HIDDEN = ("/root", "/tmp", "/run")
@@ -112,7 +112,7 @@ class Suite:
 
 
 def build(folder, source, *words, built=None):
-    """A program, or a library, of objc/gnustep, against Debian's libobjc."""
+    """A program, or a library, of trusted/objc/gnustep, against Debian's libobjc."""
     built = built or os.path.join(folder, os.path.splitext(source)[0])
     source = os.path.join(OWN, source)
     if os.path.exists(built) and os.path.getmtime(built) > os.path.getmtime(source):

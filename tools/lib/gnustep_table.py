@@ -7,20 +7,17 @@ import sys
 
 import gnustep
 import gnustep_programs
+import packages
 
 # The aims, of libobjc's.
 MOST_INSTRUCTIONS, MOST_RESIDENT = 0.9, 1.1
 ROUNDS = (2, 4)
-SERVER = ("sogod", "memcached", "valgrind", "setpriv")
+SERVER = ("sogo", "postgresql", "memcached")
 RUNS = {
     "plmerge": "plmerge new.plist plain.plist large.plist", "gspath": "gspath path", "defaults": "defaults domains", "plparse": "plparse plain.plist",
     "xmlparse": "xmlparse page.xml", "lsar": "lsar one.zip", "sogo-tool": "sogo-tool", "gdnc": "gdnc --no-fork",
 }
 COUNTED = ["valgrind", "--tool=callgrind", "--callgrind-out-file=/dev/null"]
-
-
-def has(*programs):
-    return all(shutil.which(program, path=os.environ["PATH"] + ":/usr/sbin") for program in programs)
 
 
 def program(run, library, copied):
@@ -33,10 +30,11 @@ def program(run, library, copied):
 
 def session(library, rounds, *words):
     """Of sogod: what is counted of all, how many requests, and kibibytes."""
+    print(f"sogod over {library.title}, {rounds} rounds{', counted: a minute of a processor' if words else ''}", file=sys.stderr, flush=True)
     _, _, text = gnustep.run(["python3", os.path.join(gnustep.OWN, "sogo.py"), str(rounds), *words], library, 3000, place="/var/tmp")
     told, count = re.search(r"^requests (\d+) wrong (\d+) resident (\d+)$", text, re.M), re.search(r"Collected *: (\d+)", text)
     if not told or told[2] != "0":
-        sys.exit(f"sogod over {library.title}: {told[0] if told else text[-300:]}")
+        raise ChildProcessError(f"over {library.title}: {told[0] if told else text[-300:]}")
     return int(count[1]) if count else 0, int(told[1]), int(told[3])
 
 
@@ -56,23 +54,28 @@ def row(title, kind, theirs, ours, most):
 def run_table(ours, given):
     """Whether each is within the aims."""
     libraries, right = [gnustep.Library("libobjc"), gnustep.Library("the shim", ours)], True
+    no_server = "it wants root" if os.geteuid() else packages.lack(SERVER, given.install)
     inputs = gnustep_programs.make_inputs(given.folder)
     print("Millions of instructions, and MiB:\n\n| | | libobjc | the shim | ratio |\n|---|---|---|---|---|")
     for title, run in RUNS.items():
         if given.names and title not in given.names:
             continue
-        if not has(title):
-            print(f"{title} isn't there", file=sys.stderr)
+        if not shutil.which(title):
+            print(f"{title} isn't there: left out", file=sys.stderr)
             continue
         theirs, here = (program(run, library, inputs) for library in libraries)
         right = row(title, "instructions", theirs[0], here[0], MOST_INSTRUCTIONS) and right
         right = row(title, "resident", theirs[1], here[1], MOST_RESIDENT) and right
     if given.names and "sogod" not in given.names:
         return right
-    if os.geteuid() or not has(*SERVER) or not os.path.isdir("/usr/lib/postgresql"):
-        print("sogod: left out, since it wants root and the packages sogo, postgresql, memcached", file=sys.stderr)
+    if no_server:
+        print(f"sogod: left out, {no_server}", file=sys.stderr)
         return right
-    theirs, here = (server(library) for library in libraries)
+    try:
+        theirs, here = (server(library) for library in libraries)
+    except ChildProcessError as error:
+        print(f"sogod: left out, since it doesn't run {error}", file=sys.stderr)
+        return False
     for title, kind, place, most in (("sogod, its start", "instructions", 0, MOST_INSTRUCTIONS), ("sogod, a request", "instructions", 1, MOST_INSTRUCTIONS), ("sogod", "resident", 2, MOST_RESIDENT)):
         right = row(title, kind, theirs[place], here[place], most) and right
     return right

@@ -29,19 +29,49 @@ def listed(words):
     return ", ".join(map(str, words))
 
 
+def kinds(wanted):
+    return wanted if isinstance(wanted, list) else [wanted]
+
+
+def fits_pattern(value, pattern):
+    # in a schema, as in JavaScript, $ is the end of the text, and not also before a last line's end
+    return re.search(re.sub(r"\$$", r"\\Z", pattern), value)
+
+
+# By keyword: of which values it speaks, whether such a value keeps it, and what is wrong if not.
+RULES = {
+    "type": (None, lambda it, want: any(TYPES[kind](it) for kind in kinds(want)), lambda it, want: f"{shown(it)} isn't {' or '.join(TOLD[kind] for kind in kinds(want))}"),
+    "const": (None, is_same, lambda it, want: f"{shown(it)} isn't {shown(want)}"),
+    "enum": (None, lambda it, want: any(is_same(it, one) for one in want), lambda it, want: f"{shown(it)} is none of {listed(want)}"),
+    "minimum": (is_number, lambda it, want: it >= want, lambda it, want: f"{shown(it)} is below {want}"),
+    "maximum": (is_number, lambda it, want: it <= want, lambda it, want: f"{shown(it)} is above {want}"),
+    "maxLength": (TYPES["string"], lambda it, want: len(it) <= want, lambda it, want: f"{shown(it)} has more than {want} characters"),
+    "pattern": (TYPES["string"], fits_pattern, lambda it, want: f"{shown(it)} isn't spelled as {want}"),
+    "required": (TYPES["object"], lambda it, want: set(want) <= set(it), lambda it, want: f"lacks {listed(one for one in want if one not in it)}"),
+    "minProperties": (TYPES["object"], lambda it, want: len(it) >= want, lambda it, want: f"has less than {want} key"),
+    "maxProperties": (TYPES["object"], lambda it, want: len(it) <= want, lambda it, want: f"has more than {want} key"),
+    "minItems": (TYPES["array"], lambda it, want: len(it) >= want, lambda it, want: f"has {len(it)} parts, and needs {want}"),
+    "maxItems": (TYPES["array"], lambda it, want: len(it) <= want, lambda it, want: f"has {len(it)} parts, and takes {want}"),
+}
+
+
 class Schema:
     def __init__(self, schema):
         self.schema = schema
 
-    def fits(self, value):
-        return next(self.faults(value), None) is None
+    def fits(self, value, schema=None):
+        return next(self.faults(value, schema), None) is None
 
     def faults(self, value, schema=None, path=""):
         """(path, what is wrong there), as `items[3].send`, for each keyword that the value doesn't
         keep."""
         schema = self.schema if schema is None else schema
-        for word in schema if isinstance(schema, dict) else ():
-            if word not in WORDS:
+        for word, wanted in schema.items() if isinstance(schema, dict) else ():
+            if word in RULES:
+                speaks_of, keeps, told = RULES[word]
+                if (speaks_of is None or speaks_of(value)) and not keeps(value, wanted):
+                    yield path, told(value, wanted)
+            elif word not in WORDS:
                 yield from getattr(self, "of_" + word.lstrip("$"))(value, schema, path)
 
     def of_ref(self, value, schema, path):
@@ -55,66 +85,8 @@ class Schema:
             yield from self.faults(value, one, path)
 
     def of_if(self, value, schema, path):
-        if next(self.faults(value, schema["if"]), None) is None:
+        if self.fits(value, schema["if"]):
             yield from self.faults(value, schema["then"], path)
-
-    @staticmethod
-    def of_type(value, schema, path):
-        kinds = schema["type"] if isinstance(schema["type"], list) else [schema["type"]]
-        if not any(TYPES[it](value) for it in kinds):
-            yield path, f"{shown(value)} isn't {' or '.join(TOLD[it] for it in kinds)}"
-
-    @staticmethod
-    def of_const(value, schema, path):
-        if not is_same(value, schema["const"]):
-            yield path, f"{shown(value)} isn't {shown(schema['const'])}"
-
-    @staticmethod
-    def of_enum(value, schema, path):
-        if not any(is_same(value, it) for it in schema["enum"]):
-            yield path, f"{shown(value)} is none of {listed(schema['enum'])}"
-
-    # ---- of numbers and texts
-
-    @staticmethod
-    def of_minimum(value, schema, path):
-        if is_number(value) and value < schema["minimum"]:
-            yield path, f"{shown(value)} is below {schema['minimum']}"
-
-    @staticmethod
-    def of_maximum(value, schema, path):
-        if is_number(value) and value > schema["maximum"]:
-            yield path, f"{shown(value)} is above {schema['maximum']}"
-
-    @staticmethod
-    def of_maxLength(value, schema, path):
-        if isinstance(value, str) and len(value) > schema["maxLength"]:
-            yield path, f"{shown(value)} has more than {schema['maxLength']} characters"
-
-    @staticmethod
-    def of_pattern(value, schema, path):
-        # in a schema, as in JavaScript, $ is the end of the text, and not also before a last line's
-        # end
-        if isinstance(value, str) and not re.search(re.sub(r"\$$", r"\\Z", schema["pattern"]), value):
-            yield path, f"{shown(value)} isn't spelled as {schema['pattern']}"
-
-    # ---- of objects
-
-    @staticmethod
-    def of_required(value, schema, path):
-        lacks = [it for it in schema["required"] if isinstance(value, dict) and it not in value]
-        if lacks:
-            yield path, f"lacks {listed(lacks)}"
-
-    @staticmethod
-    def of_minProperties(value, schema, path):
-        if isinstance(value, dict) and len(value) < schema["minProperties"]:
-            yield path, f"has less than {schema['minProperties']} key"
-
-    @staticmethod
-    def of_maxProperties(value, schema, path):
-        if isinstance(value, dict) and len(value) > schema["maxProperties"]:
-            yield path, f"has more than {schema['maxProperties']} key"
 
     def of_properties(self, value, schema, path):
         for name, one in schema["properties"].items():
@@ -128,19 +100,8 @@ class Schema:
         if more:
             yield path, f"has {listed(map(shown, more))} too many"
 
-    # ---- of lists
-
-    @staticmethod
-    def of_minItems(value, schema, path):
-        if isinstance(value, list) and len(value) < schema["minItems"]:
-            yield path, f"has {len(value)} parts, and needs {schema['minItems']}"
-
-    @staticmethod
-    def of_maxItems(value, schema, path):
-        if isinstance(value, list) and len(value) > schema["maxItems"]:
-            yield path, f"has {len(value)} parts, and takes {schema['maxItems']}"
-
     def of_items(self, value, schema, path):
+        """`items` is one schema for each part, or a list, of one for each of the first."""
         items = schema["items"]
         for at, one in enumerate(value if isinstance(value, list) else []):
             if not isinstance(items, list) or at < len(items):

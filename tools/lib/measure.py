@@ -8,7 +8,7 @@ import subprocess
 from words import ROOT
 
 ARCHIVE = os.path.join(ROOT, "crates", "msg_c", "out", "libmsg_c.a")
-HITS = os.environ.get("MSG_HITS", os.path.join(ROOT, "crates", "msg_hits", "out", "msg_hits"))
+HITS = os.environ.get("MSG_HITS", os.path.join(ROOT, "crates", "msg_bench", "out", "msg_bench"))
 CALLGRIND = ("valgrind", "--tool=callgrind", "--callgrind-out-file=/dev/null")
 
 
@@ -50,4 +50,4 @@ def over_library(source, folder, given, parser):
 
 def want_hits(parser):
     if not os.access(HITS, os.X_OK):
-        parser.error(f"{HITS} isn't there: build it by `rt run` in crates/msg_hits")
+        parser.error(f"{HITS} isn't there: build it by `rt run` in crates/msg_bench")

@@ -577,6 +577,37 @@ class Run:
         return answer
 
 
+
+class RunBeside(Run):
+    """The items of a document whose changes are made beside the sends: each lookup is answered
+    after as many changes, each of a list counted, as the next of `counts` says."""
+
+    def __init__(self, document, counts):
+        super().__init__(document)
+        self.between, self.counts = Run(document), iter(counts)
+        self.ahead = iter([it[1] for it in document.items if it[0] == "change"])
+
+    def lines(self):
+        for kind, *rest in self.document.items:
+            yield self.between.changed(rest[0]) if kind == "change" else self.sent(*rest)
+
+    def lookup(self, at, selector):
+        if self.lookups:
+            count = next(self.counts)
+            while self.made < count:
+                self.changed(next(self.ahead))
+        imp = super().lookup(at, selector)
+        self.seen[-1] += (self.made,)
+        return imp
+
+    def reasons(self):
+        for line, (kind, *_) in zip(self.lines(), self.document.items):
+            yield line
+            if kind == "send":
+                yield from (f"{self.reason(it[:-1])}, changes before: {it[-1]}" for it in self.seen)
+                yield f"  lookups: {len(self.seen)}"
+
+
 def written(data, lines):
     """What is written to standard output and to standard error, and the status."""
     try:
@@ -595,3 +626,9 @@ def answer(data):
 def explanation(data):
     """What `./msgrun --explain` writes of a document that is answered."""
     return written(data, Run.reasons)
+
+
+def explanation_beside(data, counts):
+    """What `./msgbeside --explain` writes of one, where its lookups are answered so."""
+    document = Document(data)
+    return "".join(line + "\n" for line in RunBeside(document, counts).reasons()).encode()

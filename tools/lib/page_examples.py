@@ -83,7 +83,7 @@ def part_by_part(page):
 
 def explained(page):
     """The document of which the page shows the lookups behind its answers, and what it shows."""
-    document, lines = blocks(sections(page)["Why a document is answered so"])
+    document, lines, *_ = blocks(sections(page)["Why a document is answered so"])
     return document.encode(), lines.encode()
 
 

@@ -1,10 +1,41 @@
 """How the tools in Python read their words: --help tells the tool's page and starts nothing; what
 isn't understood is refused in a line, with status 2."""
 import argparse
+import importlib.util
 import os
 import sys
+from importlib.machinery import SourceFileLoader
 
 ROOT = os.path.dirname(os.path.dirname(os.path.dirname(os.path.abspath(__file__))))
+
+
+def module_of(tool):
+    """A tool, as test/fuzz, as a module."""
+    name = os.path.basename(tool)
+    loader = SourceFileLoader(name, os.path.join(ROOT, "tools", tool))
+    found = importlib.util.module_from_spec(importlib.util.spec_from_loader(name, loader))
+    sys.dont_write_bytecode = True
+    loader.exec_module(found)
+    return found
+
+
+def told(faults):
+    """Tells each fault in a line on standard error; the status that says whether there is one."""
+    print("".join(fault + "\n" for fault in faults), file=sys.stderr, end="")
+    return 1 if faults else 0
+
+
+def write_or_check(tool, made, is_check, faults=()):
+    """Writes what a tool makes, by its path below the root; or tells what isn't so, and the status."""
+    faults = list(faults)
+    for path, new in made.items():
+        place = os.path.join(ROOT, path)
+        if not is_check:
+            with open(place, "w", encoding="utf-8") as it:
+                it.write(new)
+        elif not os.path.exists(place) or open(place, encoding="utf-8").read() != new:
+            faults.append(f"{path}: not what the sources say: run {tool}, and commit it")
+    return told(faults)
 
 
 class Help(argparse.Action):

@@ -1,5 +1,5 @@
 """Message dispatch as Objective-C's runtime does it, with machine-checked proofs: classes,
-methods, lookups, and changes beside them.
+methods, lookups, and changes while others look up.
 
     import yeldrost
 
@@ -251,7 +251,7 @@ class Runtime:
             _errors.must(getattr(shared.library, name)(shared.handle, *words))
 
     def _told(self, kind: Any, name: str, *words: Any) -> Any:
-        """What the call writes, or nothing where there is none."""
+        """What the call writes, or None if it finds nothing."""
         shared, told = self._shared, kind()
         with shared.lock:
             answer = getattr(shared.library, name)(shared.handle, *words, ctypes.byref(told))
@@ -261,7 +261,7 @@ class Runtime:
         return told
 
     def _shown(self, kind: Any, name: str, *words: Any) -> Any:
-        """What the call writes into room for as many as there are."""
+        """All that the call writes, in an array as long as it asks for."""
         shared, count, answer = self._shared, ctypes.c_size_t(), _NO_ROOM
         with shared.lock:
             while answer == _NO_ROOM:  # nothing was written: `count` places are wanted
@@ -611,7 +611,7 @@ class Texts:
             _errors.must(self._library.msg_texts_close(self._handle))
 
     def _told(self, kind: Any, name: str, *words: Any) -> Any:
-        """What the call writes last, or None where there is none."""
+        """What the call writes last, or None if it finds nothing."""
         told = kind()
         with self._lock:
             answer = getattr(self._library, name)(self._handle, *words, ctypes.byref(told))
@@ -639,7 +639,8 @@ class Texts:
         return bytes(into[:length])
 
     def colons(self, number: int) -> Optional[int]:
-        """How many colons it has, or None: as many arguments as a selector takes that is named so."""
+        """Counts its colons, which are the arguments that a selector of this name takes. None if
+        nobody has the number."""
         _checked(number)
         return self._told(ctypes.c_size_t, "msg_texts_colons", number)
 
@@ -677,8 +678,8 @@ def first_type(text: bytes) -> EncodedType:
 
 
 def next_member(text: bytes, before: int) -> Optional[EncodedMember]:
-    """The `EncodedMember` in front of a text, where those before it end before this bit; of a
-    union, 0. None where the structure or the text ends."""
+    """Returns the first `EncodedMember` of a text. `before` is the bit at which the members before
+    it end, and 0 for a union. None if the structure or the text ends there."""
     places, bits = (ctypes.c_size_t * 2)(), (ctypes.c_uint64 * 3)()
     size, bit = ctypes.sizeof(ctypes.c_size_t), ctypes.sizeof(ctypes.c_uint64)
     told: List[Any] = [ctypes.c_size_t.from_buffer(places, size * at) for at in range(2)]

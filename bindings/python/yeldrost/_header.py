@@ -2,7 +2,7 @@
 stands in that header."""
 import ctypes as c
 
-VERSION, NOTES = 1000, 2048
+VERSION, NOTES = 1000, 4096
 NOTED_NONE = 1 << 32
 
 

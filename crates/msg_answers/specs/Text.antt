@@ -15,7 +15,7 @@ use Rattle.msg_eval.specs.declared.reply.Reply.{Reply}
 use Rattle.msg_eval.specs.declared.reply.Reply.TheVariants as replies
 use Rattle.msg_eval.specs.declared.reply.SendFault.{SendFault}
 use Rattle.msg_eval.specs.declared.reply.SendFault.TheVariants as faults
-use Rattle.msg_devices.specs.Decimal.{decimal, digits}
+use Rattle.msg_io.specs.Decimal.{decimal, digits}
 use Rattle.msg_answers.specs.Serial.{Answer, Replied, Changed, serial}
 use Rattle.msg_answers.specs.declared.outcome.Outcome.{Outcome}
 use Rattle.msg_answers.specs.declared.outcome.Outcome.TheVariants as outcomes

@@ -6,12 +6,12 @@
 ghost use Rattle.std.specs.Prelude.{◌≡◌, OnOk};
 ghost use Rattle.msg_answers.specs.Text as spec;
 ghost use Rattle.msg_answers.specs.Text.{line_of, outcome_text};
-ghost use Rattle.msg_devices.specs.Writing.{Gains};
+ghost use Rattle.msg_io.specs.Writing.{Gains};
 
 use crate::outcome::Outcome;
-use msg_devices::{push_decimal, push_digits};
 use msg_eval::{Reply, SendFault};
 use msg_image::Image;
+use msg_io::{push_decimal, push_digits};
 use msg_names::{ClassRef, ObjectRef, Selector, Value};
 use msg_tables::{ChangeFault, Refused};
 use std::alloc::AllocError;

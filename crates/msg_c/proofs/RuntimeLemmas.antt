@@ -2,7 +2,7 @@
 use Rattle.std.proofs.Common.{◌≡◌, ◌≢◌, ℕ, zero, suc, List, [], ◌∷◌, Bool, true, false, refl, ap, subst}
 use Rattle.std.specs.Prelude.{slice_set}
 use Rattle.msg_names.specs.declared.value.ClassRef.{ClassRef}
-use Rattle.msg_core.specs.State.{awaits}
+use Rattle.msg_model.specs.State.{awaits}
 use Rattle.msg_host.specs.View.{SenderView}
 use Rattle.msg_runtime.specs.Calls.{CachesNumber}
 use Rattle.msg_runtime.specs.View.{RuntimeView}

@@ -6,8 +6,8 @@ use Rattle.std_alloc.proofs.BoxSteps.Form.{Bx}
 use Rattle.std_heap.specs.contracts.Global as Heap
 use Rattle.std_heap.specs.contracts.GlobalAllocator.TheImpl.{ghosts, dict}
 use Rattle.std_heap.proofs.Global.TheLaws as heap
-use Rattle.msg_texts.specs.contracts.texts.Texts as Home
-use Rattle.msg_texts.proofs.texts.Texts.TheLaws as home
+use Rattle.msg_names.specs.contracts.texts.Texts as Home
+use Rattle.msg_names.proofs.texts.Texts.TheLaws as home
 use Rattle.msg_c.specs.contracts.parts.Parts as Parts
 use Rattle.msg_c.specs.contracts.texts_handle.HeldTexts as Sealed
 

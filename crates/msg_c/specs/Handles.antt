@@ -15,7 +15,7 @@ use Rattle.msg_host.specs.Lookups.{AreRefusedLookups, AreRowsFound, AreTakenLook
 use Rattle.msg_host.specs.Named.{TellsAttachFault, attachment, exchange, ref_of}
 use Rattle.msg_host.specs.Opening.{OpensAs}
 use Rattle.msg_host.specs.View.{SenderView}
-use Rattle.msg_core.specs.State.{awaits}
+use Rattle.msg_model.specs.State.{awaits}
 use Rattle.msg_runtime.specs.Calls.{AllAreOut, CachesNumber, RestsAs}
 use Rattle.msg_runtime.specs.Resting.{HaveAllSeen, IsLeastOut}
 use Rattle.msg_runtime.specs.Parts.{IsNew}

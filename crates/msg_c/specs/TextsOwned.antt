@@ -8,7 +8,7 @@ use Rattle.std.specs.Global.{Global}
 use Rattle.std.specs.declared.option.Option.{Option}
 use Rattle.std.specs.declared.option.Option.TheVariants.{None, Some}
 use Rattle.std_heap.specs.contracts.GlobalAllocator.TheImpl.{ghosts}
-use Rattle.msg_texts.specs.contracts.texts.Texts.{the_row}
+use Rattle.msg_names.specs.contracts.texts.Texts.{the_row}
 
 -- nothing where nothing is held, else what a box of it owns
 abbrev pub held_owns : Global → Ptr → Option the_row.Denot → Fml

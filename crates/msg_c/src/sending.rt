@@ -3,7 +3,7 @@
 ghost use Rattle.std.specs.Prelude.{◌≡◌, ◌≢◌, ◌≤◌, ◌⊎◌, length, None, Some};
 ghost use Rattle.msg_tables.specs.Origin.{last_imp};
 ghost use Rattle.msg_tables.specs.History.{lookup};
-ghost use Rattle.msg_core.specs.Stamps.{last_affected};
+ghost use Rattle.msg_model.specs.Stamps.{last_affected};
 ghost use Rattle.msg_reader.specs.Kept.{HaveOthersOf};
 ghost use Rattle.msg_reader.specs.Notes.{AreBlank, recalled};
 ghost use Rattle.msg_c.specs.Answers.{AreOfOneArena, IsAsked, fault_in};
@@ -25,15 +25,15 @@ use msg_reader::laws::notes_are_of_longer_histories;
 use std::alloc::Global;
 use std::mem;
 
-// As the header spells it: a pointer, whether it is open, and 2,048 notes of 32 bytes.
-const SENDER_BYTES: usize = 65_552;
+// As the header spells it: a pointer, whether it is open, and 4,096 notes of 32 bytes.
+const SENDER_BYTES: usize = 131_088;
 
 const _: () = prove!(mem::size_of::<SenderHandle>() == SENDER_BYTES);
 
 /// How many bytes a sender's handle has, for hosts that don't compile the header.
 #[unsafe(no_mangle)]
 pub extern "C" fn msg_sender_size() -> usize
-    ensures { result ≡ 65552 }
+    ensures { result ≡ 131088 }
 {
     SENDER_BYTES
 }

@@ -1,14 +1,15 @@
 //! Interned texts.
 
 ghost use Rattle.std.specs.Prelude.{◌≡◌, ◌≢◌, ◌⊎◌, ◌↔◌, ℕ, List, [], Some, None, option_map, true, length};
+ghost use Rattle.msg_names.specs.Name.{colons_of};
 ghost use Rattle.msg_names.specs.Numbering.{number_of, with_name};
-ghost use Rattle.msg_texts.specs.Texts.{LacksPlaceFor, colons_of, text_at};
+ghost use Rattle.msg_names.specs.Texts.{LacksPlaceFor, text_at};
 ghost use Rattle.msg_c.specs.Interned.{AnswersNumber, is_interned, with_text};
 ghost use Rattle.msg_c.specs.Handles.{HasTexts, IfInterned};
 
 use crate::answer::{ALREADY_OPEN, CLOSED, DONE, LIMIT, NO_MEMORY, NONE};
 use crate::texts_handle::TextsHandle;
-use msg_texts::{TextFault, Texts};
+use msg_names::{TextFault, Texts};
 use std::alloc::Global;
 
 /// No texts yet.

@@ -5,7 +5,7 @@ ghost use Rattle.msg_c.specs.Interned.{TextsView};
 ghost use Rattle.msg_c.specs.TextsOwned.{held_owns, state_coded};
 
 use crate::parts::Parts;
-use msg_texts::Texts;
+use msg_names::Texts;
 use std::alloc::Global;
 use std::marker::Model;
 use std::{mem, ptr};

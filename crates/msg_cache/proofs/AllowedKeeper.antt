@@ -11,22 +11,22 @@ use Rattle.msg_tables.specs.Origin.{OriginView, class_total}
 use Rattle.msg_tables.specs.declared.change.Change.{Change}
 use Rattle.msg_tables.specs.History.{History, log}
 use Rattle.msg_tables.specs.Several.{refusal_of_all}
-use Rattle.msg_core.specs.declared.state.Standing.TheVariants.{Free, Live}
-use Rattle.msg_core.specs.declared.state.Whereabouts.TheVariants.{Out}
-use Rattle.msg_core.specs.State.{Layout, capacity, size, awaits}
-use Rattle.msg_core.specs.View.{standing_at}
-use Rattle.msg_core.proofs.KeepLemmas.{moves}
+use Rattle.msg_model.specs.declared.state.Standing.TheVariants.{Free, Live}
+use Rattle.msg_model.specs.declared.state.Whereabouts.TheVariants.{Out}
+use Rattle.msg_model.specs.State.{Layout, capacity, size, awaits}
+use Rattle.msg_model.specs.View.{standing_at}
+use Rattle.msg_model.proofs.KeepLemmas.{moves}
 use Rattle.msg_cache.specs.declared.view.SenderView.{SenderView}
 use Rattle.msg_cache.specs.declared.view.TurnAt.TheVariants.{Away, Home}
 use Rattle.msg_cache.specs.declared.view.KeeperView.{KeeperView}
 use Rattle.msg_cache.specs.declared.view.View.{View}
 use Rattle.msg_cache.specs.declared.view.View.TheVariants.{Sender, Keeper, Turn, Spent}
 use Rattle.msg_cache.specs.Layout.{SettingView, layout_of, header_at, base, stamp_at, probe_at}
-use Rattle.msg_core.specs.Stamps.{last_affected}
+use Rattle.msg_model.specs.Stamps.{last_affected}
 use Rattle.msg_cache.specs.Rule.{HasNoEntry, LiveWordsAgreeAfter, NoneIsGivenFrom, StampsAreClosedFor, live_in, word_in, Ruled, RuledBy, IsTidy, TidyBy, holds, shown_by}
 use Rattle.msg_cache.specs.Plays.{Sat, keeper_of, stored, flushed, installed, committed, looked, rest_looked, given_out, taken_in, newcomer_with, lent, at_home, kept, IsTold, Stores, Flushes, Installs, Commits, Looks, RestLooks, Witnesses}
 use Rattle.msg_cache.proofs.LayoutLemmas.{header_same}
-use Rattle.msg_core.proofs.LegalSteps.{may_commit}
+use Rattle.msg_model.proofs.LegalSteps.{may_commit}
 use Rattle.msg_cache.proofs.KeeperLemmas.{fill_step, clear_step, stamp_step, commit_step, flush_step, install_step, look_step, idle_step}
 use Rattle.msg_cache.proofs.NobodyLemmas.{rest_step}
 use Rattle.msg_cache.proofs.SeatLemmas.{at_below}

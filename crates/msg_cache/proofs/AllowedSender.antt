@@ -8,8 +8,8 @@ use Rattle.atomic_table.specs.Table.{step, keeps, Allows}
 use Rattle.msg_names.specs.declared.value.ClassRef.{ClassRef}
 use Rattle.msg_tables.specs.History.{History}
 use Rattle.atomic_table.proofs.Lists.{set_here}
-use Rattle.msg_core.specs.declared.state.Whereabouts.TheVariants.{Out, In, Holding}
-use Rattle.msg_core.specs.State.{capacity}
+use Rattle.msg_model.specs.declared.state.Whereabouts.TheVariants.{Out, In, Holding}
+use Rattle.msg_model.specs.State.{capacity}
 use Rattle.msg_cache.specs.declared.view.SenderView.{SenderView}
 use Rattle.msg_cache.specs.declared.view.View.{View}
 use Rattle.msg_cache.specs.declared.view.View.TheVariants.{Sender}

@@ -7,8 +7,8 @@ use Rattle.std.proofs.lemmas.List.{get_or-set_other, ext_get_or, length-replicat
 use Rattle.std.proofs.lemmas.List.FromFn.{get_or-map-range_with_len, length-map-range_with_len}
 use Rattle.std.proofs.Math.ListN.{length-set}
 use Rattle.msg_tables.specs.declared.limits.TheConstants.{MOST_SENDERS}
-use Rattle.msg_core.specs.State.{awaits}
-use Rattle.msg_core.specs.Steps.{everyone}
+use Rattle.msg_model.specs.State.{awaits}
+use Rattle.msg_model.specs.Steps.{everyone}
 use Rattle.msg_cache.specs.Standings.{awaited_at}
 use Rattle.msg_cache.proofs.ClearingLemmas.{minus, same_or}
 

@@ -3,9 +3,9 @@ use Rattle.std.proofs.Common.{◌≡◌, ◌≢◌, ℕ, ◌+◌, ◌<◌, List,
 use Rattle.std.specs.Prelude.{if◌then◌else◌, slice_index}
 use Rattle.std.proofs.lemmas.List.{get_or-set_other, get_or-set_same}
 use Rattle.msg_names.specs.declared.value.ClassRef.{ClassRef}
-use Rattle.msg_core.specs.State.{Layout, size}
-use Rattle.msg_core.specs.Steps.{at_class}
-use Rattle.msg_core.proofs.PointLemmas.{class_or, at_class_same, at_class_other, number_or}
+use Rattle.msg_model.specs.State.{Layout, size}
+use Rattle.msg_model.specs.Steps.{at_class}
+use Rattle.msg_model.proofs.PointLemmas.{class_or, at_class_same, at_class_other, number_or}
 use Rattle.msg_cache.specs.declared.view.KeeperView.{KeeperView}
 use Rattle.msg_cache.specs.declared.keeper.TheConstants.{CLOSED}
 use Rattle.msg_cache.specs.Layout.{header_at, stamp_at, probes}

@@ -12,29 +12,29 @@ use Rattle.msg_tables.specs.declared.change.Change.{Change}
 use Rattle.msg_tables.specs.History.{History, BeginsWith, and_then, empty, log}
 use Rattle.msg_tables.proofs.SeveralLemmas.{accepted-all}
 use Rattle.msg_tables.specs.Several.{is_affected_by_all}
-use Rattle.msg_core.specs.Event.{Event, Fill, Install, Flush, Look, Clear, Commit}
-use Rattle.msg_core.specs.declared.state.Standing.{Standing}
-use Rattle.msg_core.specs.declared.state.Standing.TheVariants.{Free, Live, Retired}
-use Rattle.msg_core.specs.declared.state.Whereabouts.{Whereabouts}
-use Rattle.msg_core.specs.declared.state.Whereabouts.TheVariants.{Out, In, Holding}
-use Rattle.msg_core.specs.State.{Layout, State, capacity, size, awaits, state_from, Sound}
-use Rattle.msg_core.specs.Steps.{at, stored as stored_at, retired, everyone, seen_out, is_out, after, Legal}
-use Rattle.msg_core.specs.View.{standing_at}
-use Rattle.msg_core.proofs.KeepLemmas.{looked_retired}
-use Rattle.msg_core.proofs.PointLemmas.{number_or, class_or, at_same, at_other}
-use Rattle.msg_core.proofs.RunLemmas.{sound_after}
-use Rattle.msg_core.proofs.LegalLemmas.{legal_commit}
+use Rattle.msg_model.specs.Event.{Event, Fill, Install, Flush, Look, Clear, Commit}
+use Rattle.msg_model.specs.declared.state.Standing.{Standing}
+use Rattle.msg_model.specs.declared.state.Standing.TheVariants.{Free, Live, Retired}
+use Rattle.msg_model.specs.declared.state.Whereabouts.{Whereabouts}
+use Rattle.msg_model.specs.declared.state.Whereabouts.TheVariants.{Out, In, Holding}
+use Rattle.msg_model.specs.State.{Layout, State, capacity, size, awaits, state_from, Sound}
+use Rattle.msg_model.specs.Steps.{at, stored as stored_at, retired, everyone, seen_out, is_out, after, Legal}
+use Rattle.msg_model.specs.View.{standing_at}
+use Rattle.msg_model.proofs.KeepLemmas.{looked_retired}
+use Rattle.msg_model.proofs.PointLemmas.{number_or, class_or, at_same, at_other}
+use Rattle.msg_model.proofs.RunLemmas.{sound_after}
+use Rattle.msg_model.proofs.LegalLemmas.{legal_commit}
 use Rattle.msg_cache.specs.declared.view.TurnAt.TheVariants.{Away, Home}
 use Rattle.msg_cache.specs.declared.view.KeeperView.{KeeperView}
 use Rattle.msg_cache.specs.declared.view.View.{View}
 use Rattle.msg_cache.specs.declared.view.View.TheVariants.{Keeper}
 use Rattle.msg_cache.specs.Layout.{header_at, base, stamp_at, probes, probe_at}
-use Rattle.msg_core.specs.Stamps.{last_affected}
+use Rattle.msg_model.specs.Stamps.{last_affected}
 use Rattle.msg_cache.specs.Rule.{HasNoEntry, named, live_in, word_in, in_word, shown, IsCopied, IsKept, Ruled, shown_by, GoesBy, Stays}
 use Rattle.msg_cache.specs.Plays.{stored, retire, flushed, installed, committed, looked}
 use Rattle.msg_cache.proofs.LayoutLemmas.{inside, header_inside, stamp_inside, stamp_same, stamp_no_header, stamp_no_bucket, stamp_no_count}
-use Rattle.msg_core.proofs.StampLemmas.{last-next}
-use Rattle.msg_core.proofs.LegalSteps.{may_fill, may_install, may_flush, may_look, may_clear}
+use Rattle.msg_model.proofs.StampLemmas.{last-next}
+use Rattle.msg_model.proofs.LegalSteps.{may_fill, may_install, may_flush, may_look, may_clear}
 use Rattle.msg_tables.proofs.BeginsLemmas.{begins_refl, begins_trans, begins_next}
 use Rattle.msg_cache.proofs.PastLemmas.{accepted_next}
 use Rattle.msg_cache.proofs.SeatLemmas.{keeper_goes}

@@ -7,12 +7,12 @@ use Rattle.atomic_table.specs.Table.{State as Table}
 use Rattle.msg_names.specs.declared.value.ClassRef.{ClassRef}
 use Rattle.msg_tables.specs.Origin.{OriginView}
 use Rattle.msg_tables.specs.History.{History, lookup}
-use Rattle.msg_core.specs.Event.{Event, Header, Read, Look}
-use Rattle.msg_core.specs.declared.event.Seen.TheVariants.{Array, Word, Out as SeenOut}
-use Rattle.msg_core.specs.declared.state.Whereabouts.{Whereabouts}
-use Rattle.msg_core.specs.declared.state.Whereabouts.TheVariants.{Out, In, Holding}
-use Rattle.msg_core.specs.Steps.{is_out, shows as shown_to}
-use Rattle.msg_core.specs.State.{Layout, awaits, size}
+use Rattle.msg_model.specs.Event.{Event, Header, Read, Look}
+use Rattle.msg_model.specs.declared.event.Seen.TheVariants.{Array, Word, Out as SeenOut}
+use Rattle.msg_model.specs.declared.state.Whereabouts.{Whereabouts}
+use Rattle.msg_model.specs.declared.state.Whereabouts.TheVariants.{Out, In, Holding}
+use Rattle.msg_model.specs.Steps.{is_out, shows as shown_to}
+use Rattle.msg_model.specs.State.{Layout, awaits, size}
 use Rattle.msg_cache.specs.declared.view.KeeperView.{KeeperView}
 use Rattle.msg_cache.specs.declared.view.View.{View}
 use Rattle.msg_cache.specs.declared.view.View.TheVariants.{Sender, Keeper}

@@ -4,7 +4,7 @@ use Rattle.std.specs.Prelude.{slice_index}
 use Rattle.msg_names.specs.declared.value.ClassRef.{ClassRef}
 use Rattle.msg_names.specs.ClassRef.{slot_of}
 use Rattle.msg_names.proofs.ClassRefLemmas.{slot_of-inside, slot_of-same}
-use Rattle.msg_core.specs.State.{Layout, capacity, awaits}
+use Rattle.msg_model.specs.State.{Layout, capacity, awaits}
 use Rattle.msg_cache.specs.Layout.{total, header_at, base, stamp_at, probes}
 
 room : (l : List ℕ) (a p : ℕ) → p < slice_index l a → total (take a l) + p < total l

@@ -7,11 +7,11 @@ use lib.ListN.{get_elem?}
 use Rattle.atomic_table.proofs.Lists.{set_here}
 use Rattle.msg_tables.specs.Origin.{OriginView}
 use Rattle.msg_tables.specs.History.{History}
-use Rattle.msg_core.specs.Event.{Look}
-use Rattle.msg_core.specs.declared.event.Seen.TheVariants.{Out as SeenOut}
-use Rattle.msg_core.specs.State.{Layout, State, awaits}
+use Rattle.msg_model.specs.Event.{Look}
+use Rattle.msg_model.specs.declared.event.Seen.TheVariants.{Out as SeenOut}
+use Rattle.msg_model.specs.State.{Layout, State, awaits}
 use Rattle.msg_names.specs.declared.value.ClassRef.{ClassRef}
-use Rattle.msg_core.specs.Steps.{after, Legal, is_out, shows as shown_to}
+use Rattle.msg_model.specs.Steps.{after, Legal, is_out, shows as shown_to}
 use Rattle.msg_cache.specs.declared.view.KeeperView.{KeeperView}
 use Rattle.msg_cache.specs.declared.view.View.{View}
 use Rattle.msg_cache.specs.declared.view.View.TheVariants.{Keeper}

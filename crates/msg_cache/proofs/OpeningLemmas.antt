@@ -8,11 +8,11 @@ use mathlib.Core.Option.{some, some-injective, some-ne-none}
 use lib.ListN.{get_elem?}
 use Rattle.msg_names.specs.declared.value.ClassRef.{ClassRef}
 use Rattle.msg_tables.specs.History.{History, empty}
-use Rattle.msg_core.specs.declared.state.Standing.TheVariants.{Free}
-use Rattle.msg_core.specs.declared.state.Whereabouts.TheVariants.{Out}
-use Rattle.msg_core.specs.Runs.{opening}
-use Rattle.msg_core.specs.State.{state_from, capacity, Sound}
-use Rattle.msg_core.proofs.RunLemmas.{sound_opening}
+use Rattle.msg_model.specs.declared.state.Standing.TheVariants.{Free}
+use Rattle.msg_model.specs.declared.state.Whereabouts.TheVariants.{Out}
+use Rattle.msg_model.specs.Runs.{opening}
+use Rattle.msg_model.specs.State.{state_from, capacity, Sound}
+use Rattle.msg_model.proofs.RunLemmas.{sound_opening}
 use Rattle.msg_tables.specs.Origin.{IsSound}
 use Rattle.msg_cache.specs.declared.view.View.{View}
 use Rattle.msg_cache.specs.declared.view.View.TheVariants.{Keeper}

@@ -23,10 +23,10 @@ use Rattle.msg_buckets.proofs.CapacityLemmas.{capacity_passes, capacity_bounds}
 use Rattle.msg_tables.specs.History.{History}
 use Rattle.msg_names.specs.ClassRef.{slot_of}
 use Rattle.msg_names.proofs.ClassRefLemmas.{slot_of-inside}
-use Rattle.msg_core.specs.declared.state.Standing.{Standing}
-use Rattle.msg_core.specs.declared.state.Standing.TheVariants.{Free, Live, Retired}
-use Rattle.msg_core.specs.State.{Layout, capacity, size}
-use Rattle.msg_core.specs.Steps.{is_free, everyone}
+use Rattle.msg_model.specs.declared.state.Standing.{Standing}
+use Rattle.msg_model.specs.declared.state.Standing.TheVariants.{Free, Live, Retired}
+use Rattle.msg_model.specs.State.{Layout, capacity, size}
+use Rattle.msg_model.specs.Steps.{is_free, everyone}
 use Rattle.msg_cache.specs.declared.view.SenderView.{SenderView}
 use Rattle.msg_cache.specs.declared.view.KeeperView.{KeeperView}
 use Rattle.msg_cache.specs.Layout.{SettingView, layout_of, header_at, base, stamp_at, probes}

@@ -15,10 +15,10 @@ use Rattle.msg_tables.proofs.LimitLemmas.{accepted_few}
 use Rattle.msg_tables.proofs.SeveralLemmas.{accepted-all, kept-all}
 use Rattle.msg_tables.proofs.LogLemmas.{log-empty}
 use Rattle.msg_tables.proofs.HistoryLemmas.{is-longer, is-before, few-lists, log-all}
-use Rattle.msg_core.specs.State.{size, first}
+use Rattle.msg_model.specs.State.{size, first}
 use Rattle.msg_cache.specs.Rule.{IsAccepted}
-use Rattle.msg_core.specs.Stamps.{last_affected}
-use Rattle.msg_core.proofs.StampLemmas.{last-reached}
+use Rattle.msg_model.specs.Stamps.{last_affected}
+use Rattle.msg_model.proofs.StampLemmas.{last-reached}
 
 pub first_begins : (r : ℕ) (h : History) → BeginsWith h (first r h)
 first_begins r h = record { same = refl; rest = (drop r h.changes, sym (take-append-drop r h.changes)) }

@@ -6,9 +6,9 @@ use Rattle.msg_buckets.specs.Word.{sel_of, imp_of}
 use Rattle.msg_buckets.specs.Probing.{probe_place, ends, end_of, found_at, hit, empty, wrapped}
 use Rattle.msg_buckets.proofs.EndLemmas.{same_ends, free_ends, other_passes, found_at-same, found_at-free, read_ends, read_passes}
 use Rattle.msg_tables.specs.History.{History}
-use Rattle.msg_core.specs.declared.state.Whereabouts.TheVariants.{Holding}
-use Rattle.msg_core.specs.State.{Layout, capacity}
-use Rattle.msg_core.specs.Steps.{seeing}
+use Rattle.msg_model.specs.declared.state.Whereabouts.TheVariants.{Holding}
+use Rattle.msg_model.specs.State.{Layout, capacity}
+use Rattle.msg_model.specs.Steps.{seeing}
 use Rattle.msg_cache.specs.declared.view.SenderView.{SenderView}
 use Rattle.msg_cache.specs.Layout.{base}
 use Rattle.msg_cache.specs.Plays.{Sat, seated, sender_of, headed, read_on, SawHeader, SawWord}

@@ -3,7 +3,7 @@ use Rattle.std.proofs.Common.{◌≡◌, ℕ, zero, suc, ◌+◌, List, [], ◌�
 use Rattle.std.specs.Prelude.{MatchOption}
 use Rattle.msg_names.specs.declared.value.ClassRef.{ClassRef}
 use Rattle.msg_tables.specs.History.{History}
-use Rattle.msg_core.specs.State.{Layout, capacity}
+use Rattle.msg_model.specs.State.{Layout, capacity}
 use Rattle.msg_cache.specs.Keeping.{looks, look_count, clears, emptied, all_emptied, CollectsBy, lowest_free, grown, FillsBy, Fills, way_of}
 use Rattle.msg_cache.specs.Layout.{base}
 use Rattle.msg_cache.specs.declared.answer.Filled.{Filled}

@@ -7,12 +7,12 @@ use Rattle.atomic_table.proofs.Lists.{at_set, set_here, set_else}
 use Rattle.msg_names.specs.declared.value.ClassRef.{ClassRef}
 use Rattle.msg_tables.specs.Origin.{OriginView}
 use Rattle.msg_tables.specs.History.{History, BeginsWith}
-use Rattle.msg_core.specs.declared.state.Standing.TheVariants.{Retired}
-use Rattle.msg_core.specs.declared.state.Whereabouts.{Whereabouts}
-use Rattle.msg_core.specs.declared.state.Whereabouts.TheVariants.{Holding}
-use Rattle.msg_core.specs.State.{Layout, size, awaits, Sound}
-use Rattle.msg_core.specs.View.{standing_at}
-use Rattle.msg_core.proofs.PointLemmas.{number_or}
+use Rattle.msg_model.specs.declared.state.Standing.TheVariants.{Retired}
+use Rattle.msg_model.specs.declared.state.Whereabouts.{Whereabouts}
+use Rattle.msg_model.specs.declared.state.Whereabouts.TheVariants.{Holding}
+use Rattle.msg_model.specs.State.{Layout, size, awaits, Sound}
+use Rattle.msg_model.specs.View.{standing_at}
+use Rattle.msg_model.proofs.PointLemmas.{number_or}
 use Rattle.msg_cache.specs.declared.view.SenderView.{SenderView}
 use Rattle.msg_cache.specs.declared.view.TurnAt.TheVariants.{Away}
 use Rattle.msg_cache.specs.declared.view.KeeperView.{KeeperView}

@@ -9,24 +9,24 @@ use Rattle.msg_names.specs.declared.value.ClassRef.{ClassRef}
 use Rattle.msg_buckets.specs.Word.{sel_of, imp_of}
 use Rattle.msg_tables.specs.Origin.{OriginView}
 use Rattle.msg_tables.specs.History.{History, BeginsWith}
-use Rattle.msg_core.specs.Event.{Enter, Header, Read, Leave}
-use Rattle.msg_core.specs.declared.state.Standing.TheVariants.{Live, Retired}
-use Rattle.msg_core.specs.declared.state.Whereabouts.{Whereabouts}
-use Rattle.msg_core.specs.declared.state.Whereabouts.TheVariants.{Out, In, Holding}
-use Rattle.msg_core.specs.State.{Layout, capacity, size, first, Agrees, KeepsFor, Sound}
-use Rattle.msg_core.specs.Steps.{at, seeing, held_word}
-use Rattle.msg_core.specs.View.{standing_at}
-use Rattle.msg_core.proofs.PointLemmas.{number_or, at_same, at_other}
-use Rattle.msg_core.proofs.RunLemmas.{sound_after, holds_seen}
+use Rattle.msg_model.specs.Event.{Enter, Header, Read, Leave}
+use Rattle.msg_model.specs.declared.state.Standing.TheVariants.{Live, Retired}
+use Rattle.msg_model.specs.declared.state.Whereabouts.{Whereabouts}
+use Rattle.msg_model.specs.declared.state.Whereabouts.TheVariants.{Out, In, Holding}
+use Rattle.msg_model.specs.State.{Layout, capacity, size, first, Agrees, KeepsFor, Sound}
+use Rattle.msg_model.specs.Steps.{at, seeing, held_word}
+use Rattle.msg_model.specs.View.{standing_at}
+use Rattle.msg_model.proofs.PointLemmas.{number_or, at_same, at_other}
+use Rattle.msg_model.proofs.RunLemmas.{sound_after, holds_seen}
 use Rattle.msg_cache.specs.declared.view.SenderView.{SenderView}
 use Rattle.msg_cache.specs.declared.view.View.{View}
 use Rattle.msg_cache.specs.declared.view.View.TheVariants.{Sender}
 use Rattle.msg_cache.specs.Layout.{header_at, base, stamp_at, probe_at}
-use Rattle.msg_core.specs.Stamps.{last_affected}
+use Rattle.msg_model.specs.Stamps.{last_affected}
 use Rattle.msg_cache.specs.Rule.{named, word_in, in_word, shown, FitsSender, IsCopied, Ruled, shown_by, GoesBy, Stays}
 use Rattle.msg_cache.specs.Plays.{headed, read_on, gone_to, told_to, stamped_to}
 use Rattle.msg_cache.proofs.LayoutLemmas.{inside, header_inside, stamp_inside}
-use Rattle.msg_core.proofs.LegalSteps.{may_enter, may_load, may_read, may_leave}
+use Rattle.msg_model.proofs.LegalSteps.{may_enter, may_load, may_read, may_leave}
 use Rattle.msg_tables.proofs.BeginsLemmas.{begins_refl, begins_length}
 use Rattle.msg_cache.proofs.PastLemmas.{first_begins, begins_first}
 use Rattle.msg_cache.proofs.SeatLemmas.{number_below, sender_goes}

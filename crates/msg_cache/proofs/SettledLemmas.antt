@@ -8,11 +8,11 @@ use Rattle.std.proofs.Math.ListN.{length-set}
 use Rattle.std.proofs.lemmas.List.Elements.{filter_agree}
 use Rattle.std.proofs.lemmas.List.Sorted.{IsPermutation-refl}
 use Rattle.msg_names.specs.declared.value.ClassRef.{ClassRef}
-use Rattle.msg_core.specs.declared.state.Standing.{Standing}
-use Rattle.msg_core.specs.declared.state.Standing.TheVariants.{Free, Live, Retired}
-use Rattle.msg_core.specs.State.{Layout, size}
-use Rattle.msg_core.specs.Steps.{is_free, everyone}
-use Rattle.msg_core.specs.View.{standing_at}
+use Rattle.msg_model.specs.declared.state.Standing.{Standing}
+use Rattle.msg_model.specs.declared.state.Standing.TheVariants.{Free, Live, Retired}
+use Rattle.msg_model.specs.State.{Layout, size}
+use Rattle.msg_model.specs.Steps.{is_free, everyone}
+use Rattle.msg_model.specs.View.{standing_at}
 use Rattle.msg_cache.specs.declared.view.KeeperView.{KeeperView}
 use Rattle.msg_cache.specs.Keeping.{looks, looked_by, is_retired, look_count, newly_free, freed, Collects}
 use Rattle.msg_cache.specs.Layout.{header_at}

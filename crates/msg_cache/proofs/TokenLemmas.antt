@@ -10,10 +10,10 @@ use Rattle.atomic_table.proofs.Lists.{set_here, set_else, at_longer, at_last}
 use Rattle.msg_names.specs.declared.value.ClassRef.{ClassRef}
 use Rattle.msg_tables.specs.Origin.{OriginView}
 use Rattle.msg_tables.specs.History.{History}
-use Rattle.msg_core.specs.declared.state.Whereabouts.TheVariants.{Out}
-use Rattle.msg_core.specs.State.{Layout, awaits}
-use Rattle.msg_core.specs.Steps.{at}
-use Rattle.msg_core.proofs.PointLemmas.{number_or, at_same, at_other}
+use Rattle.msg_model.specs.declared.state.Whereabouts.TheVariants.{Out}
+use Rattle.msg_model.specs.State.{Layout, awaits}
+use Rattle.msg_model.specs.Steps.{at}
+use Rattle.msg_model.proofs.PointLemmas.{number_or, at_same, at_other}
 use Rattle.msg_cache.specs.declared.view.SenderView.{SenderView}
 use Rattle.msg_cache.specs.declared.view.TurnAt.TheVariants.{Away, Home}
 use Rattle.msg_cache.specs.declared.view.View.{View}

@@ -8,13 +8,13 @@ use Rattle.std.proofs.lemmas.List.Elements.{filter_agree, All-from_get_or}
 use Rattle.std.proofs.lemmas.List.Folds.{list_any_at, list_any_none}
 use Rattle.std.proofs.lemmas.List.Sums.{fails_before_first}
 use Rattle.std.specs.List.Sorted.{IsPermutation}
-use Rattle.msg_core.specs.View.{standing_at}
+use Rattle.msg_model.specs.View.{standing_at}
 use Rattle.std.proofs.lemmas.List.FromFn.{fill_by_all, get_or-map-range_with_len, length-map-range_with_len}
 use Rattle.std.proofs.Math.ListN.{length-set}
-use Rattle.msg_core.specs.State.{awaits}
-use Rattle.msg_core.specs.Steps.{everyone}
-use Rattle.msg_core.specs.declared.state.Standing.{Standing}
-use Rattle.msg_core.specs.declared.state.Standing.TheVariants.{Free, Live, Retired}
+use Rattle.msg_model.specs.State.{awaits}
+use Rattle.msg_model.specs.Steps.{everyone}
+use Rattle.msg_model.specs.declared.state.Standing.{Standing}
+use Rattle.msg_model.specs.declared.state.Standing.TheVariants.{Free, Live, Retired}
 use Rattle.msg_tables.specs.declared.limits.TheConstants.{MOST_SENDERS}
 use Rattle.msg_cache.specs.Keeping.{looked_by}
 use Rattle.msg_cache.specs.Uses.{ArrayUse, free, live, waiting, use_of, use_at, is_free_use, is_waiting, newly_freed}

@@ -2,7 +2,7 @@
 use Rattle.std.specs.Prelude.{◌≡◌, ℕ, ◌^◌, ◌<◌, ◌≤◌, [], ◌∷◌, All, length, slice_index, slice_index_or}
 use Rattle.msg_buckets.specs.Capacity.{IsCapacity}
 use Rattle.msg_tables.specs.declared.limits.TheConstants.{MOST_SENDERS}
-use Rattle.msg_core.specs.declared.state.Whereabouts.TheVariants.{Out}
+use Rattle.msg_model.specs.declared.state.Whereabouts.TheVariants.{Out}
 use Rattle.msg_cache.specs.declared.arena.Span.{Span}
 use Rattle.msg_cache.specs.declared.arena.Arena.TheInside.{Inside as ArenaInside}
 use Rattle.msg_cache.specs.declared.prober.Prober.TheInside.{Inside as ProberInside}

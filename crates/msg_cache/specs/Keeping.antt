@@ -12,11 +12,11 @@ use Rattle.msg_buckets.specs.Probing.{Found, hit, empty, wrapped, probe_place}
 use Rattle.msg_buckets.specs.Array.{find_in, occupied_in}
 use Rattle.msg_tables.specs.History.{History}
 use Rattle.msg_names.specs.ClassRef.{slot_of}
-use Rattle.msg_core.specs.declared.state.Standing.{Standing}
-use Rattle.msg_core.specs.declared.state.Standing.TheVariants.{Free, Live, Retired}
-use Rattle.msg_core.specs.State.{Layout, capacity, awaits}
-use Rattle.msg_core.specs.Steps.{is_free, seen_out}
-use Rattle.msg_core.specs.View.{standing_at}
+use Rattle.msg_model.specs.declared.state.Standing.{Standing}
+use Rattle.msg_model.specs.declared.state.Standing.TheVariants.{Free, Live, Retired}
+use Rattle.msg_model.specs.State.{Layout, capacity, awaits}
+use Rattle.msg_model.specs.Steps.{is_free, seen_out}
+use Rattle.msg_model.specs.View.{standing_at}
 use Rattle.msg_cache.specs.declared.answer.Filled.{Filled}
 use Rattle.msg_cache.specs.declared.answer.Filled.TheVariants.{Present as DidNothing, Used, Grown, NoArray}
 use Rattle.msg_cache.specs.declared.answer.Way.{Way}

@@ -9,21 +9,21 @@ use Rattle.msg_buckets.specs.Word.{sel_of, imp_of}
 use Rattle.msg_tables.specs.Origin.{IsSound}
 use Rattle.msg_tables.specs.declared.change.Change.{Change}
 use Rattle.msg_tables.specs.History.{History, lookup}
-use Rattle.msg_core.specs.Event.{Event, Enter, Header, Read, Leave, Fill, Install, Flush, Look, Clear, Commit}
-use Rattle.msg_core.specs.declared.event.Seen.{Seen}
-use Rattle.msg_core.specs.declared.event.Seen.TheVariants.{Nothing, Array, Word, Out as SeenOut}
-use Rattle.msg_core.specs.declared.state.Standing.TheVariants.{Free, Live}
-use Rattle.msg_core.specs.declared.state.Whereabouts.TheVariants.{Out, In, Holding}
-use Rattle.msg_core.specs.Runs.{opening}
-use Rattle.msg_core.specs.State.{Layout, State, capacity, size, awaits, Lawful, Sound}
-use Rattle.msg_core.specs.Steps.{after, shows as shown_to, Legal}
-use Rattle.msg_core.specs.View.{standing_at}
+use Rattle.msg_model.specs.Event.{Event, Enter, Header, Read, Leave, Fill, Install, Flush, Look, Clear, Commit}
+use Rattle.msg_model.specs.declared.event.Seen.{Seen}
+use Rattle.msg_model.specs.declared.event.Seen.TheVariants.{Nothing, Array, Word, Out as SeenOut}
+use Rattle.msg_model.specs.declared.state.Standing.TheVariants.{Free, Live}
+use Rattle.msg_model.specs.declared.state.Whereabouts.TheVariants.{Out, In, Holding}
+use Rattle.msg_model.specs.Runs.{opening}
+use Rattle.msg_model.specs.State.{Layout, State, capacity, size, awaits, Lawful, Sound}
+use Rattle.msg_model.specs.Steps.{after, shows as shown_to, Legal}
+use Rattle.msg_model.specs.View.{standing_at}
 use Rattle.msg_cache.specs.declared.view.SenderView.{SenderView}
 use Rattle.msg_cache.specs.declared.view.TurnAt.TheVariants.{Away, Home}
 use Rattle.msg_cache.specs.declared.view.KeeperView.{KeeperView}
 use Rattle.msg_cache.specs.declared.view.View.{View}
 use Rattle.msg_cache.specs.declared.view.View.TheVariants.{Sender, Keeper, Turn, Spent}
-use Rattle.msg_core.specs.Stamps.{last_affected}
+use Rattle.msg_model.specs.Stamps.{last_affected}
 use Rattle.msg_cache.specs.Layout.{SettingView, layout_of, header_at, base, stamp_at, probe_at, word_count}
 use Rattle.msg_cache.specs.Plays.{headed, read_on, gone_to, told_to, stamped_to, newcomer_with, stored, flushed, installed, committed, looked, rest_looked, given_out, taken_in, at_home, lent}
 use Rattle.msg_cache.specs.Rule.{HasNoEntry, NoneIsGivenFrom, StampsAreClosedFor, holds, named, shown_by, since_of, first_keeper}

@@ -3,7 +3,7 @@ use Rattle.std.specs.Prelude.{◌≡◌, ℕ, ◌+◌, ◌*◌, ◌<◌, List, [
 use Rattle.msg_names.specs.declared.value.ClassRef.{ClassRef}
 use Rattle.msg_tables.specs.Origin.{OriginView, class_total}
 use Rattle.msg_names.specs.ClassRef.{slot_of}
-use Rattle.msg_core.specs.State.{Layout, capacity}
+use Rattle.msg_model.specs.State.{Layout, capacity}
 
 -- what a table is made for: an origin, so many senders, and arrays of these capacities
 pub record SettingView : Type 0 where

@@ -10,7 +10,7 @@ use Rattle.msg_tables.specs.History.{lookup, log}
 use Rattle.msg_tables.specs.Origin.{OriginView}
 use Rattle.msg_tables.specs.Several.{is_affected_by_all}
 use Rattle.msg_tables.specs.declared.change.Change.{Change}
-use Rattle.msg_core.specs.State.{Layout, awaits, size}
+use Rattle.msg_model.specs.State.{Layout, awaits, size}
 use Rattle.msg_cache.specs.declared.answer.Filled.{Filled}
 use Rattle.msg_cache.specs.declared.answer.Report.{Report}
 use Rattle.msg_cache.specs.declared.answer.Way.{Way}

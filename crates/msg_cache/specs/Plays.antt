@@ -4,12 +4,12 @@ use Rattle.atomic_table.specs.Table.{Me, Step}
 use Rattle.msg_names.specs.declared.value.ClassRef.{ClassRef}
 use Rattle.msg_tables.specs.declared.change.Change.{Change}
 use Rattle.msg_tables.specs.History.{History, BeginsWith, and_then}
-use Rattle.msg_core.specs.declared.state.Standing.{Standing}
-use Rattle.msg_core.specs.declared.state.Standing.TheVariants.{Live, Retired}
-use Rattle.msg_core.specs.declared.state.Whereabouts.{Whereabouts}
-use Rattle.msg_core.specs.declared.state.Whereabouts.TheVariants.{Out}
-use Rattle.msg_core.specs.State.{size}
-use Rattle.msg_core.specs.Steps.{everyone, seeing, seen_out}
+use Rattle.msg_model.specs.declared.state.Standing.{Standing}
+use Rattle.msg_model.specs.declared.state.Standing.TheVariants.{Live, Retired}
+use Rattle.msg_model.specs.declared.state.Whereabouts.{Whereabouts}
+use Rattle.msg_model.specs.declared.state.Whereabouts.TheVariants.{Out}
+use Rattle.msg_model.specs.State.{size}
+use Rattle.msg_model.specs.Steps.{everyone, seeing, seen_out}
 use Rattle.msg_buckets.specs.Word.{sel_of, imp_of}
 use Rattle.msg_cache.specs.declared.view.SenderView.{SenderView}
 use Rattle.msg_cache.specs.declared.view.TurnAt.{TurnAt}
@@ -19,7 +19,7 @@ use Rattle.msg_cache.specs.declared.view.View.{View}
 use Rattle.msg_cache.specs.declared.view.View.TheVariants.{Sender, Keeper, Turn, Spent}
 use Rattle.msg_cache.specs.Layout.{SettingView, header_at}
 use Rattle.msg_cache.specs.Rule.{named, IsAccepted}
-use Rattle.msg_core.specs.Stamps.{last_affected}
+use Rattle.msg_model.specs.Stamps.{last_affected}
 
 abbrev pub Sat : Type 0
 Sat = Me ℕ View

@@ -3,7 +3,7 @@ use Rattle.std.specs.Prelude.{◌≡◌, ℕ, suc, ◌+◌, ◌-◌, ◌≤◌, 
 use Rattle.msg_names.specs.declared.value.ClassRef.{ClassRef}
 use Rattle.msg_buckets.specs.Probing.{probe_place, end_of, found_at, hit, empty, wrapped}
 use Rattle.msg_tables.specs.History.{BeginsWith}
-use Rattle.msg_core.specs.State.{Layout, capacity}
+use Rattle.msg_model.specs.State.{Layout, capacity}
 use Rattle.msg_cache.specs.declared.view.Record.{Record}
 use Rattle.msg_cache.specs.declared.view.SenderView.{SenderView}
 use Rattle.msg_cache.specs.Layout.{base}

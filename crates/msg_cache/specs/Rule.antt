@@ -11,20 +11,20 @@ use Rattle.msg_tables.specs.History.{History, BeginsWith, and_then, empty, log}
 use Rattle.msg_tables.specs.declared.change.Change.{Change}
 use Rattle.msg_tables.specs.Refusal.{IsLog}
 use Rattle.msg_tables.specs.Several.{is_affected_by_all}
-use Rattle.msg_core.specs.Event.{Event}
-use Rattle.msg_core.specs.declared.state.Standing.TheVariants.{Free, Live, Retired}
-use Rattle.msg_core.specs.declared.state.Whereabouts.{Whereabouts}
-use Rattle.msg_core.specs.declared.state.Whereabouts.TheVariants.{Out, In, Holding}
-use Rattle.msg_core.specs.State.{Layout, State, Agrees, capacity, state_from, size, awaits, Sound}
-use Rattle.msg_core.specs.Steps.{after, Legal}
-use Rattle.msg_core.specs.View.{standing_at}
+use Rattle.msg_model.specs.Event.{Event}
+use Rattle.msg_model.specs.declared.state.Standing.TheVariants.{Free, Live, Retired}
+use Rattle.msg_model.specs.declared.state.Whereabouts.{Whereabouts}
+use Rattle.msg_model.specs.declared.state.Whereabouts.TheVariants.{Out, In, Holding}
+use Rattle.msg_model.specs.State.{Layout, State, Agrees, capacity, state_from, size, awaits, Sound}
+use Rattle.msg_model.specs.Steps.{after, Legal}
+use Rattle.msg_model.specs.View.{standing_at}
 use Rattle.msg_cache.specs.declared.view.SenderView.{SenderView}
 use Rattle.msg_cache.specs.declared.view.TurnAt.TheVariants.{Never, Away, Home}
 use Rattle.msg_cache.specs.declared.view.KeeperView.{KeeperView}
 use Rattle.msg_cache.specs.declared.view.View.{View}
 use Rattle.msg_cache.specs.declared.view.View.TheVariants.{Sender, Keeper, Turn, Spent}
 use Rattle.msg_cache.specs.Layout.{SettingView, layout_of, header_at, base, stamp_at, probes, probe_at, word_count}
-use Rattle.msg_core.specs.Stamps.{last_affected}
+use Rattle.msg_model.specs.Stamps.{last_affected}
 
 -- ---- the state that is shown
 

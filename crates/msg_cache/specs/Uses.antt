@@ -1,10 +1,10 @@
 -- What contracts see of the keeper's copy of what arrays are used for.
 use Rattle.std.specs.Prelude.{◌≡◌, ℕ, zero, suc, ◌&&◌, ◌<◌, ◌≤◌, not, List, [], Bool, true, false, length, map, replicate, slice_index_or, slice_set}
 use Rattle.std.specs.List.{range_with_len, filter}
-use Rattle.msg_core.specs.declared.state.Standing.{Standing}
-use Rattle.msg_core.specs.declared.state.Standing.TheVariants.{Free, Live, Retired}
-use Rattle.msg_core.specs.State.{awaits}
-use Rattle.msg_core.specs.Steps.{everyone}
+use Rattle.msg_model.specs.declared.state.Standing.{Standing}
+use Rattle.msg_model.specs.declared.state.Standing.TheVariants.{Free, Live, Retired}
+use Rattle.msg_model.specs.State.{awaits}
+use Rattle.msg_model.specs.Steps.{everyone}
 use Rattle.msg_cache.specs.Keeping.{looked_by}
 
 -- what an array is used for, but not for which class reference, nor since when it is retired

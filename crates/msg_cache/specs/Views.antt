@@ -8,7 +8,7 @@ use Rattle.msg_names.specs.declared.value.Selector.{Selector}
 use Rattle.msg_buckets.specs.Word.{sel_of, imp_of}
 use Rattle.msg_tables.specs.Origin.{class_total}
 use Rattle.msg_tables.specs.History.{History, lookup}
-use Rattle.msg_core.specs.State.{Layout}
+use Rattle.msg_model.specs.State.{Layout}
 use Rattle.msg_cache.specs.declared.view.SenderView.{SenderView}
 use Rattle.msg_cache.specs.Layout.{SettingView, layout_of, probe_at}
 use Rattle.msg_cache.specs.Plays.{newcomer}

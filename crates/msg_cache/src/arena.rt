@@ -3,7 +3,7 @@
 ghost use Rattle.std.specs.Prelude.{◌≡◌, IfErr, ◌+◌, ◌*◌, ◌^◌, ◌<◌, ◌≤◌, All, IfOk, length, replicate};
 ghost use Rattle.msg_address.specs.Address.{IsNotNull};
 ghost use Rattle.msg_buckets.specs.Capacity.{IsCapacity};
-ghost use Rattle.msg_core.specs.State.{capacity};
+ghost use Rattle.msg_model.specs.State.{capacity};
 ghost use Rattle.msg_cache.specs.Config.{IsLeastUnlessMemory, NoneHoldsIfMemory};
 ghost use Rattle.msg_cache.specs.Keeping.{AreGroups, IsGroup};
 ghost use Rattle.msg_cache.specs.Layout.{layout_of, setting_for, total, base as base_of, probes as probes_of, stamp_at, probe_at, word_count};

@@ -2,8 +2,8 @@
 
 ghost use Rattle.std.specs.Prelude.{◌≡◌, ℕ, ◌+◌, ◌^◌, ◌<◌, ◌≤◌, length, true, IfOk};
 ghost use Rattle.msg_tables.specs.History.{lookup};
-ghost use Rattle.msg_core.specs.declared.state.Standing.TheVariants.{Free};
-ghost use Rattle.msg_core.specs.State.{awaits};
+ghost use Rattle.msg_model.specs.declared.state.Standing.TheVariants.{Free};
+ghost use Rattle.msg_model.specs.State.{awaits};
 ghost use Rattle.msg_cache.specs.Keeping.{standing_of, looks, cleared, emptied, Collects};
 ghost use Rattle.msg_cache.specs.Layout.{IsPlace, layout_of};
 ghost use Rattle.msg_cache.specs.Rule.{NoneIsGivenFrom, TidyBy};

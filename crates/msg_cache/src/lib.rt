@@ -25,7 +25,7 @@
 //!   sender that was out since holds it no more. What awaits nobody is cleared (*clear*) and may be
 //!   given to another class reference.
 //!
-//! Each of these is one load or store, and one event of the machine of `msg_core`. The steps are
+//! Each of these is one load or store, and one event of the machine of `msg_model`. The steps are
 //! the functions of `steps.rt`, the rule that they keep stands in `rule.rt` and `specs/Rule.antt`,
 //! and that each is its event is said by [`laws`].
 #![tactic(auto)]

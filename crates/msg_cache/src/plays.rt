@@ -2,7 +2,7 @@
 
 ghost use Rattle.std.specs.Prelude.{ℕ};
 ghost use Rattle.msg_tables.specs.History.{lookup};
-ghost use Rattle.msg_core.specs.declared.state.Whereabouts.TheVariants.{In, Out};
+ghost use Rattle.msg_model.specs.declared.state.Whereabouts.TheVariants.{In, Out};
 ghost use Rattle.msg_cache.specs.Plays.{keeper_of, Headed, Reads, Published, Stamped, Goes, Stores, Flushes, Installs, Commits, Looks, RestLooks, Witnesses, joined, split_left, split_right, lent_left, lent_right};
 ghost use Rattle.msg_cache.specs.Rule.{TidyBy};
 

@@ -2,12 +2,12 @@
 
 ghost use Rattle.std.specs.Prelude.{◌≡◌, ◌≢◌, ◌<◌, ◌+◌, ◌≤◌, [], length, IfSome, IfNone};
 ghost use Rattle.msg_tables.specs.History.{BeginsWith, lookup};
-ghost use Rattle.msg_core.specs.State.{size};
-ghost use Rattle.msg_core.specs.declared.state.Whereabouts.TheVariants.{In, Out};
+ghost use Rattle.msg_model.specs.State.{size};
+ghost use Rattle.msg_model.specs.declared.state.Whereabouts.TheVariants.{In, Out};
 ghost use Rattle.msg_cache.specs.Plays.{seated, given_again, taken_in, renewed, stamped_to};
 ghost use Rattle.msg_cache.specs.Record.{MadeNoProbe, Misses};
 ghost use Rattle.msg_cache.specs.Rule.{IsAccepted, TidyBy};
-ghost use Rattle.msg_core.specs.Stamps.{last_affected};
+ghost use Rattle.msg_model.specs.Stamps.{last_affected};
 ghost use Rattle.msg_cache.specs.Seats.{CanReach, IsKeeper, IsSameSeat, IsSender, KnowsNow, keeper_at, prober_at, sender_at};
 ghost use Rattle.msg_cache.specs.Views.{HitsAndIsFound, IsSenderOf, ProbesFor, classes, layout};
 

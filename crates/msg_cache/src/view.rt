@@ -1,6 +1,6 @@
 //! What seats know. No value of these types is made: they are for contracts alone.
 
-use msg_core::{Standing, Whereabouts};
+use msg_model::{Standing, Whereabouts};
 use msg_names::ClassRef;
 use msg_tables::{Change, Origin};
 use std::collections::LinkedList;

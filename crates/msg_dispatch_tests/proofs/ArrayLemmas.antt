@@ -2,7 +2,7 @@
 use Rattle.std.proofs.Common.{◌≡◌, ℕ, zero, suc, List, [], ◌∷◌, Bool, true, false, cond, None, refl, ap, ◌∙◌}
 use Rattle.std.specs.Prelude.{nat_lt, slice_index, slice_set}
 use Rattle.msg_names.specs.declared.value.ClassRef.{ClassRef}
-use Rattle.msg_core.specs.State.{Layout}
+use Rattle.msg_model.specs.State.{Layout}
 use Rattle.msg_cache.specs.Keeping.{header}
 use Rattle.msg_cache.specs.Layout.{header_at}
 use Rattle.msg_cache.specs.Plays.{flushed}

@@ -1,7 +1,7 @@
 //! Files of edits.
 
 use crate::{read, run_of};
-use msg_devices::RunFault;
+use msg_io::RunFault;
 use msg_samples::{Readings, read_by_both};
 use std::alloc::Global;
 use std::io;

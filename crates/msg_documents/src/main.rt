@@ -10,7 +10,7 @@
 mod edits;
 
 use edits::Edits;
-use msg_devices::{FromReader, RunFault, ToWriter};
+use msg_io::{FromReader, RunFault, ToWriter};
 use msg_runner::{OpenGate, run};
 use msg_samples::{Readings, read_by_both};
 use std::alloc::Global;

@@ -26,36 +26,36 @@ module _ (image : ImageParts) (body : Bodies) (me : Value) (c from : ClassRef) (
   looks_up zero (suc n) le = absurd (omega arith)
   looks_up (suc t) n le = (t, omega arith, λ k. refl)
 
-  module _ {P : Type 0} (step : Steps P) (stands later : P → Type 0) (h : P) (whole : (Value → ℕ → Meaning) → Meaning) (t n : ℕ) (le : n ≤ t) (so_far : ComesTo step stands h whole (dispatch image body t me c from s xs n)) where
-    after_lookup : (r : Result ℕ SendFault) (m : ℕ) → ((p : P) → stands p → Gives {A = ℕ} step later p (ask from (selector_number s) n) r m) → (u : ℕ) × (t ≤ suc u) × ComesTo step later h whole (λ k. go_on r m (λ i l. answered u i l k))
+  module _ {P : Type 0} (step : Steps P) (is_in later : P → Type 0) (h : P) (whole : (Value → ℕ → Meaning) → Meaning) (t n : ℕ) (le : n ≤ t) (so_far : ComesTo step is_in h whole (dispatch image body t me c from s xs n)) where
+    after_lookup : (r : Result ℕ SendFault) (m : ℕ) → ((p : P) → is_in p → Gives {A = ℕ} step later p (ask from (selector_number s) n) r m) → (u : ℕ) × (t ≤ suc u) × ComesTo step later h whole (λ k. go_on r m (λ i l. answered u i l k))
     after_lookup r m found =
         let (u, more, is) = looks_up t n le in
-        (u, more, then_part step stands later h whole (ask from (selector_number s) n) (answered u) r m (record { point = so_far.point; there = so_far.there; follows = λ k g w x. so_far.follows k g w (rw (is k) x) }) found)
+        (u, more, then_part step is_in later h whole (ask from (selector_number s) n) (answered u) r m (record { state = so_far.state; there = so_far.there; follows = λ k g w x. so_far.follows k g w (rw (is k) x) }) found)
 
     -- no lookup is left
-    pub lookup_fails : (f : SendFault) (m : ℕ) → ((p : P) → stands p → Gives {A = ℕ} step later p (ask from (selector_number s) n) (Err f) m) → Gives {A = Value} step later h whole (Err f) m
+    pub lookup_fails : (f : SendFault) (m : ℕ) → ((p : P) → is_in p → Gives {A = ℕ} step later p (ask from (selector_number s) n) (Err f) m) → Gives {A = Value} step later h whole (Err f) m
     lookup_fails f m found = let (u, more, comes) = after_lookup (Err f) m found in gives_fault step later h whole f m comes
 
     -- an implementation was found
-    pub body_gives : (last : P → Type 0) (i m l : ℕ) (r : Result Value SendFault) → 0 < i → ((p : P) → stands p → Gives {A = ℕ} step later p (ask from (selector_number s) n) (Ok i) m) → ((p : P) → later p → Gives {A = Value} step last p (body i me xs m) r l) → Gives {A = Value} step last h whole r l
+    pub body_gives : (last : P → Type 0) (i m l : ℕ) (r : Result Value SendFault) → 0 < i → ((p : P) → is_in p → Gives {A = ℕ} step later p (ask from (selector_number s) n) (Ok i) m) → ((p : P) → later p → Gives {A = Value} step last p (body i me xs m) r l) → Gives {A = Value} step last h whole r l
     body_gives last zero m l r real found second = absurd (omega arith)
     body_gives last (suc i) m l r real found second = let (u, more, comes) = after_lookup (Ok (suc i)) m found in then_gives step later last h whole (body (suc i) me xs m) r l comes second
 
     -- none was found, and the receiver was asked for a target
-    after_forwarding : (last : P → Type 0) (i m l : ℕ) (r : Result (Value × ClassRef) SendFault) → i ≡ 0 → ((p : P) → stands p → Gives {A = ℕ} step later p (ask from (selector_number s) n) (Ok i) m) → ((p : P) → later p → Gives {A = Value × ClassRef} step last p (forward image body me c s m) r l) → (u : ℕ) × (t ≤ suc u) × ComesTo step last h whole (λ k. go_on r l (λ w j. dispatch image body u w.0 w.1 w.1 s xs j k))
+    after_forwarding : (last : P → Type 0) (i m l : ℕ) (r : Result (Value × ClassRef) SendFault) → i ≡ 0 → ((p : P) → is_in p → Gives {A = ℕ} step later p (ask from (selector_number s) n) (Ok i) m) → ((p : P) → later p → Gives {A = Value × ClassRef} step last p (forward image body me c s m) r l) → (u : ℕ) × (t ≤ suc u) × ComesTo step last h whole (λ k. go_on r l (λ w j. dispatch image body u w.0 w.1 w.1 s xs j k))
     after_forwarding last zero m l r none found second =
         let (u, more, comes) = after_lookup (Ok zero) m found in
         (u, more, then_part step later last h whole (forward image body me c s m) (λ w j k. dispatch image body u w.0 w.1 w.1 s xs j k) r l comes second)
     after_forwarding last (suc i) m l r none found second = absurd (omega (arith, none))
 
-    pub forwarding_fails : (last : P → Type 0) (i m l : ℕ) (f : SendFault) → i ≡ 0 → ((p : P) → stands p → Gives {A = ℕ} step later p (ask from (selector_number s) n) (Ok i) m) → ((p : P) → later p → Gives {A = Value × ClassRef} step last p (forward image body me c s m) (Err f) l) → Gives {A = Value} step last h whole (Err f) l
+    pub forwarding_fails : (last : P → Type 0) (i m l : ℕ) (f : SendFault) → i ≡ 0 → ((p : P) → is_in p → Gives {A = ℕ} step later p (ask from (selector_number s) n) (Ok i) m) → ((p : P) → later p → Gives {A = Value × ClassRef} step last p (forward image body me c s m) (Err f) l) → Gives {A = Value} step last h whole (Err f) l
     forwarding_fails last i m l f none found second = let (u, more, comes) = after_forwarding last i m l (Err f) none found second in gives_fault step last h whole f l comes
 
     -- it answered a new receiver, and the dispatch starts again
-    pub starts_again : (last : P → Type 0) (i m l : ℕ) (w : Value × ClassRef) → i ≡ 0 → m < n → l ≤ m → ((p : P) → stands p → Gives {A = ℕ} step later p (ask from (selector_number s) n) (Ok i) m) → ((p : P) → later p → Gives {A = Value × ClassRef} step last p (forward image body me c s m) (Ok w) l) → (u : ℕ) × (l ≤ u) × ComesTo step last h whole (dispatch image body u w.0 w.1 w.1 s xs l)
+    pub starts_again : (last : P → Type 0) (i m l : ℕ) (w : Value × ClassRef) → i ≡ 0 → m < n → l ≤ m → ((p : P) → is_in p → Gives {A = ℕ} step later p (ask from (selector_number s) n) (Ok i) m) → ((p : P) → later p → Gives {A = Value × ClassRef} step last p (forward image body me c s m) (Ok w) l) → (u : ℕ) × (l ≤ u) × ComesTo step last h whole (dispatch image body u w.0 w.1 w.1 s xs l)
     starts_again last i m l w none fewer no_more found second =
         let (u, more, comes) = after_forwarding last i m l (Ok w) none found second in
-        (u, omega (arith, more, fewer, no_more, le), record { point = comes.point; there = comes.there; follows = comes.follows })
+        (u, omega (arith, more, fewer, no_more, le), record { state = comes.state; there = comes.there; follows = comes.follows })
 
 -- no more bodies may be active
 pub no_body : (image : ImageParts) (d i : ℕ) (me : Value) (xs : List Value) (n : ℕ) (k : Rest) → d ≡ 0 → bodies image d i me xs n k ≡ fault Depth

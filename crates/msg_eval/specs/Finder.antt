@@ -19,17 +19,17 @@ sizes_of image = record { classes = class_total image; imps = length image.imps 
 abbrev pub table_sizes : TablesView → Sizes
 table_sizes t = record { classes = length t.supers; imps = last_imp t.counts }
 
--- What lookups do to where a finder stands: from one point a lookup of a selector in a class
--- answers a number at another.
+-- Which lookups are steps: from one state a lookup of a selector in a class returns the number of
+-- an implementation, and leaves the finder in another state.
 abbrev pub Steps : Type 0 → Type 1
 Steps P = P → ClassRef → ℕ → ℕ → P → Type 0
 
--- the answer is the lookup at a history that begins with h
+-- it returns what is found at a history that begins with h, and leaves the finder there
 abbrev pub FindsAt : Steps History
 FindsAt h c s i now = BeginsWith now h × (i ≡ lookup now c s)
 
--- a lookup's answer is a step from p, to where the finder then stands
-pub record FindsAfter {P : Type 0} (step : Steps P) (stands : P → Type 0) (p : P) (c : ClassRef) (s i : ℕ) : Type 0 where
-  pub point : P
-  pub there : stands point
-  pub found : step p c s i point
+-- a lookup that returned this number was a step from p to a state that the finder is in
+pub record FindsAfter {P : Type 0} (step : Steps P) (is_in : P → Type 0) (p : P) (c : ClassRef) (s i : ℕ) : Type 0 where
+  pub state : P
+  pub there : is_in state
+  pub found : step p c s i state

@@ -49,7 +49,7 @@ pub fn send<F: Finder>(
     requires receiver_of { IsOf image.now receiver }
     requires args_of { AreOf image.now args.now.items }
     ensures kept { F.kept finder.new ≡ F.kept finder.old }
-    ensures meaning { Replies F.step F.stands finder.old finder.new
+    ensures meaning { Replies F.step F.is_in finder.old finder.new
         (send_of image.now receiver sel args.now.items) result }
 {
     let message = Message {
@@ -78,7 +78,7 @@ fn eval_expr<F: Finder>(
     ensures kept { F.kept finder.new ≡ F.kept finder.old }
     ensures no_more { left.new ≤ left.old }
     ensures value_of { IfOk result (IsOf frame.now.image.now) }
-    ensures meaning { Means F.step F.stands finder.old finder.new
+    ensures meaning { Means F.step F.is_in finder.old finder.new
         (evaluated frame.now (plain expr.now) left.old) result left.new }
 {
     match expr {
@@ -118,7 +118,7 @@ fn eval_two<F: Finder>(
     ensures kept { F.kept finder.new ≡ F.kept finder.old }
     ensures no_more { left.new ≤ left.old }
     ensures value_of { IfOk result (IsOf frame.now.image.now) }
-    ensures meaning { Means F.step F.stands finder.old finder.new
+    ensures meaning { Means F.step F.is_in finder.old finder.new
         (evaluated frame.now (plain_two op a.now b.now) left.old) result left.new }
 {
     let x = match frame.leaf(a) {
@@ -149,7 +149,7 @@ fn eval_if<F: Finder>(
     ensures kept { F.kept finder.new ≡ F.kept finder.old }
     ensures no_more { left.new ≤ left.old }
     ensures value_of { IfOk result (IsOf frame.now.image.now) }
-    ensures meaning { Means F.step F.stands finder.old finder.new
+    ensures meaning { Means F.step F.is_in finder.old finder.new
         (evaluated frame.now (plain_if test.now yes.now no.now) left.old) result left.new }
 {
     let chosen = match frame.leaf(test) {
@@ -180,7 +180,7 @@ fn eval_send<F: Finder>(
     ensures kept { F.kept finder.new ≡ F.kept finder.old }
     ensures no_more { left.new ≤ left.old }
     ensures value_of { IfOk result (IsOf frame.now.image.now) }
-    ensures meaning { Means F.step F.stands finder.old finder.new
+    ensures meaning { Means F.step F.is_in finder.old finder.new
         (evaluated frame.now (plain_send receiver.now sel args.now) left.old) result left.new }
 {
     let receiver = match frame.leaf(receiver) {
@@ -213,7 +213,7 @@ fn eval_super<F: Finder>(
     ensures kept { F.kept finder.new ≡ F.kept finder.old }
     ensures no_more { left.new ≤ left.old }
     ensures value_of { IfOk result (IsOf frame.now.image.now) }
-    ensures meaning { Means F.step F.stands finder.old finder.new
+    ensures meaning { Means F.step F.is_in finder.old finder.new
         (evaluated frame.now (plain_super sel args.now) left.old) result left.new }
 {
     let mut values = Args::new();
@@ -243,7 +243,7 @@ fn eval_args<F: Finder>(
     ensures kept { F.kept finder.new ≡ F.kept finder.old }
     ensures no_more { left.new ≤ left.old }
     ensures values_of { AreOf frame.now.image.now values.new.items }
-    ensures meaning { Means F.step F.stands finder.old finder.new
+    ensures meaning { Means F.step F.is_in finder.old finder.new
         (args_evaluated frame.now exprs.now left.old) (with_ok values.new.items result) left.new }
 {
     for expr in exprs {
@@ -266,7 +266,7 @@ fn send_to<F: Finder>(
     ensures kept { F.kept finder.new ≡ F.kept finder.old }
     ensures no_more { left.new ≤ left.old }
     ensures value_of { IfOk result (IsOf message.now.image.now) }
-    ensures meaning { Means F.step F.stands finder.old finder.new
+    ensures meaning { Means F.step F.is_in finder.old finder.new
         (sent message.now receiver left.old) result left.new }
 {
     if let Value::Nil = receiver {
@@ -293,7 +293,7 @@ fn send_super<F: Finder>(
     ensures kept { F.kept finder.new ≡ F.kept finder.old }
     ensures no_more { left.new ≤ left.old }
     ensures value_of { IfOk result (IsOf message.now.image.now) }
-    ensures meaning { Means F.step F.stands finder.old finder.new
+    ensures meaning { Means F.step F.is_in finder.old finder.new
         (sent_above message.now me home left.old) result left.new }
 {
     let Some(class) = class_of(message.image, me) else {
@@ -322,7 +322,7 @@ fn dispatch<F: Finder>(
     ensures kept { F.kept finder.new ≡ F.kept finder.old }
     ensures no_more { left.new ≤ left.old }
     ensures value_of { IfOk result (IsOf message.now.image.now) }
-    ensures meaning { Means F.step F.stands finder.old finder.new
+    ensures meaning { Means F.step F.is_in finder.old finder.new
         (dispatched message.now left.old me class from left.old) result left.new }
 {
     let mut me = me;
@@ -356,7 +356,7 @@ fn forward<F: Finder>(
     ensures no_more { left.new ≤ left.old }
     ensures target_of { IfOk result (λ r. IsOf message.now.image.now r.0
         × (r.1.class < class_total message.now.image.now)) }
-    ensures meaning { Means F.step F.stands finder.old finder.new
+    ensures meaning { Means F.step F.is_in finder.old finder.new
         (forwarded message.now me class left.old) result left.new }
 {
     let sel = message.image.forwarding_selector();
@@ -396,7 +396,7 @@ fn enter<F: Finder>(
     ensures kept { F.kept finder.new ≡ F.kept finder.old }
     ensures no_more { left.new ≤ left.old }
     ensures value_of { IfOk result (IsOf message.now.image.now) }
-    ensures meaning { Means F.step F.stands finder.old finder.new
+    ensures meaning { Means F.step F.is_in finder.old finder.new
         (entered message.now imp me left.old) result left.new }
 {
     if message.depth == 0 {

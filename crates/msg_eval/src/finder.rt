@@ -7,7 +7,7 @@ ghost use Rattle.msg_eval.specs.Finder.{Sizes, Steps, FindsAfter};
 use msg_names::{ClassRef, ImpRef, Selector};
 use msg_tables::Tables;
 
-/// Answers lookups, each a step from the point at which the finder stands.
+/// Looks methods up. Each lookup is a step from one state of the finder to another.
 pub trait Finder {
     /// What no lookup changes.
     ghost Kept: { Type 0 };
@@ -17,21 +17,21 @@ pub trait Finder {
     /// How many classes and implementations there are.
     ghost sizes: { Kept → Sizes };
 
-    /// Where a finder stands: what it has seen, and may have noted.
-    ghost Point: { Type 0 };
+    /// A state: what the finder has seen, and what it has noted, if it notes anything.
+    ghost State: { Type 0 };
 
-    ghost stands: { Self → Point → Type 0 };
+    ghost is_in: { Self → State → Type 0 };
 
-    /// Which answers a lookup may have, and where the finder then stands.
-    ghost step: { Steps Point };
+    /// Which numbers a lookup may return, and in which state the finder is then.
+    ghost step: { Steps State };
 
     /// The implementation that a lookup finds, or forwarding.
     fn find(&mut self, class: ClassRef, sel: Selector) -> ImpRef
         requires { class.class < (sizes (kept self.old)).classes }
         ensures kept { kept self.new ≡ kept self.old }
         ensures listed { imp_number result ≤ (sizes (kept self.old)).imps }
-        ensures lawful { (p : Point) → stands self.old p
-            → FindsAfter step (stands self.new) p class (selector_number sel) (imp_number result) };
+        ensures lawful { (p : State) → is_in self.old p
+            → FindsAfter step (is_in self.new) p class (selector_number sel) (imp_number result) };
 }
 
 /// Looks up in tables, and so always at their history.
@@ -52,9 +52,9 @@ impl Finder for Tabled<'_> {
 
     ghost sizes = { table_sizes };
 
-    ghost Point = { History };
+    ghost State = { History };
 
-    ghost stands = { λ s h. StandsAt s.tables.now (log h) };
+    ghost is_in = { λ s h. StandsAt s.tables.now (log h) };
 
     ghost step = { FindsAt };
 

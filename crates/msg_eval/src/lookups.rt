@@ -21,7 +21,7 @@ pub(crate) fn ask<F: Finder>(
     ensures listed { IfOk result (λ i. imp_number i ≤ (F.sizes (F.kept finder.old)).imps) }
     ensures fewer { IfOk result (λ _. left.new < left.old) }
     ensures no_more { left.new ≤ left.old }
-    ensures meaning { Means F.step F.stands finder.old finder.new
+    ensures meaning { Means F.step F.is_in finder.old finder.new
         (ask class (selector_number sel) left.old) (numbered result) left.new }
 {
     if *left == 0 {

@@ -2,9 +2,9 @@
 use Rattle.std.proofs.Common.{◌≡◌, Some, refl, arith}
 use Rattle.msg_form.specs.declared.faults.DocumentFault.{DocumentFault}
 use Rattle.msg_form.specs.declared.faults.DocumentFault.TheVariants as documents
-use Rattle.msg_devices.specs.Complaint.{status_of}
-use Rattle.msg_devices.specs.Fault.{refused}
-use Rattle.msg_devices.specs.declared.fault.RunFault.TheVariants.{Document}
+use Rattle.msg_io.specs.Complaint.{status_of}
+use Rattle.msg_io.specs.Fault.{refused}
+use Rattle.msg_io.specs.declared.fault.RunFault.TheVariants.{Document}
 
 -- status 2 is that of a fault of the document, and not of want of memory
 pub refused_is : (f : DocumentFault) → status_of (Some (refused f)) ≡ 2 → (f ≡ documents.Memory → ⊥) × (refused f ≡ Document f)

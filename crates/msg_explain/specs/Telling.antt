@@ -1,6 +1,6 @@
 -- How a place is told.
 use Rattle.std.specs.Prelude.{ℕ, List, [], ◌∷◌, ◌++◌, codes}
-use Rattle.msg_devices.specs.Decimal.{digits}
+use Rattle.msg_io.specs.Decimal.{digits}
 use Rattle.msg_explain.specs.declared.place.Step.{Step}
 use Rattle.msg_explain.specs.declared.place.Step.TheVariants.{Key, Place}
 

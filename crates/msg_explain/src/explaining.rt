@@ -1,29 +1,31 @@
 //! What is said of a document: where it is at fault, or why it is answered as it is.
 
-ghost use Rattle.std.specs.Prelude.{◌≡◌, ◌≢◌, ◌⊎◌, false, Err, IfSome};
-ghost use Rattle.msg_devices.specs.Reading.{IsSoundDocument};
-ghost use Rattle.msg_devices.specs.Writing.{Writes};
+ghost use Rattle.std.specs.Prelude.{◌≡◌, ◌≢◌, ◌≤◌, ◌⊎◌, ℕ, List, false, length, Err, IfSome};
+ghost use Rattle.msg_io.specs.Reading.{IsSoundDocument};
+ghost use Rattle.msg_io.specs.Writing.{Writes};
 ghost use Rattle.msg_form.specs.declared.faults.DocumentFault.{DocumentFault};
 ghost use Rattle.msg_form.specs.declared.faults.DocumentFault.TheVariants as documents;
 ghost use Rattle.msg_image.specs.Answer.{IsAnswer};
 ghost use Rattle.msg_image.specs.DocumentParts.{document_parts};
-ghost use Rattle.msg_reasons.specs.Text.{explanation_text};
-ghost use Rattle.msg_explain.specs.Explaining.{SaysFault, TellsReasons};
+ghost use Rattle.msg_reasons.specs.Text.{beside_text, explanation_text};
+ghost use Rattle.msg_io.specs.declared.complaint.Program.TheVariants as Program;
+ghost use Rattle.msg_explain.specs.Explaining.{SaysFault, TellsReasons, TellsReasonsBeside};
 
 use crate::place::Place;
 use crate::position::{Position, end_of_json, position_of};
 use crate::search::misplaced;
 use crate::telling::{push_path, push_reason};
 use crate::walk::faulty;
-use msg_devices::{
-    Program, RunFault, Sink, Source, complain, push_digits, read_whole, write_whole,
-};
 use msg_form::{DocumentFault, Form, FormNames};
-use msg_image::{Document, MOST_BYTES, read_document};
+use msg_image::{Document, MAX_ITEMS, MOST_BYTES, read_document};
+use msg_io::{Program, RunFault, Sink, Source, complain, push_digits, read_whole, write_whole};
 use msg_json::{Bump, Scratch, Tree, read};
-use msg_reasons::explain_document;
+use msg_reasons::{explain_beside as document_beside, explain_document};
+use msg_runner::versions_beside;
 use std::alloc::{AllocError, Global};
 use std::str;
+use std::sync::Wait;
+use std::thread::Threads;
 
 // So many places are told at most.
 const MOST_PLACES: usize = 100;
@@ -50,15 +52,39 @@ pub fn explain<R: Source, W: Sink, E: Sink>(
     explain_bytes(alloc, &bytes, sink, errors)
 }
 
+/// As [`explain`], of a run that makes the changes beside the sends: under each answer it says at
+/// which version each lookup was answered.
+pub fn explain_beside<R: Source, W: Sink, E: Sink, T: Threads + Wait + Sync>(
+    rt: &T,
+    alloc: Global,
+    source: &mut R,
+    sink: &mut W,
+    errors: &mut E,
+) -> u8
+    requires { R.mark source.old ≡ false }
+    ensures status { (result ≡ 0) ⊎ ((result ≡ 1) ⊎ (result ≡ 2)) }
+    ensures answered { result ≡ 0 → IfSome (R.remaining source.old)
+        (TellsReasonsBeside W.contents sink.old sink.new) }
+{
+    let bytes = match read_whole(alloc, source) {
+        Ok(bytes) => bytes,
+        Err(fault) => return complain(errors, Program::Msgbeside, Some(&RunFault::from(fault))),
+    };
+    match read_document(alloc, &bytes) {
+        Ok(document) => tell_reasons_beside(rt, alloc, document, sink, errors),
+        Err(fault) => refuse(alloc, &bytes, fault, Program::Msgbeside, sink, errors),
+    }
+}
+
 fn explain_bytes<W: Sink, E: Sink>(alloc: Global, bytes: &[u8], sink: &mut W, errors: &mut E) -> u8
     ensures status { (result ≡ 0) ⊎ ((result ≡ 1) ⊎ (result ≡ 2)) }
     ensures answered { result ≡ 0 → TellsReasons W.contents sink.old sink.new bytes.now }
     ensures refused { result ≡ 2 → (f : DocumentFault) × IsAnswer bytes.now (Err f)
-        × SaysFault E.contents errors.old errors.new f }
+        × SaysFault Program.Msgrun E.contents errors.old errors.new f }
 {
     match read_document(alloc, bytes) {
         Ok(document) => tell_reasons(alloc, document, sink, errors),
-        Err(fault) => refuse(alloc, bytes, fault, sink, errors),
+        Err(fault) => refuse(alloc, bytes, fault, Program::Msgrun, sink, errors),
     }
 }
 
@@ -80,22 +106,48 @@ fn tell_reasons<W: Sink, E: Sink>(
     }
 }
 
+/// Says the answers of a run beside changes, and the lookups behind them.
+fn tell_reasons_beside<W: Sink, E: Sink, T: Threads + Wait + Sync>(
+    rt: &T,
+    alloc: Global,
+    document: Document,
+    sink: &mut W,
+    errors: &mut E,
+) -> u8
+    requires sound { IsSoundDocument (document_parts document) }
+    requires few { length document.items.items ≤ MAX_ITEMS }
+    ensures status { (result ≡ 0) ⊎ (result ≡ 1) }
+    ensures told { result ≡ 0 → (versions : List ℕ)
+        × Writes W.contents sink.old sink.new (beside_text (document_parts document) versions) }
+{
+    let explained = versions_beside(rt, alloc, &document);
+    let text = match explained {
+        Ok(versions) => document_beside(alloc, &document, &versions),
+        Err(AllocError) => Err(AllocError),
+    };
+    match text {
+        Ok(text) => say(sink, errors, &text, 0),
+        Err(AllocError) => complain(errors, Program::Msgbeside, Some(&RunFault::Memory)),
+    }
+}
+
 /// Says the fault, and where it is.
 fn refuse<W: Sink, E: Sink>(
     alloc: Global,
     bytes: &[u8],
     fault: DocumentFault,
+    program: Program,
     sink: &mut W,
     errors: &mut E,
 ) -> u8
     ensures status { (result ≡ 1) ⊎ (result ≡ 2) }
     ensures said { result ≡ 2 → (fault ≢ documents.Memory)
-        × SaysFault E.contents errors.old errors.new fault }
+        × SaysFault program E.contents errors.old errors.new fault }
 {
-    let status = complain(errors, Program::Msgrun, Some(&RunFault::from(fault)));
+    let status = complain(errors, program, Some(&RunFault::from(fault)));
     match places_text(alloc, bytes, fault) {
         Ok(text) => say(sink, errors, &text, status),
-        Err(AllocError) => complain(errors, Program::Msgrun, Some(&RunFault::Memory)),
+        Err(AllocError) => complain(errors, program, Some(&RunFault::Memory)),
     }
 }
 

@@ -1,15 +1,15 @@
 //! How a place is told.
 
 ghost use Rattle.std.specs.Prelude.{◌≡◌, ◌++◌, OnOk};
-ghost use Rattle.msg_devices.specs.Writing.{Gains};
+ghost use Rattle.msg_io.specs.Writing.{Gains};
 ghost use Rattle.msg_explain.specs.Telling as spec;
 
 use crate::part::{Edition, Naming, Part, Wanted};
 use crate::place::{Place, Step};
 use crate::search::word_of;
 use crate::tables::keys;
-use msg_devices::push_digits;
 use msg_form::DocumentFault;
+use msg_io::push_digits;
 use msg_json::{Tree, get};
 use std::alloc::AllocError;
 

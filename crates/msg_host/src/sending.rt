@@ -3,7 +3,7 @@
 ghost use Rattle.std.specs.Prelude.{◌≡◌, ◌<◌, ◌≤◌, None, Some, IfOk, IfErr, OnOk, IfNone, OnErr};
 ghost use Rattle.msg_tables.specs.Origin.{last_imp};
 ghost use Rattle.msg_tables.specs.History.{BeginsWith, lookup};
-ghost use Rattle.msg_core.specs.Stamps.{last_affected};
+ghost use Rattle.msg_model.specs.Stamps.{last_affected};
 ghost use Rattle.msg_cache.specs.Rule.{IsAccepted};
 ghost use Rattle.msg_cache.specs.Views.{classes, layout};
 ghost use Rattle.msg_host.specs.Asking.{ask_fault};

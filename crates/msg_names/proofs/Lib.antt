@@ -1,4 +1,7 @@
 pub mod ClassRefLemmas
+pub mod CrossingLemmas
 pub mod NumberLemmas
+pub mod NumberedLemmas
 pub mod SetLemmas
 pub mod TestLemmas
+pub mod TextLemmas

@@ -3,3 +3,5 @@ pub mod Laws
 pub mod Name
 pub mod Number
 pub mod Numbering
+pub mod Texts
+pub mod TextsInside

@@ -12,12 +12,12 @@ use Rattle.msg_names.specs.ClassRef.{slot_of}
 use Rattle.msg_names.specs.declared.value.ClassRef.{ClassRef}
 use Rattle.msg_tables.specs.History.{History, BeginsWith, lookup}
 use Rattle.msg_tables.proofs.TakeLemmas.{All-at}
-use Rattle.msg_core.specs.State.{first}
+use Rattle.msg_model.specs.State.{first}
 use Rattle.msg_reader.specs.declared.note.Note.{Note}
 use Rattle.msg_reader.specs.declared.notes.Notes.{Notes}
 use Rattle.msg_reader.specs.Key.{IsSealOf, key_of, mark_of, place_of}
-use Rattle.msg_core.specs.Stamps.{last_affected}
-use Rattle.msg_core.proofs.StampLemmas.{since as stays-since}
+use Rattle.msg_model.specs.Stamps.{last_affected}
+use Rattle.msg_model.proofs.StampLemmas.{since as stays-since}
 use Rattle.msg_cache.specs.Rule.{IsAccepted}
 use Rattle.msg_reader.specs.Notes.{found_by, recalled, AreBlank, IsBlank, IsNoteOf, AreNotesOf, IsRecalled, IsRecalledSince, LiesAt}
 

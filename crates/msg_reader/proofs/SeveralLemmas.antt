@@ -11,7 +11,7 @@ use Rattle.msg_names.specs.declared.value.ClassRef.{ClassRef}
 use Rattle.msg_names.specs.declared.value.ImpRef.{ImpRef}
 use Rattle.msg_tables.specs.History.{History, BeginsWith}
 use Rattle.msg_tables.proofs.BeginsLemmas.{begins_same}
-use Rattle.msg_core.specs.State.{first}
+use Rattle.msg_model.specs.State.{first}
 use Rattle.msg_cache.proofs.PastLemmas.{begins_first, first_begins}
 use Rattle.msg_cache.specs.declared.view.SenderView.{SenderView}
 use Rattle.msg_reader.specs.Kept.{LoadsMore}

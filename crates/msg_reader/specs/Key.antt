@@ -2,13 +2,13 @@
 use Rattle.std.specs.Prelude.{◌≡◌, ◌≢◌, ◌<◌, ◌+◌, ◌*◌, ◌/◌, ◌%◌, ◌^◌, ◌==◌, ℕ, if◌then◌else◌, nat_lt}
 
 -- The key of a lookup: one to one, where the slot is below 2^26 and the selector takes 32 bits. Its
--- low 16 bits are where its note lies.
+-- low 16 bits are 16 times the place of its note.
 abbrev pub key_of : ℕ → ℕ → ℕ
-key_of slot sel = (slot + 1) * 137438954496 + sel * 32
+key_of slot sel = (slot + 1) * 68719499920 + sel * 16
 
 -- the place of a lookup among the notes
 abbrev pub place_of : ℕ → ℕ → ℕ
-place_of slot sel = key_of slot sel / 32 % 2048
+place_of slot sel = key_of slot sel / 16 % 4096
 
 -- what a seal says of an implementation: its number, where that takes 16 bits at most and is below
 -- 65,534; 65,534 of a longer one; and 65,535 of none

@@ -8,8 +8,8 @@ use Rattle.msg_names.specs.declared.value.Selector.{Selector}
 use Rattle.msg_reader.specs.Key.{IsSealOf, key_of, mark_of, place_of}
 use Rattle.msg_tables.specs.Origin.{last_imp}
 use Rattle.msg_tables.specs.History.{History, lookup}
-use Rattle.msg_core.specs.State.{Layout, first}
-use Rattle.msg_core.specs.Stamps.{last_affected}
+use Rattle.msg_model.specs.State.{Layout, first}
+use Rattle.msg_model.specs.Stamps.{last_affected}
 use Rattle.msg_cache.specs.Layout.{stamp_at, word_count}
 use Rattle.msg_cache.specs.Rule.{IsAccepted}
 use Rattle.msg_cache.specs.Views.{IsFoundAt}
@@ -30,7 +30,7 @@ pub record IsNoteOf (h : History) (n : Note) : Type 0 where
 
 -- a note lies at the place of its key, if it isn't blank
 abbrev pub LiesAt : ℕ → Note → Type 0
-LiesAt place n = n.seal ≢ 0 → (n.seal + mark_of n.imp) % 65536 ≡ place * 32
+LiesAt place n = n.seal ≢ 0 → (n.seal + mark_of n.imp) % 65536 ≡ place * 16
 
 -- each of the notes is, and lies at its place
 pub record AreNotesOf (h : History) (n : Notes) : Type 0 where

@@ -6,7 +6,7 @@ use Rattle.msg_names.specs.declared.value.ClassRef.{ClassRef}
 use Rattle.msg_names.specs.declared.value.ImpRef.{ImpRef}
 use Rattle.msg_names.specs.declared.value.Selector.{Selector}
 use Rattle.msg_tables.specs.History.{History, BeginsWith, lookup}
-use Rattle.msg_core.specs.State.{first}
+use Rattle.msg_model.specs.State.{first}
 use Rattle.msg_cache.specs.Views.{ArenaView, IsFoundAt, classes}
 use Rattle.msg_cache.specs.declared.view.SenderView.{SenderView}
 use Rattle.msg_reader.specs.Key.{place_of}

@@ -4,7 +4,7 @@ ghost use Rattle.std.specs.Prelude.{◌≡◌, ◌<◌, ◌^◌, length};
 ghost use Rattle.msg_names.specs.ClassRef.{slot_of};
 ghost use Rattle.msg_names.specs.declared.value.ClassRef.{ClassRef};
 ghost use Rattle.msg_tables.specs.History.{History, BeginsWith};
-ghost use Rattle.msg_core.specs.State.{Layout};
+ghost use Rattle.msg_model.specs.State.{Layout};
 ghost use Rattle.msg_reader.specs.Notes.{AreBlank, AreNotesOf, AreStamped, KeysAreOneToOne, SealsTell};
 ghost use Rattle.msg_reader.specs.declared.notes.Notes.{Notes};
 

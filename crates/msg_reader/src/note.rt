@@ -3,11 +3,13 @@
 ghost use Rattle.std.specs.Prelude.{◌≡◌, ◌+◌, ◌<◌, ◌≤◌, ◌^◌};
 ghost use Rattle.msg_reader.specs.Key.{IsSealed, key_of, mark_of, place_of};
 
-// How many notes there are. 32 classes with 64 selectors each have a place for every one.
-pub(crate) const PLACES: usize = 2048;
+// How many notes there are: a power of two, by which a key's low bits say where its note lies.
+pub(crate) const PLACES: usize = 4096;
 
-// How far the keys of two slots are apart: more than those of all selectors take.
-const APART: u64 = 137_438_954_496;
+// How far the keys of two slots are apart: more than those of all selectors take, 2^36, and 1,449
+// notes on. So the notes of a class and of those numbered next lie far from each other: a
+// multiplicative hash of the slot, as Knuth's (The Art of Computer Programming, 6.4).
+const APART: u64 = 68_719_499_920;
 
 // What a mark says where the implementation's number takes more than 16 bits, and where there is no
 // method.
@@ -31,7 +33,7 @@ pub(crate) struct Note {
     ghost sealed: { IsSealed seal imp },
 }
 
-// The key of a slot and a selector. Its low 16 bits are where the note lies, from the first one on.
+// The key of a slot and a selector. Its low 16 bits are 16 times the place of its note.
 // It is above each mark, so no key is a blank note's.
 #[inline(always)]
 fn key(slot: usize, sel: u32) -> u64
@@ -39,18 +41,18 @@ fn key(slot: usize, sel: u32) -> u64
     ensures key { result ≡ key_of slot sel }
     ensures some { 65535 < result }
 {
-    (slot as u64 + 1) * APART + u64::from(sel) * 32
+    (slot as u64 + 1) * APART + u64::from(sel) * 16
 }
 
-// The one place at which it may be. Selectors whose numbers are near, of classes whose numbers are
-// near, have places of their own.
+// The one place at which it may be. Selectors of one class whose numbers are near have places of
+// their own.
 #[inline(always)]
 pub(crate) fn place(slot: usize, sel: u32) -> usize
     requires { slot < 2 ^ 26 }
-    ensures inside { result < 2048 }
+    ensures inside { result < 4096 }
     ensures place { result ≡ place_of slot sel }
 {
-    (key(slot, sel) / 32) as usize % PLACES
+    (key(slot, sel) / 16) as usize % PLACES
 }
 
 // What a seal says of an implementation.
@@ -67,10 +69,10 @@ fn mark(imp: u32) -> u64
 }
 
 impl Note {
-    ghost use Rattle.std.specs.Prelude.{◌≡◌, ◌==◌, ◌+◌, ◌<◌, ◌≤◌, ◌^◌, ℕ, IfSome, Some};
+    ghost use Rattle.std.specs.Prelude.{◌≡◌, ◌==◌, ◌+◌, ◌<◌, ◌≤◌, ◌^◌, ℕ, IfSome, Some, true};
     ghost use Rattle.msg_reader.specs.Key.{IsSealOf, key_of, mark_of, place_of};
     ghost use Rattle.msg_tables.specs.History.{History};
-    ghost use Rattle.msg_reader.specs.Notes.{IsNoteOf, IsRecalled, LiesAt, Tells, found_by};
+    ghost use Rattle.msg_reader.specs.Notes.{IsBlank, IsNoteOf, IsRecalled, LiesAt, Tells, found_by};
 
     pub(crate) const BLANK: Note = Note {
         seal: 0,
@@ -79,6 +81,14 @@ impl Note {
         spare: 0,
         stamp: 0,
     };
+
+    // Whether it is blank.
+    #[inline(always)]
+    pub(crate) fn is_blank(&self) -> bool
+        ensures blank { result ≡ true → IsBlank self.now }
+    {
+        self.seal == 0 && self.imp == 0 && self.stamp == 0
+    }
 
     // Whether it is of this lookup.
     #[inline(always)]

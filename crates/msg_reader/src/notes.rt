@@ -16,7 +16,7 @@ use msg_names::{ClassRef, ImpRef, Selector};
 // Of slots from here on nothing is noted. No arena has a word for one.
 const SLOTS: usize = 67_108_864;
 
-/// What a sender notes of its lookups, at one of 2,048 places for each class reference and
+/// What a sender notes of its lookups, at one of 4,096 places for each class reference and
 /// selector. In C it is so many notes of 32 bytes, and zero bytes are a blank one.
 #[repr(C)]
 #[derive(Drop)]
@@ -35,11 +35,16 @@ impl Notes {
         }
     }
 
-    /// Then nothing is noted.
+    /// Then nothing is noted. Only notes that aren't blank are written, so memory that no note was
+    /// written to stays untouched.
     pub fn clear(&mut self)
         ensures { AreBlank self.new }
     {
-        *self = Notes::new();
+        for place in 0..PLACES {
+            if !self.notes[place].is_blank() {
+                self.notes[place] = Note::BLANK;
+            }
+        }
     }
 
     /// The implementation that a lookup found after so many changes or more, where it is noted: it

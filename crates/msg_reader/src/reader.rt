@@ -9,7 +9,7 @@
 
 ghost use Rattle.std.specs.Prelude.{◌≡◌, ◌<◌, ◌≤◌, ◌+◌, length, option_map, IfSome, IfNone};
 ghost use Rattle.msg_tables.specs.History.{BeginsWith};
-ghost use Rattle.msg_core.specs.Stamps.{last_affected};
+ghost use Rattle.msg_model.specs.Stamps.{last_affected};
 ghost use Rattle.msg_cache.specs.Ours.{IsOf, view};
 ghost use Rattle.msg_cache.specs.Record.{MadeNoProbe, Misses};
 ghost use Rattle.msg_cache.specs.Rule.{IsAccepted};

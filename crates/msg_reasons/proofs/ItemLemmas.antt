@@ -55,7 +55,7 @@ step d old new text more item left so_far explains =
     }
 
 -- the items from one on
-drop-next : (items : List Item) (i : ℕ) (x : Item) → i < length items → x ≡ get_or items i x → drop i items ≡ x ∷ drop (i + 1) items
+pub drop-next : (items : List Item) (i : ℕ) (x : Item) → i < length items → x ≡ get_or items i x → drop i items ≡ x ∷ drop (i + 1) items
 drop-next items i x lt is =
     drop-cons items i x lt ∙ ap (λ (y : Item). y ∷ drop (suc i) items) (sym is) ∙ ap (λ n. x ∷ drop n items) (sym (add-one i))
 

@@ -1,11 +1,14 @@
+pub mod Beside
 pub mod Categories
 pub mod Changing
 pub mod Explanation
 pub mod Items
+pub mod ItemsBeside
 pub mod Known
 pub mod Lines
 pub mod Looked
 pub mod Lookups
+pub mod Moving
 pub mod Noted
 pub mod Slots
 pub mod Text

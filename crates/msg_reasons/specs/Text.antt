@@ -5,9 +5,10 @@ use Rattle.msg_names.specs.Numbering.{name_at}
 use Rattle.msg_names.specs.declared.value.ClassRef.{ClassRef}
 use Rattle.msg_image.specs.Items.{DocumentParts}
 use Rattle.msg_image.specs.Parts.{ImageParts}
-use Rattle.msg_devices.specs.Decimal.{digits}
+use Rattle.msg_io.specs.Decimal.{digits}
 use Rattle.msg_answers.specs.Serial.{Answer, Replied, Changed}
 use Rattle.msg_answers.specs.Text.{answer_line, class_name, line_of}
+use Rattle.msg_reasons.specs.Beside as beside
 use Rattle.msg_reasons.specs.Categories.{category_of}
 use Rattle.msg_reasons.specs.Explanation.{Reason, explanation_of}
 use Rattle.msg_reasons.specs.Lookups.{Looked}
@@ -39,9 +40,13 @@ abbrev pub found_text : ImageParts → Looked → Option ClassRef → List ℕ
 found_text image l None = codes " not found"
 found_text image l (Some c) = place_text image c ++ listed_text image l c
 
--- a lookup, on a line
+-- a lookup
+abbrev pub lookup_text : ImageParts → Looked → List ℕ
+lookup_text image l = codes "  " ++ asked_text image l.class l.sel ++ found_text image l l.holder
+
+-- the same, on a line
 abbrev pub lookup_line : ImageParts → Looked → List ℕ
-lookup_line image l = line_of (codes "  " ++ asked_text image l.class l.sel ++ found_text image l l.holder)
+lookup_line image l = line_of (lookup_text image l)
 
 -- some words, and a number
 abbrev pub number_text : List ℕ → ℕ → List ℕ
@@ -67,3 +72,26 @@ reason_lines image r = answer_line image r.answer ++ lookup_lines image r.answer
 -- what is said of a document that is answered
 unfoldable pub explanation_text : DocumentParts → List ℕ
 explanation_text d = flat_map (reason_lines d.image) (explanation_of d)
+
+-- ---- of a run beside changes
+
+-- a lookup, on a line, with how many changes were made before it
+abbrev pub seen_line : ImageParts → beside.Seen → List ℕ
+seen_line image k = line_of (lookup_text image k.looked ++ number_text (codes ", changes before: ") k.changes)
+
+-- the lookups of a send, a line for each, and how many there were
+abbrev pub seen_text : ImageParts → List beside.Seen → List ℕ
+seen_text image ks = flat_map (seen_line image) ks ++ line_of (number_text (codes "  lookups: ") (length ks))
+
+-- what is said behind an answer; of what became of changes nothing
+abbrev pub seen_lines : ImageParts → Answer → List beside.Seen → List ℕ
+seen_lines image (Replied r) ks = seen_text image ks
+seen_lines image (Changed o) ks = []
+
+-- an answer's line, and those of its lookups
+abbrev pub beside_lines : ImageParts → beside.Reason → List ℕ
+beside_lines image r = answer_line image r.answer ++ seen_lines image r.answer r.seen
+
+-- what is said of a document whose lookups are answered at these versions
+unfoldable pub beside_text : DocumentParts → List ℕ → List ℕ
+beside_text d versions = flat_map (beside_lines d.image) (beside.explanation_beside d versions)

@@ -5,7 +5,7 @@ ghost use Rattle.msg_image.specs.DocumentParts.{document_parts};
 ghost use Rattle.msg_image.specs.Items.{SendItem};
 ghost use Rattle.msg_image.specs.Plain.{item_parts};
 ghost use Rattle.msg_image.specs.Sound.{IsOf, IsSoundItem};
-ghost use Rattle.msg_devices.specs.Reading.{IsSoundDocument};
+ghost use Rattle.msg_io.specs.Reading.{IsSoundDocument};
 ghost use Rattle.msg_eval.specs.Facts.{AreOf};
 ghost use Rattle.msg_eval.specs.Finder.{sizes_of, table_sizes};
 ghost use Rattle.msg_reasons.specs.Changing.{KeepsSizes};

@@ -2,7 +2,7 @@
 
 ghost use Rattle.std.specs.Prelude.{◌≡◌, true, IfSome, OnOk};
 ghost use Rattle.std.specs.List.{Contains};
-ghost use Rattle.msg_devices.specs.Writing.{Gains};
+ghost use Rattle.msg_io.specs.Writing.{Gains};
 ghost use Rattle.msg_names.specs.Number.{selector_number};
 ghost use Rattle.msg_reasons.specs.Lines.{AreLines};
 ghost use Rattle.msg_reasons.specs.Looked.{looked};

@@ -55,7 +55,7 @@ impl Model for Noting {
 }
 
 // Searches the tables for a method.
-fn search(tables: &Tables, class: ClassRef, sel: Selector) -> Lookup
+pub(crate) fn search(tables: &Tables, class: ClassRef, sel: Selector) -> Lookup
     requires { class.class < length tables.now.supers }
     ensures found { IsFound tables.now result }
     ensures class { result.class ≡ class }
@@ -111,9 +111,9 @@ impl Finder for Noting {
 
     ghost sizes = { table_sizes };
 
-    ghost Point = { Noted };
+    ghost State = { Noted };
 
-    ghost stands = { StandsNoted };
+    ghost is_in = { StandsNoted };
 
     ghost step = { NotesLookup };
 

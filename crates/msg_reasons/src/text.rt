@@ -2,20 +2,22 @@
 
 ghost use Rattle.std.specs.Prelude.{◌≡◌, OnOk};
 ghost use Rattle.std.specs.List.{flat_map};
-ghost use Rattle.msg_devices.specs.Writing.{Gains};
+ghost use Rattle.msg_io.specs.Writing.{Gains};
 ghost use Rattle.msg_names.specs.Number.{selector_number, imp_number};
 ghost use Rattle.msg_tables.specs.Methods.{method_numbers};
 ghost use Rattle.msg_reasons.specs.Categories as chosen;
 ghost use Rattle.msg_reasons.specs.Lines.{AreLines};
 ghost use Rattle.msg_reasons.specs.Looked.{all_looked, looked};
+ghost use Rattle.msg_reasons.specs.Moving.{all_seen, seen_of};
 ghost use Rattle.msg_reasons.specs.Text as spec;
 
 use crate::lines::{Line, push_line};
+use crate::moving::Seen;
 use crate::notes::Lookup;
 use crate::slots::Slots;
 use msg_answers::{class_name, push_method};
-use msg_devices::push_digits;
 use msg_image::{Category, Image};
+use msg_io::push_digits;
 use msg_names::{ClassRef, ImpRef, Selector};
 use std::alloc::AllocError;
 
@@ -144,14 +146,21 @@ fn push_found(text: &mut Vec<u8>, image: &Image, lookup: &Lookup) -> Result<(), 
     }
 }
 
+fn push_lookup_text(text: &mut Vec<u8>, image: &Image, lookup: &Lookup) -> Result<(), AllocError>
+    ensures { OnOk result
+        (Gains text.old text.new (spec.lookup_text image.now (looked lookup.now))) }
+{
+    push(text, "  ")?;
+    push_method(text, image, lookup.class, lookup.sel)?;
+    push_found(text, image, lookup)
+}
+
 /// Appends the line of a lookup.
 pub fn push_lookup(text: &mut Vec<u8>, image: &Image, lookup: &Lookup) -> Result<(), AllocError>
     ensures { OnOk result
         (Gains text.old text.new (spec.lookup_line image.now (looked lookup.now))) }
 {
-    push(text, "  ")?;
-    push_method(text, image, lookup.class, lookup.sel)?;
-    push_found(text, image, lookup)?;
+    push_lookup_text(text, image, lookup)?;
     text.push(NEWLINE)?;
     Ok(())
 }
@@ -207,5 +216,36 @@ pub(crate) fn push_lookups(
 {
     push_lines(text, image, lookups, lines)?;
     push_count(text, lookups.len(), changes)?;
+    Ok(())
+}
+
+// Appends the line of a lookup in a run beside changes.
+fn push_seen_line(text: &mut Vec<u8>, image: &Image, seen: &Seen) -> Result<(), AllocError>
+    ensures { OnOk result (Gains text.old text.new (spec.seen_line image.now (seen_of seen.now))) }
+{
+    push_lookup_text(text, image, &seen.lookup)?;
+    push_number(text, ", changes before: ", seen.changes as usize)?;
+    text.push(NEWLINE)?;
+    Ok(())
+}
+
+// Appends a line for each lookup.
+fn push_seen_lines(text: &mut Vec<u8>, image: &Image, seen: &[Seen]) -> Result<(), AllocError>
+    ensures { OnOk result
+        (Gains text.old text.new (flat_map (spec.seen_line image.now) (all_seen seen.now))) }
+{
+    for one in seen {
+        push_seen_line(text, image, one)?;
+    }
+    Ok(())
+}
+
+// Appends the lines of a send's lookups, and how many they are.
+pub(crate) fn push_seen(text: &mut Vec<u8>, image: &Image, seen: &[Seen]) -> Result<(), AllocError>
+    ensures { OnOk result (Gains text.old text.new (spec.seen_text image.now (all_seen seen.now))) }
+{
+    push_seen_lines(text, image, seen)?;
+    push_number(text, "  lookups: ", seen.len())?;
+    text.push(NEWLINE)?;
     Ok(())
 }

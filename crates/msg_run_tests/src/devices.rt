@@ -4,7 +4,7 @@ ghost use Rattle.std.specs.Prelude.{◌≡◌, false};
 
 use crate::runs::Way;
 use crate::same::{same, same_at};
-use msg_devices::{Failed, FromReader, RunFault, Sink, Source, ToWriter};
+use msg_io::{Failed, FromReader, RunFault, Sink, Source, ToWriter};
 use msg_runner::{OpenGate, run, run_beside};
 use msg_samples::SMALL;
 use std::alloc::Global;

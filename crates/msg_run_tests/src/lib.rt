@@ -32,3 +32,5 @@ mod runs;
 mod same;
 #[cfg(test)]
 mod stress;
+#[cfg(test)]
+mod versions;

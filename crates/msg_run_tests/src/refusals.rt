@@ -2,8 +2,8 @@
 
 use crate::runs::{Way, ran};
 use crate::same::same_at;
-use msg_devices::RunFault;
 use msg_form::DocumentFault;
+use msg_io::RunFault;
 use msg_runner::OpenGate;
 use msg_samples::SMALL;
 use std::alloc::Global;

@@ -1,7 +1,7 @@
 //! Documents, and what a run of one writes.
 
 use crate::same::same;
-use msg_devices::{FromReader, RunFault, ToWriter};
+use msg_io::{FromReader, RunFault, ToWriter};
 use msg_runner::{Gate, run, run_beside};
 use std::alloc::Global;
 use std::process::Abort;

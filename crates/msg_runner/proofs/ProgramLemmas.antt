@@ -1,10 +1,10 @@
 -- How programs end.
 use Rattle.std.proofs.Common.{◌≡◌, ◌∷◌, ℕ, List, [], Option, Some, None, refl}
 use Rattle.std.specs.Prelude.{IfSome}
-use Rattle.msg_devices.specs.CommandLine.{arguments_of}
-use Rattle.msg_devices.specs.declared.complaint.Program.{Program}
-use Rattle.msg_devices.specs.declared.fault.RunFault.{RunFault}
-use Rattle.msg_devices.specs.declared.fault.RunFault.TheVariants as faults
+use Rattle.msg_io.specs.CommandLine.{arguments_of}
+use Rattle.msg_io.specs.declared.complaint.Program.{Program}
+use Rattle.msg_io.specs.declared.fault.RunFault.{RunFault}
+use Rattle.msg_io.specs.declared.fault.RunFault.TheVariants as faults
 use Rattle.msg_runner.specs.Program.{EndedWith}
 
 wrong_use : (p : Program) (known old : Option (List ℕ)) → EndedWith p None known old old None

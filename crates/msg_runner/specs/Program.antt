@@ -2,15 +2,15 @@
 use Rattle.std.specs.Prelude.{◌≡◌, ◌≢◌, ◌↔◌, ◌⊎◌, ℕ, Bool, false, List, Option, Some, None, Err, IfSome}
 use Rattle.msg_form.specs.declared.faults.DocumentFault.{DocumentFault}
 use Rattle.msg_image.specs.Answer.{IsAnswer}
-use Rattle.msg_devices.specs.Complaint.{complaint_line, status_of}
-use Rattle.msg_devices.specs.Writing.{AppendsStart, Starts, Writes}
-use Rattle.msg_devices.specs.declared.fault.RunFault.{RunFault}
-use Rattle.msg_devices.specs.declared.fault.RunFault.TheVariants as faults
+use Rattle.msg_io.specs.Complaint.{complaint_line, status_of}
+use Rattle.msg_io.specs.Writing.{AppendsStart, Starts, Writes}
+use Rattle.msg_io.specs.declared.fault.RunFault.{RunFault}
+use Rattle.msg_io.specs.declared.fault.RunFault.TheVariants as faults
 use Rattle.msg_runner.specs.Outcome.{Puts, Wrote}
 use Rattle.msg_runner.specs.declared.changes.Changes.{Changes}
 use Rattle.msg_runner.specs.declared.changes.Changes.TheVariants.{Between, Beside}
-use Rattle.msg_devices.specs.declared.complaint.Program.{Program}
-use Rattle.msg_devices.specs.declared.complaint.Program.TheVariants.{Msgrun, Msgbeside}
+use Rattle.msg_io.specs.declared.complaint.Program.{Program}
+use Rattle.msg_io.specs.declared.complaint.Program.TheVariants.{Msgrun, Msgbeside}
 
 -- when a program makes the changes
 abbrev pub changes_of : Program → Changes

@@ -1,16 +1,19 @@
 //! A worker's sender as the finder of its sends.
 
-ghost use Rattle.std.specs.Prelude.{◌≡◌, All, List};
+ghost use Rattle.std.specs.Prelude.{◌≡◌, ◌<◌, ◌≤◌, All, List};
 ghost use Rattle.msg_image.specs.Opened.{origin_of};
 ghost use Rattle.msg_image.specs.Sound.{IsOf};
 ghost use Rattle.msg_tables.specs.History.{History, BeginsWith};
+ghost use Rattle.msg_names.specs.Number.{imp_number, selector_number};
+ghost use Rattle.msg_tables.specs.Origin.{class_total, last_imp};
 ghost use Rattle.msg_eval.specs.Evaluation.{send_of};
+ghost use Rattle.msg_eval.specs.Finder.{FindsAt};
 ghost use Rattle.msg_eval.specs.Points.{Rise, EndsAfter, last_of};
 
 use crate::gate::Gate;
 use msg_dispatch::{ArenaName, Recalling};
 use msg_eval::{Args, Finder, Reply, send};
-use msg_image::Image;
+use msg_image::{Image, MAX_ITEMS};
 use msg_names::{ClassRef, ImpRef, Selector, Value};
 use std::sync::Wait;
 
@@ -36,13 +39,29 @@ impl<'r, 'd, N: ArenaName, G: Gate, R: Wait> Finder for Asking<'r, 'd, N, G, R> 
 
     ghost sizes = { sizes_at };
 
-    ghost Point = { History };
+    ghost State = { History };
 
-    ghost stands = { λ s h. s.sender.sender.seen.front ≡ h };
+    ghost is_in = { λ s h. s.sender.sender.seen.front ≡ h };
 
     ghost step = { FindsAt };
 
     fn find(&mut self, class: ClassRef, sel: Selector) -> ImpRef {
+        if !self.gate.is_watching() {
+            return self.sender.find(self.rt, class, sel);
+        }
+        // Where a change is made beside a lookup, its version isn't known, and it is repeated: more
+        // often than there are items never.
+        let mut before = self.sender.refresh();
+        for _try in 0..MAX_ITEMS {
+            let imp = self.sender.find(self.rt, class, sel);
+            let after = self.sender.refresh();
+            if after == before {
+                self.gate.looked(before);
+                return imp;
+            }
+            before = after;
+        }
+        self.gate.looked(before);
         self.sender.find(self.rt, class, sel)
     }
 }

@@ -12,9 +12,9 @@ ghost use Rattle.msg_runner.specs.Program.{changes_of};
 
 use crate::gate::Gate;
 use msg_answers::{Outcome, is_send};
-use msg_devices::Program;
 use msg_dispatch::{ArenaName, Changer};
 use msg_image::{Change, Item};
+use msg_io::Program;
 use msg_tables::{ChangeFault, Written};
 use std::alloc::{AllocError, Global};
 use std::sync::Wait;

@@ -11,7 +11,7 @@ ghost use Rattle.msg_image.specs.DocumentParts.{document_parts};
 ghost use Rattle.msg_image.specs.Opened.{origin_of};
 ghost use Rattle.msg_tables.specs.History.{empty};
 ghost use Rattle.msg_runtime.specs.Parts.{IsKeeperOf, keeper_history};
-ghost use Rattle.msg_devices.specs.Reading.{IsSoundDocument};
+ghost use Rattle.msg_io.specs.Reading.{IsSoundDocument};
 ghost use Rattle.msg_answers.specs.Parts.{items_of, history_past, HasLines, IsSoundPart};
 ghost use Rattle.msg_answers.specs.Parts.{PartChanges, PartPieces};
 ghost use Rattle.msg_answers.specs.Serving.{AllSends, IsOneChange};

@@ -12,14 +12,16 @@ mod gate;
 mod program;
 mod running;
 mod share;
+mod witness;
 mod workers;
 mod writing;
 
 pub use changes::Changes;
 pub use document::answer_document;
 pub use gate::{Gate, LastGate, OpenGate};
-pub use msg_devices::{
+pub use msg_io::{
     Failed, FromReader, Program, RunFault, Sink, Source, ToWriter, arguments, complain,
 };
 pub use program::{run_program, run_words};
 pub use running::{run, run_beside};
+pub use witness::versions_beside;

@@ -3,14 +3,14 @@
 ghost use Rattle.std.specs.Prelude.{◌≡◌, ◌≢◌, ◌⊎◌, List, ℕ, false, map, string_bytes, Err};
 ghost use Rattle.std.specs.Prelude.{IfErr, IfSome, OnOk};
 ghost use Rattle.std.specs.Io.KnownBytes.{Appends, IsAtEnd};
-ghost use Rattle.msg_devices.specs.CommandLine.{arguments_of};
-ghost use Rattle.msg_devices.specs.Reading.{GivesStart};
+ghost use Rattle.msg_io.specs.CommandLine.{arguments_of};
+ghost use Rattle.msg_io.specs.Reading.{GivesStart};
 ghost use Rattle.msg_runner.specs.Program.{EndedWith, EndsWith, WroteAsked};
 
 use crate::changes::Changes;
 use crate::gate::LastGate;
 use crate::running::{Asked, run_as};
-use msg_devices::{Program, RunFault, Sink, Source, arguments, complain, words};
+use msg_io::{Program, RunFault, Sink, Source, arguments, complain, words};
 use std::alloc::{Alloc, Global};
 use std::env::Env;
 use std::sync::Wait;

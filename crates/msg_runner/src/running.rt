@@ -3,16 +3,16 @@
 ghost use Rattle.std.specs.Prelude.{◌≡◌, ◌≢◌, ◌↔◌, false, true, Err, IfSome, OnOk};
 ghost use Rattle.std.specs.Io.KnownBytes.{Appends, IsAtEnd};
 ghost use Rattle.msg_form.specs.declared.faults.DocumentFault.TheVariants as documents;
-ghost use Rattle.msg_devices.specs.Admission.{AreNoWorkers, IsNoCut, TellsFaultOf};
-ghost use Rattle.msg_devices.specs.Reading.{GivesStart};
-ghost use Rattle.msg_devices.specs.Writing.{AppendsStart};
+ghost use Rattle.msg_io.specs.Admission.{AreNoWorkers, IsNoCut, TellsFaultOf};
+ghost use Rattle.msg_io.specs.Reading.{GivesStart};
+ghost use Rattle.msg_io.specs.Writing.{AppendsStart};
 ghost use Rattle.msg_runner.specs.Outcome.{Leaves, Wrote};
 
 use crate::changes::Changes;
 use crate::document::answer_document;
 use crate::gate::Gate;
-use msg_devices::{RunFault, Sink, Source, admit, write_text};
 use msg_image::Document;
+use msg_io::{RunFault, Sink, Source, admit, write_text};
 use std::alloc::Global;
 use std::mem;
 use std::sync::Wait;

@@ -2,7 +2,7 @@
 use Rattle.std.proofs.Common.{◌≡◌, ℕ, ◌≤◌, Bool, true, List, length, sym, ap, subst, ◌∙◌, arith}
 use Rattle.std.specs.Prelude.{replicate, slice_index}
 use Rattle.std.proofs.lemmas.List.{length-replicate}
-use Rattle.msg_core.specs.State.{awaits, size}
+use Rattle.msg_model.specs.State.{awaits, size}
 use Rattle.msg_cache.specs.declared.view.KeeperView.{KeeperView}
 use Rattle.msg_cache.specs.Rule.{since_of}
 use Rattle.msg_cache.proofs.OrderLemmas.{same_everywhere}

@@ -5,7 +5,7 @@ use Rattle.msg_names.specs.declared.value.ClassRef.{ClassRef}
 use Rattle.msg_names.specs.declared.value.ImpRef.{ImpRef}
 use Rattle.msg_names.specs.declared.value.Selector.{Selector}
 use Rattle.msg_tables.specs.History.{History}
-use Rattle.msg_core.specs.State.{Layout, awaits}
+use Rattle.msg_model.specs.State.{Layout, awaits}
 use Rattle.msg_cache.specs.Ours as cache
 use Rattle.msg_cache.specs.Counts.{CountsFill}
 use Rattle.msg_cache.specs.Keeping.{Fills, way_of}

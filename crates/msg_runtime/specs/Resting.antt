@@ -4,7 +4,7 @@ use mathlib.Core.Option.{some}
 use lib.ListN.{get_elem?}
 use Rattle.atomic_table.specs.Table.{State as Table}
 use Rattle.msg_tables.specs.History.{lookup, BeginsWith, History}
-use Rattle.msg_core.specs.State.{awaits, size}
+use Rattle.msg_model.specs.State.{awaits, size}
 use Rattle.msg_cache.specs.Layout.{SettingView}
 use Rattle.msg_cache.specs.Rule.{holds, since_of}
 use Rattle.msg_cache.specs.declared.view.KeeperView.{KeeperView}

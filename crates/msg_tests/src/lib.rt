@@ -11,6 +11,8 @@ mod faults;
 #[cfg(test)]
 mod forms;
 #[cfg(test)]
+mod host_machine;
+#[cfg(test)]
 mod images;
 #[cfg(test)]
 mod lists;

@@ -1,8 +1,8 @@
 //! Worked rows of events.
 
 use crate::same::{same, same_at};
-use msg_core::{Event, EventFault, Machine, Seen};
 use msg_image::{Change, Image, read_document};
+use msg_model::{Event, EventFault, Machine, Seen};
 use msg_names::{ClassRef, ImpRef, Selector};
 use msg_tables::ChangeFault;
 use std::alloc::Global;

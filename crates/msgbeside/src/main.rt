@@ -2,7 +2,7 @@
 //! to standard output: `msgbeside [workers [cut]]`.
 #![tactic(auto)]
 
-use msg_devices::{FromReader, Program, ToWriter};
+use msg_io::{FromReader, Program, ToWriter};
 use msg_runner::run_program;
 use std::process::ExitCode;
 

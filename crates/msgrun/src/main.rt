@@ -2,7 +2,7 @@
 //! `msgrun [workers [cut]]`.
 #![tactic(auto)]
 
-use msg_devices::{FromReader, Program, ToWriter};
+use msg_io::{FromReader, Program, ToWriter};
 use msg_runner::run_program;
 use std::process::ExitCode;
 

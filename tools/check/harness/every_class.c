@@ -1,5 +1,5 @@
-/* objc/classes.c with small tables (three classes), run for every sequence of STEPS calls that make
- * classes at run time, with memory refused at each place, under sanitizers. */
+/* trusted/objc/classes.c with small tables (three classes), run for every sequence of STEPS calls
+ * that make classes at run time, with memory refused at each place, under sanitizers. */
 #include "blocks.h"
 #include "classes.c"
 _Noreturn void shim_stop(const char *why, const char *what) { longjmp(search->out_of_run, 1); }
@@ -15,7 +15,7 @@ char *shim_copy(const char *text)
     if (!copy) shim_stop("no memory", "");
     return copy;
 }
-/* objc/names.c is checked by itself; here a list does. */
+/* trusted/objc/names.c is checked by itself; here a list does. */
 uint32_t shim_mixed(const char *name) { return 1; }
 static uint32_t listed[4];
 static int listed_count;

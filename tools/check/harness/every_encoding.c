@@ -1,4 +1,4 @@
-/* objc/encoding.c over every text of up to so many letters of those that it tells apart, under the
+/* trusted/objc/encoding.c over every text of up to so many letters of those that it tells apart, under the
  * sanitizers: each call, with the text at the end of a block of just its size, so that a read
  * beyond is seen. */
 #include <stdio.h>

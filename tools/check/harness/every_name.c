@@ -1,4 +1,4 @@
-/* objc/names.c with small tables, in which all names meet (12 selectors, of which 10 are the shim's
+/* trusted/objc/names.c with small tables, in which all names meet (12 selectors, of which 10 are the shim's
  * own; 3 functions), run for every sequence of STEPS names, as programs and modules ask for them,
  * with memory refused at each place, under sanitizers. */
 #include "blocks.h"

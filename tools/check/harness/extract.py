@@ -1,5 +1,5 @@
 #!/usr/bin/env python3
-"""Copies of process/msg_process.c, include/*.h and objc/seat.h that are run step by step:
+"""Copies of trusted/process/msg_process.c, include/*.h and trusted/objc/seat.h that are run step by step:
 `extract.py ROOT INTO`.
 
 One note takes all keys, so that they meet; a STEP() stands before each statement on what a handler
@@ -41,9 +41,9 @@ def steps(text):
 runtime = (root / "include/msg_runtime.h").read_text()
 (out / "msg_runtime.h").write_text(swap(
     runtime,
-    ("enum { MSG_NOTES = 2048 };", "enum { MSG_NOTES = 1 };"),
+    ("enum { MSG_NOTES = 4096 };", "enum { MSG_NOTES = 1 };"),
     ("{0, 0, {{0, 0, 0, 0, 0}}}", "{0}"),
-    ("(sender)->notes + \\\n                                      (uint16_t)(key)))",
+    ("(sender)->notes + \\\n                                      2 * (uint16_t)(key)))",
      "(sender)->notes + 0 * (key)))")))
 
 process = (root / "include/msg_process.h").read_text()
@@ -56,7 +56,7 @@ process = (root / "include/msg_process.h").read_text()
     ("said == MSG_SAID_LONG ? note->imp", "said == MSG_SAID_LONG ? cv_note.imp"),
     ("extern __thread __attribute__((tls_model(MSG_TLS)))", "extern")))
 
-source = (root / "process/msg_process.c").read_text().replace("__thread ", "")
+source = (root / "trusted/process/msg_process.c").read_text().replace("__thread ", "")
 source = swap(
     source,
     ("    int how = MAP_PRIVATE | MAP_ANONYMOUS;\n", ""),
@@ -70,7 +70,7 @@ source = swap(
 head, body = source.split("static inline uint32_t take(", 1)
 (out / "msg_process.c").write_text(head + steps("static inline uint32_t take(" + body))
 
-seat = (root / "objc/seat.h").read_text()
+seat = (root / "trusted/objc/seat.h").read_text()
 notes = seat[seat.index("static inline uint64_t shim_said_at("):seat.index("#endif\n", seat.index("shim_note(Class"))]
 notes = notes.replace("    uint64_t key = __atomic_load_n(&class_->key, __ATOMIC_ACQUIRE) + sel->name.key;\n", "")
 notes = notes.replace(" __attribute__((unused)) =", " =")

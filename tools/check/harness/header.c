@@ -14,9 +14,9 @@ typedef unsigned __int128 nat;
 #define ANY(type, name) type name /* uninitialized is any value in cbmc */
 
 /* ---- the definitions, as in Key.antt and Notes.antt ---- */
-static nat key_of(nat slot, nat sel) { return (slot + 1) * 137438954496u + sel * 32u; }
+static nat key_of(nat slot, nat sel) { return (slot + 1) * 68719499920u + sel * 16u; }
 static nat mark_of(nat imp) { return imp == 0 ? 65535 : imp < 65534 ? imp : 65534; }
-static size_t place_of(nat slot, nat sel) { return (size_t)(key_of(slot, sel) / 32u % 2048u); }
+static size_t place_of(nat slot, nat sel) { return (size_t)(key_of(slot, sel) / 16u % 4096u); }
 
 /* A handle of just its size, as bytes, since cbmc loads from a place that isn't constant more
  * cheaply there; --nondet-static: of any values. */
@@ -42,7 +42,7 @@ static uint64_t stamp_of(msg_note n) { return *(const uint64_t *)(const void *)&
 /* `recalled` of Notes.antt, of a slot below 2^26, in terms of its key: keys_are_the_spec shows that
  * msg_key is key_of, and that place_of is of its low 16 bits. */
 #define NOTHING (~(nat)0) /* None */
-static msg_note noted(uint64_t key) { return note_at((key & 65535) / 32); }
+static msg_note noted(uint64_t key) { return note_at((key & 65535) / 16); }
 static nat recalled(uint64_t since, uint64_t key)
 {
     msg_note n = noted(key);
@@ -61,7 +61,7 @@ static bool is_sealed(msg_note n, uint64_t key)
 }
 
 /* Keys begin where the slots' first one does: which each msg_key is, and no mark reaches. */
-#define IS_KEY(key) (!((key) & 31) && (key) >= MSG_KEY_OF_SLOT)
+#define IS_KEY(key) (!((key) & 15) && (key) >= MSG_KEY_OF_SLOT)
 
 /* ---- keys ---- */
 void keys_are_the_spec(void)
@@ -70,9 +70,9 @@ void keys_are_the_spec(void)
     __CPROVER_assume(slot < MSG_SLOTS);
     uint64_t key = msg_key(slot, sel);
     __CPROVER_assert((nat)key == key_of(slot, sel), "msg_key is key_of, without wrapping");
-    __CPROVER_assert(IS_KEY(key), "a multiple of 32, and above all marks");
-    nat place = 32 * place_of(slot, sel);
-    __CPROVER_assert((uint16_t)key == place, "its low 16 bits are where its note lies");
+    __CPROVER_assert(IS_KEY(key), "a multiple of 16, and above all marks");
+    nat place = 16 * place_of(slot, sel);
+    __CPROVER_assert((uint16_t)key == place, "its low 16 bits tell where its note lies");
     __CPROVER_assert(slot * MSG_KEY_OF_SLOT + msg_key(0, sel) == key, "it adds up");
 }
 void keys_are_one_to_one(void)
@@ -97,7 +97,7 @@ void recall_key_is_msg_recall(void)
     ANY(uint64_t, key); /* any key that msg_key may make, and more */
     __CPROVER_assume(IS_KEY(key) && is_sealed(noted(key), key) && has_stamp(noted(key)));
     const unsigned char *place = (const unsigned char *)MSG_NOTE_OF(SENDER, key);
-    __CPROVER_assert(place == bytes + 16 + 32 * ((key & 65535) / 32), "MSG_NOTE_OF is the place");
+    __CPROVER_assert(place == bytes + 16 + 32 * ((key & 65535) / 16), "MSG_NOTE_OF is the place");
     nat said = number_of_recalled(recalled(stamp_of(noted(key)), key));
     uint32_t imp = msg_recall_key(SENDER, WORDS, key);
     __CPROVER_assert(imp == (said == MSG_NOTED_NONE ? 0 : said), "msg_recall_key is msg_recall");
@@ -149,7 +149,7 @@ void a_note_of_any_place(void)
 void recall_reads_inside(void)
 {
     ANY(uint32_t, slot); ANY(uint32_t, sel); ANY(bool, none);
-#ifdef ANY_KEY /* must fail: what is no multiple of 32 reads up to 31 bytes beyond */
+#ifdef ANY_KEY /* must fail: what is no multiple of 16 reads up to 30 bytes beyond */
     ANY(uint64_t, key);
 #else
     uint64_t key = msg_key(slot, sel); /* also of slots of 2^26 and more */

@@ -1,9 +1,9 @@
-/* What is run of process/msg_process.c and the inline finds: one thread, up to SIGNALS handlers of
- * signals that come before any load or store (each may be interrupted itself, DEPTH deep), and
- * another thread that changes the tables step by step at any time. Sequentially consistent. The
- * library is a model: it says no more than its contracts (msg_probe, msg_fill: what a lookup finds
- * at all changes, noted after as many as the stamp of the class says, or more; a change closes the
- * stamps of what it reaches before it is made). */
+/* What is run of trusted/process/msg_process.c and the inline finds: one thread, up to SIGNALS
+ * handlers of signals that come before any load or store (each may be interrupted itself, DEPTH
+ * deep), and another thread that changes the tables step by step at any time. Sequentially
+ * consistent. The library is a model: it says no more than its contracts (msg_probe, msg_fill: what
+ * a lookup finds at all changes, noted after as many as the stamp of the class says, or more; a
+ * change closes the stamps of what it reaches before it is made). */
 #include <stdatomic.h>
 #include <stdbool.h>
 #include <stdint.h>
@@ -503,7 +503,7 @@ static void finds_all(bool in_handler)
     is_right(A, least, before[A], imps[A]);
     is_right(B, least, before[B], imps[B]);
 }
-/* The way of a send in the shim (objc/seat.h). */
+/* The way of a send in the shim (trusted/objc/seat.h). */
 static void shim_sends(void)
 {
     uint32_t imp = 77, key = any_key();
@@ -513,8 +513,8 @@ static void shim_sends(void)
     bool says = shim_note(KEY(key), &imp);
     SAY("a note says it, imp", says, imp);
     if (says) is_right(key, least, before, imp);
-    /* find_by_key of objc/sending.c: where the lock isn't to be had it asks the rows, which aren't
-     * in this model */
+    /* find_by_key of trusted/objc/sending.c: where the lock isn't to be had it asks the rows, which
+     * aren't in this model */
     else {
         uint32_t fault = msg_process_find_slowly(KEY(key), MSG_WAITS_A_WHILE, &imp);
         if (!fault) is_right(key, least, before, imp);

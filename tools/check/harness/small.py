@@ -1,5 +1,5 @@
 #!/usr/bin/env python3
-"""Copies of objc/*.c and *.h with small tables, in which all names meet: `small.py ROOT INTO`.
+"""Copies of trusted/objc/*.c and *.h with small tables, in which all names meet: `small.py ROOT INTO`.
 
 Each replacement has to be found, or the script fails: a changed source isn't checked as the old
 one."""
@@ -8,7 +8,7 @@ import sys
 
 root, out = map(pathlib.Path, sys.argv[1:3])
 out.mkdir(parents=True, exist_ok=True)
-for folder in ("objc", "objc/tests", "include"):
+for folder in ("trusted/objc", "trusted/objc/tests", "include"):
     for file in (root / folder).glob("*.[ch]"):
         (out / file.name).write_text(file.read_text())
 

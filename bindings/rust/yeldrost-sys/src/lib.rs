@@ -7,7 +7,7 @@ use core::ffi::c_void;
 use core::sync::atomic::{AtomicU64, Ordering};
 
 /// How many notes a sender has.
-pub const MSG_NOTES: usize = 2048;
+pub const MSG_NOTES: usize = 4096;
 /// Of slots below this keys are one to one.
 pub const SLOTS: u32 = 67_108_864;
 /// Of `msg_recall`: it is noted that there is no method.
@@ -233,8 +233,7 @@ extern "C" {
     pub fn msg_class_count(runtime: *mut msg_runtime, count: *mut u32) -> u32;
     /// How many changes were made.
     pub fn msg_change_count(runtime: *mut msg_runtime, count: *mut u64) -> u32;
-    /// What was done to caches: as many fields of a msg_report_row as there is room for in `words`,
-    /// which has `count` entries.
+    /// Reports what was done to caches: the first `count` fields of a msg_report_row, into `words`.
     pub fn msg_report_words(runtime: *mut msg_runtime, words: *mut u64, count: usize) -> u32;
     /// Looks a method up after all changes so far (class_getMethodImplementation).
     pub fn msg_lookup(
@@ -424,10 +423,10 @@ extern "C" {
     ) -> u32;
     /// How many changes there are.
     pub fn msg_refresh(sender: *mut msg_sender, count: *mut u64) -> u32;
-    /// The stamp of a class, or of its metaclass: no change after so many has affected it, so what
-    /// msg_recall has since then is what a lookup finds.
+    /// Returns the stamp of a class or its metaclass: the number of the last change that may have
+    /// affected it. What msg_recall has since then is what a lookup finds.
     pub fn msg_stamp(sender: *mut msg_sender, number: u32, meta: bool, stamp: *mut u64) -> u32;
-    /// Opens texts, of which there are none yet.
+    /// Opens texts. There are none yet.
     pub fn msg_texts_open(texts: *mut msg_texts) -> u32;
     /// Closes texts and gives their memory back.
     pub fn msg_texts_close(texts: *mut msg_texts) -> u32;
@@ -454,7 +453,7 @@ extern "C" {
         room: usize,
         length: *mut usize,
     ) -> u32;
-    /// How many colons a text has: as many arguments as a selector takes that is named so.
+    /// Counts the colons of a text, which are the arguments that a selector of this name takes.
     pub fn msg_texts_colons(texts: *mut msg_texts, number: u32, count: *mut usize) -> u32;
     /// The size and alignment of a text's first type, in bytes.
     pub fn msg_type_first(text: *const u8, length: usize, size: *mut u64, align: *mut u64)
@@ -504,8 +503,9 @@ pub unsafe fn msg_report(runtime: *mut msg_runtime, report: *mut msg_report_row)
     )
 }
 
-// How far the keys of two slots are apart.
-const KEY_OF_SLOT: u64 = 137_438_954_496;
+// How far the keys of two slots are apart, and of two selectors.
+const KEY_OF_SLOT: u64 = 68_719_499_920;
+const KEY_OF_SEL: u64 = 16;
 
 /// Of `msg_said`: the number is longer, and is the note's `imp`.
 pub const SAID_LONG: u64 = 65_534;
@@ -522,18 +522,18 @@ pub const fn msg_slot(number: u32, meta: bool) -> u32 {
     }
 }
 
-/// The key of a lookup, one to one where the slot is below `SLOTS`.
+/// The key of a lookup. Keys are unique for slots below `SLOTS`.
 #[inline]
 pub const fn msg_key(slot: u32, sel: u32) -> u64 {
     (slot as u64 + 1)
         .wrapping_mul(KEY_OF_SLOT)
-        .wrapping_add(sel as u64 * 32)
+        .wrapping_add(sel as u64 * KEY_OF_SEL)
 }
 
 // Where what is noted of a key lies.
 #[inline]
 unsafe fn note_of(sender: *const msg_sender, key: u64) -> *const msg_note {
-    &(*sender).notes[(key / 32) as usize % MSG_NOTES]
+    &(*sender).notes[(key / KEY_OF_SEL) as usize % MSG_NOTES]
 }
 
 /// What the note at the one place of a key says of its lookup: a number below `SAID_LONG`, `SAID_LONG`,
@@ -546,7 +546,8 @@ pub unsafe fn msg_said(note: *const msg_note, key: u64) -> u64 {
     key.wrapping_sub((*note).seal)
 }
 
-/// The stamp of the class that a note is of, by one load of a shared word: no change after so many has affected it.
+/// Returns the stamp of a note's class by one load of a shared word: the number of the last change that may have
+/// affected the class.
 ///
 /// # Safety
 /// The note is of a sender of the runtime whose words these are (`msg_words`), and one of them is open.
@@ -556,7 +557,7 @@ pub unsafe fn msg_stamp_of(words: *const u64, note: *const msg_note) -> u64 {
     (*stamp.cast::<AtomicU64>()).load(Ordering::SeqCst)
 }
 
-/// What is noted of a key since the stamp of its class, without a call; 0 where nothing is, or forwarding.
+/// Returns what is noted of a key since the stamp of its class, without a call: 0 if nothing is, or for forwarding.
 ///
 /// # Safety
 /// The sender is open and in no call, and the words are its runtime's.

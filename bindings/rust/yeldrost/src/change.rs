@@ -170,7 +170,7 @@ impl Change {
 pub struct Refused {
     /// Why.
     pub fault: Fault,
-    /// Which change of the list is refused, from 0; or none, where the runtime isn't open.
+    /// Which change of the list was refused, from 0. None if the runtime isn't open.
     pub place: Option<usize>,
 }
 

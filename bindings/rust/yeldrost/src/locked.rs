@@ -318,7 +318,7 @@ impl<'r> Locked<'r> {
         Ok(count)
     }
 
-    /// All that a call writes, into room for as many as it counts.
+    /// All that a call writes, in an array as long as the call asks for.
     fn shown<T: Clone + Default>(
         &mut self,
         call: impl Fn(*mut sys::msg_runtime, *mut T, usize, *mut usize) -> u32,

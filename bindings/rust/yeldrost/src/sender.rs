@@ -109,8 +109,8 @@ impl Sender {
         })
     }
 
-    /// What is noted since the stamp of the class reference, without a call. Nothing where none is, or where no method
-    /// is found.
+    /// Returns what is noted since the stamp of the class reference, without a call: None if nothing is noted, or if
+    /// the lookup found no method.
     #[inline]
     pub fn recall(&self, of: ClassRef, selector: Selector) -> Option<Imp> {
         let words = self.shared.words.0;
@@ -122,7 +122,7 @@ impl Sender {
         }
     }
 
-    /// What is noted after so many changes or more, by the library's own code, which is proved.
+    /// Returns what was noted after `since` changes or more, by the library's own code, which is proved.
     pub fn recall_since(&self, of: ClassRef, selector: Selector, since: u64) -> Option<Imp> {
         let slot = 2 * of.number as usize + of.meta as usize;
         Imp::new(unsafe { sys::msg_recall(&*self.raw, slot, selector.get(), since) } as u32)
@@ -152,7 +152,7 @@ impl Sender {
         Ok(count)
     }
 
-    /// Its handle, where it is of this runtime.
+    /// Its handle, if it is of this runtime.
     pub(crate) fn raw_of(&mut self, shared: &Arc<Shared>) -> Result<*mut sys::msg_sender, Fault> {
         if Arc::ptr_eq(shared, &self.shared) {
             Ok(&mut *self.raw)
@@ -185,7 +185,7 @@ fn row(of: ClassRef, selector: Selector) -> sys::msg_lookup_row {
     }
 }
 
-/// A closed sender, made where it stays: 64 KiB would be much of a small stack.
+/// A closed sender, made in place: 128 KiB would be much of a small stack.
 fn closed() -> Box<sys::msg_sender> {
     let layout = Layout::new::<sys::msg_sender>();
     // SAFETY: zero bytes are a closed sender, and the layout is that of the box.

@@ -63,7 +63,7 @@ impl Texts {
         }
     }
 
-    /// How many colons it has: as many arguments as a selector takes that is named so.
+    /// Counts its colons, which are the arguments that a selector of this name takes.
     pub fn colons(&mut self, number: u32) -> Result<Option<usize>, Fault> {
         let mut count = 0;
         let answer = unsafe { sys::msg_texts_colons(&mut self.0, number, &mut count) };

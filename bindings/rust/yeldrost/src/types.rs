@@ -35,8 +35,8 @@ pub fn first_type(text: &[u8]) -> EncodedType {
     EncodedType { size, align, end }
 }
 
-/// The member in front of a text, where those before it end before this bit; of a union, 0. None
-/// where the structure or the text ends.
+/// Returns the first member of a text. `before` is the bit at which the members before it end, and 0
+/// for a union. None if the structure or the text ends there.
 #[must_use]
 pub fn next_member(text: &[u8], before: u64) -> Option<EncodedMember> {
     let (mut begin, mut end) = (0, 0);

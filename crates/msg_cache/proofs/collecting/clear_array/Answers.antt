@@ -1,7 +1,7 @@
 use Rattle.std.proofs.Common.{ℕ, List, length, ap, ◌∙◌, arith}
 use Rattle.std.specs.Prelude.{slice_index_or}
-use Rattle.msg_core.specs.declared.state.Standing.{Standing}
-use Rattle.msg_core.specs.declared.state.Standing.TheVariants.{Free}
+use Rattle.msg_model.specs.declared.state.Standing.{Standing}
+use Rattle.msg_model.specs.declared.state.Standing.TheVariants.{Free}
 use Rattle.msg_cache.specs.Layout.{layout_of}
 use Rattle.msg_cache.proofs.LayoutLemmas.{inside}
 use Rattle.msg_cache.specs.Plays.{Sat, keeper_of}

@@ -1,5 +1,5 @@
 use Rattle.std.proofs.Common.{◌≡◌, ℕ, ◌≤◌, length}
-use Rattle.msg_core.specs.State.{awaits}
+use Rattle.msg_model.specs.State.{awaits}
 use Rattle.msg_cache.specs.Rule.{TidyBy}
 use Rattle.msg_cache.specs.Keeping.{looks}
 use Rattle.msg_tables.specs.History.{lookup}

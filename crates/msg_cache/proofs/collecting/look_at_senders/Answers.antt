@@ -1,5 +1,5 @@
 use Rattle.std.proofs.Common.{◌≡◌, ℕ, ◌+◌, ◌-◌, List, Bool, sym, ap, ◌∙◌, arith}
-use Rattle.msg_core.specs.State.{awaits}
+use Rattle.msg_model.specs.State.{awaits}
 use Rattle.msg_cache.specs.Keeping.{looks}
 use Rattle.msg_cache.specs.Layout.{SettingView}
 use Rattle.msg_cache.specs.Plays.{Sat, kept, keeper_of, rest_looked}

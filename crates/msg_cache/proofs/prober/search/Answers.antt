@@ -1,7 +1,7 @@
 use Rattle.std.proofs.Common.{◌≡◌, ℕ, ◌-◌, ◌<◌, length, ap, ◌∙◌, arith}
 use Rattle.msg_names.specs.Number.{selector_number}
 use Rattle.msg_buckets.specs.Probing.{probe_place, end_of}
-use Rattle.msg_core.specs.State.{capacity}
+use Rattle.msg_model.specs.State.{capacity}
 use Rattle.msg_cache.specs.Layout.{layout_of, base}
 use Rattle.msg_cache.proofs.LayoutLemmas.{inside}
 use Rattle.msg_cache.proofs.ProbeLemmas.{headed_holding, headed_probes, read_seated, next_reading}

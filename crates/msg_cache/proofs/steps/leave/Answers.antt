@@ -2,7 +2,7 @@ use Rattle.std.proofs.Common.{ℕ, sym, subst}
 use mathlib.Core.Option.{none}
 use Rattle.atomic_table.specs.Table.{step, Allows}
 use Rattle.msg_tables.specs.History.{lookup}
-use Rattle.msg_core.specs.declared.state.Whereabouts.TheVariants.{Out}
+use Rattle.msg_model.specs.declared.state.Whereabouts.TheVariants.{Out}
 use Rattle.msg_cache.specs.Plays.{Goes}
 use Rattle.msg_cache.specs.Rule.{holds}
 use Rattle.msg_cache.proofs.AllowedSender.{leave_allowed}

@@ -14,7 +14,7 @@ static const method methods[] = {forward, four, area};  /* my implementations, f
 static msg_runtime runtime = MSG_RUNTIME_INIT;
 /* held in each call that takes the runtime */
 static pthread_mutex_t lock = PTHREAD_MUTEX_INITIALIZER;
-/* one for each thread; 64 KiB, so off the stack; zero bytes are closed */
+/* one for each thread; 128 KiB, so off the stack; zero bytes are closed */
 static _Alignas(64) msg_sender mine, other;
 
 static void must(uint32_t fault) { if (fault) exit(1); }

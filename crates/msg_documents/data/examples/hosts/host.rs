@@ -12,7 +12,7 @@ struct Handle {
 #[repr(C)]
 struct SenderHandle {
     handle: Handle,
-    notes: [Note; 2048],
+    notes: [Note; 4096],
 }
 
 #[repr(C)]
@@ -101,7 +101,7 @@ impl Runtime {
     /// By its lifetime the sender goes to calls on this runtime alone, and is closed before it.
     pub fn sender(&self) -> Result<Sender<'_>, u32> {
         assert_eq!(size_of::<SenderHandle>(), unsafe { msg_sender_size() });
-        let mut raw = Box::new(SenderHandle { handle: CLOSED, notes: [BLANK; 2048] });
+        let mut raw = Box::new(SenderHandle { handle: CLOSED, notes: [BLANK; 4096] });
         let fault = unsafe { msg_sender_open(&mut *self.raw.lock().unwrap(), &mut *raw) };
         answer(fault, ())?;
         Ok(Sender { runtime: self, raw })

@@ -19,14 +19,14 @@ dispatch-returns-in_err-imp-clause-meaning g t c = λ h st.
     let (u, le, so_far) = c.loop-imp.invariant.rest h st in
     let e = err_from_is_err_and c.from_residual.result c.from_residual.ensures.1 in
     rw (e.1, e.2) (lookup_fails c.args.message.now.image.now (bodies c.args.message.now.image.now c.args.message.now.depth) c.loop-imp.me c.loop-imp.class c.loop-imp.from c.args.message.now.sel c.args.message.now.args.now.items
-    g.F.Finder.step (g.F.Finder.stands c.loop-imp.finder) (g.F.Finder.stands c.ask.new.finder) h (dispatched c.args.message.now c.args.left.now c.args.me c.args.class c.args.from c.args.left.now) u c.loop-imp.left le so_far _ _ c.in_err-imp.ensures.meaning)
+    g.F.Finder.step (g.F.Finder.is_in c.loop-imp.finder) (g.F.Finder.is_in c.ask.new.finder) h (dispatched c.args.message.now c.args.left.now c.args.me c.args.class c.args.from c.args.left.now) u c.loop-imp.left le so_far _ _ c.in_err-imp.ensures.meaning)
 
 pub dispatch-returns-then-number-ne0-clause-meaning : goal.dispatch-returns-then-number-ne0-clause-meaning
 dispatch-returns-then-number-ne0-clause-meaning g t c = λ h st.
     let (u, le, so_far) = c.loop-imp.invariant.rest h st in
     let real : 0 < imp_number c.in_ok-imp.imp = omega (arith, c.number.ensures, c.if-number-ne0.true) in
     body_gives c.args.message.now.image.now (bodies c.args.message.now.image.now c.args.message.now.depth) c.loop-imp.me c.loop-imp.class c.loop-imp.from c.args.message.now.sel c.args.message.now.args.now.items
-    g.F.Finder.step (g.F.Finder.stands c.loop-imp.finder) (g.F.Finder.stands c.ask.new.finder) h (dispatched c.args.message.now c.args.left.now c.args.me c.args.class c.args.from c.args.left.now) u c.loop-imp.left le so_far (g.F.Finder.stands c.enter.new.finder) (imp_number c.in_ok-imp.imp) c.ask.new.left c.enter.new.left c.enter.result real c.in_ok-imp.ensures.meaning c.enter.ensures.meaning
+    g.F.Finder.step (g.F.Finder.is_in c.loop-imp.finder) (g.F.Finder.is_in c.ask.new.finder) h (dispatched c.args.message.now c.args.left.now c.args.me c.args.class c.args.from c.args.left.now) u c.loop-imp.left le so_far (g.F.Finder.is_in c.enter.new.finder) (imp_number c.in_ok-imp.imp) c.ask.new.left c.enter.new.left c.enter.result real c.in_ok-imp.ensures.meaning c.enter.ensures.meaning
 
 pub dispatch-returns-in_err-target-clause-meaning : goal.dispatch-returns-in_err-target-clause-meaning
 dispatch-returns-in_err-target-clause-meaning g t c = λ h st.
@@ -34,7 +34,7 @@ dispatch-returns-in_err-target-clause-meaning g t c = λ h st.
     let e = err_from_is_err_and c.from_residual-in_err-target.result c.from_residual-in_err-target.ensures.1 in
     let none : imp_number c.in_ok-imp.imp ≡ 0 = omega (arith, c.number.ensures, c.if-number-ne0.false) in
     rw (e.1, e.2) (forwarding_fails c.args.message.now.image.now (bodies c.args.message.now.image.now c.args.message.now.depth) c.loop-imp.me c.loop-imp.class c.loop-imp.from c.args.message.now.sel c.args.message.now.args.now.items
-    g.F.Finder.step (g.F.Finder.stands c.loop-imp.finder) (g.F.Finder.stands c.ask.new.finder) h (dispatched c.args.message.now c.args.left.now c.args.me c.args.class c.args.from c.args.left.now) u c.loop-imp.left le so_far (g.F.Finder.stands c.forward.new.finder) (imp_number c.in_ok-imp.imp) c.ask.new.left c.forward.new.left _ none c.in_ok-imp.ensures.meaning c.in_err-target.ensures.meaning)
+    g.F.Finder.step (g.F.Finder.is_in c.loop-imp.finder) (g.F.Finder.is_in c.ask.new.finder) h (dispatched c.args.message.now c.args.left.now c.args.me c.args.class c.args.from c.args.left.now) u c.loop-imp.left le so_far (g.F.Finder.is_in c.forward.new.finder) (imp_number c.in_ok-imp.imp) c.ask.new.left c.forward.new.left _ none c.in_ok-imp.ensures.meaning c.in_err-target.ensures.meaning)
 
 pub dispatch-loop-imp-preserved : goal.dispatch-loop-imp-preserved
 dispatch-loop-imp-preserved g t c = record {
@@ -47,17 +47,17 @@ dispatch-loop-imp-preserved g t c = record {
       let (u, le, so_far) = c.loop-imp.invariant.rest h st in
       let none : imp_number c.in_ok-imp.imp ≡ 0 = omega (arith, c.number.ensures, c.if-number-ne0.false) in
       starts_again c.args.message.now.image.now (bodies c.args.message.now.image.now c.args.message.now.depth) c.loop-imp.me c.loop-imp.class c.loop-imp.from c.args.message.now.sel c.args.message.now.args.now.items
-      g.F.Finder.step (g.F.Finder.stands c.loop-imp.finder) (g.F.Finder.stands c.ask.new.finder) h (dispatched c.args.message.now c.args.left.now c.args.me c.args.class c.args.from c.args.left.now) u c.loop-imp.left le so_far (g.F.Finder.stands c.forward.new.finder) (imp_number c.in_ok-imp.imp) c.ask.new.left c.forward.new.left (c.in_ok-target.target, c.in_ok-target.target_class) none c.in_ok-imp.ensures.fewer c.forward.ensures.no_more c.in_ok-imp.ensures.meaning c.in_ok-target.ensures.meaning;
+      g.F.Finder.step (g.F.Finder.is_in c.loop-imp.finder) (g.F.Finder.is_in c.ask.new.finder) h (dispatched c.args.message.now c.args.left.now c.args.me c.args.class c.args.from c.args.left.now) u c.loop-imp.left le so_far (g.F.Finder.is_in c.forward.new.finder) (imp_number c.in_ok-imp.imp) c.ask.new.left c.forward.new.left (c.in_ok-target.target, c.in_ok-target.target_class) none c.in_ok-imp.ensures.fewer c.forward.ensures.no_more c.in_ok-imp.ensures.meaning c.in_ok-target.ensures.meaning;
 }
 
 pub enter-returns-then-message-eq0-clause-meaning : goal.enter-returns-then-message-eq0-clause-meaning
 enter-returns-then-message-eq0-clause-meaning g t c = λ h st.
-    record { point = h; there = st; follows = λ k q r x. rw (no_body c.args.message.now.image.now c.args.message.now.depth (imp_number c.args.imp) c.args.me c.args.message.now.args.now.items c.args.left.now k c.if-message-eq0.true) x }
+    record { state = h; there = st; follows = λ k q r x. rw (no_body c.args.message.now.image.now c.args.message.now.depth (imp_number c.args.imp) c.args.me c.args.message.now.args.now.items c.args.left.now k c.if-message-eq0.true) x }
 
 pub enter-returns-clause-meaning : goal.enter-returns-clause-meaning
 enter-returns-clause-meaning g t c = λ h st.
     let x = c.eval_expr.ensures.meaning h st in
-    record { point = x.point; there = x.there; follows = λ k q r y. rw (body_of c.args.message.now.image.now c.args.message.now.depth (c.args.message.now.depth - 1) (imp_number c.args.imp) c.args.me c.args.message.now.args.now.items c.args.left.now _ k (omega (arith, c.if-message-eq0.false)) c.imp-imp.ensures.imp) (x.follows k q r y) }
+    record { state = x.state; there = x.there; follows = λ k q r y. rw (body_of c.args.message.now.image.now c.args.message.now.depth (c.args.message.now.depth - 1) (imp_number c.args.imp) c.args.me c.args.message.now.args.now.items c.args.left.now _ k (omega (arith, c.if-message-eq0.false)) c.imp-imp.ensures.imp) (x.follows k q r y) }
 
 pub eval_expr-eval_send-requires : goal.eval_expr-eval_send-requires
 eval_expr-eval_send-requires g t c κs within =

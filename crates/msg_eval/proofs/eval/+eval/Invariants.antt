@@ -49,7 +49,7 @@ invariant-dispatch-loop-imp g l = record {
   class_listed : l.class.class < class_total l.message.image.now;
   from_listed : l.from.class < class_total l.message.image.now;
   no_more : l.left ≤ l.fn.left;
-  rest : (h : g.F.Finder.Point) → g.F.Finder.stands l.fn.finder h → (t : ℕ) × (l.left ≤ t) × ComesTo {A = Value} g.F.Finder.step (g.F.Finder.stands l.finder) h
+  rest : (h : g.F.Finder.State) → g.F.Finder.is_in l.fn.finder h → (t : ℕ) × (l.left ≤ t) × ComesTo {A = Value} g.F.Finder.step (g.F.Finder.is_in l.finder) h
       (dispatched l.message l.fn.left l.fn.me l.fn.class l.fn.from l.fn.left)
       (dispatched l.message t l.me l.class l.from l.left);
 }
@@ -66,7 +66,7 @@ invariant-eval_args-loop-expr g l = record {
   as_many : length l.values.items ≡ l.expr-index;
   rest_of : AreExpressionsOf l.frame.image.now (plain_all (drop l.expr-index l.exprs));
   smaller : count_all (plain_all (drop l.expr-index l.exprs)) ≤ count_all (plain_all l.exprs);
-  rest : (h : g.F.Finder.Point) → g.F.Finder.stands l.fn.finder h → ComesTo {A = List Value} g.F.Finder.step (g.F.Finder.stands l.finder) h
+  rest : (h : g.F.Finder.State) → g.F.Finder.is_in l.fn.finder h → ComesTo {A = List Value} g.F.Finder.step (g.F.Finder.is_in l.finder) h
       (all_evaluated l.frame (plain_all l.exprs) [] l.fn.left)
       (all_evaluated l.frame (plain_all (drop l.expr-index l.exprs)) l.values.items l.left);
 }

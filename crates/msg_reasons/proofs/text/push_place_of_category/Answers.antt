@@ -1,6 +1,6 @@
 use Rattle.std.proofs.Common.{[], ◌∷◌, ◌++◌, append_assoc, ap, ◌∙◌}
 use Rattle.std.specs.Prelude.{codes}
-use Rattle.msg_devices.specs.Decimal.{digits}
+use Rattle.msg_io.specs.Decimal.{digits}
 use Rattle.msg_reasons.proofs.text.push_place_of_category.Goals as goal
 
 pub returns : goal.returns

@@ -1,5 +1,5 @@
 use Rattle.std.proofs.Common.{◌≡◌, rules}
-use Rattle.msg_devices.specs.Complaint.{status_of}
+use Rattle.msg_io.specs.Complaint.{status_of}
 use Rattle.msg_runner.specs.Program.{Complains}
 use Rattle.msg_runner.proofs.ProgramLemmas.{no_words}
 use Rattle.msg_runner.proofs.program.run_program.Goals as goal

@@ -32,7 +32,7 @@ loop-item-preserved-in_ok-push_reply g c =
     let all = sends_of image (map item_parts c.args.items.now) in
     let here = writing_here image front all c.args.text.now.items c.loop-item.asking.sender.sender.seen.front c.loop-item.rest.now c.loop-item.text.items c.in-Some.item.now (SendItem c.in-Send.receiver c.in-Send.sel c.in-Send.args.items) c.in-Some.later.now c.loop-item.invariant c.in-Some.ensures.cases.0 (ap item_parts c.in-Send.is) in
     let x = c.send-reply.ensures.meaning c.loop-item.asking.sender.sender.seen.front refl in
-    let e = points_of (send_of image c.in-Send.receiver c.in-Send.sel c.in-Send.args.items) c.loop-item.asking.sender.sender.seen.front x.point c.send-reply.result x.leads in
+    let e = points_of (send_of image c.in-Send.receiver c.in-Send.sel c.in-Send.args.items) c.loop-item.asking.sender.sender.seen.front x.state c.send-reply.result x.leads in
     writing_send image front all c.args.text.now.items c.loop-item.asking.sender.sender.seen.front c.send-reply.new.finder.sender.sender.seen.front c.loop-item.text.items c.push_reply.new.text.items c.in-Send.receiver c.in-Send.sel c.in-Send.args.items (map item_parts c.in-Some.later.now) e.points c.send-reply.result here (c.send-reply.ensures.kept ∙ here.same) e.rise e.ends (x.there ∙ e.last) c.in_ok-push_reply.ensures
 
 pub loop-item-preserved : goal.loop-item-preserved

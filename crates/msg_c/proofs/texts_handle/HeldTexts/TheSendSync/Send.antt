@@ -12,8 +12,8 @@ use Rattle.std_heap.proofs.Global.TheSendSync as handle
 use Rattle.std.specs.Global.{Global}
 use Rattle.std.specs.declared.option.Option.{Option}
 use Rattle.std.specs.declared.option.Option.TheVariants.{None, Some}
-use Rattle.msg_texts.specs.contracts.texts.Texts as Home
-use Rattle.msg_texts.proofs.CrossingLemmas.{Texts-send}
+use Rattle.msg_names.specs.contracts.texts.Texts as Home
+use Rattle.msg_names.proofs.CrossingLemmas.{Texts-send}
 use Rattle.msg_c.specs.TextsOwned.{held_owns}
 use Rattle.msg_c.specs.contracts.texts_handle.HeldTexts.{the_row, the_type}
 

@@ -21,7 +21,7 @@ use denote.Signature.{type_at}
 use denote.Steps.{nothing, heard}
 use Rattle.std.specs.declared.option.Option.{Option}
 use Rattle.std.specs.Prelude.{is_some, true}
-use Rattle.msg_texts.specs.contracts.texts.Texts as Plain
+use Rattle.msg_names.specs.contracts.texts.Texts as Plain
 use Rattle.msg_c.proofs.HeldLemmas.{held_in}
 use Rattle.msg_c.specs.contracts.texts_handle.HeldTexts as Handle
 use denote.Triple.Spec.{triple_of}

@@ -1,5 +1,5 @@
 use Rattle.std.proofs.Common.{◌+◌, ◌^◌, ◌<◌, length, ap, subst, arith}
-use Rattle.msg_core.specs.State.{capacity}
+use Rattle.msg_model.specs.State.{capacity}
 use Rattle.msg_cache.specs.Layout.{layout_of, base}
 use Rattle.msg_cache.specs.Views.{ArenaView}
 use Rattle.msg_cache.proofs.LayoutLemmas.{array_ends}

@@ -1,6 +1,6 @@
 use Rattle.std.proofs.Common.{ℕ, ◌<◌, ◌∷◌, true, false, ap, sym, subst, ◌∙◌, arith}
 use Rattle.msg_names.specs.declared.value.ClassRef.{ClassRef}
-use Rattle.msg_core.specs.State.{Layout}
+use Rattle.msg_model.specs.State.{Layout}
 use Rattle.msg_cache.specs.declared.view.KeeperView.{KeeperView}
 use Rattle.msg_cache.specs.Layout.{layout_of}
 use Rattle.msg_cache.specs.Ours.{closed}

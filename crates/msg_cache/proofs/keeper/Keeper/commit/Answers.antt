@@ -2,7 +2,7 @@ use Rattle.std.proofs.Common.{◌≡◌, ◌∙◌, ap, sym, true}
 use Rattle.msg_tables.specs.Affected.{is_affected}
 use Rattle.msg_tables.specs.History.{History, log}
 use Rattle.msg_tables.specs.Refusal.{refusal}
-use Rattle.msg_core.specs.State.{Layout}
+use Rattle.msg_model.specs.State.{Layout}
 use Rattle.msg_cache.specs.declared.view.KeeperView.{KeeperView}
 use Rattle.msg_cache.specs.Layout.{layout_of}
 use Rattle.msg_cache.specs.Plays.{keeper_of}

@@ -1,9 +1,9 @@
 use Rattle.std.proofs.Common.{List, [], Bool, length, map, sym, ap, ◌∙◌}
 use Rattle.std.proofs.lemmas.List.{length-replicate}
 use Rattle.std.specs.Prelude.{false}
-use Rattle.msg_core.specs.declared.state.Standing.{Standing}
+use Rattle.msg_model.specs.declared.state.Standing.{Standing}
 use Rattle.msg_cache.specs.Uses.{StandingsView, use_of}
-use Rattle.msg_core.specs.State.{awaits}
+use Rattle.msg_model.specs.State.{awaits}
 use Rattle.msg_cache.proofs.AwaitedLemmas.{nobody}
 use Rattle.msg_cache.proofs.SettledLemmas.{all_used}
 use Rattle.msg_cache.proofs.keeper.Keeper.first.Goals as goal

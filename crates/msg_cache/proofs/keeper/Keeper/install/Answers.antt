@@ -11,7 +11,7 @@ use Rattle.msg_cache.specs.Keeping.{InOrder}
 use Rattle.msg_tables.specs.History.{lookup}
 use Rattle.msg_cache.specs.Plays.{Sat, keeper_of}
 use Rattle.std.proofs.lemmas.List.{length-map}
-use Rattle.msg_core.specs.Steps.{everyone}
+use Rattle.msg_model.specs.Steps.{everyone}
 use Rattle.msg_cache.specs.Uses.{StandingsView, free, live, settled, use_of, use_at}
 use Rattle.msg_cache.proofs.SettledLemmas.{used_at, retired_length, retired_free, installed_settled}
 use Rattle.msg_cache.proofs.LayoutLemmas.{header_inside}

@@ -1,6 +1,6 @@
 use Rattle.std.proofs.Common.{◌≡◌, ℕ, ◌-◌, ◌<◌, List, [], ◌∷◌, ◌++◌, length, set, take, ap, ◌∙◌, sym, subst, arith, length-append}
 use Rattle.std.proofs.lemmas.List.{take-append-le}
-use Rattle.msg_core.specs.Steps.{everyone}
+use Rattle.msg_model.specs.Steps.{everyone}
 use Rattle.msg_cache.specs.Uses.{StandingsView, live, waiting, use_at}
 use Rattle.msg_cache.specs.Standings.{use_for, uses}
 use Rattle.msg_cache.proofs.AwaitedLemmas.{all_awaited}

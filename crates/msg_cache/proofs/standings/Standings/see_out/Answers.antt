@@ -2,7 +2,7 @@ use Rattle.std.proofs.Common.{◌≡◌, ℕ, ◌+◌, ◌<◌, ◌≤◌, List,
 use Rattle.std.specs.Prelude.{slice_index, if◌then◌else◌}
 use Rattle.std.specs.List.Sorted.{IsPermutation}
 use Rattle.std.proofs.lemmas.List.{length-take-le}
-use Rattle.msg_core.specs.State.{awaits}
+use Rattle.msg_model.specs.State.{awaits}
 use Rattle.msg_cache.specs.Keeping.{looked_by}
 use Rattle.msg_cache.specs.Uses.{StandingsView, ArrayUse, use_of, use_at, newly_freed}
 use Rattle.msg_cache.specs.Standings.{uses}

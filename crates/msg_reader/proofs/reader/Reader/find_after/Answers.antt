@@ -1,8 +1,8 @@
 use Rattle.std.proofs.Common.{◌≤◌, ◌++◌, ◌∷◌, ◌∙◌, ℕ, List, [], length, refl, sym, ap, inl, inr, arith, append_assoc}
 use Rattle.msg_names.specs.Number.{imp_number, selector_number}
 use Rattle.msg_names.specs.declared.value.ClassRef.{ClassRef}
-use Rattle.msg_core.specs.Stamps.{last_affected}
-use Rattle.msg_core.proofs.StampLemmas.{since as stays-since}
+use Rattle.msg_model.specs.Stamps.{last_affected}
+use Rattle.msg_model.proofs.StampLemmas.{since as stays-since}
 use Rattle.msg_cache.specs.declared.view.SenderView.{SenderView}
 use Rattle.msg_reader.specs.Notes.{IsKeptAt}
 use Rattle.msg_reader.specs.Several.{IsNotedAmong, LoadsAmong}

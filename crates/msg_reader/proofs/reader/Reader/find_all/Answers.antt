@@ -1,6 +1,6 @@
 use Rattle.std.proofs.Common.{◌≡◌, ◌≤◌, ◌<◌, ◌∙◌, ℕ, [], length, refl, sym, ap, subst, inl, arith}
 use Rattle.std.proofs.lemmas.List.{length-set}
-use Rattle.msg_core.specs.State.{first}
+use Rattle.msg_model.specs.State.{first}
 use Rattle.msg_names.specs.Number.{imp_number, selector_number}
 use Rattle.msg_tables.proofs.BeginsLemmas.{begins_refl, begins_trans}
 use Rattle.msg_reader.specs.Several.{IsNotedAmong, found_of}

@@ -3,9 +3,9 @@ use Rattle.msg_names.specs.Number.{selector_number, imp_number}
 use Rattle.msg_names.specs.declared.value.ClassRef.{ClassRef}
 use Rattle.msg_tables.specs.Origin.{last_imp}
 use Rattle.msg_tables.specs.History.{BeginsWith, lookup}
-use Rattle.msg_core.specs.Stamps.{last_affected}
-use Rattle.msg_core.specs.State.{first}
-use Rattle.msg_core.proofs.StampLemmas.{longer-stays, since as stays-since}
+use Rattle.msg_model.specs.Stamps.{last_affected}
+use Rattle.msg_model.specs.State.{first}
+use Rattle.msg_model.proofs.StampLemmas.{longer-stays, since as stays-since}
 use Rattle.msg_cache.specs.Record.{Misses}
 use Rattle.msg_cache.specs.Views.{layout}
 use Rattle.msg_reader.specs.Kept.{MissesAfter}

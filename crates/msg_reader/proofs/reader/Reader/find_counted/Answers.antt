@@ -1,9 +1,9 @@
 use Rattle.std.proofs.Common.{◌≡◌, ◌≤◌, ◌∙◌, ℕ, sym, inr, length, arith}
 use Rattle.msg_names.specs.Number.{selector_number, imp_number}
 use Rattle.msg_tables.specs.History.{lookup}
-use Rattle.msg_core.specs.Stamps.{last_affected}
-use Rattle.msg_core.specs.State.{first}
-use Rattle.msg_core.proofs.StampLemmas.{since as stays-since}
+use Rattle.msg_model.specs.Stamps.{last_affected}
+use Rattle.msg_model.specs.State.{first}
+use Rattle.msg_model.proofs.StampLemmas.{since as stays-since}
 use Rattle.msg_reader.proofs.ReaderLemmas.{as_long, found_unprobed, has_loaded}
 use Rattle.msg_reader.proofs.reader.Reader.find_counted.Goals as goal
 

@@ -15,7 +15,7 @@ returns-clause-meaning c =
           let send = send_of c.args.image.now c.args.receiver c.args.sel c.args.args.now.items in
           let stood = subst (λ (t : TablesView). StandsAt t (log h)) c.send-reply.ensures.kept st in
           let x = c.send-reply.ensures.meaning (noted_at h []) (stood, λ whole. c.begin.ensures.lookups) in
-          let (lookups, reply) = noted-after h [] send x.point c.send-reply.result x.leads in
+          let (lookups, reply) = noted-after h [] send x.state c.send-reply.result x.leads in
           let whole : c.send-reply.new.finder.is_whole ≡ true = ap (λ (n : NotingView). n.is_whole) (sym c.self.view_is) ∙ w.if-self.true in
           (x.there.1 whole ∙ lookups, reply))
       | else-self w ↦ rw w.result-is tt

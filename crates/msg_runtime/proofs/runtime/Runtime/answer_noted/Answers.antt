@@ -1,8 +1,8 @@
 use Rattle.std.proofs.Common.{rules, ◌≡◌, ℕ, length, ap, subst, sym, ◌∙◌, arith}
 use Rattle.msg_names.specs.Number.{selector_number, imp_number}
 use Rattle.msg_tables.specs.History.{lookup}
-use Rattle.msg_core.specs.State.{first}
-use Rattle.msg_core.proofs.KeepLemmas.{first_all}
+use Rattle.msg_model.specs.State.{first}
+use Rattle.msg_model.proofs.KeepLemmas.{first_all}
 use Rattle.msg_cache.specs.Views.{ArenaView, layout}
 use Rattle.msg_reader.specs.Notes.{StayStamped}
 use Rattle.msg_runtime.proofs.runtime.Runtime.answer_noted.Goals as goal

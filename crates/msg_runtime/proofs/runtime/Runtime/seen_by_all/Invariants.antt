@@ -1,6 +1,6 @@
 use Rattle.std.proofs.Common.{◌≡◌, ◌≤◌, ◌<◌, ◌⊎◌, ℕ, true}
 use Rattle.std.specs.Prelude.{slice_index}
-use Rattle.msg_core.specs.State.{awaits, size}
+use Rattle.msg_model.specs.State.{awaits, size}
 use Rattle.msg_runtime.proofs.runtime.Runtime.seen_by_all.Given as goal
 
 -- of the first numbers, those that are out

@@ -2,7 +2,7 @@ use Rattle.std.proofs.Common.{◌≡◌, ◌+◌, ◌<◌, ◌≤◌, ◌⊎◌,
 use Rattle.msg_tables.specs.Origin.{class_total}
 use Rattle.msg_tables.specs.History.{History, log}
 use Rattle.msg_tables.specs.Stands.{StandsAt}
-use Rattle.msg_core.specs.State.{awaits}
+use Rattle.msg_model.specs.State.{awaits}
 use Rattle.msg_cache.specs.declared.view.KeeperView.{KeeperView}
 use Rattle.msg_runtime.specs.Parts.{AreOut, IsKeeperOf, keeper_view}
 use Rattle.msg_runtime.specs.Resting.{AreRested}

@@ -1,5 +1,0 @@
-use Rattle.msg_core.proofs.ReadLemmas.{loaded_law}
-use Rattle.msg_core.proofs.laws.a_holder_has_loaded_the_header.Goals as goal
-
-pub returns : goal.returns
-returns c z origin es n d a = loaded_law z n d a origin es

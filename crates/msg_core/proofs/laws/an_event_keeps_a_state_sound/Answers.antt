@@ -1,5 +1,0 @@
-use Rattle.msg_core.proofs.RunLemmas.{sound_after}
-use Rattle.msg_core.proofs.laws.an_event_keeps_a_state_sound.Goals as goal
-
-pub returns : goal.returns
-returns c look z m e some_sender = sound_after look z some_sender m e

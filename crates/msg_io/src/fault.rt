@@ -1,0 +1,65 @@
+//! Why a run ended.
+
+ghost use Rattle.std.specs.Prelude.{◌≡◌};
+ghost use Rattle.msg_io.specs.Fault.{refused, unread};
+ghost use Rattle.msg_io.specs.declared.fault.RunFault.TheVariants.{Memory};
+
+use crate::reading::ReadFault;
+use msg_image::DocumentFault;
+use std::alloc::AllocError;
+use thiserror::Error;
+
+/// Why a run wrote no answers, or not all of them. In order of time: `Workers`, `Cut`, `Read`,
+/// `Document`, `Write`; `Memory` may come between any two of them until the first byte is written.
+#[derive(Clone, Copy, Debug, PartialEq, Eq, Error)]
+pub enum RunFault {
+    /// A read failed. No kind of error is tried again.
+    #[error("read failed")]
+    Read,
+    /// What was read is no document. Want of memory is [`RunFault::Memory`].
+    #[error("document fault {}: {}", .0.number(), .0)]
+    Document(DocumentFault),
+    /// A growth was refused.
+    #[error("out of memory")]
+    Memory,
+    /// A write failed. The start of the text was written.
+    #[error("write failed")]
+    Write,
+    /// There are to be no workers, or more than 64.
+    #[error("workers must be 1 to 64")]
+    Workers,
+    /// A cut is 0.
+    #[error("cut must be at least 1")]
+    Cut,
+}
+
+impl From<AllocError> for RunFault {
+    ghost from_gives = { λ _ e. e ≡ Memory };
+
+    fn from(_refused: AllocError) -> RunFault {
+        RunFault::Memory
+    }
+}
+
+impl From<ReadFault> for RunFault {
+    ghost from_gives = { λ r e. e ≡ unread r };
+
+    fn from(fault: ReadFault) -> RunFault {
+        match fault {
+            ReadFault::Read => RunFault::Read,
+            ReadFault::TooLong => RunFault::Document(DocumentFault::Limit),
+            ReadFault::Memory => RunFault::Memory,
+        }
+    }
+}
+
+impl From<DocumentFault> for RunFault {
+    ghost from_gives = { λ f e. e ≡ refused f };
+
+    fn from(fault: DocumentFault) -> RunFault {
+        match fault {
+            DocumentFault::Memory => RunFault::Memory,
+            fault => RunFault::Document(fault),
+        }
+    }
+}

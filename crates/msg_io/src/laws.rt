@@ -1,0 +1,16 @@
+//! Laws of texts, over every number, and the limit of a run.
+
+ghost use Rattle.std.specs.Prelude.{◌≡◌, ℤ};
+ghost use Rattle.msg_io.specs.Decimal.{decimal};
+
+use crate::admission::MAX_WORKERS;
+
+/// Two numbers with one text are one number.
+pub fn one_text_is_one_number()
+    ensures { (m n : ℤ) → decimal m ≡ decimal n → m ≡ n }
+{}
+
+/// The limit of a run, as the command line has it.
+pub fn the_limit_is_the_command_lines()
+    ensures workers { MAX_WORKERS ≡ 64 }
+{}

@@ -1,0 +1,82 @@
+//! At which versions a run beside changes answers its lookups.
+
+ghost use Rattle.std.specs.Prelude.{◌≤◌, length};
+ghost use Rattle.msg_image.specs.DocumentParts.{document_parts};
+ghost use Rattle.msg_io.specs.Reading.{IsSoundDocument};
+
+use crate::changes::Changes;
+use crate::document::answer_document;
+use crate::gate::Gate;
+use msg_image::{Document, MAX_ITEMS};
+use std::alloc::{AllocError, Global};
+use std::sync::{Mutex, Wait};
+use std::thread::Threads;
+
+// How many sends make a piece: of one worker it says nothing.
+const CUT: u32 = 64;
+
+// The versions of a worker's lookups.
+#[derive(Drop)]
+struct Versions {
+    all: Vec<u64>,
+    // Whether there was memory for each.
+    are_whole: bool,
+}
+
+// A gate that notes them.
+#[derive(Drop)]
+struct Witness<'r, R: Wait> {
+    rt: &'r R,
+    versions: Mutex<Versions>,
+}
+
+impl<R: Wait + Sync> Gate for Witness<'_, R> {
+    fn piece_starts(&self, _worker: u32, _piece: u32) {}
+
+    fn piece_done(&self, _worker: u32, _piece: u32) {}
+
+    fn change_starts(&self, _change: u32) {}
+
+    fn change_done(&self, _change: u32) {}
+
+    fn is_watching(&self) -> bool {
+        true
+    }
+
+    fn looked(&self, version: u64) {
+        let mut versions = self.versions.lock(self.rt);
+        if versions.all.push(version).is_err() {
+            versions.are_whole = false;
+        }
+    }
+}
+
+/// Answers a document by one worker, which makes its changes beside its sends, and says at which
+/// version each lookup was answered, in their order: how many items of changes were made before it.
+///
+/// The versions are what the run was seen to do: no clause says more of them. The explanation that
+/// `explain_beside` of `msg_reasons` makes of them is right of whatever versions it is given.
+pub fn versions_beside<T: Threads + Wait + Sync>(
+    rt: &T,
+    alloc: Global,
+    document: &Document,
+) -> Result<Vec<u64>, AllocError>
+    requires sound { IsSoundDocument (document_parts document.now) }
+    requires few { length document.now.items.items ≤ MAX_ITEMS }
+{
+    let witness = Witness {
+        rt,
+        versions: Mutex::new(Versions {
+            all: Vec::new(alloc),
+            are_whole: true,
+        }),
+    };
+    let _text = answer_document(rt, alloc, &witness, document, Changes::Beside, 1, CUT)?;
+    let Witness { versions, .. } = witness;
+    let versions = versions.into_inner();
+    if versions.are_whole {
+        Ok(versions.all)
+    } else {
+        Err(AllocError)
+    }
+}

@@ -1,3 +1,0 @@
-pub mod CrossingLemmas
-pub mod NumberedLemmas
-pub mod TextLemmas
