@@ -1,7 +1,7 @@
 //! What there is: the methods of a class reference, and classes, in numbers.
 
 ghost use Rattle.std.specs.Prelude.{◌≡◌, ◌<◌, ◌≤◌, ◌++◌, drop, length, reverse, None, Some, IfOk, IfErr, OnErr, OnOk};
-ghost use Rattle.msg_tables.specs.Methods.{method_number, method_numbers};
+ghost use Rattle.msg_rows.specs.Methods.{method_number, method_numbers};
 ghost use Rattle.msg_cache.specs.Views.{classes};
 ghost use Rattle.msg_host.specs.Asking.{ask_fault, pairs_of};
 ghost use Rattle.msg_host.specs.Contents.{ShowsMethods};

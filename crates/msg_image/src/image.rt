@@ -172,7 +172,7 @@ impl Image {
         })
     }
 
-    ghost use Rattle.msg_tables.specs.Methods.{method_numbers};
+    ghost use Rattle.msg_rows.specs.Methods.{method_numbers};
     ghost use Rattle.msg_image.specs.Parts.{class_total, class_names, depth_in, forwarding_selector, methods_in};
     ghost use Rattle.msg_image.specs.Parts.{object_at, one_deeper, superclass_in, superclasses};
     ghost use Rattle.msg_form.specs.Walk.{forwarding_text};

@@ -10,7 +10,7 @@ use Rattle.msg_tables.specs.declared.change.Change.{Change}
 use Rattle.msg_tables.specs.Log.{table}
 use Rattle.msg_tables.specs.RoomLaws.{HaveRoomFor, LackRoomFor}
 use Rattle.msg_tables.specs.Undo.{undo_all}
-use Rattle.msg_tables.specs.RowList.{HaveGrown}
+use Rattle.msg_rows.specs.RowList.{HaveGrown}
 use Rattle.msg_tables.specs.declared.apply_all.Refused.{Refused}
 use Rattle.msg_tables.specs.declared.fault.ChangeFault.TheVariants.{Memory}
 use Rattle.msg_runtime.specs.declared.unmade.Unmade.{Unmade}

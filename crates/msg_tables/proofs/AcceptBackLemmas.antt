@@ -22,7 +22,8 @@ use Rattle.msg_tables.specs.Chain.{presence_of, is_present, is_directly_below, h
 use Rattle.msg_tables.specs.Log.{table_after_all}
 use Rattle.msg_tables.specs.Origin.{OriginView, class_total, lacks_imp, misfits_in, unlike_in}
 use Rattle.msg_tables.specs.Refusal.{least_change_fault}
-use Rattle.msg_tables.specs.Rows.{Row, ClassTable, is_at, own, or_else, holder_at, lookup_at}
+use Rattle.msg_rows.specs.RowList.{or_else}
+use Rattle.msg_tables.specs.Rows.{Row, ClassTable, is_at, own, holder_at, lookup_at}
 use Rattle.msg_tables.specs.Undo.{are_numbered, covering, covering_all, count_at, fits_in, is_numbered, old_at, removing, undo}
 use Rattle.msg_tables.proofs.AgainstLemmas.{May, MayAll, against, absent, absent_superclass, may_all-append}
 use Rattle.msg_tables.proofs.ImpsLemmas.{count-all, count-without}

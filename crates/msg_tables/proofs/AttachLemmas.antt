@@ -9,7 +9,7 @@ use Rattle.msg_names.proofs.TestLemmas.{neither, list_any-map}
 use Rattle.msg_names.specs.declared.value.Selector.{Selector}
 use Rattle.msg_names.specs.declared.value.ImpRef.{ImpRef}
 use Rattle.msg_names.specs.Number.{selector_number, imp_number}
-use Rattle.msg_tables.specs.Methods.{method_numbers}
+use Rattle.msg_rows.specs.Methods.{method_numbers}
 use Rattle.msg_tables.specs.declared.change.Change.TheVariants.{Attach}
 use Rattle.msg_tables.specs.declared.fault.ChangeFault.{ChangeFault}
 use Rattle.msg_tables.specs.declared.fault.ChangeFault.TheVariants.{NoClass, Limit}

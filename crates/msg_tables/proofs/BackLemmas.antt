@@ -8,7 +8,7 @@ use Rattle.msg_tables.specs.declared.presence.Presence.{Presence}
 use Rattle.msg_tables.specs.Journal.{IsSoundView}
 use Rattle.msg_tables.specs.Order.{IsOrder}
 use Rattle.msg_tables.specs.Origin.{CountsView, last_imp, are_listed}
-use Rattle.msg_tables.specs.RowList.{RowList, rooms_of, rows_of}
+use Rattle.msg_rows.specs.RowList.{RowList, rooms_of, rows_of}
 use Rattle.msg_tables.specs.View.{TablesView}
 use Rattle.msg_tables.proofs.PutLemmas.{length-rows_of}
 

@@ -14,8 +14,7 @@ use Rattle.msg_tables.specs.After.{of_class, of_meta, without_class}
 use Rattle.msg_tables.specs.Chain.{is_member, presence_of}
 use Rattle.msg_tables.specs.Edits.{Writes}
 use Rattle.msg_tables.specs.Journal.{AllNameListed, IsJournalOf, IsRemoved, Journals, TakesRows, TellsDisposed, TellsRemoved, classes_of, cover_all, edit_undo, places_of, undo_entry, undo_journal}
-use Rattle.msg_tables.specs.RowList.{last_row, own_in, without_row}
-use Rattle.msg_tables.specs.Rows.{or_else}
+use Rattle.msg_rows.specs.RowList.{or_else, last_row, own_in, without_row}
 use Rattle.msg_tables.specs.Several.{is_of_one}
 use Rattle.msg_tables.specs.Stands.{Holds}
 use Rattle.msg_tables.specs.Undo.{covering}

@@ -12,8 +12,8 @@ use Rattle.msg_names.proofs.ClassRefLemmas.{same_class-is, same_class-refl}
 use Rattle.msg_names.proofs.TestLemmas.{both, equal, same_number}
 use Rattle.msg_tables.specs.After.{of_class, of_meta, rows_at, without_class, without_own}
 use Rattle.msg_tables.specs.Edits.{IsOfTables, added, edited, removed, rewritten}
-use Rattle.msg_tables.specs.RowList.{own_in, set_last, without_row}
-use Rattle.msg_tables.specs.Rows.{Row, is_at, or_else, own}
+use Rattle.msg_rows.specs.RowList.{or_else, own_in, set_last, without_row}
+use Rattle.msg_tables.specs.Rows.{Row, is_at, own}
 use Rattle.msg_tables.specs.Stands.{Holds, pairs_at}
 use Rattle.msg_tables.specs.View.{TablesView, kept}
 use Rattle.msg_tables.specs.declared.edit.Edit.{Edit}

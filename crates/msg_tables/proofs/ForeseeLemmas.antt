@@ -4,32 +4,28 @@ use Rattle.std.specs.Prelude.{◌==◌, ◌&&◌, is_none, is_some}
 use Rattle.msg_tables.proofs.EditLemmas.{pairs_at-gone, pairs_at-stays, pairs_at-without_other, pairs_at-without_own}
 use Rattle.msg_tables.proofs.LookupLemmas.{own-pairs_at}
 use Rattle.msg_tables.specs.Stands.{pairs_at}
-use Rattle.msg_tables.proofs.OrElseLemmas.{or_else_none, or_else-assoc}
+use Rattle.msg_rows.proofs.OrElseLemmas.{or_else_none, or_else-assoc}
+use Rattle.msg_rows.proofs.RowLemmas.{own_in-append}
 use Rattle.msg_names.proofs.TestLemmas.{both, same_number}
 use Rattle.msg_names.specs.declared.value.ClassRef.{ClassRef}
-use Rattle.std.proofs.lemmas.List.{map-append, reverse-append, take_more}
+use Rattle.std.proofs.lemmas.List.{reverse-append}
 use Rattle.msg_names.specs.declared.value.Selector.{Selector}
 use Rattle.msg_names.specs.declared.value.ImpRef.{ImpRef}
-use Rattle.msg_tables.specs.Methods.{method_numbers}
+use Rattle.msg_rows.specs.Methods.{method_numbers}
 use Rattle.msg_names.specs.Number.{selector_number, imp_number}
 use Rattle.msg_tables.specs.declared.change.Change.{Change}
 use Rattle.msg_tables.specs.declared.change.Change.TheVariants.{Add, Replace, SetImp, Exchange, Attach, AddClass, Remove, DisposeClass}
 use Rattle.msg_names.specs.ClassRef.{same_class}
 use Rattle.msg_tables.specs.Chain.{chain_of, chain_up, super_of, is_present}
 use Rattle.msg_tables.specs.declared.presence.Presence.{Presence}
-use Rattle.msg_tables.specs.Rows.{Row, own, or_else, chain, holder_in, lookup_in, holder_at, lookup_at}
-use Rattle.msg_tables.specs.RowList.{own_in, without_row}
+use Rattle.msg_tables.specs.Rows.{Row, own, chain, holder_in, lookup_in, holder_at, lookup_at}
+use Rattle.msg_rows.specs.RowList.{or_else, own_in, without_row}
 use Rattle.msg_tables.specs.After.{of_class, of_meta, row, rows_at, set_own, set_method, without_class, without_own, rows_after, supers_after}
 use Rattle.msg_tables.specs.Log.{Log, and_then, table, lookup, holder}
 use Rattle.msg_tables.proofs.LawLemmas.{lookup-after, some-set_method}
 use Rattle.msg_tables.proofs.OwnLemmas.{own-append, own-rows_at, own-rows_other, own-set_same, own-set_other, lookup-holder, lookup-own}
 use Rattle.msg_names.proofs.ClassRefLemmas.{same_class-is}
 use Rattle.msg_tables.specs.Written.{written, at_ref, row_leaves}
-
-pub own_in-append : (s : ℕ) (xs ys : List (ℕ × ℕ)) → own_in s (xs ++ ys) ≡ or_else (own_in s ys) (own_in s xs)
-own_in-append s [] ys = sym (or_else_none (own_in s ys))
-own_in-append s (m ∷ xs) ys =
-    ap (λ o. or_else o (cond (m.0 == s) (Some m.1) None)) (own_in-append s xs ys) ∙ or_else-assoc (own_in s ys) (own_in s xs) (cond (m.0 == s) (Some m.1) None)
 
 -- the first entry of a list counts, where the last row does
 own_in-first : (s : ℕ) (m : ℕ × ℕ) (ms : List (ℕ × ℕ)) → own_in s (reverse (m ∷ ms)) ≡ or_else (cond (m.0 == s) (Some m.1) None) (own_in s (reverse ms))
@@ -216,59 +212,6 @@ module _ (h : Log) (x : Change) (c : ClassRef) (s : ℕ) where
   way_over n k here (zero, e, on) ge none = on.rest
   way_over n k here (suc zero, e, on) ge none = on.rest ∙ rw none refl
   way_over n k here (suc (suc m), e, on) ge none = absurd (omega arith)
-
--- ---- the last row but one
-
-pub own_in-snoc : (s : ℕ) (ms : List (ℕ × ℕ)) (m : ℕ × ℕ) → own_in s (ms ++ m ∷ []) ≡ cond (m.0 == s) (Some m.1) (own_in s ms)
-own_in-snoc s ms m = own_in-append s ms (m ∷ []) ∙ step (m.0 == s)
-  where
-    step : (b : Bool) → or_else (or_else None (cond b (Some m.1) None)) (own_in s ms) ≡ cond b (Some m.1) (own_in s ms)
-    step true = refl
-    step false = refl
-
-pub without_row-snoc : (s : ℕ) (ms : List (ℕ × ℕ)) (m : ℕ × ℕ) (b : Bool) → (m.0 == s) ≡ b → own_in s (without_row s (ms ++ m ∷ [])) ≡ cond b (own_in s ms) (own_in s (without_row s ms))
-without_row-snoc s [] m true e = rw e refl
-without_row-snoc s [] m false e = rw e (rw e refl)
-without_row-snoc s (x ∷ xs) m true e =
-    let last : own_in s (xs ++ m ∷ []) ≡ Some m.1 = own_in-snoc s xs m ∙ rw e refl in
-    rw last (step (x.0 == s) (without_row-snoc s xs m true e))
-  where
-    step : (b : Bool) → own_in s (without_row s (xs ++ m ∷ [])) ≡ own_in s xs → own_in s (cond (b && false) (xs ++ m ∷ []) (x ∷ without_row s (xs ++ m ∷ []))) ≡ or_else (own_in s xs) (cond (x.0 == s) (Some x.1) None)
-    step true rest = ap (λ o. or_else o (cond (x.0 == s) (Some x.1) None)) rest
-    step false rest = ap (λ o. or_else o (cond (x.0 == s) (Some x.1) None)) rest
-without_row-snoc s (x ∷ xs) m false e =
-    let last : own_in s (xs ++ m ∷ []) ≡ own_in s xs = own_in-snoc s xs m ∙ rw e refl in
-    rw last (step ((x.0 == s) && is_none (own_in s xs)) last (without_row-snoc s xs m false e))
-  where
-    step : (b : Bool) → own_in s (xs ++ m ∷ []) ≡ own_in s xs → own_in s (without_row s (xs ++ m ∷ [])) ≡ own_in s (without_row s xs) → own_in s (cond b (xs ++ m ∷ []) (x ∷ without_row s (xs ++ m ∷ []))) ≡ own_in s (cond b xs (x ∷ without_row s xs))
-    step true last rest = last
-    step false last rest = ap (λ o. or_else o (cond (x.0 == s) (Some x.1) None)) rest
-
--- the last row of a selector so far, and the one before it
-pub record AreLast (s : ℕ) (rows : List (Selector × ImpRef)) (i : ℕ) (last covered : Option ImpRef) : Type 0 where
-  pub newest : option_map imp_number last ≡ own_in s (method_numbers (take i rows))
-  pub older : option_map imp_number covered ≡ own_in s (without_row s (method_numbers (take i rows)))
-
-module _ (s : ℕ) (rows : List (Selector × ImpRef)) (i : ℕ) (m : Selector × ImpRef) (inside : i < length rows) (read : m ≡ get_or rows i m) (last covered : Option ImpRef) (so-far : AreLast s rows i last covered) where
-  pair : ℕ × ℕ
-  pair = (selector_number m.0, imp_number m.1)
-
-  more : method_numbers (take (i + 1) rows) ≡ method_numbers (take i rows) ++ (selector_number m.0, imp_number m.1) ∷ []
-  more =
-      ap method_numbers (take_more rows i m inside ∙ ap (λ x. take i rows ++ x ∷ []) (sym read))
-      ∙ map-append (λ (n : Selector × ImpRef). (selector_number n.0, imp_number n.1)) (take i rows) (m ∷ [])
-
-  pub last-found : (selector_number m.0 == s) ≡ true → AreLast s rows (i + 1) (Some m.1) last
-  last-found e = record {
-    newest = sym (ap (own_in s) more ∙ own_in-snoc s (method_numbers (take i rows)) (selector_number m.0, imp_number m.1) ∙ rw e refl);
-    older = so-far.newest ∙ sym (ap (λ ms. own_in s (without_row s ms)) more ∙ without_row-snoc s (method_numbers (take i rows)) (selector_number m.0, imp_number m.1) true e);
-  }
-
-  pub last-kept : (selector_number m.0 == s) ≡ false → AreLast s rows (i + 1) last covered
-  last-kept e = record {
-    newest = so-far.newest ∙ sym (ap (own_in s) more ∙ own_in-snoc s (method_numbers (take i rows)) (selector_number m.0, imp_number m.1) ∙ rw e refl);
-    older = so-far.older ∙ sym (ap (λ ms. own_in s (without_row s ms)) more ∙ without_row-snoc s (method_numbers (take i rows)) (selector_number m.0, imp_number m.1) false e);
-  }
 
 -- a row that leaves otherwise than by a removal
 pub own_gone : (h : Log) (x : Change) (d : ClassRef) (u : ℕ) → row_leaves x d u ≡ true → ((c : ClassRef) (s : Selector) → x ≡ Remove c s → ⊥) → None ≡ own (rows_after (table h) x) d u

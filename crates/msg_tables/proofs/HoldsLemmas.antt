@@ -7,10 +7,10 @@ use Rattle.msg_names.specs.declared.value.ClassRef.{ClassRef}
 use Rattle.msg_names.specs.declared.value.ImpRef.{ImpRef}
 use Rattle.msg_names.specs.declared.value.Selector.{Selector}
 use Rattle.msg_names.specs.Number.{selector_number, imp_number}
-use Rattle.msg_tables.specs.Methods.{method_numbers}
+use Rattle.msg_rows.specs.Methods.{method_numbers}
 use Rattle.msg_names.specs.ClassRef.{same_class, slot_of}
 use Rattle.msg_tables.specs.Rows.{Row, own}
-use Rattle.msg_tables.specs.RowList.{own_in, set_last}
+use Rattle.msg_rows.specs.RowList.{own_in, set_last}
 use Rattle.msg_tables.specs.After.{rows_at, of_class, of_meta, set_own}
 use Rattle.msg_tables.specs.Stands.{Holds, pairs_at}
 use Rattle.msg_tables.specs.View.{kept}

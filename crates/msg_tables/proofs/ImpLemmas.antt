@@ -18,7 +18,8 @@ use Rattle.msg_tables.specs.Methods.{MethodsOf}
 use Rattle.msg_tables.specs.After.{of_class, of_meta, rows_at, row, list_rows, opening_table, set_own, set_method, without_own, without_class, rows_after, table_after}
 use Rattle.msg_tables.specs.Log.{Log, empty, and_then, table, lookup}
 use Rattle.msg_tables.specs.Refusal.{refusal, AreAccepted, IsLog, conditions, no_imp}
-use Rattle.msg_tables.specs.Rows.{Row, is_at, or_else, own, holder_at, lookup_in, lookup_at}
+use Rattle.msg_rows.specs.RowList.{or_else}
+use Rattle.msg_tables.specs.Rows.{Row, is_at, own, holder_at, lookup_in, lookup_at}
 use Rattle.msg_tables.proofs.LogLemmas.{table-and_then}
 use Rattle.msg_tables.proofs.LimitLemmas.{none_holds}
 use Rattle.msg_tables.proofs.ListedLemmas.{and_both}

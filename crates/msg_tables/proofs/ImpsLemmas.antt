@@ -6,10 +6,11 @@ use Rattle.msg_names.proofs.TestLemmas.{equal, same_number}
 use Rattle.msg_names.proofs.ClassRefLemmas.{same_class-is, same_class-refl}
 use Rattle.msg_names.specs.declared.value.ClassRef.{ClassRef}
 use Rattle.msg_names.specs.ClassRef.{same_class}
-use Rattle.msg_tables.specs.Rows.{Row, is_at, own, or_else}
+use Rattle.msg_rows.specs.RowList.{or_else}
+use Rattle.msg_tables.specs.Rows.{Row, is_at, own}
 use Rattle.msg_tables.specs.After.{set_own, set_method, without_own, without_class}
 use Rattle.msg_tables.specs.Undo.{imps_of, count_at}
-use Rattle.msg_tables.proofs.OrElseLemmas.{or_else_none}
+use Rattle.msg_rows.proofs.OrElseLemmas.{or_else_none}
 
 -- 1 where it holds
 abbrev pub one : Bool → ℕ

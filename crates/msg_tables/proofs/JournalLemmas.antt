@@ -16,14 +16,13 @@ use Rattle.msg_tables.specs.declared.presence.Presence.{Presence}
 use Rattle.msg_tables.specs.After.{of_class, of_meta}
 use Rattle.msg_tables.specs.Chain.{is_present, presence_of}
 use Rattle.msg_tables.specs.Journal.{lists_before, supers_before, order_before, before_all, makes, added_all, AllFitBack, FitsBack, IsJournalOf}
-use Rattle.msg_tables.specs.RowList.{HaveGrown, own_in, last_index, set_last, with_row_at, without_last, without_row}
-use Rattle.msg_tables.specs.Rows.{or_else}
+use Rattle.msg_rows.specs.RowList.{or_else, HaveGrown, own_in, last_index, set_last, with_row_at, without_last, without_row}
 use Rattle.msg_tables.specs.View.{TablesView, kept}
 use Rattle.msg_tables.proofs.HoldsLemmas.{kept-other, class-apart}
 use Rattle.msg_tables.proofs.ListedLemmas.{own_in-set_last}
-use Rattle.msg_tables.proofs.PopLemmas.{without-added}
-use Rattle.msg_tables.proofs.RowLemmas.{is_none-own_in, set_last-none}
-use Rattle.msg_tables.proofs.RoomLemmas.{grown-on, grown-same}
+use Rattle.msg_rows.proofs.PopLemmas.{without-added}
+use Rattle.msg_rows.proofs.RowLemmas.{is_none-own_in, set_last-none}
+use Rattle.msg_rows.proofs.RoomLemmas.{grown-on, grown-same}
 
 -- ---- the entries, one after another
 

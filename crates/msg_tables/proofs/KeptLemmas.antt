@@ -20,7 +20,8 @@ use Rattle.msg_tables.specs.declared.presence.Presence.{Presence}
 use Rattle.msg_tables.specs.After.{of_class, of_meta, row, rows_at, set_own, set_method, without_own, without_class, rows_after, supers_after, table_after}
 use Rattle.msg_tables.specs.Chain.{presence_of, is_present, is_directly_below, has_subclass, chain_of}
 use Rattle.msg_tables.specs.Origin.{CountsView, OriginView, class_total, lacks_imp, misfits_in, unlike_in, differ}
-use Rattle.msg_tables.specs.Rows.{Row, ClassTable, is_at, own, or_else, holder_in, holder_at, lookup_at}
+use Rattle.msg_rows.specs.RowList.{or_else}
+use Rattle.msg_tables.specs.Rows.{Row, ClassTable, is_at, own, holder_in, holder_at, lookup_at}
 use Rattle.msg_tables.specs.Undo.{fits_in}
 use Rattle.msg_tables.proofs.AgainstLemmas.{May, absent, absent_superclass, against}
 use Rattle.msg_tables.proofs.ClassLemmas.{Grounded, made-stays, made-grounded, gone-stays, gone-grounded}

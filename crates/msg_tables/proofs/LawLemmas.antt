@@ -16,8 +16,8 @@ use Rattle.msg_tables.specs.Origin.{OriginView, IsSound, IsSoundList}
 use Rattle.msg_tables.specs.Methods.{MethodsOf}
 use Rattle.msg_tables.specs.declared.change.Change.TheVariants.{Add, Replace, SetImp, Exchange, Attach, AddClass, Remove, DisposeClass}
 use Rattle.msg_tables.specs.Chain.{chain_of, chain_up, is_present, is_member}
-use Rattle.msg_tables.specs.Rows.{Row, own, or_else, chain, lookup_in, holder_at, lookup_at}
-use Rattle.msg_tables.specs.RowList.{own_in}
+use Rattle.msg_tables.specs.Rows.{Row, own, chain, lookup_in, holder_at, lookup_at}
+use Rattle.msg_rows.specs.RowList.{or_else, own_in}
 use Rattle.msg_tables.specs.After.{of_class, of_meta, row, rows_at, set_own, set_method, without_own, without_class, rows_after, supers_after, table_after, list_rows, opening_table}
 use Rattle.msg_tables.specs.Affected.{at_most_one, if_any, written_refs, is_affected, is_of_made}
 use Rattle.msg_tables.specs.Log.{Log, empty, and_then, table, lookup, holder, chain_at}

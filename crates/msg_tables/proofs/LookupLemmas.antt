@@ -2,13 +2,13 @@
 use Rattle.std.proofs.Common.{◌≡◌, length, ◌<◌, ℕ, zero, suc, List, [], ◌∷◌, Option, Some, None, option_map, Bool, true, false, cond, refl, sym, ◌∙◌, ap}
 use Rattle.std.specs.Prelude.{◌==◌, ◌&&◌, unwrap_or, is_some}
 use Rattle.std.specs.Option.{option_map_or}
-use Rattle.msg_tables.proofs.OrElseLemmas.{or_else_none}
+use Rattle.msg_rows.proofs.OrElseLemmas.{or_else_none}
 use Rattle.msg_names.specs.declared.value.ClassRef.{ClassRef}
 use Rattle.msg_names.specs.ClassRef.{same_class}
 use Rattle.msg_tables.specs.Chain.{chain_up, chain_of, super_of, steps_of, only_present, is_present}
 use Rattle.msg_tables.specs.declared.presence.Presence.{Presence}
-use Rattle.msg_tables.specs.Rows.{Row, own, or_else, holder_in, lookup_in}
-use Rattle.msg_tables.specs.RowList.{own_in}
+use Rattle.msg_tables.specs.Rows.{Row, own, holder_in, lookup_in}
+use Rattle.msg_rows.specs.RowList.{or_else, own_in}
 use Rattle.msg_tables.specs.Log.{Log, table, lookup, holder, superclass}
 use Rattle.msg_tables.specs.Stands.{Holds, StandsAt, pairs_at}
 use Rattle.msg_tables.specs.View.{TablesView, kept, kept_method}

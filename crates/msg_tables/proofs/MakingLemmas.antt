@@ -18,8 +18,8 @@ use Rattle.msg_tables.specs.Several.{and_all, refused_from, made_by, made_by_all
 use Rattle.msg_tables.specs.Stands.{StandsAt}
 use Rattle.msg_tables.specs.Undo.{undo, undo_all}
 use Rattle.msg_tables.specs.View.{IsKept, TablesView}
-use Rattle.msg_tables.specs.RowList.{HaveGrown}
-use Rattle.msg_tables.proofs.RoomLemmas.{grown-on}
+use Rattle.msg_rows.specs.RowList.{HaveGrown}
+use Rattle.msg_rows.proofs.RoomLemmas.{grown-on}
 use Rattle.msg_tables.proofs.StandsLemmas.{stands-kept}
 use Rattle.msg_tables.proofs.SeveralLemmas.{table-and_all}
 use Rattle.msg_tables.proofs.UndoJournalLemmas.{undo_all-snoc, undo_journal-append}

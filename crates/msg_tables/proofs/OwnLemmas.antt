@@ -2,14 +2,14 @@
 use Rattle.std.proofs.Common.{◌≡◌, ℕ, zero, suc, List, [], ◌∷◌, ◌++◌, Option, Some, None, Bool, true, false, cond, refl, sym, ap, ap₂, ◌∙◌, subst}
 use Rattle.std.specs.Prelude.{◌==◌, ◌&&◌, ◌||◌, is_some, is_none, unwrap_or}
 use Rattle.std.proofs.lemmas.Option.{same_Some}
-use Rattle.msg_tables.proofs.OrElseLemmas.{or_else_none, or_else-assoc}
+use Rattle.msg_rows.proofs.OrElseLemmas.{or_else_none, or_else-assoc}
 use Rattle.msg_names.proofs.TestLemmas.{equal, same_number}
 use Rattle.msg_names.specs.declared.value.ClassRef.{ClassRef}
 use Rattle.msg_names.specs.ClassRef.{same_class}
 use Rattle.msg_tables.specs.Chain.{chain_up, is_member}
 use Rattle.msg_tables.specs.declared.presence.Presence.{Presence}
-use Rattle.msg_tables.specs.Rows.{Row, is_at, own, or_else, holder_in, lookup_in}
-use Rattle.msg_tables.specs.RowList.{own_in, set_last}
+use Rattle.msg_tables.specs.Rows.{Row, is_at, own, holder_in, lookup_in}
+use Rattle.msg_rows.specs.RowList.{or_else, own_in, set_last}
 use Rattle.msg_tables.specs.After.{rows_at, set_own}
 use Rattle.msg_tables.specs.Stands.{pairs_at}
 use Rattle.msg_tables.proofs.HoldsLemmas.{pairs_at-rows_at, pairs_at-set_own, pairs_at-set_other}

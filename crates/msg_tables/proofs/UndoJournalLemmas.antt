@@ -21,9 +21,9 @@ use Rattle.msg_tables.specs.Log.{Log, table, table_after_all, holder, lookup}
 use Rattle.msg_tables.specs.After.{of_class, of_meta, table_after}
 use Rattle.msg_tables.specs.Chain.{presence_of}
 use Rattle.msg_tables.specs.Journal.{added_all, cover_all, undo_entry, undo_journal, undo_own, edit_undo, IsImpOf}
-use Rattle.msg_tables.specs.Methods.{method_numbers}
+use Rattle.msg_rows.specs.Methods.{method_numbers}
 use Rattle.msg_tables.specs.Refusal.{has_own}
-use Rattle.msg_tables.specs.RowList.{own_in}
+use Rattle.msg_rows.specs.RowList.{own_in}
 use Rattle.msg_tables.specs.Rows.{ClassTable, Row, own}
 use Rattle.msg_tables.specs.Stands.{StandsAt, pairs_at}
 use Rattle.msg_tables.specs.Undo.{covering, covering_all, removing, undo, undo_all}

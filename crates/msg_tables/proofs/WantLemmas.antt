@@ -15,7 +15,7 @@ use Rattle.msg_tables.specs.Journal.{edit_undo, entry_count, cover_all, undo_own
 use Rattle.msg_tables.specs.ListLaws.{HoldsAtMost}
 use Rattle.msg_tables.specs.Log.{Log, and_then, table, table_after_all}
 use Rattle.msg_tables.specs.Making.{AreHeld, WantsMemory, WantsMore}
-use Rattle.msg_tables.specs.RowList.{HaveGrown, own_in}
+use Rattle.msg_rows.specs.RowList.{HaveGrown, own_in}
 use Rattle.msg_tables.specs.Rows.{Row}
 use Rattle.msg_tables.specs.Several.{and_all}
 use Rattle.msg_tables.specs.Stands.{StandsAt, pairs_at}

@@ -20,7 +20,8 @@ use Rattle.msg_tables.specs.After.{of_class, of_meta, row, rows_at, set_own, wit
 use Rattle.msg_tables.specs.Chain.{presence_of, is_present}
 use Rattle.msg_tables.specs.Log.{table_after_all}
 use Rattle.msg_tables.specs.Origin.{OriginView}
-use Rattle.msg_tables.specs.Rows.{Row, ClassTable, is_at, own, or_else, holder_at, lookup_at}
+use Rattle.msg_rows.specs.RowList.{or_else}
+use Rattle.msg_tables.specs.Rows.{Row, ClassTable, is_at, own, holder_at, lookup_at}
 use Rattle.msg_tables.specs.Undo.{AreAlike, are_numbered, covering, covering_all, count_at, imps_of, is_numbered, old_at, removing, undo}
 use Rattle.msg_tables.proofs.AgainstLemmas.{May, against}
 use Rattle.msg_tables.proofs.AlikeLemmas.{SameRows, alike-is, rows-alike}

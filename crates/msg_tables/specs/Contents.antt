@@ -6,7 +6,7 @@ use Rattle.msg_names.specs.declared.value.Selector.{Selector}
 use Rattle.msg_tables.specs.After.{of_class}
 use Rattle.msg_tables.specs.Chain.{descends}
 use Rattle.msg_tables.specs.Log.{Log, table}
-use Rattle.msg_tables.specs.Methods.{method_numbers}
+use Rattle.msg_rows.specs.Methods.{method_numbers}
 use Rattle.msg_tables.specs.Order.{IsOrder}
 use Rattle.msg_tables.specs.Preorder.{AreOnce, is_in}
 use Rattle.msg_tables.specs.Stands.{pairs_at}

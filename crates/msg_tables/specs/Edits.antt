@@ -10,7 +10,7 @@ use Rattle.msg_tables.specs.declared.fault.ChangeFault.{ChangeFault}
 use Rattle.msg_tables.specs.declared.presence.Presence.{Presence}
 use Rattle.msg_tables.specs.Chain.{is_present, has_subclass}
 use Rattle.msg_tables.specs.Rows.{Row}
-use Rattle.msg_tables.specs.RowList.{own_in}
+use Rattle.msg_rows.specs.RowList.{own_in}
 use Rattle.msg_tables.specs.After.{row, rows_at, of_class, of_meta, set_own, without_own, without_class, rows_after, supers_after}
 use Rattle.msg_tables.specs.Log.{Log, table}
 use Rattle.msg_tables.specs.Refusal.{least_change_fault, refusal, unfit, unfit_methods}

@@ -5,7 +5,7 @@ use Rattle.std.specs.Vec.{vec_capacity}
 use Rattle.msg_tables.specs.declared.limits.TheConstants.{MAX_CLASSES}
 use Rattle.msg_tables.specs.Order.{IsOrder}
 use Rattle.msg_tables.specs.Preorder.{HavePreorder}
-use Rattle.msg_tables.specs.RowList.{rooms_of, rows_of}
+use Rattle.msg_rows.specs.RowList.{rooms_of, rows_of}
 use Rattle.msg_tables.specs.View.{TablesView}
 use Rattle.msg_tables.specs.Origin.{last_imp, are_listed}
 use Rattle.msg_tables.specs.declared.tables.Tables.TheInside.{Inside}

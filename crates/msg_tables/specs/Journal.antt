@@ -23,7 +23,7 @@ use Rattle.msg_tables.specs.Edits.{Writes}
 use Rattle.msg_tables.specs.Log.{Log, table}
 use Rattle.msg_tables.specs.Order.{IsOrder}
 use Rattle.msg_tables.specs.Origin.{last_imp, are_listed}
-use Rattle.msg_tables.specs.RowList.{HaveGrown, RowList, rooms_of, rows_of, last_index, own_in, set_last, with_row_at, without_last, without_row}
+use Rattle.msg_rows.specs.RowList.{HaveGrown, RowList, rooms_of, rows_of, last_index, own_in, set_last, with_row_at, without_last, without_row}
 use Rattle.msg_tables.specs.Several.{is_of_one, made_by}
 use Rattle.msg_tables.specs.Chain.{is_member, presence_of}
 use Rattle.std.specs.Option.{option_map_or}

@@ -13,7 +13,7 @@ use Rattle.msg_tables.specs.Opening.{Lacks}
 use Rattle.msg_tables.specs.Origin.{OriginView, IsSound}
 use Rattle.msg_tables.specs.Presence.{EndsAtRoot}
 use Rattle.msg_tables.specs.Refusal.{IsLog, refusal, has_own, no_class}
-use Rattle.msg_tables.specs.RowList.{own_in}
+use Rattle.msg_rows.specs.RowList.{own_in}
 use Rattle.msg_tables.specs.declared.change.Change.{Change}
 use Rattle.msg_tables.specs.declared.change.Change.TheVariants.{Add, Replace, SetImp, Exchange, Attach, AddClass}
 

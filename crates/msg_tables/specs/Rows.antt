@@ -2,6 +2,7 @@
 use Rattle.std.specs.Prelude.{ℕ, ◌==◌, ◌&&◌, List, [], ◌∷◌, Bool, Option, Some, None, if◌then◌else◌, unwrap_or, is_some}
 use Rattle.msg_names.specs.declared.value.ClassRef.{ClassRef}
 use Rattle.msg_names.specs.ClassRef.{same_class}
+use Rattle.msg_rows.specs.RowList.{or_else}
 use Rattle.msg_tables.specs.Chain.{chain_of}
 use Rattle.msg_tables.specs.declared.presence.Presence.{Presence}
 
@@ -20,11 +21,6 @@ pub record ClassTable : Type 0 where
 -- the row is one of this class reference and selector
 abbrev pub is_at : ClassRef → ℕ → Row → Bool
 is_at c s r = same_class r.class c && (r.sel == s)
-
--- the later of two, if there is one
-abbrev pub or_else : Option ℕ → Option ℕ → Option ℕ
-or_else (Some i) o = Some i
-or_else None o = o
 
 -- the implementation in the own row of a class reference and a selector, which is the last of their
 -- rows

@@ -9,7 +9,7 @@ use Rattle.msg_tables.specs.Chain.{is_present}
 use Rattle.msg_tables.specs.declared.presence.Presence.{Presence}
 use Rattle.msg_tables.specs.Origin.{CountsView, are_listed, last_imp}
 use Rattle.msg_tables.specs.declared.limits.Limits.{Limits}
-use Rattle.msg_tables.specs.RowList.{own_in}
+use Rattle.msg_rows.specs.RowList.{own_in}
 
 -- what contracts see of tables
 pub record TablesView : Type 0 where

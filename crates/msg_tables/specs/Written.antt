@@ -7,8 +7,8 @@ use Rattle.msg_names.specs.Number.{selector_number, imp_number}
 use Rattle.msg_tables.specs.declared.change.Change.{Change}
 use Rattle.msg_tables.specs.declared.change.Change.TheVariants.{Add, Replace, SetImp, Exchange, Attach, AddClass, Remove, DisposeClass}
 use Rattle.msg_names.specs.ClassRef.{same_class}
-use Rattle.msg_tables.specs.Rows.{or_else, own}
-use Rattle.msg_tables.specs.RowList.{own_in}
+use Rattle.msg_tables.specs.Rows.{own}
+use Rattle.msg_rows.specs.RowList.{or_else, own_in}
 use Rattle.msg_tables.specs.After.{of_class, of_meta, rows_after}
 use Rattle.msg_tables.specs.Log.{Log, and_then, lookup, holder, table}
 use Rattle.msg_tables.specs.Stands.{StandsAt}

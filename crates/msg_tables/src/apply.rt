@@ -9,7 +9,7 @@ ghost use Rattle.msg_tables.specs.Edits.{EditLacksRoom, Fits, IsOfTables, IsOwn,
 ghost use Rattle.msg_tables.specs.Log.{Log};
 ghost use Rattle.msg_tables.specs.Journal.{IsImpOf, IsJournalOf, IsRemoved, TellAttached, TellBothRewritten, TellsDisposed, TellsRemoved, TellsRewritten, lists_rewritten};
 ghost use Rattle.msg_tables.specs.Refusal.{refusal};
-ghost use Rattle.msg_tables.specs.RowList.{HaveGrown};
+ghost use Rattle.msg_rows.specs.RowList.{HaveGrown};
 ghost use Rattle.msg_tables.specs.Stands.{StandsAt};
 ghost use Rattle.msg_tables.specs.View.{IsKept};
 

@@ -7,7 +7,7 @@ ghost use Rattle.msg_tables.specs.Accepts.{Accepts, Makes, Refuses};
 ghost use Rattle.msg_tables.specs.ChangeList.{change_of};
 ghost use Rattle.msg_tables.specs.Journal.{GoesBack, NamesListed, classes_of};
 ghost use Rattle.msg_tables.specs.Making.{AreHeld, AreMadeBefore, AreMadeTo, WantsMemory, WantsMore, HasPlaces, IsMade, IsReadPart, IsRefused, IsRefusedUnlessMemory, IsUndone, LacksMemory, StandAfter, TellsAll};
-ghost use Rattle.msg_tables.specs.RowList.{HaveGrown};
+ghost use Rattle.msg_rows.specs.RowList.{HaveGrown};
 ghost use Rattle.msg_tables.specs.Several.{made_by_all};
 ghost use Rattle.msg_tables.specs.View.{IsKept, IsWithinRoom};
 

@@ -9,7 +9,7 @@ ghost use Rattle.msg_names.specs.Number.{selector_number, imp_number};
 ghost use Rattle.msg_tables.specs.Log.{Log};
 ghost use Rattle.msg_tables.specs.After.{supers_after};
 ghost use Rattle.msg_tables.specs.Chain.{super_of, is_present};
-ghost use Rattle.msg_tables.specs.RowList.{own_in, without_row};
+ghost use Rattle.msg_rows.specs.RowList.{own_in, without_row};
 ghost use Rattle.msg_tables.specs.View.{kept};
 ghost use Rattle.msg_tables.specs.Written as spec;
 ghost use Rattle.msg_tables.specs.Written.{IsFoundAfter, IsOwnAfter, IsWritten, IsWrittenAt};

@@ -3,13 +3,13 @@
 ghost use Rattle.std.specs.Prelude.{◌≡◌, ◌<◌, ◌≤◌, ◌+◌, [], ◌∷◌, ◌++◌, OnOk, OnErr, length, option_map, reverse};
 ghost use Rattle.std.specs.Vec.{vec_capacity};
 ghost use Rattle.msg_tables.specs.declared.edit.Edit.TheVariants.{Append, Attach, Dispose, Make, Remove, Rewrite, RewriteBoth};
-ghost use Rattle.msg_tables.specs.Methods.{method_numbers};
+ghost use Rattle.msg_rows.specs.Methods.{method_numbers};
 ghost use Rattle.msg_tables.specs.declared.edit.MethodRow.{MethodRow};
 ghost use Rattle.msg_tables.specs.declared.entry.Entry.{Entry};
 ghost use Rattle.msg_names.specs.Number.{selector_number};
 ghost use Rattle.msg_tables.specs.Edits.{EditLacksRoom, Fits, IsOfTables, IsOwn};
 ghost use Rattle.msg_tables.specs.Journal.{added_all, entry_count, IsAttachNoted, IsNoted, TakesRows};
-ghost use Rattle.msg_tables.specs.RowList.{HaveGrown, last_row};
+ghost use Rattle.msg_rows.specs.RowList.{HaveGrown, last_row};
 ghost use Rattle.msg_tables.specs.View.{IsKept, kept};
 
 use crate::edit::{Edit, MethodRow};

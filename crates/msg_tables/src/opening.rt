@@ -5,7 +5,7 @@ ghost use Rattle.std.specs.Option.{ForSome};
 ghost use Rattle.std.specs.Vec.{vec_capacity};
 ghost use Rattle.msg_tables.specs.After.{opened_supers, rows_at, list_rows};
 ghost use Rattle.msg_tables.specs.Log.{empty};
-ghost use Rattle.msg_tables.specs.Methods.{method_numbers};
+ghost use Rattle.msg_rows.specs.Methods.{method_numbers};
 ghost use Rattle.msg_tables.specs.Attached.{list_in};
 ghost use Rattle.msg_tables.specs.Opening.{Adds, AddsList, HasClassesOf, IsBlank, IsFor, rows_before};
 ghost use Rattle.msg_tables.specs.Order.{IsOrder};
@@ -17,10 +17,10 @@ use crate::counts::Counts;
 use crate::origin::{HasOrigin, Origin};
 use crate::preorder::preorder_of;
 use crate::presence::Presence;
-use crate::row_lists::RowLists;
 use crate::tables::Tables;
 use msg_names::{ClassRef, ImpRef, Selector};
 use msg_order::class_order;
+use msg_rows::RowLists;
 use std::alloc::{AllocError, Global};
 
 // The classes as tables are opened: the listed ones are present, and those that may be made aren't.

@@ -5,7 +5,7 @@ ghost use Rattle.msg_tables.specs.Journal.{NamesListed};
 ghost use Rattle.msg_tables.specs.Log.{Log};
 ghost use Rattle.msg_tables.specs.Making.{AreMadeBefore, IsMarkedBelow, IsRefusedUnlessMemory, LacksMemory};
 ghost use Rattle.msg_tables.specs.Making.{MarksTold, ReachesAll, ReachesBefore, RefusesNone, WantsMemory};
-ghost use Rattle.msg_tables.specs.RowList.{HaveGrown};
+ghost use Rattle.msg_rows.specs.RowList.{HaveGrown};
 ghost use Rattle.msg_tables.specs.Stands.{StandsAt};
 ghost use Rattle.msg_tables.specs.View.{IsKept};
 

@@ -12,9 +12,8 @@ use crate::counts::Counts;
 use crate::limits::Limits;
 use crate::preorder::Preorder;
 use crate::presence::Presence;
-use crate::row_lists::RowLists;
-use crate::rows::MethodRows;
 use msg_names::{ClassRef, ImpRef, Selector};
+use msg_rows::RowLists;
 use std::marker::Model;
 
 /// The class tables at a point of their log.

@@ -4,13 +4,13 @@ ghost use Rattle.std.specs.Prelude.{◌≡◌, ◌<◌, ◌≤◌, ◌-◌, ◌�
 ghost use Rattle.std.specs.Vec.{vec_capacity};
 ghost use Rattle.msg_tables.specs.Journal.{lists_before, supers_before, order_before, before_all, makes};
 ghost use Rattle.msg_tables.specs.Journal.{AreTakenBack, CanAllGoBack, CanGoBack, GoesBack, IsSoundView};
-ghost use Rattle.msg_tables.specs.RowList.{HaveGrown, KeepRoom, rows_of};
+ghost use Rattle.msg_rows.specs.RowList.{HaveGrown, KeepRoom, rows_of};
 ghost use Rattle.msg_tables.specs.View.{IsWithinRoom, TablesView};
 
 use crate::entry::{Entry, Written};
 use crate::presence::Presence;
-use crate::row_lists::RowLists;
 use crate::tables::Tables;
+use msg_rows::RowLists;
 
 /// How many rows and changes tables have before a list is made.
 #[derive(Clone, Copy)]
