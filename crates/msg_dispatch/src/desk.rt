@@ -1,4 +1,4 @@
-//! What stands behind the runtime lock.
+//! The data behind the runtime lock.
 
 ghost use Rattle.std.specs.Prelude.{◌≡◌, ◌<◌, ◌≤◌, ◌*◌, length};
 ghost use Rattle.std.specs.Prelude.{IfOk, IfErr, IfSome, IsErrOf, IsNone, OnErr, OnOk, None};
@@ -68,7 +68,7 @@ impl<N: ArenaName> Desk<N> {
         self.runtime.answer(arena, reader, class, sel)
     }
 
-    // The same, and notes the answer.
+    // Does the same, and notes the result.
     pub(crate) fn answer_noted(
         &mut self,
         arena: &Arena,
@@ -111,7 +111,7 @@ impl<N: ArenaName> Desk<N> {
         self.runtime.change(arena, turn, change)
     }
 
-    // Notes what the list wrote in the room that is lent.
+    // Notes what the list wrote in the room of the caller.
     pub(crate) fn change_all<L: ChangeList>(
         &mut self,
         arena: &Arena,
@@ -156,7 +156,8 @@ impl<N: ArenaName> Desk<N> {
         self.runtime.reach_all(arena, turn, &changes, marked)
     }
 
-    // The reader has then seen the turn's history, which begins with what it had seen.
+    // Brings a reader up to date: it has then seen the turn's history, which begins with what it
+    // had seen.
     pub(crate) fn meet(&mut self, arena: &Arena, turn: &mut Turn, reader: &mut Reader)
         requires arena { arena.now ≡ N.arena }
         requires turn { turn.old.table ≡ N.arena.table }
@@ -170,7 +171,7 @@ impl<N: ArenaName> Desk<N> {
         self.runtime.meet(arena, turn, reader);
     }
 
-    // A reader of a sender number that isn't given out.
+    // Returns a reader with a sender number that isn't given out.
     pub(crate) fn sender(&mut self, arena: &Arena) -> Option<Reader>
         requires arena { arena.now ≡ N.arena }
         ensures reader { IfSome result (λ r. IsSenderOf N.arena r) }
@@ -191,7 +192,7 @@ impl<N: ArenaName> Desk<N> {
         self.runtime.finish(arena, reader);
     }
 
-    // The turn: once, then none.
+    // Returns the turn the first time, and nothing later.
     pub(crate) fn turn(&mut self, arena: &Arena) -> Option<Turn>
         requires arena { arena.now ≡ N.arena }
         ensures turn { IfSome result (λ t. t.table ≡ N.arena.table) }

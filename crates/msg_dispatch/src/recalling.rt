@@ -44,8 +44,8 @@ impl<'d, N: ArenaName> Model for Recalling<'d, N> {
 }
 
 impl<'d, N: ArenaName> Recalling<'d, N> {
-    /// The sender, with nothing noted yet. Notes take 64 KiB: where they can't be had, the sender
-    /// comes back.
+    /// Makes a recalling sender with nothing noted yet. Notes take 64 KiB. If they can't be
+    /// allocated, the sender is returned.
     pub fn new(alloc: Global, sender: Sender<'d, N>) -> Result<Recalling<'d, N>, Sender<'d, N>>
         ensures ok { IfOk result (λ r. (r.sender ≡ sender.entry) × AreBlank r.notes) }
         ensures err { IfErr result (λ s. s ≡ sender.entry) }
@@ -63,9 +63,9 @@ impl<'d, N: ArenaName> Recalling<'d, N> {
         self.sender
     }
 
-    /// The implementation that a lookup finds at what the sender has then seen. What it has noted
-    /// since the stamp of the class reference it answers with no lock, and by that one load of a
-    /// word that threads share, which is stored where a change affects the class reference.
+    /// Returns the implementation that a lookup finds at what the sender has then seen. If it is
+    /// noted since the stamp of the class reference, no lock is taken. The stamp is then the only
+    /// shared word that is loaded, and it is stored only when a change affects the class reference.
     #[inline(always)]
     pub fn find<R: Wait>(&mut self, rt: &R, class: ClassRef, sel: Selector) -> ImpRef
         requires class { class.class < class_total self.old.sender.seen.front.origin }
@@ -79,8 +79,9 @@ impl<'d, N: ArenaName> Recalling<'d, N> {
         self.sender.find_noted(rt, &mut self.notes, class, sel)
     }
 
-    /// What it has noted of a lookup since the stamp of the class reference, which is loaded: what
-    /// the lookup finds at all changes, which the sender has then seen. It waits for nothing.
+    /// Returns what was noted of a lookup since the stamp of the class reference, which is loaded.
+    /// The lookup finds it at all changes, which the sender has then seen. The call waits for
+    /// nothing.
     #[inline]
     pub fn recall(&mut self, class: ClassRef, sel: Selector) -> Option<ImpRef>
         requires class { class.class < class_total self.old.sender.seen.front.origin }
@@ -95,8 +96,8 @@ impl<'d, N: ArenaName> Recalling<'d, N> {
         self.sender.recall(&self.notes, class, sel)
     }
 
-    /// How many changes there are, which the sender has then seen: nothing older is answered from
-    /// then on. One shared word is loaded, and nothing is forgotten.
+    /// The number of changes, which the sender has then seen: from then on it answers from no
+    /// earlier point. It loads one shared word, and forgets nothing.
     pub fn refresh(&mut self) -> u64
         ensures begins { BeginsWith self.new.sender.seen.front self.old.sender.seen.front }
         ensures length { result ≡ length self.new.sender.seen.front.changes }
@@ -108,7 +109,7 @@ impl<'d, N: ArenaName> Recalling<'d, N> {
         self.sender.published()
     }
 
-    /// As the changer's `meet`.
+    /// Does the same as the changer's `meet`.
     pub fn meet<R: Wait>(&mut self, rt: &R, changer: &mut Changer<'_, N>)
         ensures same { changer.new ≡ changer.old }
         ensures begins { BeginsWith changer.old self.old.sender.seen.front }
@@ -120,14 +121,14 @@ impl<'d, N: ArenaName> Recalling<'d, N> {
         changer.meet(rt, &mut self.sender);
     }
 
-    /// How often the lock was taken to find.
+    /// The number of times that `find` took the lock.
     pub fn lock_takings(&self) -> u64
         ensures { result ≡ self.now.sender.takings }
     {
         self.sender.lock_takings()
     }
 
-    /// Gives the sender's number back, as the sender's `finish`.
+    /// Gives the sender's number back, like the sender's `finish`.
     pub fn finish<R: Wait>(self, rt: &R) {
         let Recalling { sender, .. } = self;
         sender.finish(rt);

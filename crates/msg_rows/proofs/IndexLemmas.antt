@@ -1,4 +1,4 @@
--- Rows of which the last one of a selector is found.
+-- Rows in which the last one of a selector is found.
 use Rattle.std.proofs.Common.{◌≡◌, ◌<◌, ℕ, List, length, get_or, Option, Some, None, sym, ap, ◌∙◌, arith}
 use Rattle.std.specs.Prelude.{slice_set}
 use Rattle.std.proofs.lemmas.List.{length-map, map-set}
@@ -24,7 +24,7 @@ module _ (rows : List (Selector × ImpRef)) (s : ℕ) (found : Option ℕ) (is :
   own_found place m e read =
       sym ((last_some s (method_numbers rows) place (numbers m) (sym is ∙ e)).1 ∙ ap (λ (x : ℕ × ℕ). Some x.1) (get_or-map numbers rows place m ∙ ap numbers (sym read)))
 
-  -- where none is found, none is rewritten
+  -- if none is found, none is rewritten
   pub none_kept : found ≡ None → (i : ℕ) → method_numbers rows ≡ set_last s i (method_numbers rows)
   none_kept e i = set_last-none s i (method_numbers rows) (sym is ∙ e)
 

@@ -41,7 +41,7 @@ same j k = step (nat_eq j k) refl
 abbrev pub Alike : List (ℕ × ℕ) → List (ℕ × ℕ) → ℕ → Type 0
 Alike xs ys k = (i : ℕ) → i < k → (get_or xs i (0, 0)).0 ≡ (get_or ys i (0, 0)).0
 
--- it doesn't hang on the rows that follow, nor on implementations
+-- it depends neither on the rows that follow nor on implementations
 pub last-same : (count : ℕ) (xs ys : List (ℕ × ℕ)) (b k link : ℕ) → Alike xs ys k → IsLast count xs b k link → IsLast count ys b k link
 last-same count xs ys b k link alike l = record {
   within = l.within;
@@ -151,7 +151,7 @@ last_at s (m ∷ ms) (suc i) inside is none =
     let rest : last_index s ms ≡ Some i = last_at s ms i (omega (arith, inside)) is (λ j from less. none (suc j) (omega (arith, from)) (omega (arith, less))) in
     rw rest refl
 
--- what is sought isn't behind, and may be before
+-- the row that is looked for isn't after, and may be before
 pub record IsSought (count s : ℕ) (ms : List (ℕ × ℕ)) (at : ℕ) : Type 0 where
   pub inside : at ≤ length ms
   pub there : (i : ℕ) → at ≡ i + 1 → bucket_at count ms i ≡ bucket_of count s
@@ -168,7 +168,7 @@ sought-on count s ms k link inside none l = record {
     step j from less (inl before) = λ is. l.last j from before (ap (bucket_of count) is)
     step j from less (inr after) = none j after less
 
--- the row at which the search stands is of another selector
+-- the row that the search has reached is of another selector
 pub sought-next : (count s : ℕ) (ms : List (ℕ × ℕ)) (older newest : List ℕ) (i : ℕ) → count ≡ length newest → AreLinked ms (length ms) older newest → IsSought count s ms (i + 1) → (get_or ms i (0, 0)).0 ≢ s → IsSought count s ms (get_or older i 0)
 sought-next count s ms older newest i wide l at other =
     let before : IsLast count ms (bucket_at count ms i) i (get_or older i 0) = rw wide (l.before i (omega (arith, at.inside))) in

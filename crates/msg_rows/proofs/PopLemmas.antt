@@ -1,4 +1,4 @@
--- Rows of which the last ones are taken away.
+-- Rows the last of which are removed.
 use Rattle.std.proofs.Common.{◌≡◌, ◌-◌, ◌+◌, ℕ, List, [], ◌∷◌, ◌++◌, length, length-append, take, take_all, sym, ap, ◌∙◌, arith}
 use Rattle.std.proofs.lemmas.List.{map-append, take-take, length-take-le}
 use Rattle.std.proofs.Math.Seq.{take-append_seam}

@@ -1,4 +1,4 @@
--- A row that leaves a list, and one that comes back to its place.
+-- A row that is removed from a list, and one that is put back at its place.
 use Rattle.std.proofs.Common.{◌≡◌, ◌≤◌, ◌-◌, ◌+◌, ℕ, zero, suc, List, [], ◌∷◌, ◌++◌, length, take, drop, append-nil, Bool, true, false, cond, Option, Some, None, option_map, refl, sym, ap, ap₂, ◌∙◌, arith}
 use Rattle.std.specs.Prelude.{◌==◌, ◌&&◌, is_none}
 use Rattle.std.proofs.lemmas.List.{map-append, take-map, drop-map}
@@ -13,7 +13,7 @@ use Rattle.msg_rows.proofs.RowLemmas.{is_none-own_in}
 abbrev numbers : Selector × ImpRef → ℕ × ℕ
 numbers m = (selector_number m.0, imp_number m.1)
 
--- where no row is last none leaves
+-- if no row is last, none is removed
 pub without_row-none : (s : ℕ) (ms : List (ℕ × ℕ)) → last_index s ms ≡ None → ms ≡ without_row s ms
 without_row-none s [] e = refl
 without_row-none s (m ∷ ms) e = step (last_index s ms) (m.0 == s) (without_row-none s ms) e

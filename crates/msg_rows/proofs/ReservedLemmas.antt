@@ -1,4 +1,4 @@
--- Lists of rows of which the last ones aren't written.
+-- Lists of rows the last of which aren't written.
 use Rattle.std.proofs.Common.{◌≡◌, ◌<◌, ◌≤◌, ◌+◌, ◌-◌, ℕ, zero, suc, List, [], ◌∷◌, ◌++◌, length, length-append, replicate, append_assoc, refl, sym, ap, ◌∙◌, arith}
 use Rattle.std.specs.Prelude.{false, nat_lt, Result, Ok, Err, OnOk, OnErr, slice_index_or, slice_set}
 use Rattle.std.proofs.Math.ListN.{length-set}
@@ -6,7 +6,7 @@ use Rattle.std.proofs.lemmas.List.{length-map, length-replicate, map-append, rep
 use Rattle.msg_rows.specs.Kept.{no_rows}
 use Rattle.msg_rows.specs.RowList.{RowList, rows_of}
 
--- all of them, of which so many are written
+-- all lists, the first n of which are written
 abbrev pub all : List RowList → ℕ → List RowList
 all written count = written ++ replicate (count - length written) no_rows
 
@@ -55,7 +55,7 @@ all-read xs n k inside = ap (λ rs. slice_index_or rs k []) (all-rows xs n) ∙ 
 pub all-none : (xs : List RowList) (n k : ℕ) → length xs ≤ k → slice_index_or (rows_of (all xs n)) k [] ≡ []
 all-none xs n k past = ap (λ rs. slice_index_or rs k []) (all-rows xs n) ∙ read-back (rows_of xs) (n - length xs) k (omega (arith, past, length-rows xs))
 
--- one of those that are written is written again
+-- a list that is written is written again
 pub all-set : (xs ys : List RowList) (n k : ℕ) (v : List (ℕ × ℕ)) → k < length xs → rows_of ys ≡ slice_set (rows_of xs) k v → rows_of (all ys n) ≡ slice_set (rows_of (all xs n)) k v
 all-set xs ys n k v inside e =
     let count : length ys ≡ length xs = sym (length-rows ys) ∙ ap length e ∙ length-set (rows_of xs) k v ∙ length-rows xs in

@@ -78,7 +78,7 @@ keeps-put a b n s i is room = let many = length-with_row_at n s i a.rows in let 
 pub keep-same : (a b : List RowList) → b ≡ a → KeepRoom a b
 keep-same a b e = grown-is (rooms_of a) (rooms_of b) (ap rooms_of e)
 
--- ---- a row that comes back
+-- ---- a row that is put back
 
 read-room : (lists : List RowList) (k : ℕ) → slice_index_or (rooms_of lists) k 0 ≡ length (slice_index_or lists k no_rows).rows + (slice_index_or lists k no_rows).room
 read-room [] k = omega arith
@@ -127,7 +127,7 @@ can-put lists k at s i fits = step (cases_lt k (length lists))
 pub within-room : (lists : List RowList) (k : ℕ) → length (slice_index_or (rows_of lists) k []) ≤ slice_index_or (rooms_of lists) k 0
 within-room lists k = let a = ap length (read-list lists k) in let b = read-room lists k in omega (arith, a, b)
 
--- where there was no room in lists of which more are written now, there was none before
+-- if there was no room in lists of which more are written now, there was none before
 pub lacks-before : (xs ys : List RowList) (n at k : ℕ) → Reaches xs ys n → KeepRoom xs ys → at < length ys → LacksRoomAt ys at k → LacksRoomAt (all xs n) at k
 lacks-before xs ys n at k reaches keeps inside lacks =
     let a = padded-at xs (n - length xs) at in

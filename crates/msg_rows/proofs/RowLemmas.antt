@@ -6,7 +6,7 @@ use Rattle.msg_names.proofs.TestLemmas.{same_number}
 use Rattle.msg_rows.specs.RowList.{or_else, own_in, last_index, set_last}
 use Rattle.msg_rows.proofs.OrElseLemmas.{or_else_none, or_else-assoc}
 
--- where no row is last there is none
+-- if no row is last, there is none
 pub last_none : (s : ℕ) (ms : List (ℕ × ℕ)) → last_index s ms ≡ None → own_in s ms ≡ None
 last_none s [] e = refl
 last_none s (m ∷ ms) e = step (last_index s ms) (m.0 == s) (last_none s ms) e
@@ -32,7 +32,7 @@ last_some s (m ∷ ms) p d e = step (last_index s ms) (m.0 == s) (λ q. last_som
         (omega arith, rw (← at, none refl) refl)
     step None false rest none e = cc
 
--- there is an own row exactly where one is last
+-- there is an own row exactly if one is last
 pub is_none-own_in : (s : ℕ) (ms : List (ℕ × ℕ)) → is_none (own_in s ms) ≡ is_none (last_index s ms)
 is_none-own_in s [] = refl
 is_none-own_in s (m ∷ ms) = step (own_in s ms) (last_index s ms) (m.0 == s) (is_none-own_in s ms)
@@ -44,7 +44,7 @@ is_none-own_in s (m ∷ ms) = step (own_in s ms) (last_index s ms) (m.0 == s) (i
     step None (Some y) b e = cc
     step (Some x) None b e = cc
 
--- where no row is last none is rewritten
+-- if no row is last, none is rewritten
 pub set_last-none : (s i : ℕ) (ms : List (ℕ × ℕ)) → last_index s ms ≡ None → ms ≡ set_last s i ms
 set_last-none s i [] e = refl
 set_last-none s i (m ∷ ms) e = step (last_index s ms) (m.0 == s) (set_last-none s i ms) e

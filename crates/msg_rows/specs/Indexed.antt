@@ -6,7 +6,7 @@ use Rattle.msg_rows.specs.Methods.{method_numbers}
 use Rattle.msg_rows.specs.RowList.{RowList}
 use Rattle.msg_rows.specs.declared.indexed_rows.IndexedRows.TheInside.{Inside}
 
--- what contracts see of the methods of a class reference
+-- the contracts' view of the methods of a class reference
 abbrev pub row_list : Inside → RowList
 row_list i = record {
   rows = method_numbers i.rows.items;

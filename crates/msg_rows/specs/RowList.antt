@@ -5,7 +5,7 @@ use Rattle.msg_names.specs.declared.value.Selector.{Selector}
 use Rattle.msg_names.specs.Number.{selector_number, imp_number}
 use Rattle.msg_rows.specs.Methods.{method_numbers}
 
--- the rows, oldest first, and how many more there is room for
+-- the rows, oldest first, and the number of further rows with room
 pub record RowList : Type 0 where
   pub rows : List (ℕ × ℕ)
   pub room : ℕ
@@ -14,11 +14,11 @@ pub record RowList : Type 0 where
 abbrev pub rows_of : List RowList → List (List (ℕ × ℕ))
 rows_of lists = map (λ (r : RowList). r.rows) lists
 
--- and of each how many rows it has room for: those that it has, and more
+-- the number of rows that each list has room for: those that it has, and more
 abbrev pub rooms_of : List RowList → List ℕ
 rooms_of lists = map (λ (r : RowList). length r.rows + r.room) lists
 
--- none has less room than it had
+-- no list has less room than it had
 pub record HaveGrown (old new : List ℕ) : Type 0 where
   pub at : (k : ℕ) → slice_index_or old k 0 ≤ slice_index_or new k 0
 
@@ -30,7 +30,7 @@ with_row s i ms = ms ++ (selector_number s, imp_number i) ∷ []
 abbrev pub with_rows : List (ℕ × ℕ) → List (ℕ × ℕ) → List (ℕ × ℕ)
 with_rows more ms = ms ++ more
 
--- one of the lists is changed, and the others stay
+-- one of the lists is changed, and the others stay the same
 abbrev pub changed_at : (List (ℕ × ℕ) → List (ℕ × ℕ)) → ℕ → List (List (ℕ × ℕ)) → List (List (ℕ × ℕ))
 changed_at f at lists = slice_set lists at (f (slice_index_or lists at []))
 
@@ -53,16 +53,16 @@ last_index s (m ∷ ms) = or_else (option_map suc (last_index s ms)) (if m.0 == 
 abbrev pub last_row : List (ℕ × ℕ) → Option (ℕ × ℕ)
 last_row ms = slice_get ms (length ms - 1)
 
--- without so many rows at the end
+-- the list without this number of rows at the end
 abbrev pub without_last : ℕ → List (ℕ × ℕ) → List (ℕ × ℕ)
 without_last n ms = take (length ms - n) ms
 
--- without the last row of a selector
+-- the list without the last row of a selector
 abbrev pub without_row : ℕ → List (ℕ × ℕ) → List (ℕ × ℕ)
 without_row s [] = []
 without_row s (m ∷ ms) = if (m.0 == s) && is_none (own_in s ms) then ms else m ∷ without_row s ms
 
--- with a row at a place
+-- the list with a row at a place
 abbrev pub with_row_at : ℕ → Selector → ImpRef → List (ℕ × ℕ) → List (ℕ × ℕ)
 with_row_at at s i ms = take at ms ++ (selector_number s, imp_number i) ∷ drop at ms
 
@@ -71,7 +71,7 @@ abbrev pub set_last : ℕ → ℕ → List (ℕ × ℕ) → List (ℕ × ℕ)
 set_last s i [] = []
 set_last s i (m ∷ ms) = (if (m.0 == s) && is_none (own_in s ms) then (s, i) else m) ∷ set_last s i ms
 
--- the same of a selector and an implementation themselves
+-- the same for the program's selector and implementation
 abbrev pub with_imp : Selector → ImpRef → List (ℕ × ℕ) → List (ℕ × ℕ)
 with_imp s i ms = set_last (selector_number s) (imp_number i) ms
 
@@ -85,7 +85,7 @@ with_methods_reversed methods ms = ms ++ reverse (method_numbers methods)
 
 -- ---- lists of rows, before and after
 
--- in one of the lists there is no room for so many more
+-- one of the lists has no room for this number of further rows
 abbrev pub LacksRoomAt : List RowList → ℕ → ℕ → Type 0
 LacksRoomAt lists at n = slice_index_or (rooms_of lists) at 0 < length (slice_index_or (rows_of lists) at []) + n
 
@@ -93,11 +93,11 @@ LacksRoomAt lists at n = slice_index_or (rooms_of lists) at 0 < length (slice_in
 abbrev pub KeepsRoom : RowList → RowList → Type 0
 KeepsRoom old new = length old.rows + old.room ≤ length new.rows + new.room
 
--- so in each of the lists
+-- the same in each of the lists
 abbrev pub KeepRoom : List RowList → List RowList → Type 0
 KeepRoom old new = HaveGrown (rooms_of old) (rooms_of new)
 
--- one of the lists was changed, and the others stayed
+-- one of the lists was changed, and the others stayed the same
 abbrev pub ChangesAt : (List (ℕ × ℕ) → List (ℕ × ℕ)) → ℕ → List RowList → List RowList → Type 0
 ChangesAt f at old new = rows_of new ≡ changed_at f at (rows_of old)
 
@@ -108,7 +108,7 @@ Attaches at methods class_methods old new = rows_of new ≡ slice_set
     (slice_set (rows_of old) at (with_methods_reversed methods (slice_index_or (rows_of old) at [])))
     (at + 1) (with_methods_reversed class_methods (slice_index_or (rows_of old) (at + 1) []))
 
--- lists without rows came to the end
+-- lists without rows were added at the end
 abbrev pub GainsEmpty : List RowList → List RowList → Type 0
 GainsEmpty old new = rows_of new ≡ rows_of old ++ replicate (length new - length old) []
 
@@ -121,6 +121,6 @@ pub record IsOwnRow (lists : List RowList) (at : ℕ) (s : Selector) (o : Option
 abbrev pub IsOwnIn : List RowList → ℕ → Selector → Option ImpRef → Type 0
 IsOwnIn lists at s o = option_map imp_number o ≡ own_in (selector_number s) (slice_index_or (rows_of lists) at [])
 
--- and the one that would be, were that row taken away
+-- the implementation that would be in the last row of a selector if that row were removed
 abbrev pub IsCoveredIn : List RowList → ℕ → Selector → Option ImpRef → Type 0
 IsCoveredIn lists at s o = option_map imp_number o ≡ own_in (selector_number s) (without_row (selector_number s) (slice_index_or (rows_of lists) at []))

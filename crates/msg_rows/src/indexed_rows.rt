@@ -10,10 +10,10 @@ use msg_names::{ImpRef, Selector};
 use std::alloc::{AllocError, Global};
 use std::marker::Model;
 
-// The rows, oldest first. Some selectors share a bucket, whose rows hang together: `newest` has of
-// each bucket 1 more than the place of its newest row, or 0 where it has none, and `older` the same
-// of the row before each row in its bucket. So a lookup goes from the newest row of a selector's
-// bucket to the oldest.
+// The rows, oldest first. Selectors share buckets, and the rows of a bucket are linked. `newest`
+// holds for each bucket 1 more than the place of its newest row, or 0 if it has none. `older` holds
+// the same for the row before each row in its bucket. So a lookup goes from the newest row of a
+// selector's bucket to the oldest.
 #[derive(Drop)]
 pub(crate) struct IndexedRows {
     rows: Vec<(Selector, ImpRef)>,
@@ -33,9 +33,10 @@ impl Model for IndexedRows {
     ghost invariant = { IsIndexed };
 }
 
-// The bucket of a selector, of so many. Numbers that follow one another have buckets that do. Those
-// that go by any step, as a host's that are made of addresses, are spread too: a 32nd of the number
-// is added to it, times the golden ratio's 0.618 (Knuth, The Art of Computer Programming, 6.4).
+// The bucket of a selector, among `count` buckets. Consecutive numbers have consecutive buckets.
+// Numbers at any other step, like those that a host makes from addresses, are spread too: a 32nd of
+// the number is added to it, times the golden ratio's 0.618 (Knuth, The Art of Computer
+// Programming, 6.4).
 #[inline(always)]
 fn bucket(sel: Selector, count: usize) -> usize
     requires { 0 < count }
@@ -62,7 +63,7 @@ fn link(rows: &[(Selector, ImpRef)], older: &mut [usize], newest: &mut [usize])
     }
 }
 
-// Links rows anew, into the buckets that there are.
+// Links rows again, into the buckets that there are.
 fn relink(rows: &[(Selector, ImpRef)], older: &mut [usize], newest: &mut [usize])
     requires buckets { 0 < length newest.old }
     requires older { length older.old ≡ length rows.now }
@@ -74,7 +75,7 @@ fn relink(rows: &[(Selector, ImpRef)], older: &mut [usize], newest: &mut [usize]
     link(rows, older, newest);
 }
 
-// Makes so many buckets at least.
+// Makes at least this number of buckets.
 fn widen(
     alloc: Global,
     rows: &[(Selector, ImpRef)],
@@ -103,7 +104,7 @@ fn widen(
 }
 
 impl IndexedRows {
-    // No rows yet, and room for some.
+    // Makes rows with room for some, of which there are none yet.
     pub(crate) fn with_room(alloc: Global, more: usize) -> Result<IndexedRows, AllocError>
         ensures rows { IfOk result (λ rows. rows.rows ≡ []) }
         ensures room { IfOk result (λ rows. more ≤ rows.room) }
@@ -140,8 +141,8 @@ impl IndexedRows {
         Some(self.rows[self.place(sel)?].1)
     }
 
-    // The implementation that would be in a selector's last row, were this one taken away. All rows
-    // are gone over.
+    // The implementation that would be in a selector's last row if that row were removed. It visits
+    // all rows.
     pub(crate) fn covered(&self, sel: Selector) -> Option<ImpRef>
         ensures { option_map imp_number result
             ≡ own_in (selector_number sel) (without_row (selector_number sel) self.now.rows) }
@@ -157,7 +158,7 @@ impl IndexedRows {
         covered
     }
 
-    // Makes room for so many more rows.
+    // Makes room for this number of further rows.
     pub(crate) fn reserve(&mut self, alloc: Global, more: usize) -> Result<(), AllocError>
         ensures rows { self.new.rows ≡ self.old.rows }
         ensures room { OnOk result (more ≤ self.new.room) }
@@ -186,8 +187,8 @@ impl IndexedRows {
         self.newest[bucket] = self.rows.len();
     }
 
-    // Writes another implementation into a selector's last row, where it has one, and answers the
-    // one that stood there.
+    // Writes another implementation into a selector's last row, if it has one, and returns the old
+    // one.
     pub(crate) fn set(&mut self, sel: Selector, imp: ImpRef) -> Option<ImpRef>
         ensures rows { self.new.rows ≡ with_imp sel imp self.old.rows }
         ensures was { option_map imp_number result ≡ own_in (selector_number sel) self.old.rows }
@@ -202,7 +203,7 @@ impl IndexedRows {
         }
     }
 
-    // Takes the last row away, where there is one.
+    // Removes the last row, if there is one.
     fn pop(&mut self)
         ensures rows { self.new.rows ≡ without_last 1 self.old.rows }
         ensures keeps { KeepsRoom self.old self.new }
@@ -215,7 +216,7 @@ impl IndexedRows {
         self.newest[bucket] = older.unwrap();
     }
 
-    // How many there are.
+    // The number of rows.
     pub(crate) fn len(&self) -> usize
         ensures count { result ≡ length self.now.rows }
         ensures few { result < 2 ^ 63 }
@@ -230,7 +231,7 @@ impl IndexedRows {
         &self.rows
     }
 
-    // The row of a place.
+    // The row at a place.
     pub(crate) fn row(&self, place: usize) -> (Selector, ImpRef)
         requires { place < length self.now.rows }
         ensures { (selector_number result.0, imp_number result.1) ≡ slice_index_or self.now.rows place (0, 0) }
@@ -238,7 +239,7 @@ impl IndexedRows {
         self.rows[place]
     }
 
-    // Takes so many rows at the end away.
+    // Removes this number of rows at the end.
     pub(crate) fn shorten(&mut self, count: usize)
         ensures rows { self.new.rows ≡ without_last count self.old.rows }
         ensures keeps { KeepsRoom self.old self.new }
@@ -248,11 +249,11 @@ impl IndexedRows {
         }
     }
 
-    // Takes a selector's last row away, where it has one, and answers where it stood, with its
-    // implementation. There is room for one more row then.
+    // Removes a selector's last row, if it has one, and returns its place and its implementation.
+    // It leaves room for one more row.
     //
-    // Where rows stand behind it, all are moved up and linked anew; the last row, as one that was
-    // just added, costs a bucket.
+    // If rows come after it, all are moved up and linked again. The last row of all, like one that
+    // was just added, costs one bucket.
     pub(crate) fn remove(&mut self, sel: Selector) -> Option<(usize, ImpRef)>
         ensures rows { self.new.rows ≡ without_row (selector_number sel) self.old.rows }
         ensures was { option_map (λ r. imp_number r.1) result ≡ own_in (selector_number sel) self.old.rows }
@@ -273,7 +274,7 @@ impl IndexedRows {
         Some((place, imp))
     }
 
-    // Puts a row at the place where it stood, for which there is room.
+    // Puts a row back at its place, for which there is room.
     pub(crate) fn put_back(&mut self, place: usize, sel: Selector, imp: ImpRef)
         requires room { 0 < self.old.room }
         requires place { place ≤ length self.old.rows }

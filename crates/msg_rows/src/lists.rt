@@ -11,7 +11,7 @@ use crate::rows::MethodRows;
 use msg_names::{ImpRef, Selector};
 use std::alloc::AllocError;
 
-// One more row in one of the lists.
+// Adds a row to one of the lists.
 pub(crate) fn append_row(
     lists: &mut Vec<MethodRows>,
     at: usize,
@@ -31,8 +31,8 @@ pub(crate) fn append_row(
     Ok(())
 }
 
-// Another implementation in the last row of a selector in one of the lists, where it has one.
-// Answers the one that stood there.
+// Writes another implementation into the last row of a selector in one of the lists, if it has one.
+// Returns the old one.
 pub(crate) fn rewrite_row(
     lists: &mut Vec<MethodRows>,
     at: usize,
@@ -49,8 +49,8 @@ pub(crate) fn rewrite_row(
     rows.set(sel, imp)
 }
 
-// Without the last row of a selector in one of the lists, where it has one. Answers where it stood,
-// with its implementation.
+// Removes the last row of a selector from one of the lists, if it has one. Returns its place and
+// its implementation.
 pub(crate) fn remove_row(
     lists: &mut Vec<MethodRows>,
     at: usize,
@@ -66,7 +66,7 @@ pub(crate) fn remove_row(
     rows.remove(sel)
 }
 
-// A row comes back to its place in one of the lists.
+// Puts a row back at its place in one of the lists.
 pub(crate) fn put_back_row(
     lists: &mut Vec<MethodRows>,
     at: usize,
@@ -85,7 +85,7 @@ pub(crate) fn put_back_row(
     rows.put_back(place, sel, imp);
 }
 
-// So many rows fewer at the end of one of the lists.
+// Removes this number of rows at the end of one of the lists.
 pub(crate) fn shorten_rows(lists: &mut Vec<MethodRows>, at: usize, count: usize)
     requires { at < length lists.old.items }
     ensures rows { ChangesAt (without_last count) at lists.old.items lists.new.items }
@@ -96,7 +96,7 @@ pub(crate) fn shorten_rows(lists: &mut Vec<MethodRows>, at: usize, count: usize)
     rows.shorten(count);
 }
 
-// Methods at the end of one of the lists.
+// Adds methods at the end of one of the lists.
 pub(crate) fn append_rows(
     lists: &mut Vec<MethodRows>,
     at: usize,
@@ -114,8 +114,8 @@ pub(crate) fn append_rows(
     Ok(())
 }
 
-// Methods at the end of the lists of a class and of its metaclass, each from its last to its first.
-// Room is made in both before either is written.
+// Adds methods at the end of the lists of a class and of its metaclass, each from its last to its
+// first. Makes room in both before it writes either.
 pub(crate) fn attach_rows(
     lists: &mut Vec<MethodRows>,
     at: usize,

@@ -10,8 +10,8 @@ use msg_names::{ImpRef, Selector};
 use std::alloc::{AllocError, Global};
 use std::marker::Model;
 
-// Rows with their index. A class reference that never had a row keeps a word for them: so what is
-// kept of a class that may be made, and isn't, is small.
+// Rows with their index. A class reference that never had a row keeps only one word for them. So
+// little is kept for a class that may be made but isn't.
 #[derive(Drop)]
 pub(crate) struct MethodRows {
     indexed: Option<Box<IndexedRows>>,
@@ -28,7 +28,7 @@ impl Model for MethodRows {
     ghost view = { kept_rows };
 }
 
-// No rows yet, and room for some.
+// Makes rows with room for some, of which there are none yet.
 fn reserved(alloc: Global, more: usize) -> Result<Box<IndexedRows>, AllocError>
     ensures rows { IfOk result (λ rows. rows.value.rows ≡ []) }
     ensures room { IfOk result (λ rows. more ≤ rows.value.room) }
@@ -58,7 +58,7 @@ impl MethodRows {
         self.indexed.as_ref()?.find(sel)
     }
 
-    // The implementation that would be in a selector's last row, were this one taken away.
+    // The implementation that would be in a selector's last row if that row were removed.
     pub(crate) fn covered(&self, sel: Selector) -> Option<ImpRef>
         ensures { option_map imp_number result
             ≡ own_in (selector_number sel) (without_row (selector_number sel) self.now.rows) }
@@ -66,7 +66,7 @@ impl MethodRows {
         self.indexed.as_ref()?.covered(sel)
     }
 
-    // Makes room for so many more rows.
+    // Makes room for this number of further rows.
     pub(crate) fn reserve(&mut self, more: usize) -> Result<(), AllocError>
         ensures rows { self.new.rows ≡ self.old.rows }
         ensures room { OnOk result (more ≤ self.new.room) }
@@ -93,8 +93,8 @@ impl MethodRows {
         self.indexed.as_mut().unwrap().push(sel, imp);
     }
 
-    // Writes another implementation into a selector's last row, where it has one, and answers the
-    // one that stood there.
+    // Writes another implementation into a selector's last row, if it has one, and returns the old
+    // one.
     pub(crate) fn set(&mut self, sel: Selector, imp: ImpRef) -> Option<ImpRef>
         ensures rows { self.new.rows ≡ with_imp sel imp self.old.rows }
         ensures was { option_map imp_number result ≡ own_in (selector_number sel) self.old.rows }
@@ -106,8 +106,7 @@ impl MethodRows {
         }
     }
 
-    // Takes a selector's last row away, where it has one, and answers where it stood, with its
-    // implementation.
+    // Removes a selector's last row, if it has one, and returns its place and its implementation.
     pub(crate) fn remove(&mut self, sel: Selector) -> Option<(usize, ImpRef)>
         ensures rows { self.new.rows ≡ without_row (selector_number sel) self.old.rows }
         ensures was { option_map (λ r. imp_number r.1) result ≡ own_in (selector_number sel) self.old.rows }
@@ -120,7 +119,7 @@ impl MethodRows {
         }
     }
 
-    // Puts a row at the place where it stood, for which there is room.
+    // Puts a row back at its place, for which there is room.
     pub(crate) fn put_back(&mut self, place: usize, sel: Selector, imp: ImpRef)
         requires room { 0 < self.old.room }
         requires place { place ≤ length self.old.rows }
@@ -130,7 +129,7 @@ impl MethodRows {
         self.indexed.as_mut().unwrap().put_back(place, sel, imp);
     }
 
-    // How many there are.
+    // The number of rows.
     pub(crate) fn len(&self) -> usize
         ensures count { result ≡ length self.now.rows }
         ensures few { result < 2 ^ 63 }
@@ -151,7 +150,7 @@ impl MethodRows {
         }
     }
 
-    // The last row, where there is one.
+    // The last row, if there is one.
     pub(crate) fn last(&self) -> Option<(Selector, ImpRef)>
         ensures { option_map method_number result ≡ last_row self.now.rows }
     {
@@ -163,7 +162,7 @@ impl MethodRows {
         Some(rows.row(count - 1))
     }
 
-    // Takes so many rows at the end away.
+    // Removes this number of rows at the end.
     pub(crate) fn shorten(&mut self, count: usize)
         ensures rows { self.new.rows ≡ without_last count self.old.rows }
         ensures keeps { KeepsRoom self.old self.new }

@@ -1,4 +1,4 @@
--- At a log each row's implementation is one that there is, so what a lookup finds is one.
+-- At a log each row's implementation exists, so a lookup finds one that exists.
 use Rattle.std.proofs.Common.{◌≡◌, ◌≤◌, ℕ, List, [], ◌∷◌, ◌++◌, Option, Some, None, Bool, true, false, cond, refl, sym, ap, ◌∙◌, subst, append_assoc, append-nil, arith}
 use Rattle.std.specs.Prelude.{◌==◌, ◌&&◌, ◌||◌, nat_le, nat_lt, unwrap_or, reverse, is_some, is_none, All}
 use Rattle.std.specs.List.{list_any, list_all}

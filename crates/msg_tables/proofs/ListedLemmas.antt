@@ -26,13 +26,13 @@ own_in-listed n s i (m ∷ ms) all e =
     step None true first rest e = let same : m.1 ≡ i = same_Some m.1 i e in grind (arith, nat_tests)
     step None false first rest e = cc
 
--- so is each of the lists'
+-- so is the implementation of each of the lists
 pub listed_at : (n k : ℕ) (lists : List (List (ℕ × ℕ))) → list_all (are_listed n) lists ≡ true → are_listed n (slice_index_or lists k []) ≡ true
 listed_at n k [] all = refl
 listed_at n zero (ms ∷ lists) all = (both (are_listed n ms) (list_all (are_listed n) lists) all).0
 listed_at n (suc k) (ms ∷ lists) all = listed_at n k lists (both (are_listed n ms) (list_all (are_listed n) lists) all).1
 
--- rows that are put together
+-- rows that are appended
 pub listed-append : (n : ℕ) (xs ys : List (ℕ × ℕ)) → are_listed n xs ≡ true → are_listed n ys ≡ true → are_listed n (xs ++ ys) ≡ true
 listed-append n [] ys a b = b
 listed-append n (x ∷ xs) ys a b =

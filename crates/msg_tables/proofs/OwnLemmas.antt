@@ -148,7 +148,7 @@ pub lookup-own : (n : ℕ) (supers : List (Option Presence)) (rows : List Row) (
 lookup-own zero supers rows c s i e = rw e refl
 lookup-own (suc n) supers rows c s i e = rw e refl
 
--- a lookup's answer stands where its holder is
+-- a lookup's result is in the row of its holder
 pub lookup-holder : (rows : List Row) (cs : List ClassRef) (s : ℕ) (p : ClassRef) → holder_in rows cs s ≡ Some p → Some (lookup_in rows cs s) ≡ own rows p s
 lookup-holder rows [] s p e = cc
 lookup-holder rows (c ∷ cs) s p e = step (own rows c s) refl (lookup-holder rows cs s p) e
@@ -165,7 +165,7 @@ lookup-nowhere rows (c ∷ cs) s e = step (own rows c s) (lookup-nowhere rows cs
     step (Some i) rest e = cc
     step None rest e = rest e
 
--- where own rows stand at the same class references, so do the holders
+-- if own rows are at the same class references, so are the holders
 pub holder-same : (rows after : List Row) (cs : List ClassRef) (u : ℕ) → ((d : ClassRef) → is_some (own after d u) ≡ is_some (own rows d u)) → holder_in after cs u ≡ holder_in rows cs u
 holder-same rows after [] u e = refl
 holder-same rows after (c ∷ cs) u e = ap₂ (λ b o. cond b (Some c) o) (e c) (holder-same rows after cs u e)
