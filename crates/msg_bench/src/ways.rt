@@ -10,7 +10,7 @@ use crate::document::image;
 use crate::load::{Load, QUERY_COUNT, Queries, drawn};
 use anyhow::{Context, Result, bail};
 use msg_cache::{Arena, Config, Keeper};
-use msg_dispatch::{ArenaName, Dispatcher, Recalling, Sender};
+use msg_dispatch::{ArenaName, Dispatcher, CachingSender, Sender};
 use msg_image::Image;
 use msg_tables::Tables;
 use std::alloc::Global;
@@ -59,7 +59,7 @@ const ARRAYS: [u16; 9] = [32, 32, 32, 32, 0, 0, 0, 0, 0];
 // A sender with notes, of an image of 32 classes.
 #[derive(Drop)]
 struct Noter<'d, N: ArenaName> {
-    sender: Recalling<'d, N>,
+    sender: CachingSender<'d, N>,
     ghost all: { class_total sender.sender.seen.front.origin ≡ 32 },
 }
 
@@ -154,7 +154,7 @@ fn sum_by_sender<N: ArenaName, R: Wait>(
         let mut caller = Caller { sender };
         return Ok(caller.find(rt, queries, lookups));
     }
-    let sender = Recalling::new(alloc, sender).ok().context("notes")?;
+    let sender = CachingSender::new(alloc, sender).ok().context("notes")?;
     let mut noter = Noter { sender };
     Ok(match way {
         Way::Recalled => noter.recall_or_find(rt, queries, lookups),

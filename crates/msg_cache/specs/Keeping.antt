@@ -19,8 +19,8 @@ use Rattle.msg_model.specs.Steps.{is_free, seen_out}
 use Rattle.msg_model.specs.View.{standing_at}
 use Rattle.msg_cache.specs.declared.answer.Filled.{Filled}
 use Rattle.msg_cache.specs.declared.answer.Filled.TheVariants.{Present as DidNothing, Used, Grown, NoArray}
-use Rattle.msg_cache.specs.declared.answer.Way.{Way}
-use Rattle.msg_cache.specs.declared.answer.Way.TheVariants.{Present, Use, Take}
+use Rattle.msg_cache.specs.declared.answer.Placement.{Placement}
+use Rattle.msg_cache.specs.declared.answer.Placement.TheVariants.{Present, Use, Take}
 use Rattle.msg_cache.specs.declared.view.KeeperView.{KeeperView}
 use Rattle.msg_cache.specs.Layout.{SettingView, layout_of, header_at, base}
 use Rattle.msg_cache.specs.Rule.{TidyBy}
@@ -138,35 +138,35 @@ abbrev pub remember : Layout → ClassRef → ℕ → List ℕ → List ℕ
 remember z c zero remembered = remembered
 remember z c (suc a) remembered = slice_set remembered (slot_of c) (capacity z a)
 
-abbrev pub way_by_plan : ℕ → ℕ → Plan → Way
-way_by_plan a p PlanUse = Use a p
-way_by_plan a p (PlanTake n) = Take n
+abbrev pub placement_by_plan : ℕ → ℕ → Plan → Placement
+placement_by_plan a p PlanUse = Use a p
+placement_by_plan a p (PlanTake n) = Take n
 
-abbrev pub way_in : ℕ → Found → Plan → Way
-way_in a (hit i) plan = Present
-way_in a (empty p) plan = way_by_plan a p plan
-way_in a wrapped plan = way_by_plan a 0 plan
+abbrev pub placement_in : ℕ → Found → Plan → Placement
+placement_in a (hit i) plan = Present
+placement_in a (empty p) plan = placement_by_plan a p plan
+placement_in a wrapped plan = placement_by_plan a 0 plan
 
 -- what an entry needs, where these are the words of the live array
-abbrev pub way_among : List ℕ → ℕ → ℕ → Way
-way_among words a s = way_in a (find_in words s) (plan_of (length words) (occupied_in words))
+abbrev pub placement_among : List ℕ → ℕ → ℕ → Placement
+placement_among words a s = placement_in a (find_in words s) (plan_of (length words) (occupied_in words))
 
-abbrev pub way_by_header : Layout → List ℕ → KeeperView → ClassRef → ℕ → ℕ → Way
-way_by_header z remembered k c s zero = Take (remembered_capacity remembered c)
-way_by_header z remembered k c s (suc a) = way_in a (find_in (array_words z k a) s) (plan_of (capacity z a) (occupied_in (array_words z k a)))
+abbrev pub placement_by_header : Layout → List ℕ → KeeperView → ClassRef → ℕ → ℕ → Placement
+placement_by_header z remembered k c s zero = Take (remembered_capacity remembered c)
+placement_by_header z remembered k c s (suc a) = placement_in a (find_in (array_words z k a) s) (plan_of (capacity z a) (occupied_in (array_words z k a)))
 
 -- what an entry needs: nothing where the selector is in the live array, else the place of it where
 -- the array has room, else an array
-abbrev pub way_of : Layout → List ℕ → KeeperView → ClassRef → ℕ → Way
-way_of z remembered k c s = way_by_header z remembered k c s (header k c)
+abbrev pub placement_of : Layout → List ℕ → KeeperView → ClassRef → ℕ → Placement
+placement_of z remembered k c s = placement_by_header z remembered k c s (header k c)
 
 -- facts of an entry that goes to the live array, and of one that needs an array
-abbrev pub OnUse : Way → (ℕ → ℕ → Type 0) → Type 0
+abbrev pub OnUse : Placement → (ℕ → ℕ → Type 0) → Type 0
 OnUse Present P = Unit {0}
 OnUse (Use a p) P = P a p
 OnUse (Take n) P = Unit {0}
 
-abbrev pub OnTake : Way → (ℕ → Type 0) → Type 0
+abbrev pub OnTake : Placement → (ℕ → Type 0) → Type 0
 OnTake Present P = Unit {0}
 OnTake (Use a p) P = Unit {0}
 OnTake (Take n) P = P n
@@ -206,7 +206,7 @@ Grows z c s i n k k' answer = MatchOption (lowest_free z n k)
     (λ a. (answer ≡ Grown) × (k' ≡ grown z c s i a j)))
     (λ a. (answer ≡ Grown) × (k' ≡ grown z c s i a k))
 
-abbrev pub FillsBy : Layout → ClassRef → ℕ → ℕ → KeeperView → KeeperView → Filled → Way → Type 0
+abbrev pub FillsBy : Layout → ClassRef → ℕ → ℕ → KeeperView → KeeperView → Filled → Placement → Type 0
 FillsBy z c s i k k' answer Present = (answer ≡ DidNothing) × (k' ≡ k)
 FillsBy z c s i k k' answer (Use a p) = (answer ≡ Used) × (k' ≡ filled z a p (word_of s i) k)
 FillsBy z c s i k k' answer (Take n) = Grows z c s i n k k' answer
@@ -214,7 +214,7 @@ FillsBy z c s i k k' answer (Take n) = Grows z c s i n k k' answer
 -- a fill of the class reference c with the selector s and the implementation i took the view k to
 -- k', while these capacities were remembered
 abbrev pub Fills : Layout → List ℕ → ClassRef → ℕ → ℕ → KeeperView → KeeperView → Filled → Type 0
-Fills z remembered c s i k k' answer = FillsBy z c s i k k' answer (way_of z remembered k c s)
+Fills z remembered c s i k k' answer = FillsBy z c s i k k' answer (placement_of z remembered k c s)
 
 -- ---- when each answer comes
 

@@ -13,14 +13,14 @@ use Rattle.msg_tables.specs.declared.change.Change.{Change}
 use Rattle.msg_model.specs.State.{Layout, awaits, size}
 use Rattle.msg_cache.specs.declared.answer.Filled.{Filled}
 use Rattle.msg_cache.specs.declared.answer.Report.{Report}
-use Rattle.msg_cache.specs.declared.answer.Way.{Way}
+use Rattle.msg_cache.specs.declared.answer.Placement.{Placement}
 use Rattle.msg_cache.specs.declared.config.Config.{Config}
 use Rattle.msg_cache.specs.declared.keeper.Keeper.{Keeper}
 use Rattle.msg_cache.specs.declared.keeper.TheConstants.{CLOSED}
 use Rattle.msg_cache.specs.declared.view.KeeperView.{KeeperView}
 use Rattle.msg_cache.specs.Config.{refusal_of, setting_of}
 use Rattle.msg_cache.specs.Counts.{CountsFill}
-use Rattle.msg_cache.specs.Keeping.{CanUse, Fills, InOrder, filled, grown, header, remember, way_of}
+use Rattle.msg_cache.specs.Keeping.{CanUse, Fills, InOrder, filled, grown, header, remember, placement_of}
 use Rattle.msg_cache.specs.Layout.{stamp_at}
 use Rattle.msg_cache.specs.Plays.{committed, flushed, keeper_of, lent, stored}
 use Rattle.msg_cache.specs.Rule.{first_keeper, live_in}
@@ -57,8 +57,8 @@ abbrev pub GrowsInto : ArenaView → ClassRef → ℕ → Selector → ImpRef �
 GrowsInto a c array s i k k' = view k' ≡ grown (layout a) c (selector_number s) (imp_number i) array (view k)
 
 -- what an entry needs
-abbrev pub way_for : ArenaView → Keeper → ClassRef → Selector → Way
-way_for a k c s = way_of (layout a) k.remembered.items (view k) c (selector_number s)
+abbrev pub placement_for : ArenaView → Keeper → ClassRef → Selector → Placement
+placement_for a k c s = placement_of (layout a) k.remembered.items (view k) c (selector_number s)
 
 -- the entry may go to this place of this array, which is the live one
 abbrev pub CanUseFor : ArenaView → Keeper → ClassRef → Selector → ℕ → ℕ → Type 0
@@ -70,7 +70,7 @@ FillsWith a c s i k k' answer = Fills (layout a) k.remembered.items c (selector_
 
 -- a fill with this answer was counted
 abbrev pub CountsFillWith : ArenaView → ClassRef → Selector → Filled → Keeper → Keeper → Type 0
-CountsFillWith a c s answer k k' = CountsFill (way_for a k c s) answer k.report k'.report
+CountsFillWith a c s answer k k' = CountsFill (placement_for a k c s) answer k.report k'.report
 
 -- the capacity of the live array of the class reference, if it had one, is remembered
 abbrev pub RemembersCapacity : ArenaView → ClassRef → Keeper → Keeper → Type 0

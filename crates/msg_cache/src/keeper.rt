@@ -18,10 +18,10 @@ ghost use Rattle.msg_cache.specs.Seats.{IsKeeper, keeper_at};
 ghost use Rattle.msg_cache.specs.Uses.{all_free, settled};
 ghost use Rattle.msg_cache.specs.Views.{layout, classes, IsFoundAt, IsNewcomer, IsSenderOf, IsTurnAt};
 
-use crate::answer::{Filled, Report, Way};
+use crate::answer::{Filled, Report, Placement};
 use crate::arena::Arena;
 use crate::collecting::{Outs, collect_into};
-use crate::filling::{count_want, retire_in, way_in_array};
+use crate::filling::{count_want, retire_in, placement_in_array};
 use crate::prober::Prober;
 use crate::standings::Standings;
 use crate::steps::{
@@ -152,7 +152,7 @@ impl Model for Turn {
 }
 
 impl Keeper {
-    ghost use Rattle.msg_cache.specs.Ours.{AffectedAreClosed, AffectedAreFlushed, AllAffectedAreClosed, AllAffectedAreFlushed, CanUseFor, CannotBeGiven, ChangesIf, Chills, ClosesSome, CommitsClosed, CountsFillWith, CountsIf, FillsPlace, FillsWith, GrowsInto, IsClosed, IsCold, IsOf, RemembersCapacity, StayCold, closed, is_closed, opened, view, way_for};
+    ghost use Rattle.msg_cache.specs.Ours.{AffectedAreClosed, AffectedAreFlushed, AllAffectedAreClosed, AllAffectedAreFlushed, CanUseFor, CannotBeGiven, ChangesIf, Chills, ClosesSome, CommitsClosed, CountsFillWith, CountsIf, FillsPlace, FillsWith, GrowsInto, IsClosed, IsCold, IsOf, RemembersCapacity, StayCold, closed, is_closed, opened, view, placement_for};
 
     // Makes the keeper of a new arena. The words are a copy of the arena's.
     pub(crate) fn first(
@@ -196,10 +196,10 @@ impl Keeper {
     }
 
     // What an entry of a class reference needs.
-    fn way(&self, arena: &Arena, class: ClassRef, selector: Selector) -> Way
+    fn placement(&self, arena: &Arena, class: ClassRef, selector: Selector) -> Placement
         requires arena { IsOf arena.now self.now }
         requires class { class.class < classes arena.now }
-        ensures way { result ≡ way_for arena.now self.now class selector }
+        ensures placement { result ≡ placement_for arena.now self.now class selector }
         ensures uses { OnUse result (CanUseFor arena.now self.now class selector) }
         ensures takes { OnTake result IsCapacity }
     {
@@ -207,12 +207,12 @@ impl Keeper {
         let header = self.words[at];
         if header == 0 {
             let remembered = self.remembered[at - 1];
-            return Way::Take(if remembered == 0 { 4 } else { remembered });
+            return Placement::Take(if remembered == 0 { 4 } else { remembered });
         }
         let array = (header - 1) as usize;
         let base = arena.base(array);
         let capacity = arena.capacity(array) as usize;
-        way_in_array(
+        placement_in_array(
             &self.words[base..base + capacity],
             self.occupied[array],
             selector,
@@ -352,13 +352,13 @@ impl Keeper {
         ensures fills { FillsWith arena.now class selector implementation self.old self.new result }
         ensures report { CountsFillWith arena.now class selector result self.old self.new }
     {
-        match self.way(arena, class, selector) {
-            Way::Present => Filled::Present,
-            Way::Use(array, place) => {
+        match self.placement(arena, class, selector) {
+            Placement::Present => Filled::Present,
+            Placement::Use(array, place) => {
                 self.put(arena, class, array, place, selector, implementation);
                 Filled::Used
             }
-            Way::Take(capacity) => {
+            Placement::Take(capacity) => {
                 if let Some(array) = self.free_array(arena, capacity) {
                     self.grow(arena, class, array, selector, implementation);
                     return Filled::Grown;

@@ -58,7 +58,7 @@ impl<'d, N: ArenaName> Changer<'d, N> {
     {
         let dispatcher = self.dispatcher;
         let count = dispatcher
-            .desk
+            .locked_runtime
             .lock(rt)
             .change(&dispatcher.arena, &mut self.turn, change)?;
         self.count = count;
@@ -86,7 +86,7 @@ impl<'d, N: ArenaName> Changer<'d, N> {
     {
         let dispatcher = self.dispatcher;
         let count = dispatcher
-            .desk
+            .locked_runtime
             .lock(rt)
             .change_all(&dispatcher.arena, &mut self.turn, changes, written)?;
         self.count = count;
@@ -113,7 +113,7 @@ impl<'d, N: ArenaName> Changer<'d, N> {
     {
         let dispatcher = self.dispatcher;
         dispatcher
-            .desk
+            .locked_runtime
             .lock(rt)
             .reach_all(&dispatcher.arena, &mut self.turn, changes, marked)
     }
@@ -135,7 +135,7 @@ impl<'d, N: ArenaName> Changer<'d, N> {
     {
         let dispatcher = self.dispatcher;
         dispatcher
-            .desk
+            .locked_runtime
             .lock(rt)
             .meet(&dispatcher.arena, &mut self.turn, &mut sender.reader);
     }

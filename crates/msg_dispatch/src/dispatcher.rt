@@ -8,7 +8,7 @@ ghost use Rattle.msg_cache.specs.Counts.{AreCounts};
 ghost use Rattle.msg_runtime.specs.Parts.{IsKeeperOf, keeper_history};
 
 use crate::changer::Changer;
-use crate::desk::Desk;
+use crate::locked_runtime::LockedRuntime;
 use crate::name::ArenaName;
 use crate::sender::Sender;
 use msg_cache::{Arena, Keeper, Report};
@@ -34,7 +34,7 @@ pub struct ChangerOut;
 #[derive(Drop)]
 pub struct Dispatcher<N: ArenaName> {
     pub(crate) arena: Arena,
-    pub(crate) desk: Mutex<Desk<N>>,
+    pub(crate) locked_runtime: Mutex<LockedRuntime<N>>,
     pub ghost arena_is: { arena ≡ N.arena } by { Prim.hlevel (codes, table_id_coded) },
 }
 
@@ -57,13 +57,13 @@ impl<N: ArenaName> Dispatcher<N> {
         requires history { keeper_history keeper ≡ empty (C.given given.now) }
         ensures { IfOk result (λ d. d.arena ≡ N.arena) }
     {
-        let desk = Desk {
+        let locked_runtime = LockedRuntime {
             runtime: Runtime::open(alloc, &arena, keeper, given)?,
             of: PhantomData,
         };
         Ok(Dispatcher {
             arena,
-            desk: Mutex::new(desk),
+            locked_runtime: Mutex::new(locked_runtime),
         })
     }
 
@@ -71,7 +71,7 @@ impl<N: ArenaName> Dispatcher<N> {
     pub fn sender<R: Wait>(&self, rt: &R) -> Result<Sender<'_, N>, NoSenderFree>
         ensures { IfOk result (λ s. (s.takings ≡ 0) × (s.seen.front.origin ≡ N.arena.key.origin)) }
     {
-        match self.desk.lock(rt).sender(&self.arena) {
+        match self.locked_runtime.lock(rt).sender(&self.arena) {
             Some(reader) => Ok(Sender {
                 dispatcher: self,
                 reader,
@@ -85,7 +85,7 @@ impl<N: ArenaName> Dispatcher<N> {
     pub fn changer<R: Wait>(&self, rt: &R) -> Result<Changer<'_, N>, ChangerOut>
         ensures { IfOk result (λ c. c ≡ empty N.arena.key.origin) }
     {
-        match self.desk.lock(rt).turn(&self.arena) {
+        match self.locked_runtime.lock(rt).turn(&self.arena) {
             Some(turn) => Ok(Changer {
                 dispatcher: self,
                 turn,
@@ -102,6 +102,6 @@ impl<N: ArenaName> Dispatcher<N> {
     pub fn report<R: Wait>(&self, rt: &R) -> Report
         ensures { AreCounts result }
     {
-        self.desk.lock(rt).report()
+        self.locked_runtime.lock(rt).report()
     }
 }

@@ -77,7 +77,7 @@ impl<'d, N: ArenaName> Sender<'d, N> {
         self.count_taking();
         let dispatcher = self.dispatcher;
         dispatcher
-            .desk
+            .locked_runtime
             .lock(rt)
             .answer(&dispatcher.arena, &mut self.reader, class, sel)
     }
@@ -106,7 +106,7 @@ impl<'d, N: ArenaName> Sender<'d, N> {
         self.count_taking();
         let dispatcher = self.dispatcher;
         dispatcher
-            .desk
+            .locked_runtime
             .lock(rt)
             .answer_noted(&dispatcher.arena, &mut self.reader, notes, class, sel)
     }
@@ -171,7 +171,7 @@ impl<'d, N: ArenaName> Sender<'d, N> {
         ensures takings { TakesOnceAtMost self.old self.new }
         ensures private { FindsNoted self.old self.new notes.old notes.new class sel result }
     {
-        match self.reader.find(&self.dispatcher.arena, notes, class, sel) {
+        match self.reader.try_find(&self.dispatcher.arena, notes, class, sel) {
             Some(imp) => imp,
             None => self.find_locked_noted(rt, notes, class, sel),
         }
@@ -204,6 +204,6 @@ impl<'d, N: ArenaName> Sender<'d, N> {
             reader,
             ..
         } = self;
-        dispatcher.desk.lock(rt).finish(&dispatcher.arena, reader);
+        dispatcher.locked_runtime.lock(rt).finish(&dispatcher.arena, reader);
     }
 }

@@ -8,7 +8,7 @@ ghost use Rattle.msg_tables.specs.Origin.{class_total};
 use crate::images::{CHILD, GRAND, selector};
 use crate::opening::{Steps, open};
 use crate::same::same;
-use msg_dispatch::{ArenaName, Changer, Dispatcher, Recalling};
+use msg_dispatch::{ArenaName, Changer, Dispatcher, CachingSender};
 use msg_image::{Change, Image};
 use msg_names::{ClassRef, ImpRef, Selector};
 use msg_samples::IMAGE;
@@ -29,7 +29,7 @@ fn addition(class: ClassRef, sel: Selector) -> Change {
 // alone.
 #[derive(Drop)]
 struct Noting<'d, N: ArenaName> {
-    sender: Recalling<'d, N>,
+    sender: CachingSender<'d, N>,
     classes: u32,
     ghost classes_are: { classes ≡ class_total N.arena.key.origin },
     ghost image: { sender.sender.seen.front.origin ≡ N.arena.key.origin } by { Prim.hlevel codes },
@@ -120,7 +120,7 @@ pub(crate) fn notes<N: ArenaName, R: Wait + Abort>(
 {
     let sender = dispatcher.sender(rt).expect(rt, "a free number");
     let mut sender = Noting {
-        sender: Recalling::new(alloc, sender).ok().expect(rt, "memory"),
+        sender: CachingSender::new(alloc, sender).ok().expect(rt, "memory"),
         classes: image.class_count(),
     };
     let mut changer = dispatcher.changer(rt).expect(rt, "the turn");

@@ -130,7 +130,7 @@ impl HostedSender {
         ensures stamped { StayStamped (layout self.old.arena) notes.old notes.new }
     {
         let lookups = judged(self.class_count(), rows, imps.len(), place)?;
-        Ok(self.find_all(notes, &lookups, imps))
+        Ok(self.try_find_all(notes, &lookups, imps))
     }
 }
 

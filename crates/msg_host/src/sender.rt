@@ -81,7 +81,7 @@ impl HostedSender {
     // Returns the implementation from the notes, or else from the cache: what a lookup finds at
     // what the sender has then seen. What the notes have is noted again at the number of changes.
     #[inline]
-    pub(crate) fn find(
+    pub(crate) fn try_find(
         &mut self,
         notes: &mut Notes,
         class: ClassRef,
@@ -103,12 +103,12 @@ impl HostedSender {
             (MissesUnlessChanged self.new.arena class (selector_number sel) self.old.seen self.new.seen) }
     {
         a_slot_of_few_classes_is_short();
-        self.reader.find_counted(&self.arena, notes, class, sel)
+        self.reader.try_find_counted(&self.arena, notes, class, sel)
     }
 
     // Whether several lookups were found, by the notes or by caches, all at one point of the
     // history that the sender has then seen.
-    pub(crate) fn find_all<L: LookupList>(
+    pub(crate) fn try_find_all<L: LookupList>(
         &mut self,
         notes: &mut Notes,
         lookups: &L,
@@ -130,7 +130,7 @@ impl HostedSender {
         ensures missed { result ≡ false → MissOne self.old.arena (L.lookups lookups.now) self.old.seen self.new.seen }
     {
         self.reader
-            .find_all(&self.arena, notes, lookups, imps)
+            .try_find_all(&self.arena, notes, lookups, imps)
             .is_some()
     }
 }

@@ -48,7 +48,7 @@ impl HostedSender {
             IfNone found (MissesUnlessChanged self.old.arena (ref_of class meta) sel self.old.seen self.new.seen)) }
     {
         let (class, sel) = asked(self.class_count(), class, meta, sel)?;
-        match self.find(notes, class, sel) {
+        match self.try_find(notes, class, sel) {
             Some(imp) => Ok(Some(imp.number())),
             None => Ok(None),
         }

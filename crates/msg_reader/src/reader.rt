@@ -163,7 +163,7 @@ impl Reader {
     /// class reference falls into a probe that hits, the result is dropped. A class reference that
     /// is closed isn't probed.
     #[inline(always)]
-    pub fn find(
+    pub fn try_find(
         &mut self,
         arena: &Arena,
         notes: &mut Notes,
@@ -190,14 +190,14 @@ impl Reader {
         let since = self.stamp(arena, class);
         match notes.recall(since, class, sel) {
             Some(imp) => Some(imp),
-            None => self.find_cached(arena, notes, since, class, sel),
+            None => self.try_find_cached(arena, notes, since, class, sel),
         }
     }
 
-    // Does the same as `find` for a lookup that the notes lack since the stamp that was loaded.
+    // Does the same as `try_find` for a lookup that the notes lack since the stamp that was loaded.
     #[cold]
     #[inline(never)]
-    fn find_cached(
+    fn try_find_cached(
         &mut self,
         arena: &Arena,
         notes: &mut Notes,
@@ -226,12 +226,12 @@ impl Reader {
         if count < since {
             return None;
         }
-        self.find_at(arena, notes, count, class, sel)
+        self.try_find_at(arena, notes, count, class, sel)
     }
 
-    /// Does the same as `find` for a caller that uses the notes by the number of changes. What the
+    /// Does the same as `try_find` for a caller that uses the notes by the number of changes. What the
     /// notes have is noted again at that number, which is loaded first.
-    pub fn find_counted(
+    pub fn try_find_counted(
         &mut self,
         arena: &Arena,
         notes: &mut Notes,
@@ -265,14 +265,14 @@ impl Reader {
                 Some(imp)
             }
             None if count < since => None,
-            None => self.find_at(arena, notes, count, class, sel),
+            None => self.try_find_at(arena, notes, count, class, sel),
         }
     }
 
-    // Does the same as `find` for a lookup that the notes lack, when this number of changes was
+    // Does the same as `try_find` for a lookup that the notes lack, when this number of changes was
     // counted. A hit is noted at that count.
     #[inline(always)]
-    pub(crate) fn find_at(
+    pub(crate) fn try_find_at(
         &mut self,
         arena: &Arena,
         notes: &mut Notes,

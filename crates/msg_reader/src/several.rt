@@ -29,7 +29,7 @@ impl Reader {
     /// It returns nothing if the notes and a cache lack one of them, or if a change that affects
     /// the class reference of one has fallen among them. Then the runtime answers, and `imps` has
     /// no meaning.
-    pub fn find_all<L: LookupList>(
+    pub fn try_find_all<L: LookupList>(
         &mut self,
         arena: &Arena,
         notes: &mut Notes,
@@ -57,7 +57,7 @@ impl Reader {
         let count = self.refresh(arena);
         for place in 0..lookups.len() {
             let lookup = lookups.get(place);
-            let Some(imp) = self.find_after(arena, notes, count, lookup) else {
+            let Some(imp) = self.try_find_after(arena, notes, count, lookup) else {
                 return None;
             };
             imps[place] = imp.number();
@@ -68,7 +68,7 @@ impl Reader {
     // Returns what a lookup found after this number of changes, if none after them has affected its
     // class reference and the notes or the cache have it.
     #[inline]
-    fn find_after(
+    fn try_find_after(
         &mut self,
         arena: &Arena,
         notes: &mut Notes,
@@ -101,7 +101,7 @@ impl Reader {
         }
         match notes.recall(since, lookup.class, lookup.sel) {
             Some(imp) => Some(imp),
-            None => self.find_at(arena, notes, count, lookup.class, lookup.sel),
+            None => self.try_find_at(arena, notes, count, lookup.class, lookup.sel),
         }
     }
 }

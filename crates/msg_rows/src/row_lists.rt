@@ -16,8 +16,8 @@ use msg_names::{ImpRef, Selector};
 use std::alloc::{AllocError, Global};
 use std::marker::Model;
 
-// A list for each class reference. Room for all lists is allocated at once. They are written only
-// up to the last list that ever had a row, so class numbers that are only reserved cost nothing.
+/// A list for each class reference. Room for all lists is allocated at once. They are written only
+/// up to the last list that ever had a row, so class numbers that are only reserved cost nothing.
 #[derive(Drop)]
 pub struct RowLists {
     written: Vec<MethodRows>,
@@ -55,7 +55,7 @@ fn reach(alloc: Global, lists: &mut Vec<MethodRows>, at: usize)
 }
 
 impl RowLists {
-    // Makes this number of lists, without rows.
+    /// Makes this number of lists, without rows.
     pub fn blank(alloc: Global, count: usize) -> Result<RowLists, AllocError>
         ensures rows { IfOk result (λ lists. rows_of lists ≡ replicate count []) }
         ensures count { IfOk result (λ lists. length lists ≡ count) }
@@ -67,14 +67,14 @@ impl RowLists {
         })
     }
 
-    // The number of lists.
+    /// The number of lists.
     pub fn len(&self) -> usize
         ensures { result ≡ length self.now }
     {
         self.count
     }
 
-    // The implementation in the last row of a selector in one of the lists.
+    /// The implementation in the last row of a selector in one of the lists.
     #[inline(always)]
     pub fn find(&self, at: usize, sel: Selector) -> Option<ImpRef>
         ensures { IsOwnIn self.now at sel result }
@@ -82,15 +82,15 @@ impl RowLists {
         self.written.get(at)?.find(sel)
     }
 
-    // The implementation that would be in the last row of a selector in one of the lists if that
-    // row were removed.
+    /// The implementation that would be in the last row of a selector in one of the lists if that
+    /// row were removed.
     pub fn covered(&self, at: usize, sel: Selector) -> Option<ImpRef>
         ensures { IsCoveredIn self.now at sel result }
     {
         self.written.get(at)?.covered(sel)
     }
 
-    // Adds a row to one of the lists.
+    /// Adds a row to one of the lists.
     pub fn append_row(&mut self, at: usize, sel: Selector, imp: ImpRef) -> Result<(), AllocError>
         requires { at < length self.old }
         ensures ok { OnOk result (ChangesAt (with_row sel imp) at self.old self.new) }
@@ -102,8 +102,8 @@ impl RowLists {
         append_row(&mut self.written, at, sel, imp)
     }
 
-    // Writes another implementation into the last row of a selector in one of the lists, if it has
-    // one. Returns the old one.
+    /// Writes another implementation into the last row of a selector in one of the lists, if it has
+    /// one. Returns the old one.
     pub fn rewrite_row(&mut self, at: usize, sel: Selector, imp: ImpRef) -> Option<ImpRef>
         ensures rows { ChangesAt (with_imp sel imp) at self.old self.new }
         ensures was { IsOwnIn self.old at sel result }
@@ -116,8 +116,8 @@ impl RowLists {
         }
     }
 
-    // Removes the last row of a selector from one of the lists, if it has one. Returns its place
-    // and its implementation.
+    /// Removes the last row of a selector from one of the lists, if it has one. Returns its place
+    /// and its implementation.
     pub fn remove_row(&mut self, at: usize, sel: Selector) -> Option<(usize, ImpRef)>
         ensures rows { ChangesAt (without_row (selector_number sel)) at self.old self.new }
         ensures was { IsOwnRow self.old at sel result }
@@ -130,7 +130,7 @@ impl RowLists {
         }
     }
 
-    // Puts a row back at its place in one of the lists.
+    /// Puts a row back at its place in one of the lists.
     pub fn put_back_row(&mut self, at: usize, place: usize, sel: Selector, imp: ImpRef)
         requires at { at < length self.old }
         requires room { 0 < (slice_index_or self.old at no_rows).room }
@@ -143,7 +143,7 @@ impl RowLists {
         }
     }
 
-    // The number of rows in one of the lists.
+    /// The number of rows in one of the lists.
     pub fn rows_at(&self, at: usize) -> usize
         ensures count { result ≡ length (slice_index_or (rows_of self.now) at []) }
         ensures few { result < 2 ^ 63 }
@@ -154,7 +154,7 @@ impl RowLists {
         }
     }
 
-    // The rows of one of the lists, oldest first.
+    /// The rows of one of the lists, oldest first.
     pub fn rows(&self, at: usize) -> &[(Selector, ImpRef)]
         ensures { method_numbers result.now ≡ slice_index_or (rows_of self.now) at [] }
     {
@@ -164,14 +164,14 @@ impl RowLists {
         }
     }
 
-    // The last row of one of the lists.
+    /// The last row of one of the lists.
     pub fn last_row(&self, at: usize) -> Option<(Selector, ImpRef)>
         ensures { option_map method_number result ≡ last_row (slice_index_or (rows_of self.now) at []) }
     {
         self.written.get(at)?.last()
     }
 
-    // Removes this number of rows at the end of one of the lists.
+    /// Removes this number of rows at the end of one of the lists.
     pub fn shorten_rows(&mut self, at: usize, count: usize)
         ensures rows { ChangesAt (without_last count) at self.old self.new }
         ensures keeps { KeepRoom self.old self.new }
@@ -181,7 +181,7 @@ impl RowLists {
         }
     }
 
-    // Adds methods at the end of one of the lists.
+    /// Adds methods at the end of one of the lists.
     pub fn append_rows(
         &mut self,
         at: usize,
@@ -196,8 +196,8 @@ impl RowLists {
         append_rows(&mut self.written, at, methods)
     }
 
-    // Adds methods at the end of the lists of a class and of its metaclass, each from its last to
-    // its first. Makes room in both before it writes either.
+    /// Adds methods at the end of the lists of a class and of its metaclass, each from its last to
+    /// its first. Makes room in both before it writes either.
     pub fn attach_rows(
         &mut self,
         at: usize,

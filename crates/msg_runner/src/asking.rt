@@ -11,7 +11,7 @@ ghost use Rattle.msg_eval.specs.Finder.{FindsAt};
 ghost use Rattle.msg_eval.specs.Points.{Rise, EndsAfter, last_of};
 
 use crate::gate::Gate;
-use msg_dispatch::{ArenaName, Recalling};
+use msg_dispatch::{ArenaName, CachingSender};
 use msg_eval::{Args, Finder, Reply, send};
 use msg_image::{Image, MAX_ITEMS};
 use msg_names::{ClassRef, ImpRef, Selector, Value};
@@ -23,7 +23,7 @@ use std::sync::Wait;
 pub(crate) struct Asking<'r, 'd, N: ArenaName, G: Gate, R: Wait> {
     pub(crate) rt: &'r R,
     pub(crate) gate: &'r G,
-    pub(crate) sender: Recalling<'d, N>,
+    pub(crate) sender: CachingSender<'d, N>,
 }
 
 impl<'r, 'd, N: ArenaName, G: Gate, R: Wait> Finder for Asking<'r, 'd, N, G, R> {

@@ -16,7 +16,7 @@ use crate::crew::{Crew, Done};
 use crate::gate::Gate;
 use crate::share::reply_share;
 use msg_answers::{Outcome, Part, Share};
-use msg_dispatch::{ArenaName, Recalling};
+use msg_dispatch::{ArenaName, CachingSender};
 use msg_eval::Reply;
 use std::alloc::{AllocError, Global};
 use std::snapshot::Snapshot;
@@ -33,7 +33,7 @@ pub(crate) struct Batch {
 // That a worker answers its share.
 #[derive(Drop)]
 pub(crate) struct AnswersShare<'a, 'd, N: ArenaName> {
-    pub(crate) was: Snapshot<Recalling<'d, N>>,
+    pub(crate) was: Snapshot<CachingSender<'d, N>>,
     pub(crate) share: Share<'a>,
 }
 
@@ -49,7 +49,7 @@ pub(crate) fn work_share<'d, N: ArenaName, G: Gate, R: Wait>(
     rt: &R,
     alloc: Global,
     gate: &G,
-    sender: Recalling<'d, N>,
+    sender: CachingSender<'d, N>,
     share: Share<'_>,
 ) -> Done<'d, N>
     requires image { sender.sender.seen.front.origin ≡ origin_of share.part.image.now }
@@ -67,7 +67,7 @@ pub(crate) fn work_share<'d, N: ArenaName, G: Gate, R: Wait>(
 fn start<'s, 'e: 's, 'd: 's, N: ArenaName + Send + Sync + 's, G: Gate, R: Wait + Sync>(
     run: &Run<'s, G, R>,
     scope: &Scope<'s, &'e ()>,
-    sender: Recalling<'d, N>,
+    sender: CachingSender<'d, N>,
     share: Share<'s>,
 ) -> Result<PromisedHandle<Done<'d, N>, AnswersShare<'s, 'd, N>>, AllocError>
     requires image { sender.sender.seen.front.origin ≡ origin_of share.part.image.now }
