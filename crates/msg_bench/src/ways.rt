@@ -10,7 +10,7 @@ use crate::document::image;
 use crate::load::{Load, QUERY_COUNT, Queries, drawn};
 use anyhow::{Context, Result, bail};
 use msg_cache::{Arena, Config, Keeper};
-use msg_dispatch::{ArenaName, Dispatcher, CachingSender, Sender};
+use msg_dispatch::{ArenaName, CachingSender, Dispatcher, Sender};
 use msg_image::Image;
 use msg_tables::Tables;
 use std::alloc::Global;

@@ -18,10 +18,10 @@ ghost use Rattle.msg_cache.specs.Seats.{IsKeeper, keeper_at};
 ghost use Rattle.msg_cache.specs.Uses.{all_free, settled};
 ghost use Rattle.msg_cache.specs.Views.{layout, classes, IsFoundAt, IsNewcomer, IsSenderOf, IsTurnAt};
 
-use crate::answer::{Filled, Report, Placement};
+use crate::answer::{Filled, Placement, Report};
 use crate::arena::Arena;
 use crate::collecting::{Outs, collect_into};
-use crate::filling::{count_want, retire_in, placement_in_array};
+use crate::filling::{count_want, placement_in_array, retire_in};
 use crate::prober::Prober;
 use crate::standings::Standings;
 use crate::steps::{

@@ -171,7 +171,10 @@ impl<'d, N: ArenaName> Sender<'d, N> {
         ensures takings { TakesOnceAtMost self.old self.new }
         ensures private { FindsNoted self.old self.new notes.old notes.new class sel result }
     {
-        match self.reader.try_find(&self.dispatcher.arena, notes, class, sel) {
+        match self
+            .reader
+            .try_find(&self.dispatcher.arena, notes, class, sel)
+        {
             Some(imp) => imp,
             None => self.find_locked_noted(rt, notes, class, sel),
         }
@@ -204,6 +207,9 @@ impl<'d, N: ArenaName> Sender<'d, N> {
             reader,
             ..
         } = self;
-        dispatcher.locked_runtime.lock(rt).finish(&dispatcher.arena, reader);
+        dispatcher
+            .locked_runtime
+            .lock(rt)
+            .finish(&dispatcher.arena, reader);
     }
 }

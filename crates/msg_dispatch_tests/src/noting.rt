@@ -8,7 +8,7 @@ ghost use Rattle.msg_tables.specs.Origin.{class_total};
 use crate::images::{CHILD, GRAND, selector};
 use crate::opening::{Steps, open};
 use crate::same::same;
-use msg_dispatch::{ArenaName, Changer, Dispatcher, CachingSender};
+use msg_dispatch::{ArenaName, CachingSender, Changer, Dispatcher};
 use msg_image::{Change, Image};
 use msg_names::{ClassRef, ImpRef, Selector};
 use msg_samples::IMAGE;

@@ -3,7 +3,7 @@
 ghost use Rattle.std.specs.Prelude.{◌≡◌, ◌+◌, ◌++◌, ◌∷◌, [], vec_len, IfOk, OnOk, MatchResult};
 ghost use Rattle.msg_tables.specs.History.{BeginsWith, empty};
 
-use msg_dispatch::{ArenaName, Changer, Dispatcher, CachingSender};
+use msg_dispatch::{ArenaName, CachingSender, Changer, Dispatcher};
 use msg_eval::Reply;
 use std::alloc::{AllocError, Global};
 use std::sync::Wait;
