@@ -1,4 +1,4 @@
-//! Where in a text a value begins.
+//! The position in a text at which a value begins.
 
 ghost use Rattle.std.specs.Prelude.{◌≤◌, length};
 
@@ -8,7 +8,7 @@ use json::Reader;
 use msg_json::{Scratch, Tree};
 use std::str;
 
-// Deeper than any value that is read.
+// A depth greater than that of any value that is read.
 const DEPTH: usize = 128;
 
 /// A line and a column, each from 1. A column is a character.
@@ -18,7 +18,7 @@ pub struct Position {
     pub column: usize,
 }
 
-/// Where the value at a path begins, in the text that the document was read from.
+/// Returns where the value at a path begins, in the text from which the document was read.
 pub fn position_of(
     text: &str,
     scratch: &mut Scratch,
@@ -31,8 +31,8 @@ pub fn position_of(
     Some(position_at(bytes, first_other(bytes, reader.offset())))
 }
 
-/// Where a reader of the text stops: at what is no JSON, or behind it where that is known only
-/// then. It passes over a number that is too great.
+/// Returns where a reader of the text stops: at what is no JSON, or after it if only that shows it.
+/// The reader skips a number that is too great.
 pub fn end_of_json(bytes: &[u8], scratch: &mut Scratch) -> Option<Position> {
     let text = str::from_utf8(bytes).ok()?;
     let mut reader = Reader::new(text, scratch).ok()?;
@@ -42,7 +42,7 @@ pub fn end_of_json(bytes: &[u8], scratch: &mut Scratch) -> Option<Position> {
     Some(position_at(bytes, reader.offset()))
 }
 
-/// Passes over what stands before the value at a path.
+/// Skips what comes before the value at a path.
 fn seek(reader: &mut Reader<'_>, document: &Tree<'_, '_>, path: &[Step]) -> Option<()> {
     let mut value = *document;
     for step in path {
@@ -86,7 +86,7 @@ fn pass_values(reader: &mut Reader<'_>, count: usize) -> Option<()> {
     Some(())
 }
 
-/// Passes over so many members, and the key of the next.
+/// Skips this number of members, and the key of the next.
 fn pass_members(reader: &mut Reader<'_>, count: usize) -> Option<()> {
     for _ in 0..count {
         reader.next_key().ok()?;

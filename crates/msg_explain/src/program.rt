@@ -1,4 +1,4 @@
-//! What the program does, from the words of the command line to the exit status.
+//! The program's work, from the words of the command line to the exit status.
 
 ghost use Rattle.std.specs.Prelude.{◌≡◌, ◌⊎◌, false, IfSome};
 ghost use Rattle.msg_explain.specs.Explaining.{TellsReasons, TellsReasonsBeside};
@@ -10,8 +10,8 @@ use std::env::Env;
 use std::sync::Wait;
 use std::thread::Threads;
 
-/// Explains a document, of a run beside changes where the one word is `beside`, and gives the exit
-/// status.
+/// Explains a document, or a run of it beside changes if the only word is `beside`. Returns the
+/// exit status.
 pub fn explain_program<
     R: Source,
     W: Sink,

@@ -15,14 +15,14 @@ pub(crate) struct Crew<'d, N: ArenaName> {
     pub(crate) senders: Vec<CachingSender<'d, N>>,
 }
 
-// A sender after a batch, with its replies, where there was memory for them.
+// A sender after a batch, with its replies, if there was memory for them.
 #[derive(Drop)]
 pub(crate) struct Done<'d, N: ArenaName> {
     pub(crate) sender: CachingSender<'d, N>,
     pub(crate) replies: Result<Vec<Reply>, AllocError>,
 }
 
-// So many senders.
+// Makes this number of senders.
 fn senders_of<'d, N: ArenaName, R: Wait>(
     rt: &R,
     alloc: Global,
@@ -45,7 +45,7 @@ fn senders_of<'d, N: ArenaName, R: Wait>(
 }
 
 impl<'d, N: ArenaName> Crew<'d, N> {
-    // A changer, and so many senders.
+    // Makes a changer and this number of senders.
     pub(crate) fn of<R: Wait>(
         rt: &R,
         alloc: Global,
@@ -62,7 +62,7 @@ impl<'d, N: ArenaName> Crew<'d, N> {
         }
     }
 
-    // A sender, which meets the changer before its work.
+    // Takes a sender out, which meets the changer before its work.
     pub(crate) fn send_out<R: Wait>(&mut self, rt: &R) -> Result<CachingSender<'d, N>, AllocError>
         ensures same { self.new.changer ≡ self.old.changer }
         ensures seen { IfOk result (λ s. s.sender.seen.front ≡ self.old.changer) }
@@ -75,7 +75,7 @@ impl<'d, N: ArenaName> Crew<'d, N> {
         Ok(sender)
     }
 
-    // Takes a sender back, which meets the changer after its work, and its replies.
+    // Puts a sender back, which meets the changer after its work, with its replies.
     pub(crate) fn take_back<R: Wait>(
         &mut self,
         rt: &R,

@@ -1,4 +1,4 @@
-//! Workers in threads, beside the changes.
+//! Workers in threads, concurrently with the changes.
 
 ghost use Rattle.std.specs.Prelude.{◌≡◌, ◌≤◌, ◌<◌, ◌+◌, ◌^◌, [], ℕ, map, vec_len, IfOk, OnOk};
 ghost use Rattle.std.specs.Thread.{IsSync};
@@ -23,14 +23,14 @@ use std::snapshot::Snapshot;
 use std::sync::Wait;
 use std::thread::{Promise, PromisedHandle, Scope, Threads};
 
-// Each worker's replies, and what became of the changes.
+// Each worker's replies, and the outcome of the changes.
 #[derive(Drop)]
 pub(crate) struct Batch {
     pub(crate) shares: Vec<Vec<Reply>>,
     pub(crate) outcomes: Vec<Outcome>,
 }
 
-// That a worker answers its share.
+// The job of a worker: it answers its share.
 #[derive(Drop)]
 pub(crate) struct AnswersShare<'a, 'd, N: ArenaName> {
     pub(crate) was: Snapshot<CachingSender<'d, N>>,
