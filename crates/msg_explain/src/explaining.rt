@@ -102,7 +102,7 @@ fn tell_reasons<W: Sink, E: Sink>(
         → Writes W.contents sink.old sink.new (explanation_text (document_parts document)) }
 {
     match explain_document(alloc, &document) {
-        Ok(text) => say(sink, errors, &text, 0),
+        Ok(text) => say(Program::Msgrun, sink, errors, &text, 0),
         Err(AllocError) => complain(errors, Program::Msgrun, Some(&RunFault::Memory)),
     }
 }
@@ -127,7 +127,7 @@ fn tell_reasons_beside<W: Sink, E: Sink, T: Threads + Wait + Sync>(
         Err(AllocError) => Err(AllocError),
     };
     match text {
-        Ok(text) => say(sink, errors, &text, 0),
+        Ok(text) => say(Program::Msgbeside, sink, errors, &text, 0),
         Err(AllocError) => complain(errors, Program::Msgbeside, Some(&RunFault::Memory)),
     }
 }
@@ -147,20 +147,26 @@ fn refuse<W: Sink, E: Sink>(
 {
     let status = complain(errors, program, Some(&RunFault::from(fault)));
     match places_text(alloc, bytes, fault) {
-        Ok(text) => say(sink, errors, &text, status),
+        Ok(text) => say(program, sink, errors, &text, status),
         Err(AllocError) => complain(errors, program, Some(&RunFault::Memory)),
     }
 }
 
 /// Writes a text, and returns the status if it is written.
-fn say<W: Sink, E: Sink>(sink: &mut W, errors: &mut E, text: &[u8], status: u8) -> u8
+fn say<W: Sink, E: Sink>(
+    program: Program,
+    sink: &mut W,
+    errors: &mut E,
+    text: &[u8],
+    status: u8,
+) -> u8
     ensures status { (result ≡ status) ⊎ (result ≡ 1) }
     ensures same { result ≢ 1 → errors.new ≡ errors.old }
     ensures said { result ≢ 1 → Writes W.contents sink.old sink.new text.now }
 {
     match write_whole(sink, text) {
         Ok(()) => status,
-        Err(_) => complain(errors, Program::Msgrun, Some(&RunFault::Write)),
+        Err(_) => complain(errors, program, Some(&RunFault::Write)),
     }
 }
 
