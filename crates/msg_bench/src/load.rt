@@ -13,7 +13,7 @@ use std::alloc::{AllocError, Global};
 pub(crate) enum Load {
     /// One class, which has one.
     Mono,
-    /// All 32 classes, of which each has 24.
+    /// All 32 classes, each of which has 24.
     Mix,
 }
 
@@ -65,8 +65,8 @@ fn entries(alloc: Global, draws: &mut Draws, load: Load) -> Result<Vec<Query>, A
     Ok(entries)
 }
 
-// So many selectors, of which no two are one, where a thousand draws give so many. After each one
-// number is drawn and left, where the other program draws an implementation.
+// This number of selectors, of which no two are one, where a thousand draws give so many. After
+// each one number is drawn and left, where the other program draws an implementation.
 fn draw_selectors(
     alloc: Global,
     draws: &mut Draws,

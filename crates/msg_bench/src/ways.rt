@@ -17,7 +17,7 @@ use std::alloc::Global;
 use std::marker::Brand;
 use std::sync::Wait;
 
-/// So many lookups of queries in a way.
+/// This number of lookups of queries in a way.
 #[derive(Clone, Copy)]
 struct Course<'q> {
     way: Way,
@@ -36,7 +36,7 @@ pub(crate) enum Way {
     Notes,
     /// The same, first by a call that can't wait.
     Recalled,
-    /// The same, once it knows how many changes there are.
+    /// The same, once it knows the number of changes.
     Refreshed,
 }
 
@@ -122,7 +122,7 @@ impl<N: ArenaName> Caller<'_, N> {
     }
 }
 
-// What so many lookups find along the chain, added up.
+// What this number of lookups find along the chain, added up.
 fn sum_by_tables(tables: &Tables, queries: &Queries, lookups: u64) -> u64
     requires { length tables.now.supers ≡ 32 }
 {
@@ -184,7 +184,7 @@ fn sum_over<N: ArenaName, R: Wait>(
     sum_by_sender(rt, alloc, &dispatcher, course)
 }
 
-// What so many lookups along the chain find, added up.
+// What this number of lookups along the chain find, added up.
 fn sum_along(alloc: Global, image: &Image, queries: &Queries, lookups: u64) -> Result<u64>
     requires { class_total (origin_of image.now) ≡ 32 }
 {
@@ -215,7 +215,7 @@ fn sum_of_image<R: Wait>(rt: &R, alloc: Global, image: &Image, course: Course<'_
     }
 }
 
-/// What so many lookups of a load find in a way, added up.
+/// What this number of lookups of a load find in a way, added up.
 pub(crate) fn sum_of<R: Wait>(
     rt: &R,
     alloc: Global,

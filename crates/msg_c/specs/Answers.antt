@@ -18,7 +18,7 @@ abbrev pub number_of_fault : Option AskFault → ℕ
 number_of_fault None = 0
 number_of_fault (Some f) = ask_fault_number f
 
--- the answer where there are so many, of which each wants a place of a room: 0, or the number that
+-- the answer where there are so many, each of which wants a place of a room: 0, or the number that
 -- says that the room has too few
 abbrev pub number_for_room : ℕ → ℕ → ℕ
 number_for_room room count = if nat_lt room count then want_of_room else 0
@@ -37,7 +37,7 @@ are_refused words = not (are_known words) || is_beyond (config_of words)
 abbrev pub fault_in : ArenaView → ℕ → ℕ → ℕ
 fault_in a class sel = number_of_fault (ask_fault (classes a) class sel)
 
--- the question is asked: there are so many classes, and the selector has a number
+-- the question is asked: there are this number of classes, and the selector has a number
 abbrev pub IsAsked : ArenaView → ℕ → ℕ → Type 0
 IsAsked a class sel = ask_fault (classes a) class sel ≡ None
 
@@ -53,7 +53,7 @@ TellsNone a class sel found n = IsAsked a class sel → found ≡ None → n ≡
 abbrev pub TellsNoSuperclass : RuntimeView → ℕ → Bool → ℕ → Type 0
 TellsNoSuperclass v class meta n = TellsNone v.arena class 1 (superclass v.keeper.history (ref_of class meta)) n
 
--- a question for where a method stands finds none
+-- a question for where a method is finds none
 abbrev pub TellsNoHolder : RuntimeView → ℕ → Bool → ℕ → ℕ → Type 0
 TellsNoHolder v class meta sel n = TellsNone v.arena class sel (holder v.keeper.history (ref_of class meta) sel) n
 

@@ -79,7 +79,7 @@ LeavesRestsOut was is = (v w : RuntimeView) (n : ℕ) → was.held.state ≡ Som
 abbrev pub HasAllOut : RuntimeHandle → Type 0
 HasAllOut r = IfOpen r (λ v. AllAreOut v)
 
--- where both handles are open, what the runtime of one went through with the sender of the other
+-- if both handles are open, what the runtime of one went through with the sender of the other
 abbrev pub GoesWith : RuntimeHandle → RuntimeHandle → SenderHandle → (RuntimeView → RuntimeView → SenderView → Type 0) → Type 0
 GoesWith was is s goes = (v w : RuntimeView) (u : SenderView) → was.held.state ≡ Some v → is.held.state ≡ Some w → s.held.state ≡ Some u → goes v w u
 
@@ -108,7 +108,7 @@ RestsAtOpening was is s = GoesWith was is s (λ v w u. RestsAs u.seen v w)
 abbrev pub IsSeenByAll : RuntimeHandle → ℕ → Type 0
 IsSeenByAll r n = IfOpen r (λ v. IsLeastOut v.keeper.given v.rested (length v.keeper.history.changes) n × HaveAllSeen v.arena.key v.keeper n)
 
--- what was found for a class reference and a selector was cached, where there was room, and counted
+-- what was found for a class reference and a selector was cached, if there was room, and counted
 abbrev pub CachesIn : RuntimeHandle → RuntimeHandle → SenderHandle → ClassRef → ℕ → ℕ → Type 0
 CachesIn was is s c sel imp = GoesWith was is s (λ v w u. CachesNumber c sel imp u.seen v w)
 
@@ -153,8 +153,8 @@ MakesRowsIn rows was is = (v w : RuntimeView) → was.held.state ≡ Some v → 
 abbrev pub RefusesRowsIn : RuntimeHandle → List ChangeRow → ℕ → ℕ → Type 0
 RefusesRowsIn r rows place n = IfOpen r (λ v. AreRefusedRows rows v.keeper.history place n)
 
--- where memory was wanting, nothing else speaks against them up to that of this place, and there is
--- too little room for these
+-- if memory was lacking, nothing else forbids them up to that of this place, and there is too
+-- little room for these
 abbrev pub LacksMemoryIn : RuntimeHandle → List ChangeRow → ℕ → ℕ → Type 0
 LacksMemoryIn r rows place n = IfOpen r (λ v. LackMemoryIf rows v place n)
 
@@ -230,7 +230,7 @@ NotesRowsIn was is rows imps = IfSenders was is (λ u w. RowsAreNoted u.arena is
 abbrev pub NotesRowsAt : RuntimeHandle → SenderHandle → SenderHandle → List LookupRow → List ℕ → Type 0
 NotesRowsAt r was is rows imps = IfAt r (λ h. IfSenders was is (λ u w. RowsAreNotedOrAt u.arena h is.notes u.seen w.seen rows imps))
 
--- where none of the lookups is noted, the handle has the notes that it had
+-- if none of the lookups is noted, the handle has the notes that it had
 abbrev pub KeepsOtherNotes : SenderHandle → SenderHandle → List LookupRow → Type 0
 KeepsOtherNotes was is rows = IfOfArena was (λ a. RowsKeepOthers a was.notes is.notes rows)
 
@@ -252,7 +252,7 @@ abbrev pub TellsFaultIn : SenderHandle → ℕ → ℕ → ℕ → Type 0
 TellsFaultIn s class sel n = IfOfArena s (λ a. n ≢ 0 → n ≢ MISSED → n ≡ fault_in a class sel)
 
 -- what is answered as noted, NOTED_NONE for no method, the lookup found at some point of what its
--- sender has seen, after so many changes or more
+-- sender has seen, after this number of changes or more
 abbrev pub Recalls : SenderHandle → ℕ → ℕ → ℕ → ℕ → Type 0
 Recalls s since slot sel n = n ≢ NOT_NOTED → IfSeen s (λ h. IsRecalledSince h since slot sel (n % NOTED_NONE))
 

@@ -39,7 +39,7 @@ after_entry r = record r { fills = one_more r.fills }
 abbrev pub after_flush : Report → Report
 after_flush r = record r { flushes = one_more r.flushes; retired = one_more r.retired }
 
--- there was a collection, and so many arrays became free
+-- there was a collection, and this number of arrays became free
 abbrev pub after_collection : ℕ → Report → Report
 after_collection n r = record r { collections = one_more r.collections; freed = more n r.freed }
 

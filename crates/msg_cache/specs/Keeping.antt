@@ -68,7 +68,7 @@ abbrev pub looks : ℕ → List Bool → KeeperView → KeeperView
 looks zero outs k = k
 looks (suc n) outs k = looked n (awaits outs n) (looks n outs k)
 
--- the same of one array's standing
+-- the same for one array's standing
 abbrev pub looked_by : ℕ → List Bool → Standing → Standing
 looked_by zero outs s = s
 looked_by (suc n) outs s = if awaits outs n then seen_out n (looked_by n outs s) else looked_by n outs s
@@ -87,7 +87,7 @@ look_count z k = if list_any is_retired k.standings then z.senders else 0
 abbrev pub cleared : ℕ → KeeperView → KeeperView
 cleared i k = if slice_index k.words i == 0 then k else stored i 0 k
 
--- the same of each of the first n words of those that begin at b
+-- the same for each of the first n words of those that begin at b
 abbrev pub clears : ℕ → ℕ → KeeperView → KeeperView
 clears b zero k = k
 clears b (suc n) k = cleared (b + n) (clears b n k)
@@ -96,7 +96,7 @@ clears b (suc n) k = cleared (b + n) (clears b n k)
 abbrev pub emptied : Layout → ℕ → KeeperView → KeeperView
 emptied z a k = clears (base z a) (capacity z a) k
 
--- the same of each of these arrays
+-- the same for each of these arrays
 abbrev pub all_emptied : Layout → List ℕ → KeeperView → KeeperView
 all_emptied z [] k = k
 all_emptied z (a ∷ more) k = all_emptied z more (emptied z a k)
@@ -175,7 +175,7 @@ OnTake (Take n) P = P n
 abbrev pub EndsAt : Layout → KeeperView → ℕ → ℕ → ℕ → Type 0
 EndsAt z k a s p = find_in (array_words z k a) s ≡ empty p
 
--- the array may have one entry more
+-- the array may have one more entry
 abbrev pub TakesOneMore : Layout → KeeperView → ℕ → Type 0
 TakesOneMore z k a = occupied_in (array_words z k a) + 1 ≤ fill_limit (capacity z a)
 
@@ -185,7 +185,7 @@ pub record CanUse (z : Layout) (k : KeeperView) (c : ClassRef) (s a p : ℕ) : T
   pub found : EndsAt z k a s p
   pub room : TakesOneMore z k a
 
--- the same of an array by its words
+-- the same for an array by its words
 abbrev pub CanUseAmong : List ℕ → ℕ → ℕ → ℕ → ℕ → Type 0
 CanUseAmong words array s a p = (a ≡ array) × (find_in words s ≡ empty p) × (occupied_in words + 1 ≤ fill_limit (length words))
 
@@ -222,7 +222,7 @@ Fills z remembered c s i k k' answer = FillsBy z c s i k k' answer (placement_of
 abbrev pub IsPresent : Layout → KeeperView → ClassRef → ℕ → Type 0
 IsPresent z k c s = (a : ℕ) × (header k c ≡ suc a) × ((i : ℕ) × (find_in (array_words z k a) s ≡ hit i))
 
--- the live array of the class reference takes one entry more
+-- the live array of the class reference takes one more entry
 abbrev pub HasRoom : Layout → KeeperView → ClassRef → Type 0
 HasRoom z k c = (a : ℕ) × (header k c ≡ suc a) × (plan_of (capacity z a) (occupied_in (array_words z k a)) ≡ PlanUse)
 

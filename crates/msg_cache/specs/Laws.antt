@@ -54,14 +54,14 @@ pub record IsEvent (key : SettingView) (s : Table ℕ View) (r : holds lookup ke
   pub keeps_rule : holds lookup key s'
   pub shows : (r' : holds lookup key s') → shown_at key s' r' ≡ after (layout_of key) (shown_at key s r) e
 
--- the state after a Look at each of so many sender numbers, from one on
+-- the state after a Look at each of this number of sender numbers, from one on
 abbrev pub after_looks : Layout → ℕ → ℕ → State → State
 after_looks z n zero m = m
 after_looks z n (suc d) m = after z (after_looks z n d m) (Look (n + d))
 
--- From one state of the table to the next is a Look at each of so many sender numbers, from one on,
--- one after another: none is refused, each sees its sender out, the rule holds of the next state,
--- and that shows the state after the last of them.
+-- From one state of the table to the next is a Look at each of this number of sender numbers, from
+-- one on, one after another: none is refused, each sees its sender out, the rule holds of the next
+-- state, and that shows the state after the last of them.
 pub record AreLooks (key : SettingView) (s : Table ℕ View) (r : holds lookup key s) (n d : ℕ) (s' : Table ℕ View) : Type 0 where
   pub legal : (e : ℕ) → e < d → Legal lookup (layout_of key) (after_looks (layout_of key) n e (shown_at key s r)) (Look (n + e))
   pub sees : (e : ℕ) → e < d → SeenOut true ≡ shown_to (after_looks (layout_of key) n e (shown_at key s r)) (Look (n + e))

@@ -112,7 +112,7 @@ renewed v h = newcomer_with v.number v.stamps h
 abbrev pub seated : SenderView → Sat
 seated v = (Sender v, [])
 
--- for a class reference and a selector, in a table of so many arrays, the word n was found
+-- for a class reference and a selector, in a table of this number of arrays, the word n was found
 pub record SawHeader (arrays : ℕ) (c : ClassRef) (s n : ℕ) (v : SenderView) (m' : Sat) : Type 0 where
   pub front : History
   pub seat : m' ≡ seated (headed c s front v n)
@@ -190,12 +190,12 @@ committed xs k = record k { history = and_then k.history xs; words = slice_set k
 abbrev pub looked : ℕ → Bool → KeeperView → KeeperView
 looked n out k = record k { standings = if out then map (seen_out n) k.standings else k.standings; looked_at = k.looked_at ++ n ∷ [] }
 
--- the same of so many sender numbers, from one on, which are all out
+-- the same for this number of sender numbers, from one on, which are all out
 abbrev pub rest_looked : ℕ → ℕ → KeeperView → KeeperView
 rest_looked n zero k = k
 rest_looked n (suc d) k = looked (n + d) true (rest_looked n d k)
 
--- a sender number is out, and how many changes there are is noted
+-- a sender number is out, and the number of changes is noted
 abbrev pub given_out : ℕ → KeeperView → KeeperView
 given_out n k = record k { given = slice_set k.given n true; since = (n, size k.history) ∷ k.since }
 
@@ -241,7 +241,7 @@ Installs st m n m' = (c : ClassRef) (a : ℕ) → st.word ≡ header_at c → st
 abbrev pub Commits : List Change → Telling
 Commits xs st m n m' = (m' ≡ kept (committed xs (keeper_of m.0))) × IsTold (keeper_of m.0)
 
--- the sender number was looked at, and is awaited no more if its probe word was 0
+-- the sender number was looked at, and is no longer awaited if its probe word was 0
 abbrev pub Looks : ℕ → Telling
 Looks i st m n m' = m' ≡ kept (looked i (n == 0) (keeper_of m.0))
 

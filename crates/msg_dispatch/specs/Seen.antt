@@ -1,4 +1,4 @@
--- What contracts see of a sender.
+-- The contracts' view of a sender.
 use Rattle.std.specs.Prelude.{◌≡◌, ◌≤◌, ◌+◌, ℕ, IfSome}
 use Rattle.msg_names.specs.ClassRef.{slot_of}
 use Rattle.msg_names.specs.Number.{selector_number, imp_number}
@@ -11,7 +11,7 @@ use Rattle.msg_reader.specs.declared.notes.Notes.{Notes}
 use Rattle.msg_cache.specs.Views.{ArenaView, ProberView, IsSenderOf}
 use Rattle.msg_cache.specs.declared.view.SenderView.{SenderView as Seen}
 
--- what contracts see of a sender of a dispatcher
+-- the contracts' view of a sender of a dispatcher
 pub record SenderView : Type 0 where
   -- the history that it has seen, its last probe, how often it loaded the count of changes, and the
   -- stamps that it loaded

@@ -21,8 +21,8 @@ use std::process::Abort;
 use std::slice::from_ref;
 use std::sync::Arc;
 
-/// An arena of so many senders and arrays for the image of two classes, with its keeper beside
-/// tables.
+/// An arena of this number of senders and arrays for the image of two classes, with its keeper
+/// beside tables.
 pub(crate) fn open(rt: &impl Abort, alloc: Global, senders: u32, arrays: [u16; 9]) -> Box<Desk> {
     let image = image(rt, alloc, SMALL);
     assert_eq!(rt; image.class_count(), 2);

@@ -17,7 +17,7 @@ use std::sync::Wait;
 use std::thread;
 use std::thread::Threads;
 
-// Exchanges two methods of the root class, so many times.
+// Exchanges two methods of the root class, this number of times.
 fn exchange<N: ArenaName, R: Wait + Abort>(
     rt: &R,
     changer: &mut Changer<'_, N>,
@@ -56,7 +56,7 @@ enum Work {
     Additions,
 }
 
-// So many senders.
+// This number of senders.
 fn open_all<'d, N: ArenaName, R: Wait + Abort>(
     rt: &R,
     alloc: Global,
@@ -183,8 +183,8 @@ fn add_all<N: ArenaName, R: Wait + Abort>(rt: &R, changer: &mut Changer<'_, N>) 
     }
 }
 
-// Asks for what is added, until the last was found and so many answers were given. What was added
-// before something that was found is found, too.
+// Asks for what is added, until the last was found and this number of answers were given. What was
+// added before something that was found is found, too.
 fn never_older<N: ArenaName, R: Wait + Abort>(rt: &R, sender: &mut Asker<'_, N>, times: u32) {
     let mut found = 0;
     let mut place = 7u32;

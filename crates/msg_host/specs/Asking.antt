@@ -26,15 +26,15 @@ want_of_selector = ask_fault_number NoSelector
 abbrev pub want_of_room : ℕ
 want_of_room = 76
 
--- why so many classes aren't asked for this class and selector
+-- why a question among this number of classes isn't asked for this class and selector
 abbrev pub ask_fault : ℕ → ℕ → ℕ → Option AskFault
 ask_fault classes class sel = if nat_lt class classes then (if sel == 0 then Some NoSelector else None) else Some NoClass
 
--- the number that stands for want of memory among the faults of changes
+-- the number that represents lack of memory among the faults of changes
 abbrev pub want_of_memory : ℕ
 want_of_memory = 7
 
--- the number of a fault, but not of want of memory or of room
+-- the number of a fault, but not of lack of memory or of room
 abbrev pub IsRefusal : ℕ → Type 0
 IsRefusal n = (n ≢ 0) × (n ≢ want_of_memory) × (n ≢ want_of_room)
 
@@ -58,8 +58,7 @@ pub record AnswersChange (v w : RuntimeView) (x : Change) (n : ℕ) : Type 0 whe
   pub held : n ≡ 0 → HoldsRoomFor v w (x ∷ [])
   pub left : n ≢ 0 → IsLeft v w
   pub fault : n ≢ 0 → n ≢ want_of_memory → option_map change_fault_number (refusal (log v.keeper.history) x) ≡ Some n
-  -- want of memory is answered only where nothing else speaks against it, and there is too little
-  -- room
+  -- lack of memory is answered only where nothing else forbids it, and there is too little room
   pub memory : n ≡ want_of_memory → (refusal (log v.keeper.history) x ≡ None) × LacksRoomFor v (x ∷ [])
   -- a change that adds no row wants none, if there is room for what an exchange writes: as much as
   -- at the opening

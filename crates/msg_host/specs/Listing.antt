@@ -113,12 +113,12 @@ read (Err f) = Err f
 abbrev pub are_meant : List ChangeRow → Bool
 are_meant rows = list_all (λ r. is_ok (change_in r)) rows
 
--- the change, where there is one; else some other
+-- the change, if there is one; else some other
 abbrev pub change_or_other : Result Change AskFault → Change
 change_or_other (Ok x) = x
 change_or_other (Err f) = AddClass 0 None
 
--- the changes of rows of which each means one
+-- the changes of rows each of which means one
 abbrev pub changes_in : List ChangeRow → List Change
 changes_in rows = map (λ r. change_or_other (change_in r)) rows
 
@@ -140,17 +140,17 @@ IsBadRow rows place n = (before : List Change) × AreMeant (take place rows) bef
 abbrev pub IsRefusedRow : List ChangeRow → History → ℕ → ℕ → Type 0
 IsRefusedRow rows h place n = (xs : List Change) × AreMeant rows xs × (f : ChangeFault) × (refused_from 0 (log h) xs ≡ Some (place, f)) × (n ≡ change_fault_number f)
 
--- rows are taken as changes of which one is refused at a history: the row of this place means none,
+-- rows are taken as changes one of which is refused at a history: the row of this place means none,
 -- or is the first that would be refused
 abbrev pub AreRefusedRows : List ChangeRow → History → ℕ → ℕ → Type 0
 AreRefusedRows rows h place n = IsBadRow rows place n ⊎ IsRefusedRow rows h place n
 
--- so it is, where the fault isn't want of memory
+-- so it is, where the fault isn't a lack of memory
 abbrev pub AreRowsRefusedAt : List ChangeRow → History → ℕ → ℕ → Type 0
 AreRowsRefusedAt rows h place n = n ≢ want_of_memory → AreRefusedRows rows h place n
 
--- where memory was wanting each row means a change, neither those before this place would be
--- refused nor that at it, and there is too little room for these
+-- if memory was lacking each row means a change, neither those before this place would be refused
+-- nor that at it, and there is too little room for these
 abbrev pub LackMemoryAt : List ChangeRow → RuntimeView → ℕ → Type 0
 LackMemoryAt rows v place = (xs : List Change) × AreMeant rows xs × (refused_from 0 (log v.keeper.history) (take (place + 1) xs) ≡ None) × LacksRoomFor v (take (place + 1) xs)
 
@@ -162,8 +162,9 @@ LackMemoryIf rows v place n = n ≡ want_of_memory → LackMemoryAt rows v place
 abbrev pub WeighRows : List ChangeRow → History → ℕ → Type 0
 WeighRows rows h n = (xs : List Change) × AreMeant rows xs × (refused_from 0 (log h) xs ≡ None) × (n ≡ length (undo_all (table (log h)) xs))
 
--- Why the changes of rows aren't made of a runtime: the number of a fault at the place of a row. But
--- for want of memory, that row means no change, or its change is the first that would be refused.
+-- Why the changes of rows aren't made of a runtime: the number of a fault at the place of a row.
+-- But for lack of memory, that row means no change, or its change is the first that would be
+-- refused.
 pub record IsRowFault (rows : List ChangeRow) (v : RuntimeView) (r : RowFault) : Type 0 where
   pub some : r.number ≢ 0
   pub room : r.number ≢ want_of_room
@@ -171,7 +172,8 @@ pub record IsRowFault (rows : List ChangeRow) (v : RuntimeView) (r : RowFault) :
   pub fault : AreRowsRefusedAt rows v.keeper.history r.place r.number
   pub memory : LackMemoryIf rows v r.place r.number
 
--- why they aren't: such a fault, or that their way back has so many changes, more than it may have
+-- why they aren't: such a fault, or that their way back has this number of changes, more than it
+-- may have
 abbrev pub AreUnmadeRows : List ChangeRow → RuntimeView → ℕ → RowsUnmade → Type 0
 AreUnmadeRows rows v most (Fault r) = IsRowFault rows v r
 AreUnmadeRows rows v most (TooLong n) = WeighRows rows v.keeper.history n × (most < n)
@@ -181,8 +183,8 @@ AreUnmadeRows rows v most (TooLong n) = WeighRows rows v.keeper.history n × (mo
 abbrev pub TellsRowsBack : List ChangeRow → History → List Entry → Type 0
 TellsRowsBack rows h entries = (xs : List Change) × AreMeant rows xs × TellsWayBack xs h entries
 
--- so many rows mean what takes back the changes that these mean, directly after they are made at a
--- history
+-- this number of rows mean what takes back the changes that these mean, directly after they are
+-- made at a history
 abbrev pub UndoesRows : List ChangeRow → History → List ChangeRow → ℕ → Type 0
 UndoesRows rows h undo n = (xs : List Change) × AreMeant rows xs × AreMeant (take n undo) (undo_all (table (log h)) xs)
 

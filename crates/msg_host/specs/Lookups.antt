@@ -15,7 +15,7 @@ use Rattle.msg_host.specs.declared.fault.AskFault.{AskFault}
 use Rattle.msg_host.specs.declared.fault.AskFault.TheVariants.{NoClass, NoSelector, BadRow}
 use Rattle.msg_host.specs.declared.lookups.LookupRow.{LookupRow}
 
--- the lookup of a class, or of its metaclass, and a selector, where there are so many classes
+-- the lookup of a class, or of its metaclass, and a selector, among this number of classes
 abbrev pub lookup_by : ℕ → ℕ → Bool → ℕ → Result Lookup AskFault
 lookup_by n class meta sel = if nat_lt class n then (if sel == 0 then Err NoSelector else Ok (record { class = ref_of class meta; sel = selector_of sel })) else Err NoClass
 
@@ -27,12 +27,12 @@ lookup_in n r = if r.meta == 0 then lookup_by n r.class false r.sel else (if r.m
 abbrev pub are_asked : ℕ → List LookupRow → Bool
 are_asked n rows = list_all (λ r. is_ok (lookup_in n r)) rows
 
--- the lookup, where there is one; else some other
+-- the lookup, if there is one; else some other
 abbrev pub lookup_or_other : Result Lookup AskFault → Lookup
 lookup_or_other (Ok k) = k
 lookup_or_other (Err f) = record { class = ref_of 0 false; sel = selector_of 1 }
 
--- the lookups of rows of which each means one
+-- the lookups of rows each of which means one
 abbrev pub lookups_in : ℕ → List LookupRow → List Lookup
 lookups_in n rows = map (λ r. lookup_or_other (lookup_in n r)) rows
 
@@ -41,8 +41,8 @@ abbrev pub IsBadLookup : ℕ → List LookupRow → ℕ → ℕ → Type 0
 IsBadLookup n rows place number = (are_asked n (take place rows) ≡ true)
     × (r : LookupRow) × (slice_get rows place ≡ Some r) × (f : AskFault) × (lookup_in n r ≡ Err f) × (number ≡ ask_fault_number f)
 
--- Why rows aren't answered, where answers have so many places: that is another number of places,
--- and no place of a row is told; or the row of the place that is told means no lookup.
+-- Why rows aren't answered, where answers have this number of places: that is another number of
+-- places, and no place of a row is told; or the row of the place that is told means no lookup.
 abbrev pub AreRefusedLookups : ℕ → List LookupRow → ℕ → ℕ → ℕ → ℕ → Type 0
 AreRefusedLookups n rows places old new number =
     ((number ≡ want_of_room) × (places ≢ length rows) × (new ≡ old)) ⊎ ((number ≢ want_of_room) × (places ≡ length rows) × IsBadLookup n rows new number)

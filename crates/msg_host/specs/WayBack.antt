@@ -13,7 +13,7 @@ use Rattle.msg_host.specs.declared.config.HostConfig.{HostConfig}
 use Rattle.msg_host.specs.declared.config.TheConstants.{HOST_CHANGES}
 use Rattle.msg_host.specs.declared.listing.ChangeRow.{ChangeRow}
 
--- The rows take a runtime back from w to what it was at v. They are accepted, as long as so many
+-- The rows take a runtime back from w to what it was at v. They are accepted, as long as that many
 -- changes are, each lookup is then what it was, and they don't want memory.
 pub record TakesBack (rows : List ChangeRow) (v w : RuntimeView) : Type 0 where
   pub changes : List Change

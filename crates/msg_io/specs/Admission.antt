@@ -7,11 +7,11 @@ use Rattle.msg_io.specs.declared.admission.TheConstants.{MAX_WORKERS}
 use Rattle.msg_io.specs.declared.fault.RunFault.{RunFault}
 use Rattle.msg_io.specs.declared.fault.RunFault.TheVariants.{Document}
 
--- no run has so many workers
+-- no run has this number of workers
 abbrev pub AreNoWorkers : ℕ → Type 0
 AreNoWorkers workers = (workers ≡ 0) ⊎ (MAX_WORKERS < workers)
 
--- a run may have so many workers, and none has this cut
+-- a run may have this number of workers, and none has this cut
 abbrev pub IsNoCut : ℕ → ℕ → Type 0
 IsNoCut workers cut = (cut ≡ 0) × (0 < workers) × (workers ≤ MAX_WORKERS)
 

@@ -18,7 +18,7 @@ use Rattle.msg_reader.specs.declared.notes.Notes.{Notes}
 abbrev pub HaveOthersOf : ClassRef → ℕ → Notes → Notes → Type 0
 HaveOthersOf c sel old new = (place : ℕ) → place ≢ place_of (slot_of c) sel → slice_get new.notes place ≡ slice_get old.notes place
 
--- the same of a selector itself
+-- the same for a selector itself
 abbrev pub KeepOthers : Notes → Notes → ClassRef → Selector → Type 0
 KeepOthers old new c s = HaveOthersOf c (selector_number s) old new
 
@@ -60,7 +60,7 @@ HaveNotedSince n c sel w i = (since : ℕ) × HasLoaded c since w × (recalled n
 abbrev pub IsNotedSince : Notes → ClassRef → ℕ → SenderView → ℕ → Type 0
 IsNotedSince n c sel w i = (since : ℕ) × HasLoaded c since w × (slot_of c < 2 ^ 26 → recalled n since (slot_of c) sel ≡ Some i)
 
--- the same of a selector and an implementation
+-- the same for a selector and an implementation
 abbrev pub IsNotedFound : Notes → ClassRef → Selector → SenderView → ImpRef → Type 0
 IsNotedFound n c s w i = IsNotedSince n c (selector_number s) w (imp_number i)
 

@@ -52,8 +52,8 @@ IsAmong ks k = (place : ℕ) × (slice_get ks place ≡ Some k)
 abbrev pub LoadsAmong : ClassRef → ℕ → SenderView → SenderView → Type 0
 LoadsAmong c n v w = (more : List (ClassRef × ℕ)) × (before : List (ClassRef × ℕ)) × (w.stamps ≡ more ++ ((c, n) ∷ (before ++ v.stamps)))
 
--- the stamp that was loaded for a lookup says more than so many changes, or the notes have nothing
--- of it since then
+-- the stamp that was loaded for a lookup says more than this number of changes, or the notes have
+-- nothing of it since then
 abbrev pub LacksIt : Notes → ℕ → Lookup → SenderView → SenderView → Type 0
 LacksIt n count k v w = (since : ℕ) × LoadsAmong k.class since v w × ((count < since) ⊎ (recalled_of n since k.class k.sel ≡ None))
 

@@ -32,7 +32,7 @@ fn fault_of<R: Source, W: Sink, T: Threads + Wait + Sync>(
     ended.err()
 }
 
-/// A reader that gives at most so many bytes at a call, fails at one call, and then goes on.
+/// A reader that gives at most this number of bytes at a call, fails at one call, and then goes on.
 #[derive(Drop)]
 struct Unsteady<'a> {
     rest: &'a [u8],
@@ -52,7 +52,7 @@ impl Read for Unsteady<'_> {
     }
 }
 
-/// A writer that takes at most so many bytes at a call, fails at one call, and then goes on.
+/// A writer that takes at most this number of bytes at a call, fails at one call, and then goes on.
 #[derive(Drop)]
 struct Slow {
     taken: Vec<u8>,

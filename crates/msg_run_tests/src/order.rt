@@ -65,7 +65,7 @@ const ITEMS: &str =
 
 const LINES: &str = "7\n7\n11\nok\n7\nok\nrefused: method present\n11\n7\n";
 
-// What a run of so many workers tells, with so many sends a piece.
+// What a run of this number of workers tells, with this number of sends a piece.
 fn logged<R: Threads + Wait + Abort + Sync>(
     rt: &R,
     alloc: Global,
@@ -117,7 +117,8 @@ fn are_by<R: Abort>(rt: &R, told: &[Told], workers: &[u32]) {
     }
 }
 
-// A run of so many workers, with so many sends a piece, and the worker of each of its pieces.
+// A run of this number of workers, with this number of sends a piece, and the worker of each of its
+// pieces.
 const SHARED: [(Way, u32, u32, &[u32]); 11] = [
     (Way::Between, 1, 1, &[0, 0, 0, 0, 0, 0]),
     (Way::Between, 1, 2, &[0, 0, 0, 0]),

@@ -35,7 +35,7 @@ pub(crate) enum Sent {
     Both,
 }
 
-/// The body of `both` answers so many times `value`, and `name`.
+/// The body of `both` answers this number of times `value`, and `name`.
 pub(crate) const FACTOR: u32 = 10_000;
 
 impl Points {

@@ -15,7 +15,7 @@ use std::thread::{self, Threads};
 const ROUNDS: u32 = 4;
 
 const CHANGES: u32 = 2_000;
-// A change comes after so many sends.
+// A change comes after this number of sends.
 const SENDS_EACH: usize = 30;
 
 const WORKERS: u32 = 4;
@@ -199,7 +199,7 @@ impl Seen {
         if line == told { Some(()) } else { None }
     }
 
-    // The next line, which is a change's after every so many sends.
+    // The next line, which is a change's after each group of that many sends.
     fn take(&mut self, points: &Points, line: &str) -> Option<()> {
         let each = SENDS_EACH + 1;
         let item = self.sends.saturating_add(self.changes);

@@ -1,4 +1,4 @@
--- That what stands behind the runtime lock may go to another thread.
+-- That what is behind the runtime lock may go to another thread.
 use denote.Param.Send.{IsSend, sendable}
 use Rattle.std.proofs.Crossing.{crosses}
 use Rattle.std.proofs.MapsCrossing as maps

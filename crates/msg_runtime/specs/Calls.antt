@@ -32,7 +32,7 @@ HasKeeper k r = (r.keeper ≡ keeper_view k) × (r.remembered ≡ keeper_remembe
 abbrev pub CachesNumber : ClassRef → ℕ → ℕ → SenderView → RuntimeView → RuntimeView → Type 0
 CachesNumber c s i v r r' = AnswersMiss (layout r.arena) r.remembered c s i v r.keeper r'.keeper r.report r'.report
 
--- the same of a selector and an implementation
+-- the same for a selector and an implementation
 abbrev pub CachesAnswer : ClassRef → Selector → ImpRef → SenderView → RuntimeView → RuntimeView → Type 0
 CachesAnswer c s i v r r' = CachesNumber c (selector_number s) (imp_number i) v r r'
 
@@ -61,7 +61,7 @@ HasRoomForRows r = HaveRoomFor r.rooms (log r.keeper.history) []
 abbrev pub LacksRoomFor : RuntimeView → List Change → Type 0
 LacksRoomFor r xs = LackRoomFor r.rooms r.written.room (log r.keeper.history) xs
 
--- so it was, where memory was wanting, for those before the place that is told and that one
+-- so it was, where memory was lacking, for those before the place that is told and that one
 abbrev pub WantsRoom : RuntimeView → List Change → Refused → Type 0
 WantsRoom r xs refused = refused.fault ≡ Memory → LacksRoomFor r (take (refused.place + 1) xs)
 

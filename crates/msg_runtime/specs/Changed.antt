@@ -12,7 +12,7 @@ use Rattle.msg_tables.specs.declared.fault.ChangeFault.TheVariants.{Memory}
 use Rattle.msg_runtime.specs.declared.unmade.Unmade.{Unmade}
 use Rattle.msg_runtime.specs.declared.unmade.Unmade.TheVariants.{Refused, TooLong}
 
--- nothing speaks against it
+-- nothing forbids it
 abbrev pub IsAccepted : History → Change → Type 0
 IsAccepted h x = refusal (log h) x ≡ None
 
@@ -20,11 +20,11 @@ IsAccepted h x = refusal (log h) x ≡ None
 abbrev pub IsRefusedFor : History → Change → ChangeFault → Type 0
 IsRefusedFor h x fault = refusal (log h) x ≡ Some fault
 
--- so it is, where the fault isn't want of memory
+-- so it is, where the fault isn't a lack of memory
 abbrev pub IsRefusedAt : History → Change → ChangeFault → Type 0
 IsRefusedAt h x fault = fault ≢ Memory → IsRefusedFor h x fault
 
--- it was accepted, the history is longer by it, and so many times changes were made then
+-- it was accepted, the history is longer by it, and this number of times changes were made then
 abbrev pub IsMadeAt : History → Change → History → ℕ → Type 0
 IsMadeAt old x new count = IsAccepted old x × (new ≡ and_then old (x ∷ [])) × (count ≡ length new.changes)
 

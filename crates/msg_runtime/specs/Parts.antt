@@ -21,7 +21,7 @@ use Rattle.msg_cache.specs.declared.view.SenderView.{SenderView}
 abbrev pub IsKeeperOf : ArenaView → Keeper → Type 0
 IsKeeperOf a k = cache.IsOf a k
 
--- where the keeper stands
+-- where the keeper is
 abbrev pub keeper_history : Keeper → History
 keeper_history k = (cache.view k).history
 

@@ -21,7 +21,7 @@ pub struct Hog {
 impl Hog {
     /// Takes all memory that is free.
     ///
-    /// Where there is no environment nothing is taken: so tests are tried without a proof, over an
+    /// If there is no environment nothing is taken: so tests are tried without a proof, over an
     /// allocator that has more memory than there is.
     pub fn new<R: Env + AllocGlobal>(rt: &R) -> Result<Hog, AllocError> {
         let alloc = rt.alloc();

@@ -9,7 +9,7 @@ use std::alloc::Global;
 pub enum Readings {
     /// One value.
     Same,
-    /// Neither reads it, and memory wasn't wanting.
+    /// Neither reads it, and memory wasn't lacking.
     Refused,
     /// Anything else.
     Different,

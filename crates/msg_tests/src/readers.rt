@@ -5,7 +5,7 @@ use crate::same::same_at;
 use msg_samples::{Readings, read_by_both};
 use std::alloc::{AllocError, Global};
 
-// How many texts there are.
+// The number of texts.
 const TEXTS: usize = 10_000;
 
 // Texts that values are put together from. They are JSON, but for the last four.

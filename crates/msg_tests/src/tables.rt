@@ -69,7 +69,7 @@ fn numbered(rt: &impl Abort, number: u32) -> Selector {
     Selector::of(number).expect(rt, "a number above 0")
 }
 
-// Which implementation each class finds, and where it stands.
+// Which implementation each class finds, and where it is.
 fn methods_are_found(rt: &impl Abort, image: &Image, tables: &Tables)
     requires { length tables.now.supers ≡ class_total (origin_of image.now) }
 {

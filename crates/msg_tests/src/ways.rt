@@ -11,7 +11,7 @@ use std::process::Abort;
 
 const CLASSES: u32 = 7;
 
-// Tables of so many class numbers.
+// Tables of this number of class numbers.
 #[derive(Drop)]
 struct Seven {
     tables: Tables,

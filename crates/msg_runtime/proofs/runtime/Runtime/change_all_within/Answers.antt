@@ -1,4 +1,4 @@
--- the tables stand at the longer history, and what the list affects is flushed
+-- the tables are at the longer history, and what the list affects is flushed
 use Rattle.std.proofs.Common.{rules, ◌≡◌, ◌≤◌, ◌||◌, [], ◌∷◌, length, length-append, true, false, Bool, ap, sym, subst, refl, ◌∙◌, arith}
 use Rattle.msg_tables.specs.History.{History, and_then, log}
 use Rattle.msg_tables.specs.Origin.{class_total}
