@@ -52,7 +52,7 @@ impl<'r, G: Gate, R: Wait> Run<'r, G, R> {
             part.items,
             &mut batch.outcomes,
         );
-        let taken = crew.take_back(self.rt, done, &mut batch.shares);
+        let taken = crew.put_back(self.rt, done, &mut batch.shares);
         changed?;
         taken?;
         Ok(())

@@ -76,7 +76,7 @@ impl<'d, N: ArenaName> Crew<'d, N> {
     }
 
     // Puts a sender back, which meets the changer after its work, with its replies.
-    pub(crate) fn take_back<R: Wait>(
+    pub(crate) fn put_back<R: Wait>(
         &mut self,
         rt: &R,
         done: Done<'d, N>,

@@ -145,7 +145,7 @@ pub(crate) fn work_beside<
     };
     let worker = start(run, scope, sender, share)?;
     let others = work_beside(run, scope, crew, me, part, sends, batch);
-    let taken = crew.take_back(run.rt, worker.join(run.rt), &mut batch.shares);
+    let taken = crew.put_back(run.rt, worker.join(run.rt), &mut batch.shares);
     others?;
     taken?;
     Ok(())
