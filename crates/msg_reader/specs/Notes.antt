@@ -32,7 +32,7 @@ pub record IsNoteOf (h : History) (n : Note) : Type 0 where
 abbrev pub LiesAt : ℕ → Note → Type 0
 LiesAt place n = n.seal ≢ 0 → (n.seal + mark_of n.imp) % 65536 ≡ place * 16
 
--- each of the notes is one or blank, and lies at its place
+-- each of the notes is a note of the history, and lies at its place
 pub record AreNotesOf (h : History) (n : Notes) : Type 0 where
   pub notes : All (IsNoteOf h) n.notes
   pub placed : (p : ℕ) (d : Note) → p < length n.notes → LiesAt p (get_or n.notes p d)

@@ -1,4 +1,4 @@
--- `address_of` reads the first field of a `Shared`, as the private `address` of `atomic_table` does.
+-- `address_of` reads the first field of a `Shared`, like the private `address` of `atomic_table`.
 use Rattle.atomic_table.proofs.Names.{InBlock, use0, fact_i, Ura, Logic, Share, subst, ◌≡◌, ℕ, ◌+◌, List, [], ◌∷◌, sym, refl, ap, arith, a_type, dcons, dnil, named, Val, vptr, inst_fn, SProp, emp, Lft, Fml, ftrue, fsep, flft, sem, ‵, raw, ◌⊛◌, given, at_ret, ◌$◌, ◌∵◌, !, qed, by, move, keep, drop, split, join, fsplit, fjoin, learn, use1, rewrite, feq_i, stop, load, addr, of_opd, first, blocks, exec, returns, enter, alloc_all, pass_all, free_all, look_at, get, through, sets, sets_last, is, env, sub, whole, look_in, tables, yes, RattleType, owns, types_at, plain, Ptr, block_ptr, ptr_val, nothing, param, bounded, Stays, stay_dropped, walk_of, Goes-dropped, fact, fact_use, Is, shows, cell_at, peeks, block_of, count_of, at_block, Coded, guard_i, RefOf, shr_vals, shr_Tells, unhide, hidden_shr, looks, shuts, lent_out, Tuple}
 use types.Part.{Part}
 use types.Kit.{Item}
