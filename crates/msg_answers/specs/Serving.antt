@@ -1,4 +1,4 @@
--- What workers answer beside changes, and how sends are shared out.
+-- What workers answer beside changes, and how sends are distributed.
 use Rattle.std.specs.Prelude.{◌≡◌, ℕ, zero, suc, ◌+◌, Bool, true, false, ◌/◌, ◌%◌, ◌<◌, ◌==◌, if◌then◌else◌, List, [], ◌∷◌, ◌++◌, length, min, count_by, slice_index_or}
 use Rattle.msg_image.specs.Items.{ItemParts, SendItem}
 use Rattle.msg_image.specs.Parts.{ImageParts}
@@ -27,7 +27,7 @@ abbrev pub history_of : History → List ItemParts → History
 history_of h [] = h
 history_of h (item ∷ items) = history_of (history_after h item) items
 
--- what becomes of the changes among items
+-- the outcomes of the changes among items
 abbrev pub outcomes_of : History → List ItemParts → List Outcome
 outcomes_of h [] = []
 outcomes_of h (item ∷ items) = if is_send item then outcomes_of h items else outcome_at h item ∷ outcomes_of (history_after h item) items

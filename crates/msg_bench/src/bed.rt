@@ -114,7 +114,7 @@ impl<'a> Bed<'a> {
         })
     }
 
-    /// The first senders, if there are so many.
+    /// The first senders, if there are as many.
     pub(crate) fn senders(
         &mut self,
         alloc: Global,
@@ -140,7 +140,8 @@ pub(crate) struct Sender<'a> {
 }
 
 impl Sender<'_> {
-    /// Makes so many probes, from one query on, and adds up the implementations that are found.
+    /// Makes this number of probes, from one query on, and adds up the implementations that are
+    /// found.
     pub(crate) fn probe(&mut self, queries: &Queries, first: usize, probes: u64) -> u64 {
         let mut sum = 0u64;
         let mut at = first;

@@ -122,7 +122,7 @@ impl<N: ArenaName> Caller<'_, N> {
     }
 }
 
-// What this number of lookups find along the chain, added up.
+// The sum of what this number of lookups find along the chain.
 fn sum_by_tables(tables: &Tables, queries: &Queries, lookups: u64) -> u64
     requires { length tables.now.supers ≡ 32 }
 {
@@ -135,7 +135,7 @@ fn sum_by_tables(tables: &Tables, queries: &Queries, lookups: u64) -> u64
     sum
 }
 
-// What lookups by a sender find, added up.
+// The sum of what lookups by a sender find.
 fn sum_by_sender<N: ArenaName, R: Wait>(
     rt: &R,
     alloc: Global,
@@ -184,7 +184,7 @@ fn sum_over<N: ArenaName, R: Wait>(
     sum_by_sender(rt, alloc, &dispatcher, course)
 }
 
-// What this number of lookups along the chain find, added up.
+// The sum of what this number of lookups along the chain find.
 fn sum_along(alloc: Global, image: &Image, queries: &Queries, lookups: u64) -> Result<u64>
     requires { class_total (origin_of image.now) ≡ 32 }
 {
@@ -192,7 +192,7 @@ fn sum_along(alloc: Global, image: &Image, queries: &Queries, lookups: u64) -> R
     Ok(sum_by_tables(&tables, queries, lookups))
 }
 
-// What lookups by a sender find, added up.
+// The sum of what lookups by a sender find.
 fn sum_in<R: Wait>(rt: &R, alloc: Global, image: &Image, course: Course<'_>) -> Result<u64>
     requires { class_total (origin_of image.now) ≡ 32 }
 {
@@ -204,7 +204,7 @@ fn sum_in<R: Wait>(rt: &R, alloc: Global, image: &Image, course: Course<'_>) -> 
     sum_over::<Brand, R>(rt, alloc, arena, keeper, image, course)
 }
 
-// What lookups of an image find, added up.
+// The sum of what lookups of an image find.
 fn sum_of_image<R: Wait>(rt: &R, alloc: Global, image: &Image, course: Course<'_>) -> Result<u64> {
     if image.class_count() != 32 {
         bail!("not 32 classes");
@@ -215,7 +215,7 @@ fn sum_of_image<R: Wait>(rt: &R, alloc: Global, image: &Image, course: Course<'_
     }
 }
 
-/// What this number of lookups of a load find in a way, added up.
+/// The sum of what this number of lookups of a load find in a way.
 pub(crate) fn sum_of<R: Wait>(
     rt: &R,
     alloc: Global,

@@ -15,6 +15,6 @@ with_text text bytes = take (length bytes) text ++ drop (length text) bytes
 abbrev pub is_interned : List ℕ → TextsView → Bool
 is_interned text v = list_any (bytes_eq text) v
 
--- if the text has a number, that is answered
+-- if the text has a number, that is returned
 abbrev pub AnswersNumber : TextsView → List ℕ → ℕ → ℕ → Type 0
 AnswersNumber v text answer number = (n : ℕ) → number_of v text ≡ Some n → (answer ≡ 0) × (number ≡ n)

@@ -366,7 +366,7 @@ module _ (look : History → ClassRef → ℕ → ℕ) (key : SettingView) (k : 
 -- ---- a fill after a collection
 
 module _ (z : Layout) (rem : List ℕ) (c : ClassRef) (s i n m : ℕ) (k j k' : KeeperView) (way : placement_of z rem k c s ≡ Take n) (none : lowest_free z n k ≡ None) (t : Collects z k j m) where
-  -- where none was free at entry
+  -- if none was free at entry
   after : (answer : Filled) → MatchOption (lowest_free z n (looks (look_count z k) t.outs k)) ((answer ≡ NoArray) × (k' ≡ j)) (λ a. (answer ≡ Grown) × (k' ≡ grown z c s i a j)) → Fills z rem c s i k k' answer
   after answer ends = subst (FillsBy z c s i k k' answer) (sym way)
       (subst (λ (o : Option ℕ). MatchOption o ((outs : List Bool) × (j : KeeperView) × CollectsBy z outs k j × MatchOption (lowest_free z n (looks (look_count z k) outs k)) ((answer ≡ NoArray) × (k' ≡ j)) (λ a. (answer ≡ Grown) × (k' ≡ grown z c s i a j))) (λ a. (answer ≡ Grown) × (k' ≡ grown z c s i a k))) (sym none)

@@ -1,4 +1,4 @@
--- A fill and a collection change caches alone.
+-- A fill and a collection change only caches.
 use Rattle.std.proofs.Common.{◌≡◌, ℕ, zero, suc, ◌+◌, List, [], ◌∷◌, Bool, Option, Some, None, refl, ap, ◌∙◌}
 use Rattle.std.specs.Prelude.{MatchOption}
 use Rattle.msg_names.specs.declared.value.ClassRef.{ClassRef}
@@ -14,7 +14,7 @@ use Rattle.msg_cache.specs.declared.view.KeeperView.{KeeperView}
 use Rattle.msg_cache.specs.declared.view.TurnAt.{TurnAt}
 use Rattle.msg_cache.proofs.ClearingLemmas.{cleared_is}
 
--- what the keeper's view has beside the caches
+-- what the keeper's view has besides the caches
 pub record Rest : Type 0 where
   pub history : History
   pub given : List Bool

@@ -36,7 +36,7 @@ refusal_of origin config =
     else if nat_lt origin.limits.words (words_of origin config) then Some TooLarge
     else None
 
--- a fault is that one, where it isn't memory
+-- a fault is this one, unless it is memory
 abbrev pub IsLeastUnlessMemory : OriginView → Config → ArenaFault → Type 0
 IsLeastUnlessMemory origin config fault = fault ≢ Memory → refusal_of origin config ≡ Some fault
 

@@ -147,7 +147,7 @@ placement_in a (hit i) plan = Present
 placement_in a (empty p) plan = placement_by_plan a p plan
 placement_in a wrapped plan = placement_by_plan a 0 plan
 
--- what an entry needs, where these are the words of the live array
+-- what an entry needs, if these are the words of the live array
 abbrev pub placement_among : List ℕ → ℕ → ℕ → Placement
 placement_among words a s = placement_in a (find_in words s) (plan_of (length words) (occupied_in words))
 
@@ -155,8 +155,8 @@ abbrev pub placement_by_header : Layout → List ℕ → KeeperView → ClassRef
 placement_by_header z remembered k c s zero = Take (remembered_capacity remembered c)
 placement_by_header z remembered k c s (suc a) = placement_in a (find_in (array_words z k a) s) (plan_of (capacity z a) (occupied_in (array_words z k a)))
 
--- what an entry needs: nothing where the selector is in the live array, else the place of it where
--- the array has room, else an array
+-- what an entry needs: nothing if the selector is in the live array, otherwise its place there if
+-- the array has room, otherwise an array
 abbrev pub placement_of : Layout → List ℕ → KeeperView → ClassRef → ℕ → Placement
 placement_of z remembered k c s = placement_by_header z remembered k c s (header k c)
 
@@ -226,27 +226,27 @@ IsPresent z k c s = (a : ℕ) × (header k c ≡ suc a) × ((i : ℕ) × (find_i
 abbrev pub HasRoom : Layout → KeeperView → ClassRef → Type 0
 HasRoom z k c = (a : ℕ) × (header k c ≡ suc a) × (plan_of (capacity z a) (occupied_in (array_words z k a)) ≡ PlanUse)
 
--- no array of the capacity that is wanted was free, nor after one collection, which alone has
+-- no array of the needed capacity was free at entry or after one collection, which is all that
 -- changed the view
 abbrev pub NoneIsFree : Layout → KeeperView → KeeperView → Type 0
 NoneIsFree z k k' = (n : ℕ) × (lowest_free z n k ≡ None) × (outs : List Bool) × CollectsBy z outs k k' × (lowest_free z n k' ≡ None)
 
--- which answer of a fill comes when: nothing was done where the selector is there, the live array
--- is used where it has room, and only then is an array needed
+-- when each result of a fill comes: nothing is done if the selector is there, the live array is
+-- used if it has room, and only otherwise is an array needed
 abbrev pub FillLaw : Type 0
 FillLaw = (z : Layout) (remembered : List ℕ) (c : ClassRef) (s i : ℕ) (k k' : KeeperView) (answer : Filled) → Fills z remembered c s i k k' answer
     → ((answer ≡ DidNothing) ↔ IsPresent z k c s) × ((answer ≡ Used) ↔ ((IsPresent z k c s → ⊥) × HasRoom z k c)) × ((answer ≡ DidNothing) → k' ≡ k) × ((answer ≡ NoArray) → NoneIsFree z k k')
 
--- A fill changes caches alone: not the history, nor which sender numbers are given out, nor since
--- when, nor where the turn is.
+-- A fill changes only caches. It doesn't change the history, which sender numbers are given out,
+-- since when they are, or where the turn is.
 abbrev pub FillKeeps : Type 0
 FillKeeps = (z : Layout) (remembered : List ℕ) (c : ClassRef) (s i : ℕ) (k k' : KeeperView) (answer : Filled) → Fills z remembered c s i k k' answer
     → (k'.history ≡ k.history) × (k'.given ≡ k.given) × (k'.turn ≡ k.turn) × (k'.since ≡ k.since)
 
 -- ---- between calls
 
--- what holds of the keeper's view between its calls, with the capacities that are remembered, and
--- how many entries each array has
+-- what holds for the keeper's view between its calls, with the capacities that are remembered and
+-- the number of entries of each array
 pub record InOrder (look : History → ClassRef → ℕ → ℕ) (key : SettingView) (k : KeeperView) (remembered occupied : List ℕ) : Type 0 where
   pub tidy : TidyBy look key k
   pub cleared : (a p : ℕ) → standing_of k a ≡ Free → p < capacity (layout_of key) a → slice_index k.words (base (layout_of key) a + p) ≡ 0

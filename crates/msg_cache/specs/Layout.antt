@@ -1,4 +1,4 @@
--- Where the words of a table are.
+-- The places of a table's words.
 use Rattle.std.specs.Prelude.{◌≡◌, ℕ, ◌+◌, ◌*◌, ◌<◌, List, [], ◌∷◌, take}
 use Rattle.msg_names.specs.declared.value.ClassRef.{ClassRef}
 use Rattle.msg_tables.specs.Origin.{OriginView, class_total}
@@ -50,7 +50,7 @@ abbrev pub probes : Layout → ℕ
 probes z = stamps z + 2 * z.classes
 
 -- Probe words are 8 words apart, and 8 after the last stamp, so that none shares a line of 64 bytes
--- with another or with a stamp. What is between is never used.
+-- with another or with a stamp. The words between them are never used.
 abbrev pub probe_at : Layout → ℕ → ℕ
 probe_at z n = probes z + 8 * n + 7
 

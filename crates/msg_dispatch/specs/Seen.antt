@@ -38,6 +38,6 @@ abbrev pub FindsNoted : SenderView → SenderView → Notes → Notes → ClassR
 FindsNoted v w was is c s i =
     (since : ℕ) × LoadsFirst c since v.seen w.seen × IfSome (recalled was since (slot_of c) (selector_number s)) (λ n. (imp_number i ≡ n) × LoadsStamp c since v.seen w.seen × (w.takings ≡ v.takings) × (is ≡ was))
 
--- so it is of a sender with its notes
+-- the same for a sender with its notes
 abbrev pub FindsRecalled : RecallingView → RecallingView → ClassRef → Selector → ImpRef → Type 0
 FindsRecalled r r' c s i = FindsNoted r.sender r'.sender r.notes r'.notes c s i

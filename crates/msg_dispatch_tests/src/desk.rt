@@ -1,4 +1,4 @@
-//! An arena's keeper beside class tables that know what may be cached, and senders of the arena.
+//! An arena's keeper, class tables that know what may be cached, and senders of the arena.
 
 ghost use Rattle.std.specs.Prelude.{◌≡◌, ◌<◌};
 ghost use Rattle.msg_image.specs.Opened.{origin_of};
@@ -74,7 +74,7 @@ fn flush(keeper: &mut Keeper, arena: &Arena, class: ClassRef) -> bool
     keeper.flush(arena, class)
 }
 
-/// What a runtime lock guards.
+/// The data behind a runtime lock.
 #[derive(Drop)]
 pub(crate) struct Desk {
     arena: Arc<Arena, Global>,
@@ -145,7 +145,7 @@ impl Desk {
         self.keeper.give_out(&self.arena, number).is_some()
     }
 
-    /// What a sender of this number finds, which is then taken in.
+    /// What a sender with this number finds, which is then taken in.
     pub(crate) fn find_once(
         &mut self,
         rt: &impl Abort,

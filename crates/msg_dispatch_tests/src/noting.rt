@@ -1,4 +1,4 @@
-//! What senders note, and from when on it isn't taken any more.
+//! What senders note, and when a note is no longer used.
 
 ghost use Rattle.std.specs.Prelude.{◌≡◌};
 ghost use Rattle.msg_image.specs.Opened.{origin_of};
@@ -89,7 +89,7 @@ fn asks_anew<N: ArenaName, R: Wait + Abort>(rt: &R, sender: &mut Noting<'_, N>, 
     same(rt, sender.lock_takings(), 2);
 }
 
-// What is noted is taken until a change affects its class, and beside others.
+// A note is used until a change affects its class, also after changes of other classes.
 fn notes_until_a_change<N: ArenaName, R: Wait + Abort>(
     rt: &R,
     sender: &mut Noting<'_, N>,

@@ -47,6 +47,6 @@ pub record RepliesFrom {P : Type 0} (step : Steps P) (is_in : P → Type 0) (p :
   pub there : is_in state
   pub leads : Leads step send p state reply
 
--- so it does from each state that the finder was in
+-- the same from each state that the finder was in
 abbrev pub Replies : {F P : Type 0} → Steps P → (F → P → Type 0) → F → F → Meaning → Reply → Type 0
 Replies {F} {P} step is_in old new send reply = (p : P) → is_in old p → RepliesFrom step (is_in new) p send reply

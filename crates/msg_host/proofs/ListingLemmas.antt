@@ -24,7 +24,7 @@ use Rattle.msg_host.specs.Listing.{AreMeant, TellsRowsBack, UndoesRows, are_mean
 use Rattle.msg_host.specs.declared.fault.AskFault.{AskFault}
 use Rattle.msg_host.specs.declared.listing.ChangeRow.{ChangeRow}
 
--- no change is refused for want of room
+-- no change is refused for lack of room
 pub no_want_of_room : (f : ChangeFault) → change_fault_number f ≢ want_of_room
 no_want_of_room faults.NoClass e = absurd (omega (arith, e))
 no_want_of_room faults.NoImp e = absurd (omega (arith, e))

@@ -89,7 +89,7 @@ pub record IsSoundImp (image : ImageParts) (i : ImpParts) : Type 0 where
   pub selectors : All (HasSelector image) (selectors_in i.body)
   -- each argument that the body reads is one of those that the implementation takes
   pub arguments : All (λ k. k < i.args) (arguments_in i.body)
-  -- where the body has a super send there is a class above the home class
+  -- if the body has a super send, there is a class above the home class
   pub above : has_super_send i.body ≡ true → IsSome (superclass_in image i.home)
   pub count : count i.body ≤ MAX_EXPRESSIONS
   pub depth : depth i.body ≤ MAX_DEPTH

@@ -69,7 +69,7 @@ lookup_lines image (Changed o) ls changes = []
 abbrev pub reason_lines : ImageParts → Reason → List ℕ
 reason_lines image r = answer_line image r.answer ++ lookup_lines image r.answer r.lookups r.changes
 
--- what is said of a document that is answered
+-- the text for a document that is answered
 unfoldable pub explanation_text : DocumentParts → List ℕ
 explanation_text d = flat_map (reason_lines d.image) (explanation_of d)
 
@@ -92,6 +92,6 @@ seen_lines image (Changed o) ks = []
 abbrev pub beside_lines : ImageParts → beside.Reason → List ℕ
 beside_lines image r = answer_line image r.answer ++ seen_lines image r.answer r.seen
 
--- what is said of a document whose lookups are answered at these versions
+-- the text for a document whose lookups are answered at these versions
 unfoldable pub beside_text : DocumentParts → List ℕ → List ℕ
 beside_text d versions = flat_map (beside_lines d.image) (beside.explanation_beside d versions)

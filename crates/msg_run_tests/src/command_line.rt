@@ -62,7 +62,7 @@ fn words_are_two_numbers_at_most(rt: HostRuntime) {
     }
 }
 
-// What is said after the name of the program, which is PROGRAM here.
+// The line after the name of the program, which is PROGRAM here.
 const LINES: [(Option<RunFault>, &str, u8); 23] = [
     (None, "usage: PROGRAM [workers [cut]]\n", 2),
     (Some(RunFault::Read), "read failed\n", 1),
@@ -162,7 +162,7 @@ const PROGRAMS: [(Program, &str); 2] = [
     (Program::Msgbeside, "msgbeside"),
 ];
 
-// What is said of a fault, with the status.
+// The line for a fault, with the status.
 fn line_is(
     rt: &impl Abort,
     alloc: Global,

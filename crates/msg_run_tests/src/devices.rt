@@ -86,7 +86,7 @@ fn slow_sink(alloc: Global, step: usize, calls_left: u32) -> ToWriter<Slow>
     })
 }
 
-// A run ended so, and its device failed where it is told.
+// A run ended in this way, and its device failed if a failure is reported.
 fn ended_so(
     rt: &impl Abort,
     (way, step, calls_left): (Way, usize, u32),

@@ -209,7 +209,7 @@ fn is_either(rt: &impl Abort, alloc: Global, text: &[u8], [one, other]: [Texts; 
 fn run_is<T: Threads + Wait + Abort + Sync>(rt: &T, alloc: Global, row: &Row) {
     let [(held, until), (other_held, other_until)] = row.holds;
     let holds = [Hold::new(held, until), Hold::new(other_held, other_until)];
-    // where the limit is met it is a small one
+    // if the limit is reached, it is a small one
     let turns = if row.gave_up { 100_000 } else { TURNS };
     let gate = Holding::new(&holds, turns);
     let items = joined(rt, alloc, row.items, ",");

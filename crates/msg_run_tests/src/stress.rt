@@ -22,7 +22,7 @@ const WORKERS: u32 = 4;
 
 const CUT: u32 = 32;
 
-// The change of this number, from 1 on. What it makes a method answer is new.
+// The change with this number, from 1. The value that it makes a method return is new.
 fn edit(number: u32) -> Edit {
     match number % 16 {
         1 | 9 => Edit::Set(0, 0, number),
@@ -154,7 +154,7 @@ impl Gate for Paced {
     }
 }
 
-// What was seen of the workers' points while the lines are gone through.
+// What was seen of the workers' points while the lines are read.
 #[derive(Drop)]
 struct Seen {
     fronts: [usize; WORKERS as usize],
@@ -174,7 +174,7 @@ impl Seen {
         }
     }
 
-    // A send's line: what some point answers, which isn't before the worker's last one.
+    // A send's line: the result at some point, which isn't before the worker's last one.
     fn take_send(&mut self, points: &Points, line: &str) -> Option<()> {
         let (class, sent) = send_of(self.sends);
         let worker = (self.sends / CUT as usize) % WORKERS as usize;
@@ -211,7 +211,7 @@ impl Seen {
     }
 }
 
-// Each line is that of some point. Says how often a worker's points rose.
+// Each line is that of some point. Returns how often a worker's points rose.
 fn rises(rt: &impl Abort, points: &Points, text: &[u8]) -> usize {
     let text = str::from_utf8(text).ok().expect(rt, "a text");
     let mut seen = Seen::new();

@@ -41,7 +41,7 @@ wanting_alone h x r refused memory =
     let first : r.place ≡ 0 = omega (arith, refused.place) in
     accepted-alone h x (subst (λ n. refused_from 0 (log h) (take (n + 1) (x ∷ [])) ≡ None) first (refused.memory memory))
 
--- a change that adds no row wants none, if there is room for two entries
+-- a change that adds no row needs no memory, if there is room for two entries
 pub no_row_alone : (v : RuntimeView) (x : Change) (r : Refused) → AreRefused (x ∷ []) v.keeper.history r → HasRoomForRows v → WantsRoom v (x ∷ []) r → r.fault ≡ Memory → adds_no_row x ≡ true
     → v.written.room < OPENING_ENTRIES
 no_row_alone v x r refused rows wants memory none = split (cases_lt v.written.room 2)

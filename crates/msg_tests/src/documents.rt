@@ -55,7 +55,7 @@ pub(crate) fn number(alloc: Global, text: &[u8]) -> Option<u32> {
     read_document(alloc, text).err().map(DocumentFault::number)
 }
 
-/// The text with `new` where it first has `old`.
+/// The text with `new` in place of its first `old`.
 pub(crate) fn edited(rt: &impl Abort, alloc: Global, text: &str, old: &str, new: &str) -> String {
     let (before, after) = text.split_once(old).expect(rt, "a text to edit");
     format!(in alloc; "{before}{new}{after}").expect(rt, "memory")

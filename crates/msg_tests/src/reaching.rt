@@ -1,4 +1,4 @@
-//! What changes would reach, asked without making them.
+//! What changes would affect, found without making them.
 
 ghost use Rattle.std.specs.Prelude.{◌≡◌, length};
 ghost use Rattle.msg_image.specs.Opened.{origin_of};

@@ -55,7 +55,7 @@ const KEYS: [&str; 8] = [
     "\"a\\n\"",
 ];
 
-// What comes into the place of a byte.
+// The byte that replaces another.
 const BYTES: [u8; 16] = [
     b'"', b'\\', b',', b':', b'[', b']', b'{', b'}', b' ', b'0', b'9', b'-', b'e', 0, 0x80, 0xC3,
 ];
