@@ -386,17 +386,19 @@ impl Runtime {
         ensures unmade { IfErr result (IsUnmade (L.changes changes.now) self.old.keeper.history most) }
     {
         tables_are_of_their_origin();
-        self.keeper.face(arena, turn);
         let start = self.tables.start();
         if let Err(refused) = self.tables.apply_all(changes, &mut self.written) {
+            self.keeper.face(arena, turn);
             return Err(Unmade::Refused(refused));
         }
         let count = self.written.as_slice().len();
         if most < count {
+            self.keeper.face(arena, turn);
             self.tables.retract(start, &mut self.written);
             return Err(Unmade::TooLong(count));
         }
         if changes.len() == 0 {
+            self.keeper.face(arena, turn);
             return Ok(self.keeper.count());
         }
         flush_changed(
