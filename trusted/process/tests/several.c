@@ -8,7 +8,7 @@
 #include <time.h>
 
 enum { LISTS = 8000, FINDERS = 3, COUNT = 3, CLASS = 0, OTHER = 1, OTHERS = 2, A = 1, B = 2 };
-enum { ROUNDS = 10000, PATIENCE = 100 };
+enum { ROUNDS = 1000, PATIENCE = 100 };
 
 static const msg_lookup_row lookups[COUNT] = {{CLASS, 0, A}, {OTHER, 1, B}, {OTHER, 0, A}};
 static msg_runtime runtime = MSG_RUNTIME_INIT;
