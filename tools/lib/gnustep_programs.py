@@ -16,7 +16,7 @@ import zipfile
 
 import gnustep
 import measure
-from words import ROOT
+from words import text_at, write_at
 
 PLUGIN = "/usr/lib/openvpn/openvpn-auth-ldap.so"
 HEADERS = "/usr/include/GNUstep/Foundation"
@@ -132,8 +132,7 @@ def make_plists(place):
         "words.strings": '/* A comment */\n"A word" = "Ein Wort";\n"Another \\"word\\"" = "Un autre\\nmot";\nplain = word;\n',
     }
     for name, text in texts.items():
-        with open(f"{place}/{name}", "w", encoding="utf-8") as file:
-            file.write(text)
+        write_at(text, place, name)
 
 
 def make_texts(place):
@@ -144,8 +143,7 @@ def make_texts(place):
         "other.html": '<html><body><a name="there">there</a></body></html>\n', "utf8.txt": "h\u00e9 \u4e16\u754c \u20ac\n",
     }
     for name, text in texts.items():
-        with open(f"{place}/{name}", "w", encoding="utf-8") as file:
-            file.write(text)
+        write_at(text, place, name)
     with open(f"{place}/latin.txt", "wb") as file:
         file.write("caf\u00e9 na\u00efve \u00fcber\n".encode("latin1") * 50)
 
@@ -154,8 +152,7 @@ def make_archives(place):
     packed = f"{place}/packed"
     os.makedirs(f"{packed}/inner/deeper")
     for name, text in (("first.txt", "first\n" * 2000), ("inner/second", "\0\1\2" * 5000), ("inner/deeper/n\u00e4me.txt", "third"), ("inner/empty", "")):
-        with open(f"{packed}/{name}", "w", encoding="utf-8") as file:
-            file.write(text)
+        write_at(text, packed, name)
     for folder, folders, names in os.walk(packed):
         for name in folders + names:
             os.utime(os.path.join(folder, name), (1_600_000_000, 1_600_000_000))
@@ -184,8 +181,7 @@ def make_inputs(folder):
     make_archives(place)
     shutil.copy(os.path.join(gnustep.OWN, "ldap_server.py"), place)
     subprocess.run(["gcc-12", "-w", os.path.join(gnustep.OWN, "ldap.c"), "-ldl", "-o", os.path.join(place, "ldap")], check=True)
-    with open(os.path.join(ROOT, "docs", "OBJECTIVE-C.md"), encoding="utf-8") as page:
-        source = re.search(r"```objc\n(.*?)```", page.read(), re.S)[1]
+    source = re.search(r"```objc\n(.*?)```", text_at("docs", "OBJECTIVE-C.md"), re.S)[1]
     subprocess.run(["gcc-12", "-x", "objective-c", "-w", "-", "-x", "none", "-lobjc", "-o", os.path.join(place, "untold")], input=source, text=True, check=True)
     open(os.path.join(place, ".begun"), "w", encoding="utf-8").close()
     return place
@@ -210,8 +206,7 @@ def run_case(place, name, command, library, given):
     os.makedirs(kept)
     _, _, text = gnustep.run(["sh", "-c", TELLING % command], library, given.seconds, copied=place, env={"KEPT": kept})
     text = told(text)
-    with open(os.path.join(given.folder, "kept", f"{name}.{library.title}"), "w", encoding="utf-8") as file:
-        file.write(text)
+    write_at(text, given.folder, "kept", f"{name}.{library.title}")
     return text, kept
 
 
@@ -239,8 +234,7 @@ def make_bundles(folder):
     for number in range(BUNDLES):
         resources = os.path.join(place, f"B{number}.bundle", "Resources")
         os.makedirs(resources, exist_ok=True)
-        with open(os.path.join(resources, "Info-gnustep.plist"), "w", encoding="utf-8") as file:
-            file.write(f"{{ NSExecutable = B{number}; NSPrincipalClass = Loaded{number}_00; }}\n")
+        write_at(f"{{ NSExecutable = B{number}; NSPrincipalClass = Loaded{number}_00; }}\n", resources, "Info-gnustep.plist")
         gnustep.build(folder, "bundle.m", "-shared", "-fPIC", f"-DN={number}", built=os.path.join(os.path.dirname(resources), f"B{number}"))
     return place
 

@@ -54,7 +54,7 @@ def row(title, kind, theirs, ours, most):
 def run_table(ours, given):
     """Whether each is within the aims."""
     libraries, right = [gnustep.Library("libobjc"), gnustep.Library("the shim", ours)], True
-    no_server = "it wants root" if os.geteuid() else packages.lack(SERVER, given.install)
+    no_server = "it wants root" if os.geteuid() else packages.lack(SERVER)
     inputs = gnustep_programs.make_inputs(given.folder)
     print("Millions of instructions, and MiB:\n\n| | | libobjc | the shim | ratio |\n|---|---|---|---|---|")
     for title, run in RUNS.items():
