@@ -17,16 +17,11 @@ struct part {
     uint32_t number;
 };
 
-/* The count is read first: so many rows any array has that is there then. The last of a name
- * counts. */
-static Method method_of(struct record *record, uint32_t sel)
+static Method method_of(const struct record *record, uint32_t sel)
 {
-    uint32_t count = record->count;
-    if (!count) return NULL;
-    struct row *first = record->rows->at, *row = first + count;
-    while (row > first)
-        if ((--row)->sel == sel) return row->method;
-    return NULL;
+    const struct row *row = LOAD(record->rows);
+    while (row && row->sel != sel) row = row->before;
+    return row ? row->method : NULL;
 }
 
 /* Goes through a class in construction, which has no place in the tables, to its superclass. */
@@ -66,20 +61,10 @@ static void note_home(const struct record *record, Method method)
     if (record->number) free(shim_index(&homes, shim_mixed_word((uintptr_t)method), slot));
 }
 
-/* `more`: how many come to the record now, this one counted. */
-static void stand(struct record *record, Method method, uint32_t more)
+static void stand(struct record *record, Method method, struct row *row)
 {
-    uint32_t count = record->count;
-    if (count + more > record->room) {
-        record->room = count + count / 2 + more;
-        struct rows *before = record->rows;
-        struct rows *rows = shim_memory(sizeof *rows + record->room * sizeof *rows->at);
-        rows->before = before;
-        if (before) memcpy(rows->at, before->at, count * sizeof *rows->at);
-        record->rows = rows;
-    }
-    record->rows->at[count] = (struct row){shim_sel(method->name.sel), method};
-    record->count = count + 1;
+    *row = (struct row){record->rows, method, shim_sel(method->name.sel)};
+    STORE(record->rows, row);
     note_home(record, method);
 }
 
@@ -118,9 +103,9 @@ void shim_bring_class(Class class_)
     uint32_t kind = above ? MSG_MAKES_CLASS : MSG_MAKES_ROOT_CLASS;
     bring((msg_change){kind, both[0]->number, .other = above ? above->record->number : 0});
     for (int j = 0; j < 2; j++)
-        for (uint32_t i = 0; i < both[j]->count; i++) {
-            shim_bring_method(both[j], both[j]->rows->at[i].method, false);
-            note_home(both[j], both[j]->rows->at[i].method);
+        for (struct row *row = both[j]->rows; row; row = row->before) {
+            shim_bring_method(both[j], row->method, false);
+            note_home(both[j], row->method);
         }
 }
 
@@ -128,10 +113,8 @@ void shim_make(const char *what)
 {
     size_t place;
     shim_must(msg_change_all(shim_runtime, changes, change_count, &place), what);
-    for (uint32_t i = 0, end = 0; i < coming_count; i++) {
-        while (end <= i || (end < coming_count && coming[end].record == coming[i].record)) end++;
-        stand(coming[i].record, coming[i].method, end - i);
-    }
+    struct row *rows = coming_count ? shim_memory(coming_count * sizeof *rows) : NULL;
+    for (uint32_t i = 0; i < coming_count; i++) stand(coming[i].record, coming[i].method, &rows[i]);
     free(coming);
     free(changes);
     coming = NULL;
@@ -163,7 +146,7 @@ static bool is_in_tables(const struct part *part) { return part->record && part-
 static inline void settle(const struct part *part)
 {
     if (part->method) STORE(part->method->imp, part->imp);
-    else stand(part->record, new_method(part), 1);
+    else stand(part->record, new_method(part), shim_memory(sizeof(struct row)));
 }
 
 static inline void cache(const struct part *part)
@@ -337,8 +320,10 @@ Method *class_copyMethodList(Class class_, unsigned int *count)
 {
     LOCKED;
     struct record *record = class_ ? class_->record : NULL;
-    unsigned int many = record && record->number ? record->count : 0;
-    Method *list = shim_list(many, sizeof *list, count);
-    for (unsigned int i = 0; i < many; i++) list[i] = record->rows->at[many - 1 - i].method;
+    struct row *newest = record && record->number ? record->rows : NULL;
+    unsigned int many = 0;
+    for (struct row *row = newest; row; row = row->before) many++;
+    Method *list = shim_list(many, sizeof *list, count), *next = list;
+    for (struct row *row = newest; row; row = row->before) *next++ = row->method;
     return list;
 }

@@ -1,6 +1,7 @@
 /* A timer's handler sends beside a thread that sends the same messages, in each way, all of which
  * lie at one place of its notes: as where a program is sampled. Each answer is its own method's. */
 #include "places.h"
+#include <errno.h>
 #include <signal.h>
 
 enum {
@@ -55,11 +56,13 @@ static void start_timer(void)
 
 static void handle(int signal)
 {
+    int kept = errno;
     (void)signal;
     if (many) send_all();
     else wrong += send(object, sels[1]) != 11;
     count(&handled);
-    start_timer();
+    start_timer(); /* which may be deleted by now */
+    errno = kept;
 }
 
 static void go_on(double seconds, void (*turn)(void))
