@@ -30,50 +30,6 @@ TIMED = 'TIMEFORMAT="processors %U %S"; time "$@" > /dev/null 2>&1'
 AUTOGSDOC = f"autogsdoc -Project Foundation -HeaderDirectory {HEADERS} -DocumentationDirectory doc -GenerateHtml YES NSArray.h NSDictionary.h NSString.h NSObject.h NSDate.h NSBundle.h"
 MEANT = {"name": "plain", "count": 17, "half": 0.5, "on": True, "bytes": b"\0\1\2", "list": ["one", {"two": 2}, ["three"]]}
 
-LDAP = """<LDAP>
-    URL ldap://127.0.0.1:3389
-    Timeout 5
-    TLSEnable no
-    FollowReferrals no
-</LDAP>
-<Authorization>
-    BaseDN "ou=People,dc=example,dc=com"
-    SearchFilter "(uid=%u)"
-    RequireGroup GROUP
-    <Group>
-        BaseDN "ou=Groups,dc=example,dc=com"
-        SearchFilter "(cn=developers)"
-        MemberAttribute uniqueMember
-    </Group>
-</Authorization>
-"""
-
-SOURCE = """/** A class that says what it is. <p>In two paragraphs.</p> */
-#import <Foundation/NSObject.h>
-@protocol Telling
-/** Tells a <em>word</em>. */
-- (id) tell: (id)word;
-@end
-@interface Small : NSObject <Telling>
-{ int count; }
-/** Answers aNumber, twice. See [NSObject-copy]. */
-- (int) twice: (int)aNumber;
-+ (Small*) small;
-@end
-/** A function. */
-extern int smallFunction(int a, const char *b);
-#define SMALL_MACRO 1
-"""
-
-BODY = """#import "Small.h"
-/** Chapter of the file. */
-@implementation Small
-- (id) tell: (id)word { return word; }
-- (int) twice: (int)aNumber { return 2 * aNumber; }
-+ (Small*) small { return NSLocalizedString(@"A word", @"a comment"); }
-@end
-"""
-
 SERVED = "python3 ldap_server.py 3389 & sleep 1; ./ldap " + PLUGIN
 
 # By their names, the commands that are run in a copy of the folder of inputs. (cvtenc -EscapeOut
@@ -120,32 +76,12 @@ cp -r . "$KEPT" 2> /dev/null
 """
 
 
-def make_plists(place):
+def make_texts(place):
     for name, kind in (("xml", plistlib.FMT_XML), ("binary", plistlib.FMT_BINARY)):
         with open(f"{place}/{name}.plist", "wb") as file:
             plistlib.dump(MEANT, file, fmt=kind)
     rows = " ".join(f'key{i} = ({i}, "text {i}", {{ inner = <{i:08x}>; other = "a\\"b"; }});' for i in range(2000))
-    texts = {
-        "plain.plist": '{ name = plain; count = 17; half = 0.5; on = YES; bytes = <000102>; list = (one, { two = 2; }, ("three \\U00e9", "tab\\t")); }\n',
-        "another.plist": "{ name = another; list = (four); new = { deep = { deeper = 1; }; }; }\n",
-        "large.plist": "{ " + rows + " }\n",
-        "broken.plist": '{ name = "never closed; list = (1, 2\n',
-        "desktop.plist": '{ NSExecutable = Small; NSIcon = "small.png"; NSTypes = ({ NSUnixExtensions = (small, sml); }); FreeDesktopCategories = (Utility, X-GNUstep); }\n',
-        "words.strings": '/* A comment */\n"A word" = "Ein Wort";\n"Another \\"word\\"" = "Un autre\\nmot";\nplain = word;\n',
-    }
-    for name, text in texts.items():
-        write_at(text, place, name)
-
-
-def make_texts(place):
-    texts = {
-        "Small.h": SOURCE, "Small.m": BODY, "any.conf": LDAP.replace("GROUP", "false"), "group.conf": LDAP.replace("GROUP", "true"), "half.conf": LDAP[:120],
-        "page.xml": '<?xml version="1.0"?>\n<page kind="small"><title>A &amp; B</title><p>one<br/>two</p><!-- no --></page>\n', "broken.xml": "<page><title>never closed</page>\n",
-        "page.html": '<html><body><a rel="dynamical" href="other.html#there">there</a> <a href="#none">none</a> <a name="here">here</a></body></html>\n',
-        "other.html": '<html><body><a name="there">there</a></body></html>\n', "utf8.txt": "h\u00e9 \u4e16\u754c \u20ac\n",
-    }
-    for name, text in texts.items():
-        write_at(text, place, name)
+    write_at("{ " + rows + " }\n", place, "large.plist")
     with open(f"{place}/latin.txt", "wb") as file:
         file.write("caf\u00e9 na\u00efve \u00fcber\n".encode("latin1") * 50)
 
@@ -177,8 +113,7 @@ def make_archives(place):
 def make_inputs(folder):
     place = os.path.join(folder, "inputs")
     shutil.rmtree(place, ignore_errors=True)
-    os.makedirs(place)
-    make_plists(place)
+    shutil.copytree(os.path.join(gnustep.OWN, "inputs"), place)
     make_texts(place)
     make_archives(place)
     shutil.copy(os.path.join(gnustep.OWN, "ldap_server.py"), place)
