@@ -9,6 +9,7 @@ import subprocess
 import sys
 import time
 
+import measure
 from words import ROOT, write_at
 
 FOLDER = "/var/tmp/yeldrost-gnustep"
@@ -123,9 +124,7 @@ def build(folder, source, *words, built=None):
 
 def our_library(folder, given, *more):
     """The folder of a libobjc.so.4 over the proved archive."""
-    words = [os.path.join(ROOT, "tools", "test", "objc"), "--link", folder, "--shared", *more]
-    words += ["--standin"] if given.standin else ["--archive", given.archive] if given.archive else []
-    subprocess.run(words, check=True, stdout=subprocess.DEVNULL)
+    measure.shim(folder, given, "--shared", *more)
     return folder
 
 

@@ -32,6 +32,13 @@ def instructions(words_of, fewer, more):
     return (collected(words_of(more)) - collected(words_of(fewer))) / (more - fewer)
 
 
+def shim(folder, given, *more):
+    """What a program is linked with in place of -lobjc; it is built in the folder."""
+    words = [os.path.join(ROOT, "tools", "test", "objc"), "--link", folder, *more]
+    words += ["--standin"] if given.standin else ["--archive", given.archive] if given.archive else []
+    return subprocess.run(words, stdout=subprocess.PIPE, text=True, check=True).stdout.split()
+
+
 def want_hits(parser):
     if not os.access(HITS, os.X_OK):
         parser.error(f"{HITS} isn't there: build it by `rt run` in crates/msg_bench")

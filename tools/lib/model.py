@@ -286,6 +286,15 @@ class Document:
         return at is not None
 
 
+def fault_of(data, read=Document):
+    """The number of a document's fault, 0 where it has none."""
+    try:
+        read(data)
+    except DocumentFault as fault:
+        return fault.args[0]
+    return 0
+
+
 class Refused(Exception):
     """The change is refused, with this text."""
 

@@ -78,7 +78,8 @@ class Words(argparse.ArgumentParser):
             self.add_argument("--" + name.replace("_", "-"), **how, **({"type": type(default)} if type(default) in (int, float) else {}))
         for place in places:
             name, *default = (place,) if isinstance(place, str) else place
-            self.add_argument(name.rstrip("*"), **({"nargs": "?", "default": default[0]} if default else {"nargs": "*"} if name.endswith("*") else {}))
+            how = {"nargs": "?", "default": default[0]} if default else {"nargs": "*"} if name.endswith("*") else {}
+            self.add_argument(name.rstrip("*"), **how)
         return self.parse_args()
 
     def error(self, message):
