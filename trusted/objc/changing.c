@@ -6,15 +6,14 @@
 #include "seat.h"
 #include "msg_objc.h"
 
-/* A method that gets a function, which has that number: of the record's class, or, where there is
- * no record, of none. Where it is NULL it is new. `before`: what was called. */
+/* A method that gets a function: of the record's class, or, where there is no record, of none.
+ * Where it is NULL it is new. `before`: what was called. */
 struct part {
     struct record *record;
     Method method;
     SEL sel;
     IMP imp, before;
     const char *types;
-    uint32_t number;
 };
 
 static Method method_of(const struct record *record, uint32_t sel)
@@ -68,32 +67,30 @@ static void stand(struct record *record, Method method, struct row *row)
     note_home(record, method);
 }
 
-static msg_change replacing(const struct record *record, SEL sel, uint32_t number)
+static msg_change replacing(const struct record *of, SEL sel, IMP imp)
 {
-    return (msg_change){MSG_REPLACES, record->number, record->meta, shim_sel(sel), number, 0, 0, 0};
+    return (msg_change){MSG_REPLACES,     of->number, of->meta, shim_sel(sel),
+                        shim_number(imp), 0,          0,        0};
 }
 
 /* ---- what a module or a class pair brings, until it is made ---- */
 
-static struct coming {
-    struct record *record;
-    Method method;
-} * coming; /* to the rows */
 static msg_change *changes;
+static Method *coming; /* of each change: to the rows, or NULL */
 static uint32_t coming_count, coming_room, change_count, change_room;
 
-static void bring(msg_change change)
+static void bring(msg_change change, Method comes)
 {
     changes = shim_more(changes, change_count, &change_room, sizeof *changes);
-    changes[change_count++] = change;
+    coming = shim_more(coming, change_count, &coming_room, sizeof *coming);
+    coming_count += comes != NULL;
+    changes[change_count] = change;
+    coming[change_count++] = comes;
 }
 
-void shim_bring_method(struct record *record, Method method, bool is_new)
+void shim_bring_method(struct record *record, Method method)
 {
-    bring(replacing(record, method->name.sel, shim_number(method->imp)));
-    if (!is_new) return;
-    coming = shim_more(coming, coming_count, &coming_room, sizeof *coming);
-    coming[coming_count++] = (struct coming){record, method};
+    bring(replacing(record, method->name.sel, method->imp), method);
 }
 
 void shim_bring_class(Class class_)
@@ -101,10 +98,10 @@ void shim_bring_class(Class class_)
     Class above = class_->superclass.class_;
     struct record *both[2] = {class_->record, class_->isa->record};
     uint32_t kind = above ? MSG_MAKES_CLASS : MSG_MAKES_ROOT_CLASS;
-    bring((msg_change){kind, both[0]->number, .other = above ? above->record->number : 0});
+    bring((msg_change){kind, both[0]->number, .other = above ? above->record->number : 0}, NULL);
     for (int j = 0; j < 2; j++)
         for (struct row *row = both[j]->rows; row; row = row->before) {
-            shim_bring_method(both[j], row->method, false);
+            bring(replacing(both[j], row->method->name.sel, row->method->imp), NULL);
             note_home(both[j], row->method);
         }
 }
@@ -114,7 +111,8 @@ void shim_make(const char *what)
     size_t place;
     shim_must(msg_change_all(shim_runtime, changes, change_count, &place), what);
     struct row *rows = coming_count ? shim_memory(coming_count * sizeof *rows) : NULL;
-    for (uint32_t i = 0; i < coming_count; i++) stand(coming[i].record, coming[i].method, &rows[i]);
+    for (uint32_t i = 0; i < change_count; i++)
+        if (coming[i]) stand(record_at(changes[i].number, changes[i].meta), coming[i], rows++);
     free(coming);
     free(changes);
     coming = NULL;
@@ -129,7 +127,7 @@ void shim_make(const char *what)
 static struct part part_of(struct record *at, Method method, SEL sel, IMP imp, const char *types)
 {
     IMP before = method ? shim_imp(method) : NULL;
-    return (struct part){at, method, sel, imp, before, types, shim_number(imp)};
+    return (struct part){at, method, sel, imp, before, types};
 }
 
 static Method new_method(const struct part *part)
@@ -140,8 +138,6 @@ static Method new_method(const struct part *part)
     return method;
 }
 
-static bool is_in_tables(const struct part *part) { return part->record && part->record->number; }
-
 /* In the rows, after the tables. */
 static inline void settle(const struct part *part)
 {
@@ -149,19 +145,15 @@ static inline void settle(const struct part *part)
     else stand(part->record, new_method(part), shim_memory(sizeof(struct row)));
 }
 
-static inline void cache(const struct part *part)
-{
-    if (is_in_tables(part)) msg_process_cache(shim_key(part->record, part->sel));
-}
-
 static inline void make_one(const struct part *part)
 {
     struct record *of = part->record;
-    uint32_t sel = shim_sel(part->sel);
-    if (is_in_tables(part))
-        shim_must(msg_replace(shim_runtime, of->number, of->meta, sel, part->number), "replace");
+    uint32_t sel = shim_sel(part->sel), number = shim_number(part->imp);
+    bool is_in_tables = of && of->number;
+    if (is_in_tables)
+        shim_must(msg_replace(shim_runtime, of->number, of->meta, sel, number), "replace");
     settle(part);
-    cache(part);
+    if (is_in_tables) msg_process_cache(shim_key(of, part->sel));
 }
 
 /* ---- as programs ask for them ---- */
@@ -258,12 +250,12 @@ size_t objc_replace_methods(struct objc_method_swap *rows, size_t count)
     msg_change *all = shim_memory(count * sizeof *all);
     size_t place = 0;
     for (; place < count && plan_swap(rows, place, &parts[place]); place++)
-        all[place] = replacing(parts[place].record, parts[place].sel, parts[place].number);
+        all[place] = replacing(parts[place].record, parts[place].sel, parts[place].imp);
     bool made = place == count && !msg_change_all(shim_runtime, all, count, &place);
     for (size_t i = 0; made && i < count; i++) settle(&parts[i]);
     for (size_t i = 0; made && i < count; i++) {
         rows[i].imp = parts[i].before;
-        cache(&parts[i]);
+        msg_process_cache(shim_key(parts[i].record, parts[i].sel));
     }
     free(parts);
     free(all);

@@ -172,7 +172,7 @@ void shim_take_protocols(struct protocol_list *list);
 /* changing.c: what a module or a class pair brings, in the order in which it counts, and then all
  * of it as one change. */
 void shim_bring_class(Class class_); /* with the methods that it has by now */
-void shim_bring_method(struct record *record, Method method, bool is_new); /* or one of those */
+void shim_bring_method(struct record *record, Method method);
 void shim_make(const char *what);
 Method shim_standing(Class class_, uint32_t sel); /* what the rows say; also without the lock */
 static inline IMP shim_imp(Method method) { return LOAD(method->imp); }

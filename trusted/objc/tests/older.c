@@ -5,7 +5,7 @@
 #include <stdio.h>
 #include <string.h>
 
-enum { PARTS = 64, COPIES = 200000, WRITES = 20000, PAGE = 256 };
+enum { PARTS = 64, COPIES = 200000, WRITES = 200000, PAGE = 256 };
 
 struct large { long parts[PARTS]; };
 
