@@ -1,7 +1,7 @@
 //! Each call of the header through the safe crate, each kind of fault, and threads beside changes.
 use std::sync::{
-    Barrier,
     atomic::{AtomicBool, Ordering},
+    Barrier,
 };
 use yeldrost::{
     Change, ClassRef, Config, Fault, Imp, Method, Probed, Refused, Runtime, Selector, Sender, Texts,
