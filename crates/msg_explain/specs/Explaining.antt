@@ -1,5 +1,5 @@
 -- What is said of a document.
-use Rattle.std.specs.Prelude.{◌≡◌, ◌⊎◌, ⊥, ℕ, List, [], ◌∷◌, Option, Some, Ok, codes}
+use Rattle.std.specs.Prelude.{◌≡◌, ◌⊎◌, ℕ, List, [], ◌∷◌, Option, Some, Ok, codes}
 use Rattle.msg_io.specs.Complaint.{complaint_line}
 use Rattle.msg_io.specs.Writing.{Starts, Writes}
 use Rattle.msg_io.specs.declared.complaint.Program.{Program}
